@@ -1,0 +1,4 @@
+pub mod Causes
+pub mod FileTold
+pub mod Lends
+pub mod Names
