@@ -1,0 +1,4 @@
+pub mod Terms
+pub mod Operations
+pub mod Val
+pub mod Resolved
