@@ -1,5 +1,5 @@
 -- Names, and the places that stand for them.
-use Rattle.std.specs.Prelude.{◌≡◌, ℕ, Bool, true, false, not, ◌||◌, List, [], ◌∷◌, nat_lt, nat_le, ◌==◌, if◌then◌else◌, Option, Some, None, Result, Ok, Err, ⊤}
+use Rattle.std.specs.Prelude.{◌≡◌, ℕ, Bool, not, ◌||◌, List, ◌∷◌, nat_le, ◌==◌, if◌then◌else◌, Option, Some, None, Result, Ok, Err, ⊤}
 use Rattle.std.specs.List.{position, find, list_any}
 use Rattle.std.specs.Str.{bytes_eq}
 use Rattle.par_base.specs.declared.fault.Fault.{Fault}
