@@ -1,0 +1,4 @@
+//! stub
+#![tactic(auto)]
+mod statement;
+pub use statement::{OpText, Statement, TableName};

@@ -1,0 +1,156 @@
+-- CREATE SCHEMA VERSION: the checks and the effect of each operator.
+use Rattle.std.specs.Prelude.{ℕ, ◌+◌, Bool, false, not, ◌==◌, nat_le, nat_lt, List, [], ◌∷◌, ◌++◌, codes, filter, length, Option, Some, None, Result, Ok, Err, slice_get, if◌then◌else◌}
+use Rattle.std.specs.List.{find, list_any}
+use Rattle.std.specs.Str.{bytes_eq}
+use Rattle.std.specs.Option.{option_map_or}
+use Rattle.par_base.specs.declared.refusal.Refusal.{Refusal}
+use Rattle.par_base.specs.declared.refusal.Refusal.TheVariants.{UnknownVersion, VersionExists, UnknownTable, TableExists, UnknownColumn, ColumnExists, TooManyOperators, TooManyColumns}
+use Rattle.expr_lang.specs.Terms.{Term}
+use Rattle.expr_lang.specs.Resolved.{resolved}
+use Rattle.bidel_parser.specs.Statements.{Operation, create_table, add_column}
+use Rattle.engine_core.specs.Tables.{Contents}
+use Rattle.engine_core.specs.Mappings.{forward_of}
+use Rattle.engine_core.specs.Checks.{Checked, ◌then◌}
+use Rattle.engine_core.specs.State.{Made, Origin, State, table_at, no_table}
+use Rattle.engine_core.specs.declared.state.Version.{Version}
+
+-- where an evolution stands: the tables of the working set, the operators from it up to the root, and the first place of the tree
+pub record Standing : Type 0 where
+  pub tables : List ℕ
+  pub way : List ℕ
+  pub tree : ℕ
+
+-- the operators with their tables so far, and where the evolution stands
+pub record Growth : Type 0 where
+  pub operators : List Made
+  pub tables : List Contents
+  pub at : Standing
+
+-- ---- look-ups by name
+
+abbrev pub version_named : List Version → List ℕ → Option Version
+version_named versions name = find (λ (v : Version). bytes_eq v.name name) versions
+
+abbrev pub is_named : List Made → List ℕ → ℕ → Bool
+is_named operators name place = option_map_or (λ (o : Made). bytes_eq o.name name) (slice_get operators place) false
+
+-- the place of the table of a working set with this name
+abbrev pub place_named : List Made → List ℕ → List ℕ → Option ℕ
+place_named operators set name = find (is_named operators name) set
+
+abbrev pub columns_at : List Made → ℕ → List (List ℕ)
+columns_at operators place = option_map_or (λ (o : Made). o.columns) (slice_get operators place) []
+
+-- ---- the checks of an operator
+
+abbrev pub operator_limit : ℕ
+operator_limit = 1024
+
+abbrev pub column_limit : ℕ
+column_limit = 64
+
+abbrev pub room_for_operator : List Made → Checked (Unit {0})
+room_for_operator operators = if nat_le operator_limit (length operators) then Err (TooManyOperators operator_limit) else Ok tt
+
+abbrev pub unused_name : List ℕ → Option ℕ → Checked (Unit {0})
+unused_name name (Some place) = Err (TableExists name)
+unused_name name None = Ok tt
+
+abbrev pub known_table : List ℕ → Option ℕ → Checked ℕ
+known_table name (Some place) = Ok place
+known_table name None = Err (UnknownTable name)
+
+-- the first name that stands among those before it
+unfoldable pub repeated : List (List ℕ) → List (List ℕ) → Option (List ℕ)
+repeated seen [] = None
+repeated seen (name ∷ names) = if list_any (bytes_eq name) seen then Some name else repeated (name ∷ seen) names
+
+abbrev pub new_columns : Option (List ℕ) → Checked (Unit {0})
+new_columns (Some name) = Err (ColumnExists name)
+new_columns None = Ok tt
+
+-- every table counts as having `p`
+abbrev pub row_name : List ℕ
+row_name = codes "p"
+
+abbrev pub few_columns : List ℕ → List (List ℕ) → Checked (Unit {0})
+few_columns table columns = if nat_lt column_limit (length columns) then Err (TooManyColumns table column_limit) else Ok tt
+
+abbrev pub known_columns : Result (Term ℕ) (List ℕ) → Checked (Term ℕ)
+known_columns (Ok e) = Ok e
+known_columns (Err name) = Err (UnknownColumn name)
+
+-- ---- the operators
+
+-- one more operator with its table, and the working set below it
+abbrev pub grown_by : Growth → Made → Contents → List ℕ → Growth
+grown_by g o table set = record {
+  operators = g.operators ++ o ∷ [];
+  tables = g.tables ++ table ∷ [];
+  at = record { tables = set ++ length g.operators ∷ []; way = length g.operators ∷ g.at.way; tree = g.at.tree };
+}
+
+-- CREATE TABLE: an empty table
+abbrev pub with_table : Growth → List ℕ → List (List ℕ) → Checked Growth
+with_table g name columns =
+    room_for_operator g.operators then λ _.
+    unused_name name (place_named g.operators g.at.tables name) then λ _.
+    new_columns (repeated (row_name ∷ []) columns) then λ _.
+    few_columns name columns then λ _.
+    Ok (grown_by g (record { tree = g.at.tree; name = name; columns = columns; added = None }) (record { width = length columns; rows = [] }) g.at.tables)
+
+-- the target of ADD COLUMN takes the place of its source in the working set
+abbrev pub column_added : Growth → List ℕ → List ℕ → ℕ → Term ℕ → Growth
+column_added g name column source e =
+    grown_by g
+    (record { tree = g.at.tree; name = name; columns = columns_at g.operators source ++ column ∷ []; added = Some (record { source = source; value = e }) })
+    (forward_of e (table_at g.tables source) no_table)
+    (filter (λ place. not (place == source)) g.at.tables)
+
+-- ADD COLUMN: each row of the source with the value of the expression
+abbrev pub with_column : Growth → List ℕ → Term (List ℕ) → List ℕ → Checked Growth
+with_column g column value name =
+    room_for_operator g.operators then λ _.
+    known_table name (place_named g.operators g.at.tables name) then λ source.
+    known_columns (resolved (columns_at g.operators source) value) then λ e.
+    new_columns (repeated (row_name ∷ columns_at g.operators source) (column ∷ [])) then λ _.
+    few_columns name (columns_at g.operators source ++ column ∷ []) then λ _.
+    Ok (column_added g name column source e)
+
+abbrev pub with_operator : Growth → Operation → Checked Growth
+with_operator g (create_table name columns) = with_table g name columns
+with_operator g (add_column column value name) = with_column g column value name
+
+-- all operators in order
+unfoldable pub with_operators : Growth → List Operation → Checked Growth
+with_operators g [] = Ok g
+with_operators g (o ∷ os) = with_operator g o then λ grown. with_operators grown os
+
+-- ---- the statement
+
+-- without FROM a new tree begins, and with it the evolution stands at the version
+abbrev pub standing_of : Option Version → List ℕ → Checked Standing
+standing_of (Some v) name = Ok (record { tables = v.tables; way = v.way; tree = v.tree })
+standing_of None name = Err (UnknownVersion name)
+
+abbrev pub start_of : State → Option (List ℕ) → Checked Standing
+start_of s None = Ok (record { tables = []; way = []; tree = length s.operators })
+start_of s (Some name) = standing_of (version_named s.versions name) name
+
+abbrev pub unused_version : List ℕ → Option Version → Checked (Unit {0})
+unused_version name (Some v) = Err (VersionExists name)
+unused_version name None = Ok tt
+
+abbrev pub evolved_to : State → List ℕ → Growth → State
+evolved_to s name g = record s {
+  versions = s.versions ++ record { name = name; tables = g.at.tables; way = g.at.way; tree = g.at.tree } ∷ [];
+  operators = g.operators;
+  tables = g.tables;
+}
+
+abbrev pub evolved : State → List ℕ → Option (List ℕ) → List Operation → Checked State
+evolved s name from operations =
+    start_of s from then λ at.
+    unused_version name (version_named s.versions name) then λ _.
+    with_operators (record { operators = s.operators; tables = s.tables; at = at }) operations then λ g.
+    Ok (evolved_to s name g)

@@ -1,0 +1,27 @@
+-- What the engine keeps, and the state that it stands for.
+use Rattle.std.specs.Prelude.{◌≡◌, ℕ, List, map, Result, Ok, Err, ⊤}
+use Rattle.par_base.specs.declared.fault.Fault.{Fault}
+use Rattle.par_base.specs.declared.fault.Fault.TheVariants.{Refused, Memory}
+use Rattle.par_base.specs.declared.refusal.Refusal.{Refusal}
+use Rattle.engine_core.specs.Tables.{Contents}
+use Rattle.engine_core.specs.State.{State, made_of}
+use Rattle.engine_core.specs.declared.state.Version.{Version}
+use Rattle.engine_core.specs.declared.state.Operator.{Operator}
+use Rattle.engine_core.specs.declared.reply.Reply.{Reply}
+
+-- the state with the operators as they lie in memory
+pub record Kept : Type 0 where
+  pub versions : List Version
+  pub operators : List Operator
+  pub tables : List Contents
+  pub next : ℕ
+  pub limit : ℕ
+
+abbrev pub state_of : Kept → State
+state_of k = record { versions = k.versions; operators = map made_of k.operators; tables = k.tables; next = k.next; limit = k.limit }
+
+-- the call answers and leaves what the model does: the reply and the next state, or the refusal, unless memory ran out
+abbrev pub Answers : Result (Reply × State) Refusal → Result Reply (Fault Refusal) → State → Type 0
+Answers model (Ok reply) next = model ≡ Ok (reply, next)
+Answers model (Err (Refused r)) next = model ≡ Err r
+Answers model (Err Memory) next = ⊤
