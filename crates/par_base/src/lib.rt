@@ -18,7 +18,7 @@ mod value;
 pub use fault::{Fault, Memory};
 pub use limits::{Limits, Target};
 pub use list::List;
-pub use name::Name;
+pub use name::{Name, is_reserved_word, read_name};
 pub use outside::{Failed, Files, Sink, Source};
 pub use refusal::{IdsSpent, Refusal};
 pub use text::Text;
