@@ -9,6 +9,7 @@
 mod fault;
 mod limits;
 mod list;
+mod literal;
 mod name;
 mod outside;
 mod refusal;
@@ -18,6 +19,7 @@ mod value;
 pub use fault::{Fault, Memory};
 pub use limits::{Limits, Target};
 pub use list::List;
+pub use literal::literal_text;
 pub use name::{Name, is_reserved_word, read_name};
 pub use outside::{Failed, Files, Sink, Source};
 pub use refusal::{IdsSpent, Refusal};
