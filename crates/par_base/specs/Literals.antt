@@ -1,5 +1,5 @@
 -- The literal text of a value.
-use Rattle.std.specs.Prelude.{◌≡◌, ◌<◌, ◌^◌, ℕ, ℤ, List, [], ◌∷◌, ◌++◌, codes, decimal, flat_map, ◌==◌, if◌then◌else◌, Option, Some, ⊤, IsUtf8, FitsSigned}
+use Rattle.std.specs.Prelude.{◌≡◌, ◌<◌, ◌^◌, ℕ, ℤ, List, [], ◌∷◌, ◌++◌, codes, decimal, flat_map, ◌==◌, ◌&&◌, Bool, true, false, if◌then◌else◌, Option, Some, ⊤, IsUtf8, FitsSigned}
 use Rattle.std.specs.Fmt.{signed_decimal}
 use Rattle.std.specs.Int.{w64}
 use Rattle.par_base.specs.declared.value.Value.{Value}
@@ -8,6 +8,11 @@ use Rattle.par_base.specs.declared.value.Value.TheVariants.{Null, Int, Text, Ref
 -- a quote twice, and every other byte as it is
 abbrev pub doubled : ℕ → List ℕ
 doubled b = if b == 39 then 39 ∷ 39 ∷ [] else b ∷ []
+
+-- the bytes without each quote that comes right after a quote that stays
+unfoldable pub undoubled : Bool → List ℕ → List ℕ
+undoubled after_quote [] = []
+undoubled after_quote (b ∷ bytes) = if after_quote && b == 39 then undoubled false bytes else b ∷ undoubled (b == 39) bytes
 
 -- the text between quotes, each quote of it doubled
 abbrev pub quoted : List ℕ → List ℕ
