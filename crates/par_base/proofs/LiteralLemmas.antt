@@ -10,13 +10,13 @@ use Rattle.std.specs.Prelude.{Result, Ok, Err, IfOk}
 use Rattle.par_base.specs.declared.fault.Memory.{Memory}
 use Rattle.std.specs.Int.{w64}
 use Rattle.std.proofs.Common.{length-append}
-use Rattle.std.proofs.lemmas.List.{drop_all}
+use Rattle.std.proofs.lemmas.List.{drop_all, append_cancel_right}
 use Rattle.std.proofs.Math.ListN.{get_or-append}
-use Rattle.std.proofs.lemmas.Fmt.{decimal_by_steps, IsAscii-signed, IsAscii-decimal}
+use Rattle.std.proofs.lemmas.Fmt.{decimal_by_steps, decimal_injective, signed_decimal_injective, IsAscii-signed, IsAscii-decimal}
 use Rattle.std.proofs.lemmas.Str.{IsUtf8-from_ascii}
 use Rattle.par_base.specs.declared.value.Value.{Value}
 use Rattle.par_base.specs.declared.value.Value.TheVariants.{Null, Int, Text, Reference}
-use Rattle.par_base.specs.Literals.{doubled, undoubled, quoted, literal_of, IsCandidate}
+use Rattle.par_base.specs.Literals.{doubled, undoubled, quoted, literal_of, IsValue, IsCandidate}
 
 plain_byte : (b : ℕ) → b ≢ 39 → doubled b ≡ b ∷ []
 plain_byte b h = ap (λ (t : Bool). cond t (39 ∷ 39 ∷ []) (b ∷ [])) (ne_eqb b 39 h)
@@ -146,3 +146,25 @@ pub text_answers : (bytes : List ℕ) (r : Result (Option Value) Memory) → get
     → IfOk r (λ found. (text : List ℕ) → IsUtf8 text → bytes ≡ quoted text → found ≡ Some (Text text)) → IfOk r (λ found. IsCandidate bytes found)
 text_answers bytes (Ok found) f only = text_only bytes found f only
 text_answers bytes (Err e) f only = tt
+
+same_text : (text others : List ℕ) → quoted text ≡ quoted others → text ≡ others
+same_text text others e =
+    let inner : flat_map doubled text ++ 39 ∷ [] ≡ flat_map doubled others ++ 39 ∷ [] = cc in
+    sym (undoubled-doubled text) ∙ ap (undoubled false) (append_cancel_right (flat_map doubled text) (flat_map doubled others) (39 ∷ []) inner) ∙ undoubled-doubled others
+
+same_id : (id other : ℕ) → id < 2 ^ 64 → other < 2 ^ 64 → 35 ∷ decimal id ≡ 35 ∷ decimal other → id ≡ other
+same_id id other small small' e = let digits : decimal id ≡ decimal other = cc in decimal_injective id other small small' digits
+
+-- a value is the one that its literal text can be that of
+itself : (v : Value) → IsValue v → IsCandidate (literal_of v) (Some v)
+unfolding literal_of
+itself Null ok = null_only (literal_of Null) refl
+itself (Int n) ok =
+    let p = first_of_int n ok in
+    int_only (literal_of (Int n)) (Some (Int n)) (λ e. omega (arith, e, p.0, p.1)) (λ e. omega (arith, e, p.0, p.1)) (λ e. omega (arith, e, p.0, p.1))
+    (λ m fits e. ap (λ (k : ℤ). Some (Int k)) (signed_decimal_injective n m ok.sfits fits.sfits e))
+itself (Text text) ok = text_only (literal_of (Text text)) (Some (Text text)) refl (λ others _ e. ap (λ (t : List ℕ). Some (Text t)) (same_text text others e))
+itself (Reference id) ok = reference_only (literal_of (Reference id)) (Some (Reference id)) refl (λ other small e. ap (λ (n : ℕ). Some (Reference n)) (same_id id other ok small e))
+
+pub same_value : (v w : Value) → IsValue v → IsValue w → literal_of v ≡ literal_of w → v ≡ w
+same_value v w okv okw e = let so = itself v okv w okw e in cc

@@ -19,7 +19,7 @@ mod value;
 pub use fault::{Fault, Memory};
 pub use limits::{Limits, Target};
 pub use list::List;
-pub use literal::{literal_text, read_literal};
+pub use literal::{literal_text, one_literal, read_literal};
 pub use name::{Name, is_reserved_word, read_name};
 pub use outside::{Failed, Files, Sink, Source};
 pub use refusal::{IdsSpent, Refusal};
