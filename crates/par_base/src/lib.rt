@@ -6,10 +6,13 @@
 //! `Failed` only where a count of faults rose. It knows nothing of statements, tables or versions.
 #![tactic(auto)]
 
+mod failures;
 mod fault;
+mod filling;
 mod limits;
 mod list;
 mod literal;
+mod memory_source;
 mod name;
 mod outside;
 mod refusal;
@@ -20,6 +23,7 @@ pub use fault::{Fault, Memory};
 pub use limits::{Limits, Target};
 pub use list::List;
 pub use literal::{literal_text, one_literal, read_literal};
+pub use memory_source::MemorySource;
 pub use name::{Name, is_reserved_word, read_name};
 pub use outside::{Failed, Files, Sink, Source};
 pub use refusal::{IdsSpent, Refusal};
