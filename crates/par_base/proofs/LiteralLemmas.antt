@@ -89,8 +89,8 @@ first_digit n small =
     let P : ℕ → List ℕ → Type 0 = λ _ ds. (0 < length ds) × (48 ≤ get_or ds 0 0) × (get_or ds 0 0 ≤ 57) in
     decimal_by_steps P (λ m lt. (omega arith, omega arith, omega arith))
     (λ m ds _ p.
-        let same : get_or (ds ++ (48 + m % 10) ∷ []) 0 0 ≡ get_or ds 0 0 = get_or-append ds ((48 + m % 10) ∷ []) 0 0 (p.0) in
-        (omega (arith, p.0, length-append ds ((48 + m % 10) ∷ [])), omega (arith, p.1, same), omega (arith, p.2, same)))
+    let same : get_or (ds ++ (48 + m % 10) ∷ []) 0 0 ≡ get_or ds 0 0 = get_or-append ds ((48 + m % 10) ∷ []) 0 0 (p.0) in
+    (omega (arith, p.0, length-append ds ((48 + m % 10) ∷ [])), omega (arith, p.1, same), omega (arith, p.2, same)))
     n small
 
 -- the text of an integer begins with a digit or `-`

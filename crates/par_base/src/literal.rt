@@ -74,15 +74,18 @@ pub fn read_literal(alloc: Global, bytes: &[u8]) -> Result<Option<Value>, Memory
         return Ok(None);
     };
     let again = literal_text(alloc, &value)?;
-    if is_same(again.as_str().as_bytes(), bytes) { Ok(Some(value)) } else { Ok(None) }
+    if is_same(again.as_str().as_bytes(), bytes) {
+        Ok(Some(value))
+    } else {
+        Ok(None)
+    }
 }
 
 /// Two values with one literal text are equal.
 #[tactic(auto, using(crate::proofs::LiteralLemmas::same_value))]
 pub fn one_literal()
     ensures { (value other : Value) → IsValue value → IsValue other → literal_of value ≡ literal_of other → value ≡ other }
-{
-}
+{}
 
 fn is_same(some: &[u8], others: &[u8]) -> bool
     ensures { IsTrue result ↔ (some.now ≡ others.now) }
