@@ -1,4 +1,6 @@
 pub mod Causes
 pub mod FileTold
+pub mod InMemory
 pub mod Lends
+pub mod Literals
 pub mod Names

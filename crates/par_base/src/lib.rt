@@ -6,20 +6,30 @@
 //! `Failed` only where a count of faults rose. It knows nothing of statements, tables or versions.
 #![tactic(auto)]
 
+mod failures;
 mod fault;
+mod filling;
 mod limits;
 mod list;
+mod literal;
+mod memory_sink;
+mod memory_source;
 mod name;
 mod outside;
 mod refusal;
+mod sure;
 mod text;
 mod value;
 
 pub use fault::{Fault, Memory};
 pub use limits::{Limits, Target};
 pub use list::List;
-pub use name::Name;
+pub use literal::{literal_text, one_literal, read_literal};
+pub use memory_sink::MemorySink;
+pub use memory_source::MemorySource;
+pub use name::{Name, is_reserved_word, read_name};
 pub use outside::{Failed, Files, Sink, Source};
 pub use refusal::{IdsSpent, Refusal};
+pub use sure::{SureSink, SureSource};
 pub use text::Text;
 pub use value::{Row, Value};

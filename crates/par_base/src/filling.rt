@@ -1,0 +1,16 @@
+//! Filling a buffer from bytes in memory.
+ghost use Rattle.std.specs.Prelude.{◌≡◌, ◌<◌, ◌≤◌, [], drop, length, take};
+
+/// Copies first bytes to the front of the buffer, at most `most` of them, and answers how many.
+pub(crate) fn fill(buf: &mut [u8], bytes: &[u8], most: usize) -> usize
+    requires room { 0 < length buf.old }
+    requires some { 0 < most }
+    ensures bound { result ≤ length buf.new }
+    ensures within { result ≤ length bytes.now }
+    ensures copied { take result buf.new ≡ take result bytes.now }
+    ensures end { result ≡ 0 → bytes.now ≡ [] }
+{
+    let count = bytes.len().min(buf.len()).min(most);
+    buf[..count].copy_from_slice(&bytes[..count]);
+    count
+}
