@@ -1,4 +1,4 @@
 //! stub
 #![tactic(auto)]
 mod statement;
-pub use statement::{OpText, Statement, TableName};
+pub use statement::{OpText, Parsed, Statement, Syntax, TableName};

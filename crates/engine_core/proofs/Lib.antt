@@ -1,2 +1,5 @@
+mod EvolveLemmas
+mod PlanLemmas
+mod PushLemmas
 mod TableLemmas
 mod WalkLemmas

@@ -5,8 +5,8 @@ use Rattle.expr_lang.specs.Terms.{Term}
 use Rattle.expr_lang.specs.Val.{fits_row}
 use Rattle.engine_core.specs.Tables.{Contents}
 use Rattle.engine_core.specs.Mappings.{forward_of, backward_of}
-use Rattle.engine_core.specs.State.{Made, Origin, IsPlaced, table_at, made_of}
-use Rattle.engine_core.specs.Walk.{origin_at, taken_back, carried_on, after_step, along, other_step, others_from, widths, AreReady, AreSame}
+use Rattle.engine_core.specs.State.{Made, Origin, IsPlaced, table_at, made_of, widths, AreReady, AreSame}
+use Rattle.engine_core.specs.Walk.{origin_at, taken_back, carried_on, after_step, along, other_step, others_from}
 use Rattle.engine_core.specs.declared.state.Operator.{Operator}
 use Rattle.engine_core.specs.declared.walk.Step.{Step}
 use Rattle.engine_core.specs.declared.walk.Step.TheVariants.{Backward, Forward}
@@ -38,7 +38,7 @@ origin_of_some (Some m) a e = (m, refl, e)
 pub can_step : (operators : List Made) (old now : List Contents) (place : ℕ) (a : Origin) → AreReady operators old → AreSame old now → origin_at operators place ≡ Some a → CanStep now place a
 can_step operators old now place a ready same e =
     let m = origin_of_some (slice_get operators place) a e in
-    let placed = ready place m.0 m.1 in
+    let placed = ready.placed place m.0 m.1 in
     let P : Option Origin → Type 0 = λ o. IfSome o (λ b. (b.source < place) × (width : ℕ) × (slice_get (widths old) b.source ≡ Some width) × (length m.0.columns ≡ width + 1) × (fits_row b.value width ≡ true)) in
     let added : P (Some a) = subst P m.2 placed.added in
     let here = width_at now place (length m.0.columns) (ap (λ (ws : List ℕ). slice_get ws place) same ∙ placed.wide) in

@@ -6,7 +6,7 @@ use Rattle.par_base.specs.declared.refusal.Refusal.{Refusal}
 use Rattle.par_base.specs.declared.refusal.Refusal.TheVariants.{NotBuilt, NoVersionInUse, UnknownVersion, UnknownTable, WrongCount, IdsSpent}
 use Rattle.expr_lang.specs.Terms.{Term}
 use Rattle.bidel_parser.specs.declared.statement.TableName.{TableName}
-use Rattle.bidel_parser.specs.Statements.{Operation, Stmt, create_version, insert, select}
+use Rattle.bidel_parser.specs.Views.{OpView, StatementView, CreateVersion, Insert, Select}
 use Rattle.engine_core.specs.Tables.{Contents, Rows}
 use Rattle.engine_core.specs.Checks.{Checked, ◌then◌}
 use Rattle.engine_core.specs.State.{State, table_at}
@@ -67,7 +67,7 @@ acted_select s t =
     found s t then λ f.
     Ok (Shown (row_name ∷ columns_at s.operators f.place) (map shown (table_at s.tables f.place).rows) false, s)
 
-abbrev pub acted_evolve : State → List ℕ → Option (List ℕ) → List Operation → Checked (Reply × State)
+abbrev pub acted_evolve : State → List ℕ → Option (List ℕ) → List OpView → Checked (Reply × State)
 acted_evolve s name from operations = evolved s name from operations then λ next. Ok (Done, next)
 
 -- SELECT is carried out for all columns, without condition and not as CSV
@@ -75,10 +75,10 @@ abbrev pub is_built : Option (List (List ℕ)) → Option (Term (List ℕ)) → 
 is_built None None false = true
 is_built _ _ _ = false
 
-abbrev pub acted : State → Stmt → Checked (Reply × State)
-acted s (create_version name from operations) = acted_evolve s name from operations
-acted s (insert t rows) = acted_insert s t rows
-acted s (select t items filter csv) = if is_built items filter csv then acted_select s t else Err NotBuilt
+abbrev pub acted : State → StatementView → Checked (Reply × State)
+acted s (CreateVersion name from operations) = acted_evolve s name from operations
+acted s (Insert t rows) = acted_insert s t rows
+acted s (Select t items filter csv) = if is_built items filter csv then acted_select s t else Err NotBuilt
 
 -- refusals that aren't told apart yet are answered as not built
 abbrev pub told : Refusal → Refusal
@@ -92,5 +92,5 @@ as_told (Ok x) = Ok x
 as_told (Err r) = Err (told r)
 
 -- one event
-abbrev pub act : State → Stmt → Checked (Reply × State)
+abbrev pub act : State → StatementView → Checked (Reply × State)
 act s statement = as_told (acted s statement)

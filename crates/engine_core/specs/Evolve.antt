@@ -1,5 +1,5 @@
 -- CREATE SCHEMA VERSION: the checks and the effect of each operator.
-use Rattle.std.specs.Prelude.{ℕ, ◌+◌, Bool, false, not, ◌==◌, nat_le, nat_lt, List, [], ◌∷◌, ◌++◌, codes, filter, length, Option, Some, None, Result, Ok, Err, slice_get, if◌then◌else◌}
+use Rattle.std.specs.Prelude.{ℕ, ◌+◌, Bool, false, not, ◌==◌, nat_le, nat_lt, List, [], ◌∷◌, ◌++◌, codes, filter, map, length, Option, Some, None, Result, Ok, Err, slice_get, if◌then◌else◌}
 use Rattle.std.specs.List.{find, list_any}
 use Rattle.std.specs.Str.{bytes_eq}
 use Rattle.std.specs.Option.{option_map_or}
@@ -7,24 +7,33 @@ use Rattle.par_base.specs.declared.refusal.Refusal.{Refusal}
 use Rattle.par_base.specs.declared.refusal.Refusal.TheVariants.{UnknownVersion, VersionExists, UnknownTable, TableExists, UnknownColumn, ColumnExists, TooManyOperators, TooManyColumns}
 use Rattle.expr_lang.specs.Terms.{Term}
 use Rattle.expr_lang.specs.Resolved.{resolved}
-use Rattle.bidel_parser.specs.Statements.{Operation, create_table, add_column}
+use Rattle.bidel_parser.specs.Views.{OpView, CreateTable, AddColumn}
 use Rattle.engine_core.specs.Tables.{Contents}
 use Rattle.engine_core.specs.Mappings.{forward_of}
 use Rattle.engine_core.specs.Checks.{Checked, ◌then◌}
-use Rattle.engine_core.specs.State.{Made, Origin, State, table_at, no_table}
+use Rattle.engine_core.specs.State.{Made, Origin, State, made_of, table_at, no_table}
 use Rattle.engine_core.specs.declared.state.Version.{Version}
-
--- where an evolution stands: the tables of the working set, the operators from it up to the root, and the first place of the tree
-pub record Standing : Type 0 where
-  pub tables : List ℕ
-  pub way : List ℕ
-  pub tree : ℕ
+use Rattle.engine_core.specs.declared.state.Standing.{Standing}
+use Rattle.engine_core.specs.declared.state.Operator.{Operator}
+use Rattle.engine_core.specs.declared.plan.Plan.{Plan}
 
 -- the operators with their tables so far, and where the evolution stands
 pub record Growth : Type 0 where
   pub operators : List Made
   pub tables : List Contents
   pub at : Standing
+
+abbrev pub growth_of : List Operator → List Contents → Standing → Growth
+growth_of operators tables at = record { operators = map made_of operators; tables = tables; at = at }
+
+-- what an operator makes, and the tables that stay beside it
+pub record Planned : Type 0 where
+  pub made : Made
+  pub table : Contents
+  pub stay : List ℕ
+
+abbrev pub plan_view : Plan → Planned
+plan_view p = record { made = made_of p.operator; table = p.table; stay = p.stay }
 
 -- ---- look-ups by name
 
@@ -63,7 +72,7 @@ known_table name None = Err (UnknownTable name)
 -- the first name that stands among those before it
 unfoldable pub repeated : List (List ℕ) → List (List ℕ) → Option (List ℕ)
 repeated seen [] = None
-repeated seen (name ∷ names) = if list_any (bytes_eq name) seen then Some name else repeated (name ∷ seen) names
+repeated seen (name ∷ names) = if list_any (bytes_eq name) seen then Some name else repeated (seen ++ name ∷ []) names
 
 abbrev pub new_columns : Option (List ℕ) → Checked (Unit {0})
 new_columns (Some name) = Err (ColumnExists name)
@@ -82,47 +91,54 @@ known_columns (Err name) = Err (UnknownColumn name)
 
 -- ---- the operators
 
--- one more operator with its table, and the working set below it
-abbrev pub grown_by : Growth → Made → Contents → List ℕ → Growth
-grown_by g o table set = record {
-  operators = g.operators ++ o ∷ [];
-  tables = g.tables ++ table ∷ [];
-  at = record { tables = set ++ length g.operators ∷ []; way = length g.operators ∷ g.at.way; tree = g.at.tree };
-}
-
 -- CREATE TABLE: an empty table
-abbrev pub with_table : Growth → List ℕ → List (List ℕ) → Checked Growth
-with_table g name columns =
-    room_for_operator g.operators then λ _.
-    unused_name name (place_named g.operators g.at.tables name) then λ _.
+abbrev pub planned_table : List Made → Standing → List ℕ → List (List ℕ) → Checked Planned
+planned_table operators at name columns =
+    room_for_operator operators then λ _.
+    unused_name name (place_named operators at.tables name) then λ _.
     new_columns (repeated (row_name ∷ []) columns) then λ _.
     few_columns name columns then λ _.
-    Ok (grown_by g (record { tree = g.at.tree; name = name; columns = columns; added = None }) (record { width = length columns; rows = [] }) g.at.tables)
+    Ok (record {
+      made = record { tree = at.tree; name = name; columns = columns; added = None };
+      table = record { width = length columns; rows = [] };
+      stay = at.tables;
+    })
 
--- the target of ADD COLUMN takes the place of its source in the working set
-abbrev pub column_added : Growth → List ℕ → List ℕ → ℕ → Term ℕ → Growth
-column_added g name column source e =
-    grown_by g
-    (record { tree = g.at.tree; name = name; columns = columns_at g.operators source ++ column ∷ []; added = Some (record { source = source; value = e }) })
-    (forward_of e (table_at g.tables source) no_table)
-    (filter (λ place. not (place == source)) g.at.tables)
+-- the target of ADD COLUMN: each row of the source with the value of the expression
+abbrev pub column_plan : List Made → List Contents → Standing → List ℕ → List ℕ → ℕ → Term ℕ → Planned
+column_plan operators tables at name column source e = record {
+  made = record { tree = at.tree; name = name; columns = columns_at operators source ++ column ∷ []; added = Some (record { source = source; value = e }) };
+  table = forward_of e (table_at tables source) no_table;
+  stay = filter (λ place. not (place == source)) at.tables;
+}
 
--- ADD COLUMN: each row of the source with the value of the expression
-abbrev pub with_column : Growth → List ℕ → Term (List ℕ) → List ℕ → Checked Growth
-with_column g column value name =
-    room_for_operator g.operators then λ _.
-    known_table name (place_named g.operators g.at.tables name) then λ source.
-    known_columns (resolved (columns_at g.operators source) value) then λ e.
-    new_columns (repeated (row_name ∷ columns_at g.operators source) (column ∷ [])) then λ _.
-    few_columns name (columns_at g.operators source ++ column ∷ []) then λ _.
-    Ok (column_added g name column source e)
+-- ADD COLUMN: the target takes the place of its source in the working set
+abbrev pub planned_column : List Made → List Contents → Standing → List ℕ → Term (List ℕ) → List ℕ → Checked Planned
+planned_column operators tables at column value name =
+    room_for_operator operators then λ _.
+    known_table name (place_named operators at.tables name) then λ source.
+    known_columns (resolved (columns_at operators source) value) then λ e.
+    new_columns (repeated (row_name ∷ columns_at operators source) (column ∷ [])) then λ _.
+    few_columns name (columns_at operators source ++ column ∷ []) then λ _.
+    Ok (column_plan operators tables at name column source e)
 
-abbrev pub with_operator : Growth → Operation → Checked Growth
-with_operator g (create_table name columns) = with_table g name columns
-with_operator g (add_column column value name) = with_column g column value name
+abbrev pub planned : Growth → OpView → Checked Planned
+planned g (CreateTable name columns) = planned_table g.operators g.at name columns
+planned g (AddColumn column value name) = planned_column g.operators g.tables g.at column value name
+
+-- one more operator with its table, and the working set below it
+abbrev pub grown_by : Growth → Planned → Growth
+grown_by g p = record {
+  operators = g.operators ++ p.made ∷ [];
+  tables = g.tables ++ p.table ∷ [];
+  at = record { tables = p.stay ++ length g.operators ∷ []; way = length g.operators ∷ g.at.way; tree = g.at.tree };
+}
+
+abbrev pub with_operator : Growth → OpView → Checked Growth
+with_operator g o = planned g o then λ p. Ok (grown_by g p)
 
 -- all operators in order
-unfoldable pub with_operators : Growth → List Operation → Checked Growth
+unfoldable pub with_operators : Growth → List OpView → Checked Growth
 with_operators g [] = Ok g
 with_operators g (o ∷ os) = with_operator g o then λ grown. with_operators grown os
 
@@ -148,7 +164,7 @@ evolved_to s name g = record s {
   tables = g.tables;
 }
 
-abbrev pub evolved : State → List ℕ → Option (List ℕ) → List Operation → Checked State
+abbrev pub evolved : State → List ℕ → Option (List ℕ) → List OpView → Checked State
 evolved s name from operations =
     start_of s from then λ at.
     unused_version name (version_named s.versions name) then λ _.

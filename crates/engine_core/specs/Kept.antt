@@ -1,5 +1,5 @@
 -- What the engine keeps, and the state that it stands for.
-use Rattle.std.specs.Prelude.{◌≡◌, ℕ, List, map, Result, Ok, Err, ⊤}
+use Rattle.std.specs.Prelude.{◌≡◌, ℕ, List, [], map, Result, Ok, Err, ⊤}
 use Rattle.par_base.specs.declared.fault.Fault.{Fault}
 use Rattle.par_base.specs.declared.fault.Fault.TheVariants.{Refused, Memory}
 use Rattle.par_base.specs.declared.refusal.Refusal.{Refusal}
@@ -25,3 +25,7 @@ abbrev pub Answers : Result (Reply × State) Refusal → Result Reply (Fault Ref
 Answers model (Ok reply) next = model ≡ Ok (reply, next)
 Answers model (Err (Refused r)) next = model ≡ Err r
 Answers model (Err Memory) next = ⊤
+
+-- the state of an empty database, with the greatest identifier that may be drawn
+abbrev pub empty_state : ℕ → State
+empty_state limit = record { versions = []; operators = []; tables = []; next = 1; limit = limit }

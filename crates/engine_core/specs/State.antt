@@ -47,9 +47,22 @@ pub record IsPlaced (widths : List ℕ) (place : ℕ) (o : Made) : Type 0 where
   pub few : length o.columns ≤ 64
   pub added : IfSome o.added (λ a. (a.source < place) × (width : ℕ) × (slice_get widths a.source ≡ Some width) × (length o.columns ≡ width + 1) × (fits_row a.value width ≡ true))
 
+-- how many values the rows of each table have
+abbrev pub widths : List Contents → List ℕ
+widths tables = map (λ (t : Contents). t.width) tables
+
+-- there is a table for each operator, and each fits the operator that made it
+pub record AreReady (operators : List Made) (tables : List Contents) : Type 0 where
+  pub even : length tables ≡ length operators
+  pub placed : (place : ℕ) (o : Made) → slice_get operators place ≡ Some o → IsPlaced (widths tables) place o
+
+-- the same tables but for their rows
+abbrev pub AreSame : List Contents → List Contents → Type 0
+AreSame tables now = widths now ≡ widths tables
+
 -- what is true of every state
 pub record IsSound (s : State) : Type 0 where
-  pub placed : (place : ℕ) (o : Made) → slice_get s.operators place ≡ Some o → IsPlaced (map (λ (t : Contents). t.width) s.tables) place o
+  pub ready : AreReady s.operators s.tables
   pub below : (place : ℕ) (t : Contents) → slice_get s.tables place ≡ Some t → AreBelow s.next t.rows
   pub some : 1 ≤ s.next
   pub next_fits : s.next ≤ 2 ^ 63

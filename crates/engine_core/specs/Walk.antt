@@ -4,7 +4,7 @@ use Rattle.std.specs.List.{list_any}
 use Rattle.par_base.specs.declared.value.Value.{Value}
 use Rattle.engine_core.specs.Tables.{Rows, Contents}
 use Rattle.engine_core.specs.Mappings.{forward_of, backward_of}
-use Rattle.engine_core.specs.State.{Made, Origin, State, table_at, IsPlaced}
+use Rattle.engine_core.specs.State.{Made, Origin, State, table_at}
 use Rattle.engine_core.specs.declared.state.Version.{Version}
 use Rattle.engine_core.specs.declared.walk.Step.{Step}
 use Rattle.engine_core.specs.declared.walk.Step.TheVariants.{Backward, Forward}
@@ -45,18 +45,6 @@ others_from place way tree (o ∷ operators) = other_step way tree place o ++ ot
 -- up to the root of the version's tree, each backward, and then all other operators of the tree
 unfoldable pub walk_of : List Made → Version → List Step
 walk_of operators v = map Backward v.way ++ others_from 0 v.way v.tree operators
-
--- how many values the rows of each table have
-abbrev pub widths : List Contents → List ℕ
-widths tables = map (λ (t : Contents). t.width) tables
-
--- the tables fit the operators that made them
-abbrev pub AreReady : List Made → List Contents → Type 0
-AreReady operators tables = (place : ℕ) (o : Made) → slice_get operators place ≡ Some o → IsPlaced (widths tables) place o
-
--- the same tables but for their rows
-abbrev pub AreSame : List Contents → List Contents → Type 0
-AreSame tables now = widths now ≡ widths tables
 
 -- rows under the identifiers from the next one on
 unfoldable pub numbered : ℕ → List (List Value) → Rows

@@ -27,3 +27,12 @@ pub struct Operator {
     pub columns: List<Name>,
     pub added: Option<Added>,
 }
+
+/// Where an evolution stands: the tables of its working set, the operators from there up to the
+/// root, and the place of the tree's first operator.
+#[derive(Drop)]
+pub struct Standing {
+    pub tables: List<usize>,
+    pub way: List<usize>,
+    pub tree: usize,
+}

@@ -6,8 +6,8 @@ ghost use Rattle.expr_lang.specs.Terms.{expr_term};
 ghost use Rattle.expr_lang.specs.Val.{fits_row};
 ghost use Rattle.engine_core.specs.Tables.{Contents};
 ghost use Rattle.engine_core.specs.Mappings.{forward_of, backward_of};
-ghost use Rattle.engine_core.specs.State.{made_of, origin_of, table_at};
-ghost use Rattle.engine_core.specs.Walk.{origin_at, after_step, along, walk_of, other_step, others_from, AreReady, AreSame};
+ghost use Rattle.engine_core.specs.State.{made_of, origin_of, table_at, AreReady, AreSame};
+ghost use Rattle.engine_core.specs.Walk.{origin_at, after_step, along, walk_of, other_step, others_from};
 
 use crate::mapping::{backward, forward};
 use crate::state::{Added, Operator, Version};

@@ -1,7 +1,6 @@
 use Rattle.std.proofs.Common.{◌≡◌, ◌+◌, ◌∷◌, sym, subst, map, drop, arith, ◌∙◌, refl, drop-cons, add-one, List}
-use Rattle.engine_core.specs.State.{made_of}
+use Rattle.engine_core.specs.State.{made_of, AreSame}
 use Rattle.engine_core.specs.Tables.{Contents}
-use Rattle.engine_core.specs.Walk.{AreSame}
 use Rattle.engine_core.proofs.WalkLemmas.{after_step-same, along-step, drop_at}
 use Rattle.engine_core.proofs.walk.run.Goals as goal
 

@@ -1,6 +1,6 @@
 use Rattle.std.proofs.Common.{◌≡◌, map, drop}
-use Rattle.engine_core.specs.State.{made_of}
-use Rattle.engine_core.specs.Walk.{along, AreSame}
+use Rattle.engine_core.specs.State.{made_of, AreSame}
+use Rattle.engine_core.specs.Walk.{along}
 use Rattle.engine_core.proofs.walk.run.Given as goal
 
 abbrev pub invariant-loop-step : goal.invariant-loop-step
