@@ -4,15 +4,17 @@ use Rattle.std.proofs.lemmas.List.{map-append, length-map}
 use Rattle.std.specs.Prelude.{Option, Result, slice_get, IfSome}
 use Rattle.std.specs.Option.{option_map_or}
 use Rattle.par_base.specs.declared.refusal.Refusal.{Refusal}
+use Rattle.par_base.specs.declared.fault.Fault.{Fault}
+use Rattle.par_base.specs.declared.fault.Fault.TheVariants.{Refused, Memory}
 use Rattle.expr_lang.specs.Terms.{Term}
 use Rattle.expr_lang.specs.Val.{fits_row}
 use Rattle.expr_lang.specs.Resolved.{resolved}
 use Rattle.bidel_parser.specs.Views.{OpView, CreateTable, AddColumn, op_view}
 use Rattle.bidel_parser.specs.declared.statement.OpText.{OpText}
 use Rattle.engine_core.specs.Tables.{Contents}
-use Rattle.engine_core.specs.Checks.{Checked, ◌then◌}
-use Rattle.engine_core.specs.State.{Made, Origin, IsPlaced, AreReady, widths, table_at}
-use Rattle.engine_core.specs.Evolve.{Growth, Planned, planned, planned_table, planned_column, column_plan, grown_by, with_operator, with_operators, room_for_operator, unused_name, known_table, place_named, columns_at, new_columns, repeated, row_name, few_columns, known_columns}
+use Rattle.engine_core.specs.Checks.{Checked, ◌then◌, Gives}
+use Rattle.engine_core.specs.State.{State, Made, Origin, IsPlaced, AreReady, widths, table_at}
+use Rattle.engine_core.specs.Evolve.{Growth, Planned, planned, planned_table, planned_column, column_plan, grown_by, with_operator, with_operators, evolved, evolved_to, start_of, unused_version, version_named, room_for_operator, unused_name, known_table, place_named, columns_at, new_columns, repeated, row_name, few_columns, known_columns}
 use Rattle.engine_core.specs.declared.state.Standing.{Standing}
 use Rattle.engine_core.proofs.PushLemmas.{slice_get-push, slice_get-more, slice_get-last, slice_get-within}
 use Rattle.engine_core.proofs.PlanLemmas.{HasTable, known_has_table, few_length, resolved_value, resolved_fits}
@@ -109,3 +111,16 @@ unfolding with_operators
 with_operators-step g next texts at text here e =
     ap (λ (r : Checked Growth). r then λ grown. with_operators grown (map op_view (drop (at + 1) texts))) (sym e)
     ∙ ap (λ (l : List OpText). with_operators g (map op_view l)) (sym here)
+
+-- after the checks an evolution is that of its operators
+pub evolved-from : (s : State) (name : List ℕ) (origin : Option (List ℕ)) (os : List OpView) (at : Standing) → start_of s.versions s.operators origin ≡ Ok at
+    → unused_version name (version_named s.versions name) ≡ Ok tt
+    → evolved s name origin os ≡ (with_operators (record { operators = s.operators; tables = s.tables; at = at }) os then λ g. Ok (evolved_to s name g))
+evolved-from s name origin os at begins unused =
+    ap (λ (r : Checked Standing). r then λ at. unused_version name (version_named s.versions name) then λ _. with_operators (record { operators = s.operators; tables = s.tables; at = at }) os then λ g. Ok (evolved_to s name g)) begins
+    ∙ ap (λ (r : Checked (Unit {0})). r then λ _. with_operators (record { operators = s.operators; tables = s.tables; at = at }) os then λ g. Ok (evolved_to s name g)) unused
+
+-- the same refusal, whatever would have been given
+pub gives_fault : {X Y : Type 0} (view other : X → Y) (f : Fault Refusal) (r q : Result Y Refusal) → r ≡ q → Gives view (Err f) r → Gives other (Err f) q
+gives_fault view other (Refused x) r q same gives = sym same ∙ gives
+gives_fault view other Memory r q same gives = tt

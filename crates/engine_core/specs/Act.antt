@@ -42,9 +42,9 @@ right_counts wanted [] = Ok tt
 right_counts wanted (row ∷ rows) = if length row == wanted then right_counts wanted rows else Err (WrongCount (length row) wanted)
 
 -- so many identifiers from the next one on are within the limit
-abbrev pub enough_ids : State → ℕ → Checked (Unit {0})
-enough_ids s count =
-    if nat_lt 0 count && nat_lt (s.limit + 1) (s.next + count) then Err (IdsSpent (max s.next (s.limit + 1)) s.limit) else Ok tt
+abbrev pub enough_ids : ℕ → ℕ → ℕ → Checked (Unit {0})
+enough_ids next limit count =
+    if nat_lt 0 count && nat_lt (limit + 1) (next + count) then Err (IdsSpent (max next (limit + 1)) limit) else Ok tt
 
 abbrev pub ids_of : Rows → List ℕ
 ids_of rows = map (λ r. r.0) rows
@@ -54,7 +54,7 @@ abbrev pub acted_insert : State → TableName → List (List Value) → Checked 
 acted_insert s t rows =
     found s t then λ f.
     right_counts (length (columns_at s.operators f.place)) rows then λ _.
-    enough_ids s (length rows) then λ _.
+    enough_ids s.next s.limit (length rows) then λ _.
     Ok (Inserted (ids_of (numbered s.next rows)), inserted s f.version f.place rows)
 
 -- a row as a SELECT shows it: the reference to its identifier, and its values

@@ -149,24 +149,24 @@ abbrev pub standing_of : Option Version → List ℕ → Checked Standing
 standing_of (Some v) name = Ok (record { tables = v.tables; way = v.way; tree = v.tree })
 standing_of None name = Err (UnknownVersion name)
 
-abbrev pub start_of : State → Option (List ℕ) → Checked Standing
-start_of s None = Ok (record { tables = []; way = []; tree = length s.operators })
-start_of s (Some name) = standing_of (version_named s.versions name) name
+abbrev pub start_of : List Version → List Made → Option (List ℕ) → Checked Standing
+start_of versions operators None = Ok (record { tables = []; way = []; tree = length operators })
+start_of versions operators (Some name) = standing_of (version_named versions name) name
 
 abbrev pub unused_version : List ℕ → Option Version → Checked (Unit {0})
 unused_version name (Some v) = Err (VersionExists name)
 unused_version name None = Ok tt
 
+-- the versions with the new name at the last working set
+abbrev pub with_version : List Version → List ℕ → Standing → List Version
+with_version versions name at = versions ++ record { name = name; tables = at.tables; way = at.way; tree = at.tree } ∷ []
+
 abbrev pub evolved_to : State → List ℕ → Growth → State
-evolved_to s name g = record s {
-  versions = s.versions ++ record { name = name; tables = g.at.tables; way = g.at.way; tree = g.at.tree } ∷ [];
-  operators = g.operators;
-  tables = g.tables;
-}
+evolved_to s name g = record s { versions = with_version s.versions name g.at; operators = g.operators; tables = g.tables }
 
 abbrev pub evolved : State → List ℕ → Option (List ℕ) → List OpView → Checked State
 evolved s name from operations =
-    start_of s from then λ at.
+    start_of s.versions s.operators from then λ at.
     unused_version name (version_named s.versions name) then λ _.
     with_operators (record { operators = s.operators; tables = s.tables; at = at }) operations then λ g.
     Ok (evolved_to s name g)

@@ -74,7 +74,8 @@ impl Table {
 
     /// An equal table. It takes time in the number of values.
     pub fn copy(&self, alloc: Global) -> Result<Table, Memory>
-        ensures { IfOk result (λ made. made ≡ self.now) }
+        ensures ok { IfOk result (λ made. made ≡ self.now) }
+        ensures rise { RiseAbove 0 self.now.rows }
     {
         let rows = copy_rows(alloc, self.rows.as_slice())?;
         Ok(Table {

@@ -148,8 +148,8 @@ fn carry_on<L: Ledger>(
     Ok(())
 }
 
-// Puts a table in the place of another.
-fn put(tables: &mut Vec<Table>, place: usize, table: Table)
+/// Puts a table in the place of another.
+pub fn put(tables: &mut Vec<Table>, place: usize, table: Table)
     ensures { tables.new.items ≡ slice_set tables.old.items place table }
 {
     if let Some(slot) = tables.get_mut(place) {

@@ -2,7 +2,7 @@ use Rattle.std.proofs.Common.{◌≡◌, map, drop, take, length}
 use Rattle.bidel_parser.specs.Views.{op_view}
 use Rattle.engine_core.specs.State.{made_of, AreReady}
 use Rattle.engine_core.specs.Evolve.{growth_of, with_operators}
-use Rattle.engine_core.proofs.evolve.add_operators.Given as goal
+use Rattle.engine_core.proofs.evolution.add_operators.Given as goal
 
 abbrev pub invariant-loop-text : goal.invariant-loop-text
 invariant-loop-text g l = record {

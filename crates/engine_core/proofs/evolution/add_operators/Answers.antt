@@ -4,7 +4,7 @@ use Rattle.engine_core.specs.Evolve.{growth_of}
 use Rattle.engine_core.proofs.PushLemmas.{front-trans}
 use Rattle.engine_core.proofs.WalkLemmas.{drop_at}
 use Rattle.engine_core.proofs.EvolveLemmas.{with_operator-ready, with_operators-step}
-use Rattle.engine_core.proofs.evolve.add_operators.Goals as goal
+use Rattle.engine_core.proofs.evolution.add_operators.Goals as goal
 
 pub loop-text-preserved : goal.loop-text-preserved
 loop-text-preserved g c =

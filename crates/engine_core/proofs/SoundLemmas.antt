@@ -1,0 +1,147 @@
+-- An INSERT leaves a sound state.
+use Rattle.std.proofs.Common.{◌≡◌, ℕ, zero, suc, ◌+◌, ◌-◌, ◌<◌, ◌≤◌, ◌^◌, ◌⊎◌, inl, inr, List, [], ◌∷◌, ◌++◌, Bool, true, false, cond, length, get_or, take, map, Ok, Err, Some, None, refl, ap, ◌∙◌, sym, subst, arith}
+use Rattle.std.specs.Prelude.{Option, Result, slice_get, slice_set, max, nat_lt, ◌&&◌}
+use Rattle.std.proofs.lemmas.List.{length-map}
+use Rattle.std.proofs.lemmas.Bool.{ltb-false, ltb-true}
+use Rattle.par_base.specs.declared.value.Value.{Value}
+use Rattle.par_base.specs.declared.refusal.Refusal.{Refusal}
+use Rattle.par_base.specs.declared.refusal.Refusal.TheVariants.{IdsSpent}
+use Rattle.bidel_parser.specs.declared.statement.TableName.{TableName}
+use Rattle.engine_core.specs.Tables.{Rows, Contents, AreBelow}
+use Rattle.engine_core.specs.Mappings.{forward_of, backward_of}
+use Rattle.engine_core.specs.Checks.{Checked}
+use Rattle.engine_core.specs.State.{State, Made, Origin, IsPlaced, IsSound, AreReady, AreSame, widths, table_at, no_table}
+use Rattle.engine_core.specs.Walk.{origin_at, taken_back, carried_on, after_step, along, walk_of, numbered, with_rows, inserted}
+use Rattle.engine_core.specs.Evolve.{known_table, place_named}
+use Rattle.engine_core.specs.Act.{Found, found, version_of, enough_ids}
+use Rattle.engine_core.specs.declared.state.Version.{Version}
+use Rattle.engine_core.specs.declared.walk.Step.{Step}
+use Rattle.engine_core.specs.declared.walk.Step.TheVariants.{Backward, Forward}
+use Rattle.engine_core.proofs.WalkLemmas.{after_step-same, widths-set}
+use Rattle.engine_core.proofs.PlanLemmas.{HasTable, known_has_table}
+use Rattle.engine_core.proofs.EvolveLemmas.{then_ok, ok_is}
+
+-- the table that a statement names is there
+pub found_table : (s : State) (t : TableName) (f : Found) → AreReady s.operators s.tables → found s t ≡ Ok f → HasTable s.operators s.tables f.place
+found_table s t f ready e =
+    let v = then_ok (version_of s t.version) _ f e in
+    let p = then_ok (known_table t.table (place_named s.operators v.0.tables t.table)) _ f v.2 in
+    subst (λ (x : Found). HasTable s.operators s.tables x.place) (ok_is (record { version = v.0; place = p.0 }) f p.2)
+    (known_has_table s.operators s.tables v.0.tables t.table p.0 ready p.1)
+
+pub table_at-get_or : (tables : List Contents) (place : ℕ) (d x : Contents) → place < length tables → x ≡ get_or tables place d → table_at tables place ≡ x
+table_at-get_or [] place d x within is = absurd (omega arith)
+table_at-get_or (t ∷ tables) zero d x within is = sym is
+table_at-get_or (t ∷ tables) (suc place) d x within is = table_at-get_or tables place d x (omega arith) is
+
+-- the tables with new rows in one of them
+pub put_written : (tables now new : List Contents) (place : ℕ) (d written : Contents) (rows : Rows) → place < length tables → now ≡ tables
+    → written ≡ with_rows (get_or tables place d) rows → new ≡ slice_set now place written → new ≡ slice_set tables place (with_rows (table_at tables place) rows)
+put_written tables now new place d written rows within same e n =
+    n ∙ ap (λ (ts : List Contents). slice_set ts place written) same
+    ∙ ap (λ (t : Contents). slice_set tables place t) (e ∙ ap (λ (t : Contents). with_rows t rows) (sym (table_at-get_or tables place d (get_or tables place d) within refl)))
+
+pub written-same : (tables : List Contents) (place : ℕ) (rows : Rows) → AreSame tables (slice_set tables place (with_rows (table_at tables place) rows))
+written-same tables place rows = widths-set tables place (with_rows (table_at tables place) rows) refl
+
+-- ---- widths
+
+along-same : (operators : List Made) (old now : List Contents) (walk : List Step) → AreReady operators old → AreSame old now → AreSame old (along operators old now walk)
+unfolding along
+along-same operators old now [] ready same = same
+along-same operators old now (step ∷ walk) ready same = along-same operators old (after_step operators old now step) walk ready (after_step-same operators old now step ready same)
+
+same_ready : (operators : List Made) (old now : List Contents) → AreReady operators old → AreSame old now → AreReady operators now
+same_ready operators old now ready same = record {
+  even = omega (arith, ready.even, ap length same, length-map now (λ (t : Contents). t.width), length-map old (λ (t : Contents). t.width));
+  placed = λ place o e. subst (λ (ws : List ℕ). IsPlaced ws place o) (sym same) (ready.placed place o e);
+}
+
+-- ---- identifiers
+
+abbrev AllBelow : ℕ → List Contents → Type 0
+AllBelow n tables = (place : ℕ) (t : Contents) → slice_get tables place ≡ Some t → AreBelow n t.rows
+
+slice_get-set : (tables : List Contents) (place : ℕ) (x : Contents) (at : ℕ) (t : Contents) → slice_get (slice_set tables place x) at ≡ Some t → (slice_get tables at ≡ Some t) ⊎ (x ≡ t)
+slice_get-set [] place x at t e = inl e
+slice_get-set (u ∷ tables) zero x zero t e = inr (let same : x ≡ t = cc in same)
+slice_get-set (u ∷ tables) zero x (suc at) t e = inl e
+slice_get-set (u ∷ tables) (suc place) x zero t e = inl e
+slice_get-set (u ∷ tables) (suc place) x (suc at) t e = slice_get-set tables place x at t e
+
+below_set : (n : ℕ) (tables : List Contents) (place : ℕ) (x : Contents) → AllBelow n tables → AreBelow n x.rows → AllBelow n (slice_set tables place x)
+below_set n tables place x all new at t e = elim (slice_get-set tables place x at t e) [ inl h ↦ all at t h | inr h ↦ subst (λ (c : Contents). AreBelow n c.rows) h new ]
+
+below_at : (n : ℕ) (tables : List Contents) (place : ℕ) → AllBelow n tables → AreBelow n (table_at tables place).rows
+below_at n [] place all = tt
+below_at n (t ∷ tables) zero all = all 0 t refl
+below_at n (t ∷ tables) (suc place) all = below_at n tables place (λ at u e. all (suc at) u e)
+
+below_map : (n : ℕ) (g : ℕ × List Value → List Value) (rows : Rows) → AreBelow n rows → AreBelow n (map (λ r. (r.0, g r)) rows)
+below_map n g [] below = tt
+below_map n g (r ∷ rows) below = (below.0, below_map n g rows below.1)
+
+below_more : (n m : ℕ) (rows : Rows) → n ≤ m → AreBelow n rows → AreBelow m rows
+below_more n m [] le below = tt
+below_more n m (r ∷ rows) le below = (omega (arith, below.0), below_more n m rows le below.1)
+
+below_append : (n : ℕ) (rows more : Rows) → AreBelow n rows → AreBelow n more → AreBelow n (rows ++ more)
+below_append n [] more below new = new
+below_append n (r ∷ rows) more below new = (below.0, below_append n rows more below.1 new)
+
+numbered_below : (n next : ℕ) (rows : List (List Value)) → next + length rows ≤ n → AreBelow n (numbered next rows)
+unfolding numbered
+numbered_below n next [] fits = tt
+numbered_below n next (row ∷ rows) fits = (omega arith, numbered_below n (next + 1) rows (omega arith))
+
+taken_back-below : (n : ℕ) (now : List Contents) (place : ℕ) (o : Option Origin) → AllBelow n now → AllBelow n (taken_back now place o)
+taken_back-below n now place None all = all
+taken_back-below n now place (Some a) all =
+    below_set n now a.source (backward_of (table_at now place)) all (below_map n (λ r. take ((table_at now place).width - 1) r.1) (table_at now place).rows (below_at n now place all))
+
+carried_on-below : (n : ℕ) (old now : List Contents) (place : ℕ) (o : Option Origin) → AllBelow n now → AllBelow n (carried_on old now place o)
+carried_on-below n old now place None all = all
+carried_on-below n old now place (Some a) all =
+    below_set n now place (forward_of a.value (table_at now a.source) (table_at old place)) all (below_map n _ (table_at now a.source).rows (below_at n now a.source all))
+
+after_step-below : (n : ℕ) (operators : List Made) (old now : List Contents) (step : Step) → AllBelow n now → AllBelow n (after_step operators old now step)
+after_step-below n operators old now (Backward place) all = taken_back-below n now place (origin_at operators place) all
+after_step-below n operators old now (Forward place) all = carried_on-below n old now place (origin_at operators place) all
+
+along-below : (n : ℕ) (operators : List Made) (old now : List Contents) (walk : List Step) → AllBelow n now → AllBelow n (along operators old now walk)
+unfolding along
+along-below n operators old now [] all = all
+along-below n operators old now (step ∷ walk) all = along-below n operators old (after_step operators old now step) walk (after_step-below n operators old now step all)
+
+-- ---- the limit
+
+abbrev spent : Bool → Bool → ℕ → ℕ → Checked (Unit {0})
+spent a b next limit = cond (a && b) (Err (IdsSpent (max next (limit + 1)) limit)) (Ok tt)
+
+not_spent : (a b : Bool) (next limit : ℕ) → spent a b next limit ≡ Ok tt → (a ≡ false) ⊎ (b ≡ false)
+not_spent true true next limit e = cc
+not_spent true false next limit e = inr refl
+not_spent false b next limit e = inl refl
+
+pub ids_fit : (next limit count : ℕ) → enough_ids next limit count ≡ Ok tt → next ≤ 2 ^ 63 → limit < 2 ^ 63 → next + count ≤ 2 ^ 63
+ids_fit next limit count e fits below =
+    elim (not_spent (nat_lt 0 count) (nat_lt (limit + 1) (next + count)) next limit e) [
+      inl h ↦ omega (arith, ltb-false 0 count h)
+      | inr h ↦ omega (arith, ltb-false (limit + 1) (next + count) h) ]
+
+-- a sound state is sound after an INSERT
+pub inserted_sound : (s : State) (v : Version) (place : ℕ) (rows : List (List Value)) → IsSound s → enough_ids s.next s.limit (length rows) ≡ Ok tt → IsSound (inserted s v place rows)
+inserted_sound s v place rows sound enough =
+    let next : ℕ = s.next + length rows in
+    let start : List Contents = slice_set s.tables place (with_rows (table_at s.tables place) (numbered s.next rows)) in
+    let all : AllBelow next s.tables = λ at t e. below_more s.next next t.rows (omega arith) (sound.below at t e) in
+    let new : AreBelow next (with_rows (table_at s.tables place) (numbered s.next rows)).rows =
+        below_append next (table_at s.tables place).rows (numbered s.next rows) (below_at next s.tables place all) (numbered_below next s.next rows (omega arith)) in
+    record {
+      ready = same_ready s.operators s.tables (along s.operators s.tables start (walk_of s.operators v)) sound.ready
+          (along-same s.operators s.tables start (walk_of s.operators v) sound.ready (written-same s.tables place (numbered s.next rows)));
+      below = along-below next s.operators s.tables start (walk_of s.operators v) (below_set next s.tables place _ all new);
+      some = omega (arith, sound.some);
+      next_fits = ids_fit s.next s.limit (length rows) enough sound.next_fits sound.limit_fits;
+      limit_fits = sound.limit_fits;
+    }
