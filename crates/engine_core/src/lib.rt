@@ -1,4 +1,10 @@
-//! x
+//! The engine: one database with all its versions, which carries out one statement after the other.
+//!
+//! It keeps a whole table for each operator that made one. To the crates above it promises that
+//! `Engine::event` answers and leaves exactly what the model does (`specs/Act.antt`): the reply and
+//! the next state, or the refusal in its order; that a refused or starved call leaves the state as
+//! it was; and that `reply_text` and `refusal_text` give the lines of replies and refusals. It must
+//! not know how statements are written, or where their bytes come from and where the lines go.
 #![tactic(auto)]
 
 mod engine;
@@ -7,20 +13,16 @@ mod insert;
 mod lookup;
 mod mapping;
 mod plan;
+mod refusal_line;
 mod reply;
+mod reply_lines;
+mod select;
 mod snapshot;
 mod state;
 mod table;
 mod walk;
 
-pub use mapping::{backward, forward};
-pub use plan::{Plan, copy_places, known_place, plan_operator};
-pub use reply::Reply;
 pub use engine::Engine;
-pub use insert::insert_rows;
-pub use snapshot::{FoundTable, Snapshot, find_table};
-pub use evolution::{Evolution, evolve};
-pub use lookup::{columns_of, find_place, find_repeated, find_version};
-pub use state::{Added, Operator, Standing, Version};
-pub use table::Table;
-pub use walk::Step;
+pub use refusal_line::refusal_text;
+pub use reply::Reply;
+pub use reply_lines::reply_text;
