@@ -1,25 +1,32 @@
--- An INSERT leaves a sound state.
+-- Every event leaves a sound state.
 use Rattle.std.proofs.Common.{◌≡◌, ℕ, zero, suc, ◌+◌, ◌-◌, ◌<◌, ◌≤◌, ◌^◌, ◌⊎◌, inl, inr, List, [], ◌∷◌, ◌++◌, Bool, true, false, cond, length, get_or, take, map, Ok, Err, Some, None, refl, ap, ◌∙◌, sym, subst, arith}
-use Rattle.std.specs.Prelude.{Option, Result, slice_get, slice_set, max, nat_lt, ◌&&◌}
+use Rattle.std.specs.Prelude.{Option, Result, slice_get, slice_set, max, nat_lt, ◌&&◌, All}
+use Rattle.std.specs.List.{AllByRecursion}
+use Rattle.std.proofs.lemmas.List.Elements.{All-from_recursion}
 use Rattle.std.proofs.lemmas.List.{length-map}
 use Rattle.std.proofs.lemmas.Bool.{ltb-false, ltb-true}
 use Rattle.par_base.specs.declared.value.Value.{Value}
 use Rattle.par_base.specs.declared.refusal.Refusal.{Refusal}
 use Rattle.par_base.specs.declared.refusal.Refusal.TheVariants.{IdsSpent}
 use Rattle.bidel_parser.specs.declared.statement.TableName.{TableName}
-use Rattle.engine_core.specs.Tables.{Rows, Contents, AreBelow}
+use Rattle.engine_core.specs.Tables.{Rows, Contents, AreBelow, AreWide}
 use Rattle.engine_core.specs.Mappings.{forward_of, backward_of}
 use Rattle.engine_core.specs.Checks.{Checked}
 use Rattle.engine_core.specs.State.{State, Made, Origin, IsPlaced, IsSound, AreReady, AreSame, widths, table_at, no_table}
 use Rattle.engine_core.specs.Walk.{origin_at, taken_back, carried_on, after_step, along, walk_of, numbered, with_rows, inserted}
-use Rattle.engine_core.specs.Evolve.{known_table, place_named}
-use Rattle.engine_core.specs.Act.{Found, found, version_of, enough_ids}
+use Rattle.engine_core.specs.Evolve.{Growth, Planned, planned, column_plan, grown_by, with_operator, with_operators, evolved, evolved_to, start_of, unused_version, version_named, room_for_operator, unused_name, known_table, place_named, columns_at, new_columns, repeated, row_name, few_columns, known_columns}
+use Rattle.expr_lang.specs.Resolved.{resolved}
+use Rattle.bidel_parser.specs.Views.{OpView, CreateTable, AddColumn}
+use Rattle.engine_core.specs.declared.reply.Reply.{Reply}
+use Rattle.engine_core.specs.declared.reply.Reply.TheVariants.{Inserted}
+use Rattle.engine_core.specs.Act.{Found, found, version_of, enough_ids, right_counts, ids_of, acted_insert, shown}
 use Rattle.engine_core.specs.declared.state.Version.{Version}
 use Rattle.engine_core.specs.declared.walk.Step.{Step}
 use Rattle.engine_core.specs.declared.walk.Step.TheVariants.{Backward, Forward}
 use Rattle.engine_core.proofs.WalkLemmas.{after_step-same, widths-set}
 use Rattle.engine_core.proofs.PlanLemmas.{HasTable, known_has_table}
-use Rattle.engine_core.proofs.EvolveLemmas.{then_ok, ok_is}
+use Rattle.engine_core.proofs.EvolveLemmas.{then_ok, ok_is, with_operator-ready}
+use Rattle.engine_core.proofs.PushLemmas.{slice_get-push}
 
 -- the table that a statement names is there
 pub found_table : (s : State) (t : TableName) (f : Found) → AreReady s.operators s.tables → found s t ≡ Ok f → HasTable s.operators s.tables f.place
@@ -145,3 +152,73 @@ inserted_sound s v place rows sound enough =
       next_fits = ids_fit s.next s.limit (length rows) enough sound.next_fits sound.limit_fits;
       limit_fits = sound.limit_fits;
     }
+
+-- ---- CREATE SCHEMA VERSION
+
+with_operators_ready : (g next : Growth) (os : List OpView) → AreReady g.operators g.tables → with_operators g os ≡ Ok next → AreReady next.operators next.tables
+unfolding with_operators
+with_operators_ready g next [] ready e = subst (λ (x : Growth). AreReady x.operators x.tables) (ok_is g next e) ready
+with_operators_ready g next (o ∷ os) ready e =
+    let one = then_ok (with_operator g o) _ next e in with_operators_ready one.0 next os (with_operator-ready g o one.0 ready one.1) one.2
+
+planned_below : (n : ℕ) (g : Growth) (o : OpView) (p : Planned) → AllBelow n g.tables → planned g o ≡ Ok p → AreBelow n p.table.rows
+planned_below n g (CreateTable name columns) p all e =
+    let room = then_ok (room_for_operator g.operators) _ p e in
+    let fresh = then_ok (unused_name name (place_named g.operators g.at.tables name)) _ p room.2 in
+    let new = then_ok (new_columns (repeated (row_name ∷ []) columns)) _ p fresh.2 in
+    let few = then_ok (few_columns name columns) _ p new.2 in
+    subst (λ (x : Planned). AreBelow n x.table.rows) (ok_is _ p few.2) tt
+planned_below n g (AddColumn column value name) p all e =
+    let room = then_ok (room_for_operator g.operators) _ p e in
+    let source = then_ok (known_table name (place_named g.operators g.at.tables name)) _ p room.2 in
+    let known = then_ok (known_columns (resolved (columns_at g.operators source.0) value)) _ p source.2 in
+    let new = then_ok (new_columns (repeated (row_name ∷ columns_at g.operators source.0) (column ∷ []))) _ p known.2 in
+    let few = then_ok (few_columns name (columns_at g.operators source.0 ++ column ∷ [])) _ p new.2 in
+    subst (λ (x : Planned). AreBelow n x.table.rows) (ok_is (column_plan g.operators g.tables g.at name column source.0 known.0) p few.2)
+    (below_map n _ (table_at g.tables source.0).rows (below_at n g.tables source.0 all))
+
+below_push : (n : ℕ) (tables : List Contents) (x : Contents) → AllBelow n tables → AreBelow n x.rows → AllBelow n (tables ++ x ∷ [])
+below_push n tables x all new at t e = elim (slice_get-push tables at x t e) [ inl h ↦ all at t h | inr h ↦ subst (λ (c : Contents). AreBelow n c.rows) h.1 new ]
+
+with_operators_below : (n : ℕ) (g next : Growth) (os : List OpView) → AllBelow n g.tables → with_operators g os ≡ Ok next → AllBelow n next.tables
+unfolding with_operators
+with_operators_below n g next [] all e = subst (λ (x : Growth). AllBelow n x.tables) (ok_is g next e) all
+with_operators_below n g next (o ∷ os) all e =
+    let one = then_ok (with_operator g o) _ next e in
+    let p = then_ok (planned g o) _ one.0 one.1 in
+    with_operators_below n one.0 next os
+    (subst (λ (x : Growth). AllBelow n x.tables) (ok_is (grown_by g p.0) one.0 p.2) (below_push n g.tables p.0.table all (planned_below n g o p.0 all p.1))) one.2
+
+-- a sound state is sound after an evolution
+pub evolved_sound : (s next : State) (name : List ℕ) (origin : Option (List ℕ)) (os : List OpView) → IsSound s → evolved s name origin os ≡ Ok next → IsSound next
+evolved_sound s next name origin os sound e =
+    let at = then_ok (start_of s.versions s.operators origin) _ next e in
+    let unused = then_ok (unused_version name (version_named s.versions name)) _ next at.2 in
+    let start : Growth = record { operators = s.operators; tables = s.tables; at = at.0 } in
+    let g = then_ok (with_operators start os) _ next unused.2 in
+    subst IsSound (ok_is (evolved_to s name g.0) next g.2) (record {
+      ready = with_operators_ready start g.0 os sound.ready g.1;
+      below = with_operators_below s.next start g.0 os sound.below g.1;
+      some = sound.some;
+      next_fits = sound.next_fits;
+      limit_fits = sound.limit_fits;
+    })
+
+-- a sound state is sound after an accepted INSERT
+pub acted_insert_sound : (s : State) (t : TableName) (rows : List (List Value)) (done : Reply × State) → IsSound s → acted_insert s t rows ≡ Ok done → IsSound done.1
+acted_insert_sound s t rows done sound e =
+    let f = then_ok (found s t) _ done e in
+    let counts = then_ok (right_counts (length (columns_at s.operators f.0.place)) rows) _ done f.2 in
+    let enough = then_ok (enough_ids s.next s.limit (length rows)) _ done counts.2 in
+    subst (λ (x : Reply × State). IsSound x.1) (ok_is (Inserted (ids_of (numbered s.next rows)), inserted s f.0.version f.0.place rows) done enough.2)
+    (inserted_sound s f.0.version f.0.place rows sound enough.1)
+
+-- ---- SELECT
+
+shown_are_wide : (n width : ℕ) (rows : Rows) → AreWide width rows → width + 1 ≡ n → AllByRecursion (λ (row : List Value). length row ≡ n) (map shown rows)
+shown_are_wide n width [] wide e = tt
+shown_are_wide n width (r ∷ rows) wide e = (omega (arith, wide.0), shown_are_wide n width rows wide.1 e)
+
+-- the rows that a SELECT shows have a value for each name of the header
+pub shown_wide : (n width : ℕ) (rows : Rows) → AreWide width rows → width + 1 ≡ n → All (λ (row : List Value). length row ≡ n) (map shown rows)
+shown_wide n width rows wide e = All-from_recursion (λ (row : List Value). length row ≡ n) (map shown rows) (shown_are_wide n width rows wide e)

@@ -5,7 +5,7 @@ ghost use Rattle.expr_lang.specs.Terms.{expr_term};
 ghost use Rattle.expr_lang.specs.Val.{val, fits_row};
 ghost use Rattle.engine_core.specs.Mappings.{forward_of, backward_of, value_in};
 
-use crate::Table;
+use crate::table::Table;
 use expr_lang::{Expr, Steps, eval};
 use par_base::{Memory, Row, Value};
 use std::alloc::Global;

@@ -1,5 +1,5 @@
 //! What the engine keeps: versions, operators and whole tables.
-use crate::Table;
+use crate::table::Table;
 use expr_lang::Expr;
 use par_base::{List, Name};
 
