@@ -6,6 +6,7 @@
 //! `Failed` only where a count of faults rose. It knows nothing of statements, tables or versions.
 #![tactic(auto)]
 
+mod all;
 mod failures;
 mod fault;
 mod filling;
@@ -23,6 +24,7 @@ mod sure;
 mod text;
 mod value;
 
+pub use all::{ReadAll, read_all, write_all};
 pub use fault::{Fault, Memory};
 pub use limits::{Limits, Target};
 pub use list::List;
