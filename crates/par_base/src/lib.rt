@@ -21,6 +21,8 @@ mod named_file;
 mod outside;
 mod refusal;
 mod sure;
+#[cfg(test)]
+mod tests;
 mod text;
 mod value;
 
