@@ -1,5 +1,5 @@
 -- What contracts see of sources, sinks and files in memory.
-use Rattle.std.specs.Prelude.{◌≡◌, ℕ, List, [], ◌∷◌, Option, None, Some, if◌then◌else◌}
+use Rattle.std.specs.Prelude.{ℕ, List, [], ◌∷◌, Option, None, if◌then◌else◌}
 use Rattle.std.specs.Str.{bytes_eq}
 
 -- the bytes that a source has left, and its count of faults

@@ -1,4 +1,4 @@
-use Rattle.std.proofs.Common.{◌≡◌, ◌∙◌, sym, ap}
+use Rattle.std.proofs.Common.{◌∙◌, sym, ap}
 use Rattle.par_base.specs.InMemory.{FileState}
 use Rattle.par_base.proofs.NamedFiles.{absent, found}
 use Rattle.par_base.proofs.named_file.find.Goals as goal

@@ -1,4 +1,4 @@
-use Rattle.std.proofs.Common.{◌≡◌, ◌∙◌, sym}
+use Rattle.std.proofs.Common.{◌∙◌, sym}
 use Rattle.par_base.proofs.NamedFiles.{set_found, set_other}
 use Rattle.par_base.proofs.named_file.hold_in.Goals as goal
 
