@@ -8,6 +8,7 @@ pub(crate) fn fill(buf: &mut [u8], bytes: &[u8], most: usize) -> usize
     requires some { 0 < most }
     ensures bound { result ≤ length buf.new }
     ensures within { result ≤ length bytes.now }
+    ensures most { result ≤ most }
     ensures copied { take result buf.new ≡ take result bytes.now }
     ensures end { result ≡ 0 → bytes.now ≡ [] }
 {
