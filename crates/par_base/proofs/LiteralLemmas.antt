@@ -1,5 +1,5 @@
 -- Literal texts: one character more of a quoted text, and which value a text could be that of.
-use Rattle.std.proofs.Common.{◌≡◌, ◌≢◌, ◌++◌, ◌∷◌, [], ℕ, ◌+◌, ◌<◌, List, Bool, true, false, length, get_or, suc, drop, flat_map, cond, refl, ap, ◌∙◌, sym, subst, append_assoc, append-nil, drop-cons, add-one, arith}
+use Rattle.std.proofs.Common.{◌≡◌, ◌≢◌, ◌++◌, ◌∷◌, [], ℕ, ◌+◌, ◌<◌, List, Bool, true, false, length, get_or, suc, drop, flat_map, cond, refl, ap, ◌∙◌, sym, append_assoc, append-nil, drop-cons, add-one, arith}
 use Rattle.std.specs.Prelude.{encode_utf8, encode_utf8_all, ◌==◌, ◌&&◌}
 use Rattle.std.proofs.lemmas.Str.{inside_one, encodes-append, encode_ascii}
 use Rattle.std.proofs.lemmas.Grind.{flat_map-append}
@@ -18,6 +18,7 @@ use Rattle.par_base.specs.declared.value.Value.{Value}
 use Rattle.par_base.specs.declared.value.Value.TheVariants.{Null, Int, Text, Reference}
 use Rattle.par_base.specs.Literals.{doubled, undoubled, quoted, literal_of, IsValue, IsCandidate}
 
+-- a byte that is no quote stays
 plain_byte : (b : ℕ) → b ≢ 39 → doubled b ≡ b ∷ []
 plain_byte b h = ap (λ (t : Bool). cond t (39 ∷ 39 ∷ []) (b ∷ [])) (ne_eqb b 39 h)
 
@@ -28,12 +29,15 @@ plain (b ∷ bs) h =
     ap (λ (l : List ℕ). l ++ flat_map doubled bs) (plain_byte b (h 0 (omega arith)))
     ∙ ap (λ (l : List ℕ). b ∷ l) (plain bs (λ k lt. h (suc k) (omega arith)))
 
+-- a character that is no quote stays
 pub plain_char : (c : ℕ) → c ≢ 39 → flat_map doubled (encode_utf8 c) ≡ encode_utf8 c
 plain_char c h = plain (encode_utf8 c) (λ k lt e. h (inside_one c [] (encode_utf8 c) k (sym (append-nil (encode_utf8 c))) lt (omega (arith, e)) ∙ e))
 
+-- a quote stands twice
 pub quote_char : (c : ℕ) → c ≡ 39 → flat_map doubled (encode_utf8 c) ≡ 39 ∷ 39 ∷ []
 quote_char c e = ap (λ (x : ℕ). flat_map doubled (encode_utf8 x)) e ∙ ap (flat_map doubled) (encode_ascii 39 (omega arith))
 
+-- one character more
 pub quoted_more : (ys made new : List ℕ) (c : ℕ) → made ≡ 39 ∷ flat_map doubled (encode_utf8_all ys) → new ≡ made ++ flat_map doubled (encode_utf8 c)
     → new ≡ 39 ∷ flat_map doubled (encode_utf8_all (ys ++ c ∷ []))
 quoted_more ys made new c m n =
@@ -41,9 +45,11 @@ quoted_more ys made new c m n =
     ∙ ap (λ (l : List ℕ). 39 ∷ l) (ap (λ (l : List ℕ). flat_map doubled (encode_utf8_all ys) ++ flat_map doubled l) (sym (append-nil (encode_utf8 c)))
     ∙ sym (flat_map-append doubled (encode_utf8_all ys) (encode_utf8_all (c ∷ []))) ∙ ap (flat_map doubled) (sym (encodes-append ys (c ∷ []))))
 
+-- the byte at a place, and those after it
 drop-at : (xs : List ℕ) (i : ℕ) → i < length xs → drop i xs ≡ get_or xs i 0 ∷ drop (i + 1) xs
 drop-at xs i lt = rw (add-one, drop-cons xs i 0)
 
+-- what doubling made of one byte
 undoubled_byte : (b : ℕ) (t : Bool) → (b == 39) ≡ t → (bs : List ℕ) → undoubled false (doubled b ++ bs) ≡ b ∷ undoubled false bs
 unfolding undoubled
 undoubled_byte b true e bs =
@@ -98,12 +104,15 @@ first_of_int : (n : ℤ) → FitsSigned w64 n → (45 ≤ get_or (signed_decimal
 first_of_int (pos n) fits = let p = first_digit n (omega (arith, fits.sfits)) in (omega (arith, p.1), omega (arith, p.2))
 first_of_int (negsuc n) fits = (omega arith, omega arith)
 
+-- the text of an integer is UTF-8
 pub int_is_utf8 : (n : ℤ) → FitsSigned w64 n → IsUtf8 (signed_decimal n)
 int_is_utf8 n fits = IsUtf8-from_ascii _ (IsAscii-signed n fits.sfits)
 
+-- the digits of a reference are UTF-8
 pub id_is_utf8 : (id : ℕ) → id < 2 ^ 64 → IsUtf8 (decimal id)
 id_is_utf8 id small = IsUtf8-from_ascii _ (IsAscii-decimal id small)
 
+-- equal texts have one first byte
 first_is : (bs ds : List ℕ) (b : ℕ) → get_or bs 0 0 ≡ b → bs ≡ ds → get_or ds 0 0 ≡ b
 first_is bs ds b f e = ap (λ (l : List ℕ). get_or l 0 0) (sym e) ∙ f
 
@@ -142,16 +151,19 @@ int_only bytes found q h n only (Int k) ok e = only k ok e
 int_only bytes found q h n only (Text text) ok e = absurd (q (ap (λ (l : List ℕ). get_or l 0 0) e))
 int_only bytes found q h n only (Reference id) ok e = absurd (h (ap (λ (l : List ℕ). get_or l 0 0) e))
 
+-- the same of an answer that may be want of memory
 pub text_answers : (bytes : List ℕ) (r : Result (Option Value) Memory) → get_or bytes 0 0 ≡ 39
     → IfOk r (λ found. (text : List ℕ) → IsUtf8 text → bytes ≡ quoted text → found ≡ Some (Text text)) → IfOk r (λ found. IsCandidate bytes found)
 text_answers bytes (Ok found) f only = text_only bytes found f only
 text_answers bytes (Err e) f only = tt
 
+-- quoting joins no two texts
 same_text : (text others : List ℕ) → quoted text ≡ quoted others → text ≡ others
 same_text text others e =
     let inner : flat_map doubled text ++ 39 ∷ [] ≡ flat_map doubled others ++ 39 ∷ [] = cc in
     sym (undoubled-doubled text) ∙ ap (undoubled false) (append_cancel_right (flat_map doubled text) (flat_map doubled others) (39 ∷ []) inner) ∙ undoubled-doubled others
 
+-- two references with one literal text are equal
 same_id : (id other : ℕ) → id < 2 ^ 64 → other < 2 ^ 64 → 35 ∷ decimal id ≡ 35 ∷ decimal other → id ≡ other
 same_id id other small small' e = let digits : decimal id ≡ decimal other = cc in decimal_injective id other small small' digits
 
@@ -166,5 +178,6 @@ itself (Int n) ok =
 itself (Text text) ok = text_only (literal_of (Text text)) (Some (Text text)) refl (λ others _ e. ap (λ (t : List ℕ). Some (Text t)) (same_text text others e))
 itself (Reference id) ok = reference_only (literal_of (Reference id)) (Some (Reference id)) refl (λ other small e. ap (λ (n : ℕ). Some (Reference n)) (same_id id other ok small e))
 
+-- two values with one literal text are equal
 pub same_value : (v w : Value) → IsValue v → IsValue w → literal_of v ≡ literal_of w → v ≡ w
 same_value v w okv okw e = let so = itself v okv w okw e in cc

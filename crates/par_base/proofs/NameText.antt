@@ -1,5 +1,5 @@
 -- The bytes of a name are UTF-8.
-use Rattle.std.proofs.Common.{◌≡◌, ◌<◌, ℕ, zero, suc, Bool, true, List, [], ◌∷◌, length, arith, nat_le, nat_lt, slice_index, ◌&&◌, not}
+use Rattle.std.proofs.Common.{◌≡◌, ◌<◌, ℕ, zero, suc, true, List, [], ◌∷◌, length, arith, nat_le, ◌&&◌, not}
 use Rattle.std.specs.List.{list_all}
 use Rattle.std.specs.Str.{IsAscii, IsUtf8}
 use Rattle.std.proofs.lemmas.Str.{IsUtf8-from_ascii}
@@ -11,11 +11,13 @@ use Rattle.par_base.specs.Names.{is_name, is_name_byte, begins_with_digit, is_re
 small_byte : (b : ℕ) → is_name_byte b ≡ true → b < 128
 small_byte b h = grind (arith, nat_tests)
 
+-- bytes of names are ASCII
 ascii : (bs : List ℕ) → list_all is_name_byte bs ≡ true → IsAscii bs
 ascii [] h i = omega arith
 ascii (b ∷ bs) h zero = small_byte b (and_parts (is_name_byte b) (list_all is_name_byte bs) h).0
 ascii (b ∷ bs) h (suc i) = ascii bs (and_parts (is_name_byte b) (list_all is_name_byte bs) h).1 i
 
+-- a name is UTF-8
 pub name_is_utf8 : (bs : List ℕ) → is_name bs ≡ true → IsUtf8 bs
 unfolding is_name
 name_is_utf8 bs h =
