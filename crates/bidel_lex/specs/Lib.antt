@@ -1,0 +1,7 @@
+pub mod Classes
+pub mod Laws
+pub mod Next
+pub mod Symbols
+pub mod Texts
+pub mod Tokens
+pub mod Words
