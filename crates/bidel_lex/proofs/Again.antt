@@ -1,14 +1,13 @@
 -- A token is found again from its own start.
-use Rattle.std.proofs.Common.{◌≡◌, ◌+◌, ◌≤◌, ◌<◌, ℕ, Bool, true, false, List, [], ◌∷◌, ◌⊎◌, inl, inr, length, drop, Option, None, Some, refl, sym, ap, ◌∙◌, subst, arith, drop-drop}
+use Rattle.std.proofs.Common.{◌≡◌, ◌+◌, ℕ, Bool, true, false, List, [], ◌∷◌, ◌⊎◌, inl, inr, drop, Option, None, Some, refl, sym, ap, ◌∙◌, subst, drop-drop}
 use Rattle.bidel_lex.specs.declared.tokens.Token.{Token}
 use Rattle.bidel_lex.specs.declared.tokens.TokenKind.{TokenKind}
 use Rattle.bidel_lex.specs.declared.tokens.Lexed.{Lexed}
 use Rattle.bidel_lex.specs.declared.tokens.Lexed.TheVariants as lexed
 use Rattle.bidel_lex.specs.declared.next.Part.{Part}
 use Rattle.bidel_lex.specs.declared.next.Part.TheVariants.{Blank, Comment, Open}
-use Rattle.bidel_lex.specs.declared.next.Turn.{Turn}
 use Rattle.bidel_lex.specs.declared.next.Turn.TheVariants.{Go, Stop}
-use Rattle.bidel_lex.specs.Next.{after_turn, answer_at_end, kind_of, lexed_at, next_of, over_as, turn_at}
+use Rattle.bidel_lex.specs.Next.{after_turn, kind_of, lexed_at, next_of, over_as, turn_at}
 use Rattle.bidel_lex.specs.Laws.{Again}
 use Rattle.bidel_lex.proofs.Turns.{Begins, CanGo, CanStop, CanTurn, can_turn}
 
@@ -51,7 +50,7 @@ stops_again part at (lexed.BadToken place) token g h = absurd cc
 stops_again part at lexed.More token g h = absurd g
 stops_again part at lexed.End token g h = absurd g
 
-drop_after : (at b : ℕ) (whole bytes : List ℕ) → drop at whole ≡ b ∷ bytes → drop (at + 1) whole ≡ bytes
+pub drop_after : (at b : ℕ) (whole bytes : List ℕ) → drop at whole ≡ b ∷ bytes → drop (at + 1) whole ≡ bytes
 drop_after at b whole bytes d = sym (drop-drop 1 at whole) ∙ ap (λ (l : List ℕ). drop 1 l) d
 
 lexed_again : (ended : Bool) (part : Part) (at : ℕ) (whole bytes : List ℕ) (token : Token) → drop at whole ≡ bytes
@@ -61,13 +60,13 @@ lexed_again ended part at whole [] token d h = end_again ended part at whole tok
 lexed_again ended part at whole (b ∷ bytes) token d h =
     let after : drop (at + 1) whole ≡ bytes = drop_after at b whole bytes d in
     elim (turn_at part at b) as (λ t. CanTurn part at t → after_turn t (λ next. lexed_at ended next (at + 1) bytes) ≡ lexed.Token token → FoundAgain ended part at whole token) [
-      Go next ↦ λ g k. goes_again ended part next at whole bytes token after g k (lexed_again ended next (at + 1) whole bytes token after k)
-    | Stop answer ↦ λ g k. inl (stops_again part at answer token g k)
+      | Go next ↦ λ g k. goes_again ended part next at whole bytes token after g k (lexed_again ended next (at + 1) whole bytes token after k)
+      | Stop answer ↦ λ g k. inl (stops_again part at answer token g k)
     ] (can_turn part at b) h
 
 pub again : Again
 again bytes from ended token h e =
     elim (lexed_again ended Blank from bytes (drop from bytes) token refl e) [
-      inl began ↦ ap (λ n. next_of bytes n ended) began ∙ e
-    | inr found ↦ found
+      | inl began ↦ ap (λ n. next_of bytes n ended) began ∙ e
+      | inr found ↦ found
     ]

@@ -1,9 +1,8 @@
 -- `More` comes exactly where the answer can change.
-use Rattle.std.proofs.Common.{◌≡◌, ◌≢◌, ◌+◌, ◌*◌, ◌^◌, ◌-◌, ◌≤◌, ◌<◌, ℕ, Bool, true, false, List, [], ◌∷◌, ◌++◌, length, drop, Option, None, Some, cond, nat_le, nat_lt, refl, sym, ap, ◌∙◌, subst, arith, append-nil, lit<}
+use Rattle.std.proofs.Common.{◌≡◌, ◌≢◌, ◌+◌, ◌^◌, ◌-◌, ◌≤◌, ◌<◌, ℕ, Bool, true, false, List, [], ◌∷◌, ◌++◌, length, drop, None, Some, cond, nat_lt, refl, sym, ap, ◌∙◌, subst, arith, append-nil, lit<}
 use Rattle.std.specs.List.{All}
 use Rattle.std.proofs.lemmas.List.{drop-append-le}
 use Rattle.std.proofs.lemmas.List.Elements.{All-cons, All-nil}
-use Rattle.bidel_lex.specs.declared.tokens.Token.{Token}
 use Rattle.bidel_lex.specs.declared.tokens.TokenKind.{TokenKind}
 use Rattle.bidel_lex.specs.declared.tokens.TokenKind.TheVariants as kind
 use Rattle.bidel_lex.specs.declared.tokens.Lexed.{Lexed}
@@ -12,14 +11,13 @@ use Rattle.bidel_lex.specs.declared.texts.Wanted.{Wanted}
 use Rattle.bidel_lex.specs.declared.texts.Wanted.TheVariants.{Character, Last, LastTwo, LastThree, AfterE0, AfterED, AfterF0, AfterF4}
 use Rattle.bidel_lex.specs.declared.unfinished.Unfinished.{Unfinished}
 use Rattle.bidel_lex.specs.declared.unfinished.Unfinished.TheVariants.{Word, Number, Hash, Reference, Text, Quote, Minus, Less, Greater, Bar}
-use Rattle.bidel_lex.specs.declared.unfinished.Step.{Step}
 use Rattle.bidel_lex.specs.declared.unfinished.Step.TheVariants as step
 use Rattle.bidel_lex.specs.declared.next.Part.{Part}
 use Rattle.bidel_lex.specs.declared.next.Part.TheVariants.{Blank, Comment, Open}
 use Rattle.bidel_lex.specs.declared.next.Turn.{Turn}
 use Rattle.bidel_lex.specs.declared.next.Turn.TheVariants.{Go, Stop}
 use Rattle.bidel_lex.specs.Words.{number_with, reference_with, value_with}
-use Rattle.bidel_lex.specs.Next.{after_turn, answer_at_end, first_of, found, IsWithin, kind_of, lexed_at, next_of, over_as, over_at, step_of, step_turn, turn_at}
+use Rattle.bidel_lex.specs.Next.{after_turn, answer_at_end, first_of, found, kind_of, lexed_at, next_of, step_of, step_turn, turn_at}
 use Rattle.bidel_lex.specs.Laws.{CanChange, MoreExactly}
 use Rattle.bidel_lex.proofs.Stable.{stable}
 use Rattle.bidel_lex.proofs.Turns.{CanStop, CanTurn, can_turn}
@@ -56,24 +54,24 @@ word_differs : (start at : ℕ) (size : ℕ) → found kind.Word start at ≢ le
 unfolding lexed_at turn_at step_of kind_of
 word_differs start at size =
     elim (nat_lt size 64) as (λ c. found kind.Word start at ≢ after_turn (step_turn start (Word size) at (cond c (step.Longer (Word (size + 1))) step.Fault)) (λ next. answer_at_end next (at + 1))) [
-      true ↦ other_end kind.Word kind.Word start at
-    | false ↦ λ e. cc
+      | true ↦ other_end kind.Word kind.Word start at
+      | false ↦ λ e. cc
     ]
 
 number_differs : (start at : ℕ) (value : ℕ) → found kind.Number start at ≢ lexed_at true (Open start (Number value)) at (48 ∷ [])
 unfolding lexed_at turn_at step_of kind_of
 number_differs start at value =
     elim (value_with value 48 (2 ^ 63)) as (λ v. found kind.Number start at ≢ after_turn (step_turn start (Number value) at (number_with v)) (λ next. answer_at_end next (at + 1))) [
-      Some more ↦ other_end kind.Number kind.Number start at
-    | None ↦ λ e. cc
+      | Some more ↦ other_end kind.Number kind.Number start at
+      | None ↦ λ e. cc
     ]
 
 reference_differs : (start at : ℕ) (value : ℕ) → found kind.Reference start at ≢ lexed_at true (Open start (Reference value)) at (48 ∷ [])
 unfolding lexed_at turn_at step_of kind_of
 reference_differs start at value =
     elim (value_with value 48 (2 ^ 64 - 1)) as (λ v. found kind.Reference start at ≢ after_turn (step_turn start (Reference value) at (reference_with v)) (λ next. answer_at_end next (at + 1))) [
-      Some more ↦ other_end kind.Reference kind.Reference start at
-    | None ↦ λ e. cc
+      | Some more ↦ other_end kind.Reference kind.Reference start at
+      | None ↦ λ e. cc
     ]
 
 text_change : (start at : ℕ) (wanted : Wanted) → Change (Open start (Text wanted)) at []
@@ -124,8 +122,8 @@ unfolding lexed_at
 lexed_change part at [] h = change_at part at
 lexed_change part at (b ∷ bytes) h =
     elim (turn_at part at b) as (λ t. turn_at part at b ≡ t → CanTurn part at t → after_turn t (λ next. lexed_at false next (at + 1) bytes) ≡ lexed.More → Change part at (b ∷ bytes)) [
-      Go next ↦ λ e g k. change_after part next at b bytes e (lexed_change next (at + 1) bytes k)
-    | Stop answer ↦ λ e g k. absurd (stop_is_not_more part at answer g k)
+      | Go next ↦ λ e g k. change_after part next at b bytes e (lexed_change next (at + 1) bytes k)
+      | Stop answer ↦ λ e g k. absurd (stop_is_not_more part at answer g k)
     ] refl (can_turn part at b) h
 
 change_from : (bytes : List ℕ) (from : ℕ) → from ≤ length bytes → Change Blank from (drop from bytes) → CanChange bytes from

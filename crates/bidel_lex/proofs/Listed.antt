@@ -1,10 +1,10 @@
 -- Tokens found one after the other are tokens of the bytes.
-use Rattle.std.proofs.Common.{◌≡◌, ◌≢◌, ◌+◌, ◌≤◌, ◌<◌, ℕ, Bool, true, false, List, [], ◌∷◌, ◌++◌, length, refl, sym, ap, ◌∙◌, arith, append-nil}
+use Rattle.std.proofs.Common.{◌≡◌, ◌≤◌, ◌<◌, ℕ, Bool, true, false, List, [], ◌∷◌, length, sym, ap, ◌∙◌, arith, append-nil}
 use Rattle.bidel_lex.specs.declared.tokens.Token.{Token}
 use Rattle.bidel_lex.specs.declared.tokens.Lexed.{Lexed}
 use Rattle.bidel_lex.specs.declared.tokens.Lexed.TheVariants as lexed
-use Rattle.bidel_lex.specs.Next.{IsWithin, next_of}
-use Rattle.bidel_lex.specs.Tokens.{AreTokens, HasTokens, StartFrom}
+use Rattle.bidel_lex.specs.Next.{next_of}
+use Rattle.bidel_lex.specs.Tokens.{HasTokens, StartFrom}
 use Rattle.bidel_lex.specs.Laws.{Listed}
 use Rattle.bidel_lex.proofs.Again.{again}
 use Rattle.bidel_lex.proofs.Stable.{stable}

@@ -1,7 +1,6 @@
 -- One byte more, and what it can come to.
-use Rattle.std.proofs.Common.{◌≡◌, ◌≢◌, ◌+◌, ◌-◌, ◌<◌, ◌≤◌, ℕ, Bool, true, false, List, [], ◌∷◌, length, drop, get_or, cond, Option, None, Some, refl, ap, ◌∙◌, sym, arith, drop-cons, add-one}
+use Rattle.std.proofs.Common.{◌≡◌, ◌+◌, ◌<◌, ◌≤◌, ℕ, Bool, true, false, List, ◌∷◌, length, drop, get_or, cond, Option, None, Some, refl, ap, ◌∙◌, sym, arith, drop-cons, add-one}
 use Rattle.std.proofs.lemmas.List.{drop_all}
-use Rattle.bidel_lex.specs.declared.tokens.Token.{Token}
 use Rattle.bidel_lex.specs.declared.tokens.TokenKind.{TokenKind}
 use Rattle.bidel_lex.specs.declared.tokens.Lexed.{Lexed}
 use Rattle.bidel_lex.specs.declared.tokens.Lexed.TheVariants as lexed
@@ -14,7 +13,7 @@ use Rattle.bidel_lex.specs.declared.next.First.{First}
 use Rattle.bidel_lex.specs.declared.next.First.TheVariants.{Space, Alone, Opens, Fault}
 use Rattle.bidel_lex.specs.declared.next.Turn.{Turn}
 use Rattle.bidel_lex.specs.declared.next.Turn.TheVariants.{Go, Stop}
-use Rattle.bidel_lex.specs.Next.{after_turn, answer_at_end, first_of, first_turn, kind_of, lexed_at, over_as, over_at, step_of, step_turn, turn_at}
+use Rattle.bidel_lex.specs.Next.{after_turn, answer_at_end, first_of, first_turn, kind_of, lexed_at, over_as, step_of, step_turn, turn_at}
 
 drop_at_place : (at : ℕ) (bytes : List ℕ) → at < length bytes → drop at bytes ≡ get_or bytes at 0 ∷ drop (at + 1) bytes
 drop_at_place at bytes h = rw (add-one, drop-cons bytes at 0) refl

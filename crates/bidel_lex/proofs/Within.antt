@@ -1,16 +1,14 @@
 -- Answers lie within the bytes.
-use Rattle.std.proofs.Common.{◌≡◌, ◌+◌, ◌-◌, ◌<◌, ◌≤◌, ℕ, Bool, true, false, List, [], ◌∷◌, length, drop, Option, None, Some, refl, subst, arith, length-drop}
-use Rattle.bidel_lex.specs.declared.tokens.Token.{Token}
+use Rattle.std.proofs.Common.{◌≡◌, ◌+◌, ◌<◌, ◌≤◌, ℕ, Bool, true, false, List, [], ◌∷◌, length, drop, Option, None, Some, refl, subst, arith, length-drop}
 use Rattle.bidel_lex.specs.declared.tokens.TokenKind.{TokenKind}
 use Rattle.bidel_lex.specs.declared.tokens.Lexed.{Lexed}
 use Rattle.bidel_lex.specs.declared.tokens.Lexed.TheVariants as lexed
 use Rattle.bidel_lex.specs.declared.next.Part.{Part}
 use Rattle.bidel_lex.specs.declared.next.Part.TheVariants.{Blank, Comment, Open}
-use Rattle.bidel_lex.specs.declared.next.Turn.{Turn}
 use Rattle.bidel_lex.specs.declared.next.Turn.TheVariants.{Go, Stop}
-use Rattle.bidel_lex.specs.Next.{after_turn, answer_at_end, IsWithin, kind_of, lexed_at, next_of, over_as, turn_at}
+use Rattle.bidel_lex.specs.Next.{after_turn, IsWithin, kind_of, lexed_at, next_of, over_as, turn_at}
 use Rattle.bidel_lex.specs.Laws.{Within}
-use Rattle.bidel_lex.proofs.Turns.{Begins, CanGo, CanStop, CanTurn, can_turn, IsReady, least_after, least_start, ready_after}
+use Rattle.bidel_lex.proofs.Turns.{Begins, CanStop, CanTurn, can_turn, IsReady, least_after, least_start, ready_after}
 
 over_within : (kind : Option TokenKind) (start at from : ℕ) → from ≤ start → start < at → IsWithin at from true (over_as kind start at)
 over_within None start at from h r = (omega arith, omega arith, λ e. cc)
@@ -50,8 +48,8 @@ lexed_within ended part at from size [] h r e =
     let k : at ≡ size = omega arith in subst P k (end_within ended part at from h r)
 lexed_within ended part at from size (b ∷ bytes) h r e =
     elim (turn_at part at b) as (λ t. CanTurn part at t → IsWithin size from ended (after_turn t (λ next. lexed_at ended next (at + 1) bytes))) [
-      Go next ↦ λ g. lexed_within ended next (at + 1) from size bytes (least_after part next at from g r h) (ready_after part next at g r) (omega arith)
-    | Stop answer ↦ λ g. stop_within ended part at from size answer g h r (omega arith)
+      | Go next ↦ λ g. lexed_within ended next (at + 1) from size bytes (least_after part next at from g r h) (ready_after part next at g r) (omega arith)
+      | Stop answer ↦ λ g. stop_within ended part at from size answer g h r (omega arith)
     ] (can_turn part at b)
 
 pub within : Within

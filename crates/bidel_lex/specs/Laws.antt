@@ -1,10 +1,11 @@
 -- What holds of the answers whatever the bytes are.
-use Rattle.std.specs.Prelude.{◌≡◌, ◌≢◌, ◌≤◌, ◌<◌, ◌++◌, ◌↔◌, ℕ, Bool, true, false, List, length}
+use Rattle.std.specs.Prelude.{◌≡◌, ◌≢◌, ◌≤◌, ◌<◌, ◌++◌, ◌↔◌, ℕ, Bool, true, false, List, length, slice_range}
 use Rattle.std.specs.List.{All}
 use Rattle.bidel_lex.specs.declared.tokens.Token.{Token}
 use Rattle.bidel_lex.specs.declared.tokens.Lexed.{Lexed}
 use Rattle.bidel_lex.specs.declared.tokens.Lexed.TheVariants as lexed
 use Rattle.bidel_lex.specs.Next.{IsWithin, next_of}
+use Rattle.bidel_lex.specs.Spelled.{Spells}
 use Rattle.bidel_lex.specs.Tokens.{AreTokens, HasTokens}
 
 -- tokens and faults lie within the bytes, from the place on
@@ -33,6 +34,11 @@ MoreExactly = (bytes : List ℕ) (from : ℕ) (ended : Bool) → from ≤ length
 abbrev pub Again : Type 0
 Again = (bytes : List ℕ) (from : ℕ) (ended : Bool) (token : Token) → from ≤ length bytes
     → next_of bytes from ended ≡ lexed.Token token → next_of bytes token.start ended ≡ lexed.Token token
+
+-- a token is written as its kind says
+abbrev pub Spelled : Type 0
+Spelled = (bytes : List ℕ) (from : ℕ) (ended : Bool) (token : Token) → from ≤ length bytes
+    → next_of bytes from ended ≡ lexed.Token token → Spells token.kind (slice_range bytes token.start token.end)
 
 -- tokens found one after the other are tokens of the bytes, also where the bytes may go on
 abbrev pub Listed : Type 0

@@ -1,11 +1,10 @@
 -- The next token from a place on.
-use Rattle.std.specs.Prelude.{◌≡◌, ◌==◌, ◌+◌, ◌-◌, ◌<◌, ◌≤◌, ℕ, Bool, true, false, List, [], ◌∷◌, length, drop, if◌then◌else◌, Option, None, Some}
+use Rattle.std.specs.Prelude.{◌≡◌, ◌==◌, ◌+◌, ◌-◌, ◌<◌, ◌≤◌, ℕ, Bool, true, false, List, [], ◌∷◌, drop, if◌then◌else◌, Option, None, Some}
 use Rattle.bidel_lex.specs.Classes.{is_digit, is_lone_symbol, is_space, is_word_start}
 use Rattle.bidel_lex.specs.Words.{number_step, reference_step, word_step}
 use Rattle.bidel_lex.specs.Texts.{quote_step, text_step}
 use Rattle.bidel_lex.specs.Symbols.{bar_step, greater_step, less_step, minus_step}
 use Rattle.bidel_lex.specs.declared.texts.Wanted.TheVariants.{Character}
-use Rattle.bidel_lex.specs.declared.tokens.Token.{Token}
 use Rattle.bidel_lex.specs.declared.tokens.TokenKind.{TokenKind}
 use Rattle.bidel_lex.specs.declared.tokens.TokenKind.TheVariants as kind
 use Rattle.bidel_lex.specs.declared.tokens.Lexed.{Lexed}

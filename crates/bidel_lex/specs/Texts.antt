@@ -1,5 +1,5 @@
 -- Texts: what one more byte is to them. Their bytes are well-formed UTF-8 with each quote doubled.
-use Rattle.std.specs.Prelude.{◌==◌, ◌||◌, ℕ, nat_le, if◌then◌else◌}
+use Rattle.std.specs.Prelude.{◌==◌, ◌||◌, ℕ, if◌then◌else◌}
 use Rattle.bidel_lex.specs.Classes.{is_between}
 use Rattle.bidel_lex.specs.declared.texts.Wanted.{Wanted}
 use Rattle.bidel_lex.specs.declared.texts.Wanted.TheVariants.{Character, Last, LastTwo, LastThree, AfterE0, AfterED, AfterF0, AfterF4}

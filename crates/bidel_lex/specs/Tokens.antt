@@ -1,5 +1,5 @@
 -- Lists of tokens.
-use Rattle.std.specs.Prelude.{◌≡◌, ◌≤◌, ℕ, Bool, true, false, List, [], ◌∷◌, length}
+use Rattle.std.specs.Prelude.{◌≡◌, ◌≤◌, ℕ, Bool, true, false, List, [], ◌∷◌}
 use Rattle.bidel_lex.specs.declared.tokens.Token.{Token}
 use Rattle.bidel_lex.specs.declared.tokens.Lexed.{Lexed}
 use Rattle.bidel_lex.specs.declared.tokens.Lexed.TheVariants as lexed

@@ -32,4 +32,3 @@ reference_with None = Fault
 -- the digit that goes beyond 2^64 - 1 is a fault
 abbrev pub reference_step : ℕ → ℕ → Step
 reference_step value b = if is_digit b then reference_with (value_with value b (2 ^ 64 - 1)) else Over
-

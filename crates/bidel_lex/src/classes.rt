@@ -33,7 +33,10 @@ pub fn continues_word(byte: u8) -> bool
 pub fn is_lone(byte: u8) -> bool
     ensures { result ≡ is_lone_symbol byte }
 {
-    matches!(byte, b'(' | b')' | b',' | b';' | b'.' | b'=' | b'+' | b'*' | b'/' | b'%')
+    matches!(
+        byte,
+        b'(' | b')' | b',' | b';' | b'.' | b'=' | b'+' | b'*' | b'/' | b'%'
+    )
 }
 
 pub fn is_within(byte: u8, low: u8, high: u8) -> bool

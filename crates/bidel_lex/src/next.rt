@@ -49,7 +49,9 @@ fn read_first(byte: u8) -> First
     } else if begins_word(byte) {
         First::Opens(Unfinished::Word { length: 1 })
     } else if is_digit_byte(byte) {
-        First::Opens(Unfinished::Number { value: u64::from(byte - b'0') })
+        First::Opens(Unfinished::Number {
+            value: u64::from(byte - b'0'),
+        })
     } else {
         open_by_mark(byte)
     }
@@ -60,7 +62,9 @@ fn open_by_mark(byte: u8) -> First
 {
     match byte {
         b'#' => First::Opens(Unfinished::Hash),
-        b'\'' => First::Opens(Unfinished::Text { wanted: Wanted::Character }),
+        b'\'' => First::Opens(Unfinished::Text {
+            wanted: Wanted::Character,
+        }),
         b'-' => First::Opens(Unfinished::Minus),
         b'<' => First::Opens(Unfinished::Less),
         b'>' => First::Opens(Unfinished::Greater),
@@ -75,7 +79,11 @@ fn turn_of_first(byte: u8, at: usize) -> Turn
 {
     match read_first(byte) {
         First::Space => Turn::Go(Part::Blank),
-        First::Alone => Turn::Stop(Lexed::Token(Token { kind: TokenKind::Symbol, start: at, end: at + 1 })),
+        First::Alone => Turn::Stop(Lexed::Token(Token {
+            kind: TokenKind::Symbol,
+            start: at,
+            end: at + 1,
+        })),
         First::Opens(token) => Turn::Go(Part::Open { start: at, token }),
         First::Fault => Turn::Stop(Lexed::BadToken { at }),
     }
@@ -86,7 +94,11 @@ fn close(start: usize, token: Unfinished, at: usize) -> Lexed
     ensures { result ≡ over_at start token at }
 {
     match whole_kind(token) {
-        Some(kind) => Lexed::Token(Token { kind, start, end: at }),
+        Some(kind) => Lexed::Token(Token {
+            kind,
+            start,
+            end: at,
+        }),
         None => Lexed::BadToken { at },
     }
 }
@@ -97,7 +109,11 @@ fn turn_of_step(start: usize, token: Unfinished, byte: u8, at: usize) -> Turn
 {
     match read_step(token, byte) {
         Step::Longer(token) => Turn::Go(Part::Open { start, token }),
-        Step::Last => Turn::Stop(Lexed::Token(Token { kind: TokenKind::Symbol, start, end: at + 1 })),
+        Step::Last => Turn::Stop(Lexed::Token(Token {
+            kind: TokenKind::Symbol,
+            start,
+            end: at + 1,
+        })),
         Step::Comment => Turn::Go(Part::Comment),
         Step::Over => Turn::Stop(close(start, token, at)),
         Step::Fault => Turn::Stop(Lexed::BadToken { at }),
@@ -112,7 +128,8 @@ fn make_turn(part: Part, byte: u8, at: usize) -> Turn
 {
     match part {
         Part::Blank => turn_of_first(byte, at),
-        Part::Comment => Turn::Go(if byte == b'\n' { Part::Blank } else { Part::Comment }),
+        Part::Comment if byte == b'\n' => Turn::Go(Part::Blank),
+        Part::Comment => Turn::Go(Part::Comment),
         Part::Open { start, token } => turn_of_step(start, token, byte, at),
     }
 }
@@ -141,5 +158,9 @@ pub fn next_token(bytes: &[u8], from: usize, ended: bool) -> Lexed
             Turn::Stop(answer) => return answer,
         }
     }
-    if ended { finish(part, bytes.len()) } else { Lexed::More }
+    if ended {
+        finish(part, bytes.len())
+    } else {
+        Lexed::More
+    }
 }

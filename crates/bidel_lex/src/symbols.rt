@@ -9,14 +9,22 @@ use crate::unfinished::Step;
 pub fn after_minus(byte: u8) -> Step
     ensures { result ≡ minus_step byte }
 {
-    if byte == b'-' { Step::Comment } else { Step::Over }
+    if byte == b'-' {
+        Step::Comment
+    } else {
+        Step::Over
+    }
 }
 
 /// What a byte is to a `<`.
 pub fn after_less(byte: u8) -> Step
     ensures { result ≡ less_step byte }
 {
-    if byte == b'=' || byte == b'>' { Step::Last } else { Step::Over }
+    if byte == b'=' || byte == b'>' {
+        Step::Last
+    } else {
+        Step::Over
+    }
 }
 
 /// What a byte is to a `>`.

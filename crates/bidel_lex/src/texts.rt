@@ -56,7 +56,11 @@ pub fn grow_text(wanted: Wanted, byte: u8) -> Step
 fn continue_character(low: u8, high: u8, wanted: Wanted, byte: u8) -> Step
     ensures { result ≡ continuation_step low high wanted byte }
 {
-    if is_within(byte, low, high) { longer(wanted) } else { Step::Over }
+    if is_within(byte, low, high) {
+        longer(wanted)
+    } else {
+        Step::Over
+    }
 }
 
 fn begin_character(byte: u8) -> Step
@@ -80,5 +84,9 @@ fn begin_character(byte: u8) -> Step
 pub fn after_quote(byte: u8) -> Step
     ensures { result ≡ quote_step byte }
 {
-    if byte == b'\'' { longer(Wanted::Character) } else { Step::Over }
+    if byte == b'\'' {
+        longer(Wanted::Character)
+    } else {
+        Step::Over
+    }
 }

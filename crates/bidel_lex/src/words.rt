@@ -33,7 +33,11 @@ fn add_digit(value: u64, byte: u8, limit: u64) -> Option<u64>
     ensures { result ≡ value_with value byte limit }
 {
     let digit = u64::from(byte - b'0');
-    if value <= (limit - digit) / 10 { Some(10 * value + digit) } else { None }
+    if value <= (limit - digit) / 10 {
+        Some(10 * value + digit)
+    } else {
+        None
+    }
 }
 
 /// What a byte is to a number whose digits have a value.
