@@ -37,6 +37,7 @@ begins_before part at start begin g e = let P : ℕ → Type 0 = λ n. Begins pa
 goes_again : (ended : Bool) (part next : Part) (at : ℕ) (whole bytes : List ℕ) (token : Token) → drop (at + 1) whole ≡ bytes
     → CanGo part at next → lexed_at ended next (at + 1) bytes ≡ lexed.Token token → FoundAgain ended next (at + 1) whole token
     → FoundAgain ended part at whole token
+unfolding next_of
 goes_again ended part next at whole bytes token d g h (inr again) = inr again
 goes_again ended part Blank at whole bytes token d g h (inl began) = inr (
     ap (λ n. next_of whole n ended) began ∙ ap (lexed_at ended Blank (at + 1)) d ∙ h)
@@ -65,6 +66,7 @@ lexed_again ended part at whole (b ∷ bytes) token d h =
     ] (can_turn part at b) h
 
 pub again : Again
+unfolding next_of
 again bytes from ended token h e =
     elim (lexed_again ended Blank from bytes (drop from bytes) token refl e) [
       | inl began ↦ ap (λ n. next_of bytes n ended) began ∙ e

@@ -127,6 +127,7 @@ lexed_change part at (b ∷ bytes) h =
     ] refl (can_turn part at b) h
 
 change_from : (bytes : List ℕ) (from : ℕ) → from ≤ length bytes → Change Blank from (drop from bytes) → CanChange bytes from
+unfolding next_of
 change_from bytes from h c =
     record {
       one = [];
@@ -151,6 +152,7 @@ more_from bytes from true h e c = absurd cc
 more_from bytes from false h e c = more_or_not bytes from (next_of bytes from false) h refl c
 
 more_gives : (bytes : List ℕ) (from : ℕ) (ended : Bool) → from ≤ length bytes → next_of bytes from ended ≡ lexed.More → (ended ≡ false) × CanChange bytes from
+unfolding next_of
 more_gives bytes from true h e = absurd (let m : true ≡ false = within_along bytes from true lexed.More h e in cc)
 more_gives bytes from false h e = (refl, change_from bytes from h (lexed_change Blank from (drop from bytes) e))
 

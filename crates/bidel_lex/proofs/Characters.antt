@@ -34,15 +34,15 @@ Ends AfterF4 part = (x : ℕ) → IsIn 128 143 x → TwoMore (part ++ x ∷ [])
 is_high : (c : ℕ) → 57344 ≤ c → c < 1114112 → scalar c ≡ true
 is_high c l h = grind arith
 
-is_two : (c : ℕ) → 128 ≤ c → c < 2048 → encode c ≡ (192 + c / 64) ∷ next c ∷ []
+pub is_two : (c : ℕ) → 128 ≤ c → c < 2048 → encode c ≡ (192 + c / 64) ∷ next c ∷ []
 unfolding encode
 is_two c l h = grind arith
 
-is_three : (c : ℕ) → 2048 ≤ c → c < 65536 → encode c ≡ (224 + c / 4096) ∷ next (c / 64) ∷ next c ∷ []
+pub is_three : (c : ℕ) → 2048 ≤ c → c < 65536 → encode c ≡ (224 + c / 4096) ∷ next (c / 64) ∷ next c ∷ []
 unfolding encode
 is_three c l h = grind arith
 
-is_four : (c : ℕ) → 65536 ≤ c → encode c ≡ (240 + c / 262144) ∷ next (c / 4096) ∷ next (c / 64) ∷ next c ∷ []
+pub is_four : (c : ℕ) → 65536 ≤ c → encode c ≡ (240 + c / 262144) ∷ next (c / 4096) ∷ next (c / 64) ∷ next c ∷ []
 unfolding encode
 is_four c l = grind arith
 

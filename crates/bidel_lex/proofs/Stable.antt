@@ -5,7 +5,7 @@ use Rattle.bidel_lex.specs.declared.tokens.Lexed.TheVariants as lexed
 use Rattle.bidel_lex.specs.declared.next.Part.{Part}
 use Rattle.bidel_lex.specs.declared.next.Part.TheVariants.{Blank}
 use Rattle.bidel_lex.specs.declared.next.Turn.TheVariants.{Go, Stop}
-use Rattle.bidel_lex.specs.Next.{after_turn, lexed_at, turn_at}
+use Rattle.bidel_lex.specs.Next.{after_turn, lexed_at, next_of, turn_at}
 use Rattle.bidel_lex.specs.Laws.{Stable}
 
 lexed_stable : (ended : Bool) (part : Part) (at : ℕ) (bytes more : List ℕ) → lexed_at false part at bytes ≢ lexed.More
@@ -20,5 +20,6 @@ lexed_stable ended part at (b ∷ bytes) more h =
     ] h
 
 pub stable : Stable
+unfolding next_of
 stable bytes more from ended h k =
     ap (lexed_at ended Blank from) (drop-append-le from bytes more h) ∙ lexed_stable ended Blank from (drop from bytes) more k

@@ -53,6 +53,7 @@ lexed_within ended part at from size (b ∷ bytes) h r e =
     ] (can_turn part at b)
 
 pub within : Within
+unfolding next_of
 within bytes from ended h = lexed_within ended Blank from from (length bytes) (drop from bytes) (omega arith) tt (omega (arith, length-drop from bytes))
 
 -- the same of an answer that is shown to be the one

@@ -117,11 +117,11 @@ lexed_at ended part at [] = if ended then answer_at_end part at else lexed.More
 lexed_at ended part at (b ∷ bytes) = after_turn (turn_at part at b) (λ next. lexed_at ended next (at + 1) bytes)
 
 -- what is found from a place of the bytes on, where `ended` says that no bytes come after these
-abbrev pub next_of : List ℕ → ℕ → Bool → Lexed
+unfoldable pub next_of : List ℕ → ℕ → Bool → Lexed
 next_of bytes from ended = lexed_at ended Blank from (drop from bytes)
 
--- in so many bytes: a token isn't empty, and it and a fault lie within the bytes, from the place on; a fault after the last byte,
--- as `End`, comes only at the end of the input, and `More` only before it
+-- where an answer lies in so many bytes, from the place on: a token isn't empty; a fault after the last byte
+-- and `End` come only at the end of the input, and `More` only before it
 abbrev pub IsWithin : ℕ → ℕ → Bool → Lexed → Type 0
 IsWithin size from ended (lexed.Token token) = (from ≤ token.start) × (token.start < token.end) × (token.end ≤ size)
 IsWithin size from ended (lexed.BadToken at) = (from ≤ at) × (at ≤ size) × (ended ≡ false → at < size)

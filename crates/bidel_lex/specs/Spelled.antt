@@ -1,11 +1,11 @@
 -- How a token of each kind is written.
-use Rattle.std.specs.Prelude.{◌≡◌, ◌==◌, ◌&&◌, ◌||◌, ◌-◌, ◌^◌, ◌≤◌, ◌<◌, ◌++◌, ℕ, Bool, true, false, List, [], ◌∷◌, length, if◌then◌else◌}
+use Rattle.std.specs.Prelude.{◌≡◌, ◌==◌, ◌&&◌, ◌||◌, ◌-◌, ◌^◌, ◌≤◌, ◌<◌, ◌++◌, ℕ, Bool, true, false, List, [], ◌∷◌, length, slice_index, if◌then◌else◌}
 use Rattle.std.specs.List.{AllPass}
 use Rattle.std.specs.Str.{IsUtf8}
 use Rattle.std.specs.Str.Parse.{IsNumeral, digits_value}
 use Rattle.bidel_lex.specs.declared.tokens.TokenKind.{TokenKind}
 use Rattle.bidel_lex.specs.declared.tokens.TokenKind.TheVariants.{Word, Number, Reference, Text, Symbol}
-use Rattle.bidel_lex.specs.Classes.{is_lone_symbol, is_word_byte, is_word_start}
+use Rattle.bidel_lex.specs.Classes.{is_digit, is_lone_symbol, is_word_byte, is_word_start}
 
 -- 1 to 64 word bytes, the first of which is no digit
 abbrev pub IsWord : List ℕ → Type 0
@@ -46,3 +46,24 @@ Spells Number text = IsNumber (2 ^ 63) text
 Spells Reference text = IsReference text
 Spells Text text = IsText text
 Spells Symbol text = is_symbol text ≡ true
+
+-- a byte that belongs to a token before it, or is a fault of it; `-` after `-` makes a comment of both
+abbrev pub goes_on : TokenKind → List ℕ → ℕ → Bool
+goes_on Word text b = is_word_byte b
+goes_on Number text b = is_digit b
+goes_on Reference text b = is_digit b
+goes_on Text text b = b == 39
+goes_on Symbol text b = is_symbol (text ++ b ∷ []) || (slice_index text 0 == 45 && b == 45)
+
+-- no byte belongs to a token after this symbol
+abbrev pub is_closed : TokenKind → List ℕ → Bool
+is_closed Word text = false
+is_closed Number text = false
+is_closed Reference text = false
+is_closed Text text = false
+is_closed Symbol text = is_lone_symbol (slice_index text 0) || length text == 2
+
+-- what may stand after a token: a byte that doesn't belong to it, or the end of the input
+abbrev pub CanFollow : TokenKind → List ℕ → Bool → List ℕ → Type 0
+CanFollow kind text ended [] = (ended || is_closed kind text) ≡ true
+CanFollow kind text ended (b ∷ rest) = goes_on kind text b ≡ false

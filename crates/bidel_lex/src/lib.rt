@@ -4,10 +4,12 @@
 //! What one more byte makes of it is a definition of its own for each kind of token (`specs/Words.antt`,
 //! `specs/Texts.antt`, `specs/Symbols.antt`), and `specs/Next.antt` puts them together.
 //!
-//! To the crates above it promises more than these definitions: an answer from bytes that may go on stays the same
-//! however they go on, `More` comes exactly where they could go on to two different answers, a token is found
-//! again from its own start, and it is written as its kind says (`laws`). It takes no memory. It knows nothing of
-//! the grammar: reserved words and names are both words here.
+//! To the crates above it promises more than these definitions (`laws`). A token is found exactly where bytes that
+//! spell it stand after white space and comments, and before what doesn't make it longer; a token is found again
+//! from its own start. `End` comes exactly where white space and comments alone are left at the end of the input.
+//! `More` comes exactly where bytes that may follow could change the answer, and every other answer stays the same
+//! however the bytes go on. A fault stands at the first byte that shows it. The lexer takes no memory. It knows
+//! nothing of the grammar: reserved words and names are both words here.
 #![tactic(auto)]
 
 mod classes;

@@ -145,7 +145,7 @@ fn finish(part: Part, at: usize) -> Lexed
 }
 
 /// The next token from a place on, where `ended` says that no bytes come after these.
-#[tactic(auto, using(crate::proofs::Turns::turns))]
+#[tactic(auto, using(crate::proofs::Turns::turns), unfolding(crate::specs::Next::next_of))]
 pub fn next_token(bytes: &[u8], from: usize, ended: bool) -> Lexed
     requires { from ≤ length bytes.now }
     ensures value { result ≡ next_of bytes.now from ended }

@@ -1,10 +1,8 @@
--- A token is written as its kind says.
-use Rattle.std.proofs.Common.{◌≡◌, ◌+◌, ◌-◌, ◌*◌, ◌^◌, ◌<◌, ◌≤◌, ◌==◌, ◌||◌, ℕ, Bool, true, false, List, [], ◌∷◌, ◌++◌, length, drop, take, cond, nat_le, nat_lt, Option, None, Some, refl, sym, ap, ◌∙◌, subst, arith, append_assoc, append-nil, length-append}
-use Rattle.std.specs.Prelude.{slice_range}
+-- How unfinished tokens are written.
+use Rattle.std.proofs.Common.{◌≡◌, ◌+◌, ◌-◌, ◌*◌, ◌^◌, ◌<◌, ◌≤◌, ◌==◌, ◌||◌, ◌&&◌, ℕ, Bool, true, false, List, [], ◌∷◌, ◌++◌, length, drop, cond, nat_le, nat_lt, Option, None, Some, refl, sym, ap, ◌∙◌, subst, arith, append_assoc, append-nil, length-append}
 use Rattle.std.specs.Str.{IsUtf8}
 use Rattle.std.specs.Str.Parse.{AllDigits, digits_value}
 use Rattle.std.specs.Char.{digit_value}
-use Rattle.std.proofs.Math.Seq.{take-append_seam}
 use Rattle.std.proofs.lemmas.List.Elements.{All-push, All-nil}
 use Rattle.std.proofs.lemmas.Int.Digits.{digits_push, digits_value_push}
 use Rattle.std.proofs.lemmas.Str.{digit_value_digit, IsUtf8-append, IsUtf8-nil}
@@ -12,28 +10,21 @@ use Rattle.bidel_lex.specs.declared.texts.Wanted.{Wanted}
 use Rattle.bidel_lex.specs.declared.texts.Wanted.TheVariants.{Character, Last, LastTwo, LastThree, AfterE0, AfterED, AfterF0, AfterF4}
 use Rattle.bidel_lex.specs.declared.tokens.TokenKind.{TokenKind}
 use Rattle.bidel_lex.specs.declared.tokens.TokenKind.TheVariants as kind
-use Rattle.bidel_lex.specs.declared.tokens.Lexed.{Lexed}
-use Rattle.bidel_lex.specs.declared.tokens.Lexed.TheVariants as lexed
 use Rattle.bidel_lex.specs.declared.unfinished.Unfinished.{Unfinished}
 use Rattle.bidel_lex.specs.declared.unfinished.Unfinished.TheVariants.{Word, Number, Hash, Reference, Text, Quote, Minus, Less, Greater, Bar}
 use Rattle.bidel_lex.specs.declared.unfinished.Step.{Step}
 use Rattle.bidel_lex.specs.declared.unfinished.Step.TheVariants as step
-use Rattle.bidel_lex.specs.declared.next.Part.{Part}
-use Rattle.bidel_lex.specs.declared.next.Part.TheVariants.{Blank, Comment, Open}
 use Rattle.bidel_lex.specs.declared.next.First.{First}
 use Rattle.bidel_lex.specs.declared.next.First.TheVariants.{Space, Alone, Opens, Fault}
 use Rattle.bidel_lex.specs.Classes.{is_between, is_digit, is_lone_symbol, is_space, is_word_byte, is_word_start}
 use Rattle.bidel_lex.specs.Words.{number_step, number_with, reference_step, reference_with, word_step}
 use Rattle.bidel_lex.specs.Texts.{continuation_step, lead_step, quote_step, text_step}
-use Rattle.bidel_lex.specs.Spelled.{doubled, IsNumber, IsReference, IsText, IsWord, is_symbol, Spells}
-use Rattle.bidel_lex.specs.Next.{after_turn, first_of, first_turn, kind_of, lexed_at, opened_by, over_as, step_of, step_turn, turn_at}
-use Rattle.bidel_lex.specs.Laws.{Spelled}
-use Rattle.bidel_lex.specs.declared.next.Turn.TheVariants.{Go}
-use Rattle.bidel_lex.proofs.Again.{drop_after}
+use Rattle.bidel_lex.specs.Spelled.{CanFollow, doubled, goes_on, IsNumber, IsReference, IsText, IsWord, is_symbol, Spells}
+use Rattle.bidel_lex.specs.Next.{first_of, kind_of, opened_by, step_of}
 use Rattle.bidel_lex.proofs.Characters.{ascii_is, doubled-append, doubled_quote, IsIn, IsUnclosed, leads_e0, leads_ed, leads_f0, leads_f4, leads_four, leads_three_high, leads_three_low, leads_two, part_grows, plain_more, plain_nil, Ends}
 
 -- how an unfinished token is written
-abbrev Held : Unfinished → List ℕ → Type 0
+abbrev pub Held : Unfinished → List ℕ → Type 0
 Held (Word size) text = IsWord text × (length text ≡ size)
 Held (Number value) text = IsNumber (2 ^ 63) text × (digits_value 10 text ≡ value)
 Held Hash text = text ≡ 35 ∷ []
@@ -45,29 +36,43 @@ Held Less text = text ≡ 60 ∷ []
 Held Greater text = text ≡ 62 ∷ []
 Held Bar text = text ≡ 124 ∷ []
 
+-- a symbol to which no byte belongs
+abbrev pub IsClosedSymbol : List ℕ → Type 0
+IsClosedSymbol text = (is_symbol text ≡ true) × ((ended : Bool) (rest : List ℕ) → CanFollow kind.Symbol text ended rest)
+
+-- a byte doesn't belong to a token
+abbrev pub NotOn : Option TokenKind → List ℕ → ℕ → Type 0
+NotOn None text b = Unit {0}
+NotOn (Some k) text b = goes_on k text b ≡ false
+
 -- what a byte makes of it is written so too
-abbrev StepHeld : List ℕ → Step → Type 0
-StepHeld text (step.Longer next) = Held next text
-StepHeld text step.Last = is_symbol text ≡ true
-StepHeld text step.Comment = Unit {0}
-StepHeld text step.Over = Unit {0}
-StepHeld text step.Fault = Unit {0}
+abbrev pub StepHeld : Option TokenKind → List ℕ → ℕ → Step → Type 0
+StepHeld k text b (step.Longer next) = Held next (text ++ b ∷ [])
+StepHeld k text b step.Last = IsClosedSymbol (text ++ b ∷ [])
+StepHeld k text b step.Comment = text ++ b ∷ [] ≡ 45 ∷ 45 ∷ []
+StepHeld k text b step.Over = NotOn k text b
+StepHeld k text b step.Fault = Unit {0}
 
 -- a choice is held where each arm is
-if_held : {A : Type 0} (P : A → Type 0) (c : Bool) (x y : A) → (c ≡ true → P x) → (c ≡ false → P y) → P (cond c x y)
+pub if_held : {A : Type 0} (P : A → Type 0) (c : Bool) (x y : A) → (c ≡ true → P x) → (c ≡ false → P y) → P (cond c x y)
 if_held P true x y t f = t refl
 if_held P false x y t f = f refl
 
-between_is : (low high b : ℕ) → is_between low high b ≡ true → IsIn low high b
-between_is low high b h = (grind arith, grind arith)
-
-same_byte : (b n : ℕ) → b == n ≡ true → b ≡ n
+pub same_byte : (b n : ℕ) → b == n ≡ true → b ≡ n
 same_byte b n h = grind arith
 
-lt_is : (m n : ℕ) → nat_lt m n ≡ true → m < n
+-- a byte of a class isn't one that the class leaves out
+pub differs : (p : ℕ → Bool) (b n : ℕ) → p b ≡ true → p n ≡ false → b == n ≡ false
+differs p b n h k =
+    elim (b == n) as (λ c. b == n ≡ c → c ≡ false) [ true ↦ λ e. absurd (let f : p b ≡ p n = ap p (same_byte b n e) in cc) | false ↦ λ e. refl ] refl
+
+pub between_is : (low high b : ℕ) → is_between low high b ≡ true → IsIn low high b
+between_is low high b h = (grind arith, grind arith)
+
+pub lt_is : (m n : ℕ) → nat_lt m n ≡ true → m < n
 lt_is m n h = grind arith
 
-le_is : (m n : ℕ) → nat_le m n ≡ true → m ≤ n
+pub le_is : (m n : ℕ) → nat_le m n ≡ true → m ≤ n
 le_is m n h = grind arith
 
 -- words
@@ -76,14 +81,14 @@ longer_word : (size b first : ℕ) (rest : List ℕ) → Held (Word size) (first
 longer_word size b first rest h w l =
     ((h.0.0, All-push (λ x. is_word_byte x ≡ true) rest b h.0.1 w, omega (arith, length-append rest (b ∷ []))), omega (arith, length-append rest (b ∷ [])))
 
-word_held : (size b : ℕ) (text : List ℕ) → Held (Word size) text → StepHeld (text ++ b ∷ []) (word_step size b)
+word_held : (size b : ℕ) (text : List ℕ) → Held (Word size) text → StepHeld (Some kind.Word) text b (word_step size b)
 word_held size b [] h = absurd h.0
 word_held size b (first ∷ rest) h =
-    let P : Step → Type 0 = λ s. StepHeld (first ∷ (rest ++ b ∷ [])) s in
+    let P : Step → Type 0 = λ s. StepHeld (Some kind.Word) (first ∷ rest) b s in
     if_held P (is_word_byte b) _ _ (λ w.
-    if_held P (nat_lt size 64) _ _ (λ l. longer_word size b first rest h w (lt_is size 64 l)) (λ _. tt)) (λ _. tt)
+    if_held P (nat_lt size 64) _ _ (λ l. longer_word size b first rest h w (lt_is size 64 l)) (λ _. tt)) (λ e. e)
 
-digit_is : (b : ℕ) → is_digit b ≡ true → (digit_value b + 48 ≡ b) × (digit_value b < 10)
+pub digit_is : (b : ℕ) → is_digit b ≡ true → (digit_value b + 48 ≡ b) × (digit_value b < 10)
 digit_is b d =
     let i : IsIn 48 57 b = between_is 48 57 b d in
     let e : digit_value b + 48 ≡ b = digit_value_digit b i in (e, omega arith)
@@ -97,33 +102,33 @@ digits_held limit value b text h e d l =
     let v : digits_value 10 (text ++ b ∷ []) ≡ 10 * value + (b - 48) = omega (arith, digits_value_push 10 text b) in
     (((omega (arith, length-append text (b ∷ [])), digits_push 10 text b h i.1), omega arith), v)
 
-number_held : (value b : ℕ) (text : List ℕ) → Held (Number value) text → StepHeld (text ++ b ∷ []) (number_step value b)
+number_held : (value b : ℕ) (text : List ℕ) → Held (Number value) text → StepHeld (Some kind.Number) text b (number_step value b)
 number_held value b text h =
-    let P : Step → Type 0 = λ s. StepHeld (text ++ b ∷ []) s in
-    let Q : Option ℕ → Type 0 = λ v. StepHeld (text ++ b ∷ []) (number_with v) in
+    let P : Step → Type 0 = λ s. StepHeld (Some kind.Number) text b s in
+    let Q : Option ℕ → Type 0 = λ v. StepHeld (Some kind.Number) text b (number_with v) in
     if_held P (is_digit b) _ _ (λ d.
-    if_held Q (nat_le (10 * value + (b - 48)) (2 ^ 63)) _ _ (λ l. digits_held (2 ^ 63) value b text h.0.0.1 h.1 d l) (λ _. tt)) (λ _. tt)
+    if_held Q (nat_le (10 * value + (b - 48)) (2 ^ 63)) _ _ (λ l. digits_held (2 ^ 63) value b text h.0.0.1 h.1 d l) (λ _. tt)) (λ e. e)
 
-reference_held : (value b : ℕ) (digits : List ℕ) → AllDigits 10 digits → digits_value 10 digits ≡ value
-    → StepHeld (35 ∷ (digits ++ b ∷ [])) (reference_step value b)
-reference_held value b digits h e =
-    let P : Step → Type 0 = λ s. StepHeld (35 ∷ (digits ++ b ∷ [])) s in
-    let Q : Option ℕ → Type 0 = λ v. StepHeld (35 ∷ (digits ++ b ∷ [])) (reference_with v) in
+reference_held : (k : Option TokenKind) (value b : ℕ) (digits : List ℕ) → (is_digit b ≡ false → NotOn k (35 ∷ digits) b)
+    → AllDigits 10 digits → digits_value 10 digits ≡ value → StepHeld k (35 ∷ digits) b (reference_step value b)
+reference_held k value b digits n h e =
+    let P : Step → Type 0 = λ s. StepHeld k (35 ∷ digits) b s in
+    let Q : Option ℕ → Type 0 = λ v. StepHeld k (35 ∷ digits) b (reference_with v) in
     if_held P (is_digit b) _ _ (λ d.
     if_held Q (nat_le (10 * value + (b - 48)) (2 ^ 64 - 1)) _ _ (λ l.
     let held : IsNumber (2 ^ 64 - 1) (digits ++ b ∷ []) × (digits_value 10 (digits ++ b ∷ []) ≡ 10 * value + (b - 48)) = digits_held (2 ^ 64 - 1) value b digits h e d l in
-    ((refl, held.0), held.1)) (λ _. tt)) (λ _. tt)
+    ((refl, held.0), held.1)) (λ _. tt)) n
 
-more_reference_held : (value b : ℕ) (text : List ℕ) → Held (Reference value) text → StepHeld (text ++ b ∷ []) (reference_step value b)
+more_reference_held : (value b : ℕ) (text : List ℕ) → Held (Reference value) text → StepHeld (Some kind.Reference) text b (reference_step value b)
 more_reference_held value b [] h = absurd h.0
 more_reference_held value b (first ∷ digits) h =
-    let P : ℕ → Type 0 = λ n. StepHeld (n ∷ (digits ++ b ∷ [])) (reference_step value b) in
-    subst P (sym h.0.0) (reference_held value b digits h.0.1.0.1 h.1)
+    let P : ℕ → Type 0 = λ n. StepHeld (Some kind.Reference) (n ∷ digits) b (reference_step value b) in
+    subst P (sym h.0.0) (reference_held (Some kind.Reference) value b digits (λ e. e) h.0.1.0.1 h.1)
 
-first_reference_held : (b : ℕ) (text : List ℕ) → Held Hash text → StepHeld (text ++ b ∷ []) (reference_step 0 b)
+first_reference_held : (b : ℕ) (text : List ℕ) → Held Hash text → StepHeld None text b (reference_step 0 b)
 first_reference_held b text h =
-    let P : List ℕ → Type 0 = λ l. StepHeld (l ++ b ∷ []) (reference_step 0 b) in
-    subst P (sym h) (reference_held 0 b [] tt refl)
+    let P : List ℕ → Type 0 = λ l. StepHeld None l b (reference_step 0 b) in
+    subst P (sym h) (reference_held None 0 b [] (λ _. tt) tt refl)
 
 -- texts
 not_quote : (b : ℕ) → 128 ≤ b → b == 39 ≡ false
@@ -131,9 +136,9 @@ not_quote b h = grind arith
 
 continuation_held : (low high b : ℕ) (wanted next : Wanted) (text : List ℕ) (u : IsUnclosed wanted text) → 128 ≤ low
     → (IsIn low high b → Ends next (u.part ++ b ∷ []))
-    → StepHeld (text ++ b ∷ []) (continuation_step low high next b)
+    → StepHeld None text b (continuation_step low high next b)
 continuation_held low high b wanted next text u l e =
-    let P : Step → Type 0 = λ s. StepHeld (text ++ b ∷ []) s in
+    let P : Step → Type 0 = λ s. StepHeld None text b s in
     if_held P (is_between low high b) _ _ (λ h.
     let i : IsIn low high b = between_is low high b h in
     part_grows wanted next text b u (not_quote b (omega arith)) (e i)) (λ _. tt)
@@ -177,16 +182,16 @@ closing_quote b text u h =
           ∙ ap (λ (l : List ℕ). 39 ∷ (l ++ b ∷ [])) (append-nil (doubled u.body)) ∙ ap (λ n. 39 ∷ (doubled u.body ++ n ∷ [])) h;
     }
 
-last_held : (b : ℕ) (text : List ℕ) → IsUnclosed Last text → StepHeld (text ++ b ∷ []) (continuation_step 0x80 0xbf Character b)
+last_held : (b : ℕ) (text : List ℕ) → IsUnclosed Last text → StepHeld None text b (continuation_step 0x80 0xbf Character b)
 last_held b text u =
-    let P : Step → Type 0 = λ s. StepHeld (text ++ b ∷ []) s in
+    let P : Step → Type 0 = λ s. StepHeld None text b s in
     if_held P (is_between 0x80 0xbf b) _ _ (λ h.
     let i : IsIn 128 191 b = between_is 128 191 b h in
     whole_character Last text b u (not_quote b (omega arith)) (u.ends b i)) (λ _. tt)
 
-lead_held : (b : ℕ) (text : List ℕ) → IsUnclosed Character text → StepHeld (text ++ b ∷ []) (lead_step b)
+lead_held : (b : ℕ) (text : List ℕ) → IsUnclosed Character text → StepHeld None text b (lead_step b)
 lead_held b text u =
-    let P : Step → Type 0 = λ s. StepHeld (text ++ b ∷ []) s in
+    let P : Step → Type 0 = λ s. StepHeld None text b s in
     if_held P (b == 39) _ _ (λ h. closing_quote b text u (same_byte b 39 h)) (λ q.
     if_held P (is_between 0x00 0x7f b) _ _ (λ h. ascii_held b text u q (between_is 0 127 b h)) (λ _.
     if_held P (is_between 0xc2 0xdf b) _ _ (λ h. led b text u q Last (leads_two b (between_is 194 223 b h))) (λ _.
@@ -197,7 +202,7 @@ lead_held b text u =
     if_held P (is_between 0xf1 0xf3 b) _ _ (λ h. led b text u q LastThree (leads_four b (between_is 241 243 b h))) (λ _.
     if_held P (b == 0xf4) _ _ (λ h. led b text u q AfterF4 (leads_f4 b (same_byte b 244 h))) (λ _. tt)))))))))
 
-text_held : (wanted : Wanted) (b : ℕ) (text : List ℕ) → IsUnclosed wanted text → StepHeld (text ++ b ∷ []) (text_step wanted b)
+text_held : (wanted : Wanted) (b : ℕ) (text : List ℕ) → IsUnclosed wanted text → StepHeld None text b (text_step wanted b)
 text_held Character b text u = lead_held b text u
 text_held Last b text u = last_held b text u
 text_held LastTwo b text u = continuation_held 0x80 0xbf b LastTwo Last text u (omega arith) (u.ends b)
@@ -219,52 +224,61 @@ doubled_held b text t h =
           ∙ sym (append-nil (doubled (t.body ++ b ∷ [])) ∙ doubled-append t.body (b ∷ []) ∙ ap (λ (l : List ℕ). doubled t.body ++ l) (doubled_quote b h)));
     }
 
-quote_held : (b : ℕ) (text : List ℕ) → IsText text → StepHeld (text ++ b ∷ []) (quote_step b)
+quote_held : (b : ℕ) (text : List ℕ) → IsText text → StepHeld (Some kind.Text) text b (quote_step b)
 quote_held b text t =
-    let P : Step → Type 0 = λ s. StepHeld (text ++ b ∷ []) s in
-    if_held P (b == 39) _ _ (λ h. doubled_held b text t (same_byte b 39 h)) (λ _. tt)
+    let P : Step → Type 0 = λ s. StepHeld (Some kind.Text) text b s in
+    if_held P (b == 39) _ _ (λ h. doubled_held b text t (same_byte b 39 h)) (λ e. e)
 
 -- symbols
-symbol_held : (a b : ℕ) (text : List ℕ) (s : Step) → text ≡ a ∷ [] → StepHeld (a ∷ b ∷ []) s → StepHeld (text ++ b ∷ []) s
-symbol_held a b text s h k = let P : List ℕ → Type 0 = λ l. StepHeld (l ++ b ∷ []) s in subst P (sym h) k
+symbol_held : (k : Option TokenKind) (a b : ℕ) (text : List ℕ) (s : Step) → text ≡ a ∷ [] → StepHeld k (a ∷ []) b s → StepHeld k text b s
+symbol_held k a b text s h g = let P : List ℕ → Type 0 = λ l. StepHeld k l b s in subst P (sym h) g
 
-less_held : (b : ℕ) → StepHeld (60 ∷ b ∷ []) (cond (b == 61 || b == 62) step.Last step.Over)
+or_true : (c : Bool) → (c || true) ≡ true
+or_true true = refl
+or_true false = refl
+
+two_follow : (a b : ℕ) → a == 45 ≡ false → (ended : Bool) (rest : List ℕ) → CanFollow kind.Symbol (a ∷ b ∷ []) ended rest
+two_follow a b h true [] = refl
+two_follow a b h false [] = or_true (is_lone_symbol a)
+two_follow a b h ended (c ∷ rest) = ap (λ t. t && c == 45) h
+
+less_held : (b : ℕ) → StepHeld (Some kind.Symbol) (60 ∷ []) b (cond (b == 61 || b == 62) step.Last step.Over)
 less_held b =
-    let P : Step → Type 0 = λ s. StepHeld (60 ∷ b ∷ []) s in
-    if_held P (b == 61 || b == 62) _ _ (λ h. grind arith) (λ _. tt)
+    let P : Step → Type 0 = λ s. StepHeld (Some kind.Symbol) (60 ∷ []) b s in
+    if_held P (b == 61 || b == 62) _ _ (λ h. (grind arith, two_follow 60 b refl)) (λ h. grind arith)
 
-greater_held : (b : ℕ) → StepHeld (62 ∷ b ∷ []) (cond (b == 61) step.Last step.Over)
+greater_held : (b : ℕ) → StepHeld (Some kind.Symbol) (62 ∷ []) b (cond (b == 61) step.Last step.Over)
 greater_held b =
-    let P : Step → Type 0 = λ s. StepHeld (62 ∷ b ∷ []) s in
-    if_held P (b == 61) _ _ (λ h. grind arith) (λ _. tt)
+    let P : Step → Type 0 = λ s. StepHeld (Some kind.Symbol) (62 ∷ []) b s in
+    if_held P (b == 61) _ _ (λ h. (grind arith, two_follow 62 b refl)) (λ h. grind arith)
 
-bar_held : (b : ℕ) → StepHeld (124 ∷ b ∷ []) (cond (b == 124) step.Last step.Over)
+bar_held : (b : ℕ) → StepHeld None (124 ∷ []) b (cond (b == 124) step.Last step.Over)
 bar_held b =
-    let P : Step → Type 0 = λ s. StepHeld (124 ∷ b ∷ []) s in
-    if_held P (b == 124) _ _ (λ h. grind arith) (λ _. tt)
+    let P : Step → Type 0 = λ s. StepHeld None (124 ∷ []) b s in
+    if_held P (b == 124) _ _ (λ h. (grind arith, two_follow 124 b refl)) (λ _. tt)
 
-minus_held : (b : ℕ) (text : List ℕ) → StepHeld text (cond (b == 45) step.Comment step.Over)
-minus_held b text =
-    let P : Step → Type 0 = λ s. StepHeld text s in
-    if_held P (b == 45) _ _ (λ _. tt) (λ _. tt)
+minus_held : (b : ℕ) → StepHeld (Some kind.Symbol) (45 ∷ []) b (cond (b == 45) step.Comment step.Over)
+minus_held b =
+    let P : Step → Type 0 = λ s. StepHeld (Some kind.Symbol) (45 ∷ []) b s in
+    if_held P (b == 45) _ _ (λ h. ap (λ n. 45 ∷ n ∷ []) (same_byte b 45 h)) (λ h. grind arith)
 
-step_held : (token : Unfinished) (b : ℕ) (text : List ℕ) → Held token text → StepHeld (text ++ b ∷ []) (step_of token b)
-unfolding step_of
+pub step_held : (token : Unfinished) (b : ℕ) (text : List ℕ) → Held token text → StepHeld (kind_of token) text b (step_of token b)
+unfolding step_of kind_of
 step_held (Word size) b text h = word_held size b text h
 step_held (Number value) b text h = number_held value b text h
 step_held Hash b text h = first_reference_held b text h
 step_held (Reference value) b text h = more_reference_held value b text h
 step_held (Text wanted) b text h = text_held wanted b text h
 step_held Quote b text h = quote_held b text h
-step_held Minus b text h = minus_held b (text ++ b ∷ [])
-step_held Less b text h = symbol_held 60 b text _ h (less_held b)
-step_held Greater b text h = symbol_held 62 b text _ h (greater_held b)
-step_held Bar b text h = symbol_held 124 b text _ h (bar_held b)
+step_held Minus b text h = symbol_held (Some kind.Symbol) 45 b text _ h (minus_held b)
+step_held Less b text h = symbol_held (Some kind.Symbol) 60 b text _ h (less_held b)
+step_held Greater b text h = symbol_held (Some kind.Symbol) 62 b text _ h (greater_held b)
+step_held Bar b text h = symbol_held None 124 b text _ h (bar_held b)
 
 -- a first byte
-abbrev FirstHeld : ℕ → First → Type 0
-FirstHeld b Space = Unit {0}
-FirstHeld b Alone = is_symbol (b ∷ []) ≡ true
+abbrev pub FirstHeld : ℕ → First → Type 0
+FirstHeld b Space = is_space b ≡ true
+FirstHeld b Alone = IsClosedSymbol (b ∷ [])
 FirstHeld b (Opens token) = Held token (b ∷ [])
 FirstHeld b Fault = Unit {0}
 
@@ -287,24 +301,34 @@ opened_held b =
     if_held P (b == 62) _ _ (λ h. ap (λ n. n ∷ []) (same_byte b 62 h)) (λ _.
     if_held P (b == 124) _ _ (λ h. ap (λ n. n ∷ []) (same_byte b 124 h)) (λ _. tt))))))
 
-lone_held : (b : ℕ) → is_lone_symbol b ≡ true → is_symbol (b ∷ []) ≡ true
-lone_held b h = ap (λ c. c || b == 45 || b == 60 || b == 62) h
+none_of : (p q r s x y z w : Bool) → p ≡ false → q ≡ false → r ≡ false → s ≡ false → ((p && x) || (q && y) || (r && z) || (s && w)) ≡ false
+none_of p q r s x y z w e f g h = λ i. (e i && x) || (f i && y) || (g i && z) || (h i && w)
 
-first_held : (b : ℕ) → FirstHeld b (first_of b)
+lone_follow : (b : ℕ) → is_lone_symbol b ≡ true → (ended : Bool) (rest : List ℕ) → CanFollow kind.Symbol (b ∷ []) ended rest
+lone_follow b h true [] = refl
+lone_follow b h false [] = ap (λ c. c || false) h
+lone_follow b h ended (c ∷ rest) =
+    none_of (b == 60) (b == 62) (b == 124) (b == 45) _ _ _ _
+    (differs is_lone_symbol b 60 h refl) (differs is_lone_symbol b 62 h refl) (differs is_lone_symbol b 124 h refl) (differs is_lone_symbol b 45 h refl)
+
+lone_held : (b : ℕ) → is_lone_symbol b ≡ true → IsClosedSymbol (b ∷ [])
+lone_held b h = (ap (λ c. c || b == 45 || b == 60 || b == 62) h, lone_follow b h)
+
+pub first_held : (b : ℕ) → FirstHeld b (first_of b)
 unfolding first_of
 first_held b =
     let P : First → Type 0 = λ f. FirstHeld b f in
-    if_held P (is_space b) _ _ (λ _. tt) (λ _.
+    if_held P (is_space b) _ _ (λ e. e) (λ _.
     if_held P (is_lone_symbol b) _ _ (λ h. lone_held b h) (λ _.
     if_held P (is_word_start b) _ _ (λ h. ((h, All-nil (λ x. is_word_byte x ≡ true), omega arith), refl)) (λ _.
     if_held P (is_digit b) _ _ (λ h. first_digit_held b h) (λ _. opened_held b))))
 
 -- a token that is over
-abbrev OverHeld : Option TokenKind → List ℕ → Type 0
+abbrev pub OverHeld : Option TokenKind → List ℕ → Type 0
 OverHeld None text = Unit {0}
 OverHeld (Some k) text = Spells k text
 
-over_held : (token : Unfinished) (text : List ℕ) → Held token text → OverHeld (kind_of token) text
+pub over_held : (token : Unfinished) (text : List ℕ) → Held token text → OverHeld (kind_of token) text
 unfolding kind_of
 over_held (Word size) text h = h.0
 over_held (Number value) text h = h.0
@@ -316,66 +340,3 @@ over_held Minus text h = ap is_symbol h
 over_held Less text h = ap is_symbol h
 over_held Greater text h = ap is_symbol h
 over_held Bar text h = tt
-
--- a token that is found is written so
-abbrev AnswerHeld : List ℕ → Lexed → Type 0
-AnswerHeld whole (lexed.Token token) = Spells token.kind (slice_range whole token.start token.end)
-AnswerHeld whole (lexed.BadToken at) = Unit {0}
-AnswerHeld whole lexed.More = Unit {0}
-AnswerHeld whole lexed.End = Unit {0}
-
--- the bytes before a place are written as what they come to
-abbrev PartHeld : Part → ℕ → List ℕ → List ℕ → Type 0
-PartHeld Blank at whole bytes = Unit {0}
-PartHeld Comment at whole bytes = Unit {0}
-PartHeld (Open start token) at whole bytes = (text : List ℕ) × Held token text × (drop start whole ≡ text ++ bytes) × (start + length text ≡ at)
-
-range_is : (whole text bytes : List ℕ) (start end : ℕ) → drop start whole ≡ text ++ bytes → start + length text ≡ end → slice_range whole start end ≡ text
-range_is whole text bytes start end d e =
-    let n : end - start ≡ length text = omega arith in
-    ap (take (end - start)) d ∙ ap (λ n. take n (text ++ bytes)) n ∙ take-append_seam text bytes
-
-found_held : (whole text bytes : List ℕ) (start end : ℕ) (k : TokenKind) → drop start whole ≡ text ++ bytes → start + length text ≡ end → Spells k text
-    → Spells k (slice_range whole start end)
-found_held whole text bytes start end k d e h = let P : List ℕ → Type 0 = λ l. Spells k l in subst P (sym (range_is whole text bytes start end d e)) h
-
-over_answer : (whole text bytes : List ℕ) (start end : ℕ) (k : Option TokenKind) → drop start whole ≡ text ++ bytes → start + length text ≡ end → OverHeld k text
-    → AnswerHeld whole (over_as k start end)
-over_answer whole text bytes start end None d e h = tt
-over_answer whole text bytes start end (Some k) d e h = found_held whole text bytes start end k d e h
-
-lexed_held : (ended : Bool) (part : Part) (at : ℕ) (whole bytes : List ℕ) → drop at whole ≡ bytes → PartHeld part at whole bytes
-    → AnswerHeld whole (lexed_at ended part at bytes)
-unfolding lexed_at turn_at
-lexed_held false part at whole [] d h = tt
-lexed_held true Blank at whole [] d h = tt
-lexed_held true Comment at whole [] d h = tt
-lexed_held true (Open start token) at whole [] d h = over_answer whole h.0 [] start at (kind_of token) h.2 h.3 (over_held token h.0 h.1)
-lexed_held ended Blank at whole (b ∷ bytes) d h =
-    let after : drop (at + 1) whole ≡ bytes = drop_after at b whole bytes d in
-    elim (first_of b) as (λ f. FirstHeld b f → AnswerHeld whole (after_turn (first_turn at f) (λ next. lexed_at ended next (at + 1) bytes))) [
-      | Space ↦ λ g. lexed_held ended Blank (at + 1) whole bytes after tt
-      | Alone ↦ λ g. found_held whole (b ∷ []) bytes at (at + 1) kind.Symbol d refl g
-      | Opens token ↦ λ g. lexed_held ended (Open at token) (at + 1) whole bytes after (b ∷ [], g, d, refl)
-      | Fault ↦ λ g. tt
-    ] (first_held b)
-lexed_held ended Comment at whole (b ∷ bytes) d h =
-    let after : drop (at + 1) whole ≡ bytes = drop_after at b whole bytes d in
-    elim (b == 10) as (λ c. AnswerHeld whole (after_turn (Go (cond c Blank Comment)) (λ next. lexed_at ended next (at + 1) bytes))) [
-      | true ↦ lexed_held ended Blank (at + 1) whole bytes after tt
-      | false ↦ lexed_held ended Comment (at + 1) whole bytes after tt
-    ]
-lexed_held ended (Open start token) at whole (b ∷ bytes) d h =
-    let after : drop (at + 1) whole ≡ bytes = drop_after at b whole bytes d in
-    let split : drop start whole ≡ (h.0 ++ b ∷ []) ++ bytes = h.2 ∙ sym (append_assoc h.0 (b ∷ []) bytes) in
-    let size : start + length (h.0 ++ b ∷ []) ≡ at + 1 = omega (arith, length-append h.0 (b ∷ []), h.3) in
-    elim (step_of token b) as (λ s. StepHeld (h.0 ++ b ∷ []) s → AnswerHeld whole (after_turn (step_turn start token at s) (λ next. lexed_at ended next (at + 1) bytes))) [
-      | step.Longer next ↦ λ g. lexed_held ended (Open start next) (at + 1) whole bytes after (h.0 ++ b ∷ [], g, split, size)
-      | step.Last ↦ λ g. found_held whole (h.0 ++ b ∷ []) bytes start (at + 1) kind.Symbol split size g
-      | step.Comment ↦ λ g. lexed_held ended Comment (at + 1) whole bytes after tt
-      | step.Over ↦ λ g. over_answer whole h.0 (b ∷ bytes) start at (kind_of token) h.2 h.3 (over_held token h.0 h.1)
-      | step.Fault ↦ λ g. tt
-    ] (step_held token b h.0 h.1)
-
-pub spelled : Spelled
-spelled bytes from ended token h e = let P : Lexed → Type 0 = λ a. AnswerHeld bytes a in subst P e (lexed_held ended Blank from bytes (drop from bytes) refl tt)
