@@ -67,7 +67,7 @@ lexed_again ended part at whole (b ∷ bytes) token d h =
 
 pub again : Again
 unfolding next_of
-again bytes from ended token h e =
+again bytes from ended token e =
     elim (lexed_again ended Blank from bytes (drop from bytes) token refl e) [
       | inl began ↦ ap (λ n. next_of bytes n ended) began ∙ e
       | inr found ↦ found

@@ -139,7 +139,7 @@ change_from bytes from h c =
 
 -- an answer that stays is no change
 no_change : (bytes : List ℕ) (from : ℕ) → from ≤ length bytes → next_of bytes from false ≢ lexed.More → CanChange bytes from → ⊥
-no_change bytes from h k c = c.differ (stable bytes c.one from true h k ∙ sym (stable bytes c.other from true h k))
+no_change bytes from h k c = c.differ (stable bytes c.one from true k ∙ sym (stable bytes c.other from true k))
 
 more_or_not : (bytes : List ℕ) (from : ℕ) (answer : Lexed) → from ≤ length bytes → next_of bytes from false ≡ answer → CanChange bytes from → answer ≡ lexed.More
 more_or_not bytes from (lexed.Token token) h e c = absurd (no_change bytes from h (λ m. cc) c)
@@ -153,7 +153,7 @@ more_from bytes from false h e c = more_or_not bytes from (next_of bytes from fa
 
 more_gives : (bytes : List ℕ) (from : ℕ) (ended : Bool) → from ≤ length bytes → next_of bytes from ended ≡ lexed.More → (ended ≡ false) × CanChange bytes from
 unfolding next_of
-more_gives bytes from true h e = absurd (let m : true ≡ false = within_along bytes from true lexed.More h e in cc)
+more_gives bytes from true h e = absurd (let m : true ≡ false = within_along bytes from true lexed.More e in cc)
 more_gives bytes from false h e = (refl, change_from bytes from h (lexed_change Blank from (drop from bytes) e))
 
 pub more_exactly : MoreExactly

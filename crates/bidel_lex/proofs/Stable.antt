@@ -1,6 +1,7 @@
 -- Answers stay as the bytes go on.
-use Rattle.std.proofs.Common.{◌≡◌, ◌≢◌, ◌+◌, ℕ, Bool, false, List, [], ◌∷◌, ◌++◌, drop, refl, ap, ◌∙◌}
-use Rattle.std.proofs.lemmas.List.{drop-append-le}
+use Rattle.std.proofs.Common.{inl, inr, arith, length, ◌≡◌, ◌≢◌, ◌+◌, ℕ, Bool, false, List, [], ◌∷◌, ◌++◌, drop, refl, ap, ◌∙◌}
+use Rattle.std.proofs.lemmas.List.{drop-append-le, drop_all}
+use Rattle.std.proofs.lemmas.Bool.{cases_lt}
 use Rattle.bidel_lex.specs.declared.tokens.Lexed.TheVariants as lexed
 use Rattle.bidel_lex.specs.declared.next.Part.{Part}
 use Rattle.bidel_lex.specs.declared.next.Part.TheVariants.{Blank}
@@ -19,7 +20,14 @@ lexed_stable ended part at (b ∷ bytes) more h =
       | Stop answer ↦ λ k. refl
     ] h
 
+nothing_stable : (at : ℕ) (bytes : List ℕ) → bytes ≡ [] → lexed_at false Blank at bytes ≡ lexed.More
+unfolding lexed_at
+nothing_stable at bytes e = ap (lexed_at false Blank at) e
+
 pub stable : Stable
 unfolding next_of
-stable bytes more from ended h k =
-    ap (lexed_at ended Blank from) (drop-append-le from bytes more h) ∙ lexed_stable ended Blank from (drop from bytes) more k
+stable bytes more from ended k =
+    elim (cases_lt (length bytes) from) [
+      | inl out ↦ absurd (k (nothing_stable from (drop from bytes) (drop_all from bytes (omega arith))))
+      | inr h ↦ ap (lexed_at ended Blank from) (drop-append-le from bytes more h) ∙ lexed_stable ended Blank from (drop from bytes) more k
+    ]

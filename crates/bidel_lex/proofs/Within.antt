@@ -1,5 +1,7 @@
 -- Answers lie within the bytes.
-use Rattle.std.proofs.Common.{◌≡◌, ◌+◌, ◌<◌, ◌≤◌, ℕ, Bool, true, false, List, [], ◌∷◌, length, drop, Option, None, Some, refl, subst, arith, length-drop}
+use Rattle.std.proofs.Common.{inl, inr, sym, ◌≡◌, ◌+◌, ◌<◌, ◌≤◌, ℕ, Bool, true, false, List, [], ◌∷◌, length, drop, Option, None, Some, refl, subst, arith, length-drop}
+use Rattle.std.proofs.lemmas.Bool.{cases_lt}
+use Rattle.std.proofs.lemmas.List.{drop_all}
 use Rattle.bidel_lex.specs.declared.tokens.TokenKind.{TokenKind}
 use Rattle.bidel_lex.specs.declared.tokens.Lexed.{Lexed}
 use Rattle.bidel_lex.specs.declared.tokens.Lexed.TheVariants as lexed
@@ -52,11 +54,23 @@ lexed_within ended part at from size (b ∷ bytes) h r e =
       | Stop answer ↦ λ g. stop_within ended part at from size answer g h r (omega arith)
     ] (can_turn part at b)
 
+nothing_within : (ended : Bool) (at size from : ℕ) → IsWithin size from ended (lexed_at ended Blank at [])
+unfolding lexed_at
+nothing_within true at size from = refl
+nothing_within false at size from = refl
+
 pub within : Within
 unfolding next_of
-within bytes from ended h = lexed_within ended Blank from from (length bytes) (drop from bytes) (omega arith) tt (omega (arith, length-drop from bytes))
+within bytes from ended =
+    elim (cases_lt (length bytes) from) [
+      | inl out ↦ (
+          let none : drop from bytes ≡ [] = drop_all from bytes (omega arith) in
+          let P : List ℕ → Type 0 = λ l. IsWithin (length bytes) from ended (lexed_at ended Blank from l) in
+          subst P (sym none) (nothing_within ended from (length bytes) from))
+      | inr h ↦ lexed_within ended Blank from from (length bytes) (drop from bytes) (omega arith) tt (omega (arith, length-drop from bytes))
+    ]
 
 -- the same of an answer that is shown to be the one
-pub within_along : (bytes : List ℕ) (from : ℕ) (ended : Bool) (answer : Lexed) → from ≤ length bytes → next_of bytes from ended ≡ answer
+pub within_along : (bytes : List ℕ) (from : ℕ) (ended : Bool) (answer : Lexed) → next_of bytes from ended ≡ answer
     → IsWithin (length bytes) from ended answer
-within_along bytes from ended answer h e = let P : Lexed → Type 0 = λ a. IsWithin (length bytes) from ended a in subst P e (within bytes from ended h)
+within_along bytes from ended answer e = let P : Lexed → Type 0 = λ a. IsWithin (length bytes) from ended a in subst P e (within bytes from ended)

@@ -11,11 +11,12 @@ use Rattle.bidel_lex.specs.Tokens.{AreTokens, HasTokens}
 
 -- tokens and faults lie within the bytes, from the place on
 abbrev pub Within : Type 0
-Within = (bytes : List ℕ) (from : ℕ) (ended : Bool) → from ≤ length bytes → IsWithin (length bytes) from ended (next_of bytes from ended)
+Within = (bytes : List ℕ) (from : ℕ) (ended : Bool)
+    → IsWithin (length bytes) from ended (next_of bytes from ended)
 
 -- what is found in bytes that may go on, `More` aside, is found however they go on
 abbrev pub Stable : Type 0
-Stable = (bytes more : List ℕ) (from : ℕ) (ended : Bool) → from ≤ length bytes
+Stable = (bytes more : List ℕ) (from : ℕ) (ended : Bool)
     → next_of bytes from false ≢ lexed.More → next_of (bytes ++ more) from ended ≡ next_of bytes from false
 
 -- two ways for the bytes to go on to their end, with different answers
@@ -33,7 +34,7 @@ MoreExactly = (bytes : List ℕ) (from : ℕ) (ended : Bool) → from ≤ length
 
 -- a token is found again from its own start
 abbrev pub Again : Type 0
-Again = (bytes : List ℕ) (from : ℕ) (ended : Bool) (token : Token) → from ≤ length bytes
+Again = (bytes : List ℕ) (from : ℕ) (ended : Bool) (token : Token)
     → next_of bytes from ended ≡ lexed.Token token → next_of bytes token.start ended ≡ lexed.Token token
 
 -- from a place on: what may stand between tokens, a token of a kind, and bytes that don't make it longer
@@ -70,5 +71,5 @@ Spelled = (bytes : List ℕ) (from : ℕ) (ended : Bool) (token : Token)
 
 -- tokens found one after the other are tokens of the bytes, also where the bytes may go on
 abbrev pub Listed : Type 0
-Listed = (bytes : List ℕ) (from : ℕ) (ended : Bool) (tokens : List Token) (last : Lexed) → from ≤ length bytes
+Listed = (bytes : List ℕ) (from : ℕ) (ended : Bool) (tokens : List Token) (last : Lexed)
     → HasTokens ended bytes from tokens last → AreTokens bytes tokens
