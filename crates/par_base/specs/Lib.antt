@@ -1,0 +1,5 @@
+pub mod Causes
+pub mod FileTold
+pub mod Lends
+pub mod Literals
+pub mod Names

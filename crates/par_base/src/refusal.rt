@@ -1,0 +1,52 @@
+//! The refusals of statements, each with the values that its line prints.
+use crate::{Name, Text};
+
+/// The next identifier that the model would draw is above the limit.
+#[derive(Clone, Copy, Debug, PartialEq, Eq, Drop)]
+pub struct IdsSpent {
+    /// The first identifier above the limit that would be drawn.
+    pub needed: u64,
+    pub limit: u64,
+}
+
+/// Why a statement is refused. A refused statement changes nothing.
+#[derive(Debug, Drop)]
+pub enum Refusal {
+    /// The form of the statement isn't carried out yet.
+    NotBuilt,
+    /// No live version has the name.
+    UnknownVersion { version: Name },
+    /// The new name is a live version's.
+    VersionExists { version: Name },
+    /// The working set has no such table.
+    UnknownTable { table: Name },
+    /// A target's name is that of a table that passes through, or of the other target.
+    TableExists { table: Name },
+    /// A column that is read, set, listed or renamed isn't there.
+    UnknownColumn { column: Name },
+    /// A target table would have the name twice, a new column is named `p`, or SET names a column
+    /// twice.
+    ColumnExists { column: Name },
+    /// A row has another number of values than the table has columns.
+    WrongCount { given: u64, wanted: u64 },
+    /// A reference literal is 0 or isn't below the next identifier.
+    UnknownId { id: u64, next: u64 },
+    /// An identifier above the limit would be drawn.
+    IdsSpent { needed: u64, limit: u64 },
+    /// The lists of DECOMPOSE name a column twice, or leave one out.
+    BadPartition { column: Name },
+    /// MATERIALIZE names what can't be stored together, or what isn't there.
+    InvalidLayout { table: Text },
+    /// A table is named without version, and the session has used none.
+    NoVersionInUse,
+    /// There would be too many operators, or too great a number of an operator or a table.
+    TooManyOperators { limit: u64 },
+    /// A target would have too many columns.
+    TooManyColumns { table: Name, limit: u64 },
+    /// The two tables of MERGE don't have the same list of column names.
+    ColumnsDiffer { first: Name, second: Name },
+    /// JOIN or MERGE names one table twice.
+    SameTable { table: Name },
+    /// STEP comes while no move is pending.
+    NothingPending,
+}

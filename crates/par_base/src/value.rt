@@ -1,0 +1,51 @@
+//! Values and rows.
+ghost use Rattle.std.specs.Prelude.{◌≡◌, IfOk};
+
+use crate::{List, Memory, Text};
+use std::alloc::Global;
+
+/// What a column of a row holds. Columns have no types.
+#[derive(Debug, Drop)]
+pub enum Value {
+    Null,
+    Int(i64),
+    Text(Text),
+    /// A reference to a row's identifier.
+    Reference(u64),
+}
+
+/// The values of a row, one for each column.
+pub type Row = List<Value>;
+
+impl Value {
+    /// An equal value.
+    pub fn copy(&self, alloc: Global) -> Result<Value, Memory>
+        ensures { IfOk result (λ made. made ≡ self.now) }
+    {
+        match self {
+            Value::Null => Ok(Value::Null),
+            Value::Int(number) => Ok(Value::Int(*number)),
+            Value::Text(text) => Ok(Value::Text(text.copy(alloc)?)),
+            Value::Reference(id) => Ok(Value::Reference(*id)),
+        }
+    }
+}
+
+impl List<Value> {
+    /// An equal row.
+    pub fn copy(&self, alloc: Global) -> Result<Row, Memory>
+        ensures { IfOk result (λ made. made ≡ self.now) }
+    {
+        copy_values(alloc, self.as_slice())
+    }
+}
+
+fn copy_values(alloc: Global, values: &[Value]) -> Result<Row, Memory>
+    ensures { IfOk result (λ made. made ≡ values.now) }
+{
+    let mut made = List::new(alloc);
+    for value in values {
+        made.push(value.copy(alloc)?)?;
+    }
+    Ok(made)
+}
