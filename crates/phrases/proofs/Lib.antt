@@ -6,3 +6,5 @@ pub mod Exact
 pub mod Chains
 pub mod Fronts
 pub mod Steps
+pub mod Lists
+pub mod Lookahead

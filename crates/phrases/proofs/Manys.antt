@@ -26,7 +26,7 @@ module _ {Tok A : Type 0} (ci g : Tok → Bool) (S : List Tok → A → Type 0) 
   clear_at [] h = refl
   clear_at (t ∷ us) h = fresh t h
 
-  apart : (as' : List A) (front us : List Tok) → Many S front as' → starts (or g ci) us ≡ false → starts ci (front ++ us) ≡ false
+  pub apart : (as' : List A) (front us : List Tok) → Many S front as' → starts (or g ci) us ≡ false → starts ci (front ++ us) ≡ false
   apart [] front us s h = ap (λ (l : List Tok). starts ci (l ++ us)) s ∙ starts_right g ci us h
   apart (a ∷ as') front us s h =
       ap (λ (l : List Tok). starts ci l) (ap (λ (l : List Tok). l ++ us) s.2 ∙ append_assoc s.0 s.1 us) ∙ clear_at (s.0 ++ (s.1 ++ us)) (begins s.0 (s.1 ++ us) a s.3)

@@ -1,14 +1,14 @@
 -- The turns of a loop that reads a chain or a list, one by one.
 use Rattle.std.proofs.Common.{◌≡◌, ◌≢◌, ◌++◌, ◌∷◌, [], ℕ, zero, suc, ◌-◌, List, Bool, true, false, Ok, Err, refl, ap, append_assoc, append-nil, ◌∙◌, sym, cond, sub-one}
 use Rattle.std.specs.Prelude.{Option, Some, None}
-use Rattle.phrases.specs.Reading.{Read, ◌>>=◌, and_then, starts, taken, one_at, done, is, is_some, many_at, with_front}
+use Rattle.phrases.specs.Reading.{Read, ◌>>=◌, and_then, starts, taken, one_at, done, is, is_some, either, many_at, rest_at, behind_at, separated_at, with_front}
 use Rattle.phrases.specs.Chains.{Part, Item, joined}
 
 taken_some : {Tok A : Type 0} (o : Option A) (t : Tok) (ts : List Tok) (x : A × List Tok) → taken o t ts ≡ Ok x → is_some o ≡ true
 taken_some (Some a) t ts x h = refl
 taken_some None t ts x h = cc
 
-one_starts : {Tok A : Type 0} (f : Tok → Option A) (ts : List Tok) (x : A × List Tok) → one_at f ts ≡ Ok x → starts (is f) ts ≡ true
+pub one_starts : {Tok A : Type 0} (f : Tok → Option A) (ts : List Tok) (x : A × List Tok) → one_at f ts ≡ Ok x → starts (is f) ts ≡ true
 one_starts f [] x h = cc
 one_starts f (t ∷ ts) x h = taken_some (f t) t ts x h
 
@@ -86,3 +86,47 @@ module _ {Tok A : Type 0} (knows : Bool → List Tok → Bool) (item : List Tok 
   many_stops ended k n front ts e s h i =
       ap (λ (m : ℕ). with_front front (many_at knows item ended m ts)) s
       ∙ ap (with_front front) (at_item ended n ts h ∙ ap (λ (r : Read Tok A). r >>= λ x. with_front (x.0 ∷ []) (many_at knows item ended n x.1)) i)
+
+-- a token of f, and then p
+pub behind_is : {Tok X A : Type 0} (f : Tok → Option X) (p : List Tok → Read Tok A) (ts us : List Tok) (x : X) → one_at f ts ≡ Ok (x, us) → behind_at f p ts ≡ p us
+behind_is f p ts us x h = ap (λ (r : Read _ _). r >>= λ y. p y.1) h
+
+-- the turns of a list whose items stand behind tokens of f
+module _ {Tok X A : Type 0} (f : Tok → Option X) (p : List Tok → Read Tok A) where
+  abbrev pub rest_turns : ℕ → List Tok → Read Tok (List A)
+  rest_turns n = many_at (λ _. starts (is f)) (behind_at f p) true n
+
+  pub rest_full : (n : ℕ) (front : List A) (ts : List Tok) → n ≡ 0 → with_front front (rest_turns n ts) ≡ Ok (front, ts)
+  rest_full = many_full (λ _. starts (is f)) (behind_at f p) true
+
+  pub rest_ends : (n : ℕ) (front : List A) (ts : List Tok) → starts (is f) ts ≡ false → with_front front (rest_turns n ts) ≡ Ok (front, ts)
+  rest_ends = many_ends (λ _. starts (is f)) (behind_at f p) true
+
+  pub rest_goes : (k n : ℕ) (front : List A) (a : A) (ts us vs : List Tok) (x : X) → k ≡ suc n → one_at f ts ≡ Ok (x, us) → p us ≡ Ok (a, vs)
+      → with_front (front ++ a ∷ []) (rest_turns n vs) ≡ with_front front (rest_turns k ts)
+  rest_goes k n front a ts us vs x e h i =
+      many_goes (λ _. starts (is f)) (behind_at f p) true k n front a ts vs e (one_starts f ts (x, us) h) (behind_is f p ts us x h ∙ i)
+
+  pub rest_stops : (k n : ℕ) (front : List A) (ts us e : List Tok) (x : X) → k ≡ suc n → one_at f ts ≡ Ok (x, us) → p us ≡ Err e → with_front front (rest_turns k ts) ≡ Err e
+  rest_stops k n front ts us e x s h i =
+      many_stops (λ _. starts (is f)) (behind_at f p) true k n front ts e s (one_starts f ts (x, us) h) (behind_is f p ts us x h ∙ i)
+
+-- a value behind those of a list
+consed_front : {Tok A : Type 0} (a : A) (r : Read Tok (List A)) → (r >>= λ x. Ok (a ∷ x.0, x.1)) ≡ with_front (a ∷ []) r
+consed_front a (Ok x) = refl
+consed_front a (Err e) = refl
+
+-- an item, and then those behind it
+pub separated_goes : {Tok X A : Type 0} (f : Tok → Option X) (p : List Tok → Read Tok A) (ts us : List Tok) (a : A) → p ts ≡ Ok (a, us)
+    → separated_at f p ts ≡ with_front (a ∷ []) (rest_at (is f) (behind_at f p) us)
+separated_goes f p ts us a h = ap (λ (r : Read _ _). r >>= λ x. rest_at (is f) (behind_at f p) x.1 >>= λ y. Ok (x.0 ∷ y.0, y.1)) h ∙ consed_front a (rest_at (is f) (behind_at f p) us)
+
+pub separated_stops : {Tok X A : Type 0} (f : Tok → Option X) (p : List Tok → Read Tok A) (ts e : List Tok) → p ts ≡ Err e → separated_at f p ts ≡ Err e
+separated_stops f p ts e h = ap (λ (r : Read _ _). r >>= λ x. rest_at (is f) (behind_at f p) x.1 >>= λ y. Ok (x.0 ∷ y.0, y.1)) h
+
+-- a choice by the next token
+pub either_left : {Tok A : Type 0} (g : Tok → Bool) (p q : List Tok → Read Tok A) (ts : List Tok) → starts g ts ≡ true → either g p q ts ≡ p ts
+either_left g p q ts h = ap (λ (b : Bool). cond b (p ts) (q ts)) h
+
+pub either_right : {Tok A : Type 0} (g : Tok → Bool) (p q : List Tok → Read Tok A) (ts : List Tok) → starts g ts ≡ false → either g p q ts ≡ q ts
+either_right g p q ts h = ap (λ (b : Bool). cond b (p ts) (q ts)) h

@@ -1,5 +1,5 @@
 -- Phrases: which tokens spell which value, for tokens of any type.
-use Rattle.std.specs.Prelude.{◌≡◌, ◌++◌, ◌∷◌, ◌⊎◌, List, [], Option, Some}
+use Rattle.std.specs.Prelude.{◌≡◌, ◌++◌, ◌∷◌, ◌⊎◌, List, [], Option, Some, None}
 
 -- which tokens spell which value
 abbrev pub Phrase : Type 0 → Type 0 → Type 1
@@ -36,3 +36,19 @@ pub record Begins {Tok A : Type 0} (S : List Tok → A → Type 0) (front : List
   pub more : List Tok
   pub value : A
   pub spelled : S (front ++ more) value
+
+-- a token of f, and then S
+abbrev pub Behind : {Tok X A : Type 0} → (Tok → Option X) → (List Tok → A → Type 0) → List Tok → A → Type 0
+Behind f S = Seq (OneOf f) λ _. S
+
+-- [ S ]
+abbrev pub Optional : {Tok A : Type 0} → (List Tok → A → Type 0) → List Tok → Option A → Type 0
+Optional S = Either (Seq S λ a. Nothing (Some a)) (Nothing None)
+
+-- S { f S }, as a list with commas
+abbrev pub Separated : {Tok X A : Type 0} → (Tok → Option X) → (List Tok → A → Type 0) → List Tok → List A → Type 0
+Separated f S = Seq S λ a. Seq (Many (Behind f S)) λ as'. Nothing (a ∷ as')
+
+-- open [ S { f S } ] close, as a list in parentheses
+abbrev pub Enclosed : {Tok X Y Z A : Type 0} → (Tok → Option Y) → (Tok → Option X) → (Tok → Option Z) → (List Tok → A → Type 0) → List Tok → List A → Type 0
+Enclosed open' f close S = Behind open' (Seq (Either (Separated f S) (Nothing [])) λ as'. Seq (OneOf close) λ _. Nothing as')

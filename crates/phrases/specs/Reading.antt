@@ -1,5 +1,5 @@
 -- Reading tokens from the left: a value and the tokens after it, or the tokens from the first fault on, none where they ran out.
-use Rattle.std.specs.Prelude.{◌++◌, ◌∷◌, ◌+◌, ◌||◌, ℕ, zero, suc, List, [], length, Bool, true, false, Result, Ok, Err, Option, Some, None, cond}
+use Rattle.std.specs.Prelude.{◌++◌, ◌∷◌, ◌+◌, ◌||◌, ◌&&◌, not, ℕ, zero, suc, List, [], length, Bool, true, false, Result, Ok, Err, Option, Some, None, cond}
 
 -- what a reader answers
 abbrev pub Read : Type 0 → Type 0 → Type 0
@@ -82,3 +82,25 @@ rest_at g item ts = many_at (λ _. starts g) item true (length ts + 1) ts
 abbrev pub with_front : {Tok A : Type 0} → List A → Read Tok (List A) → Read Tok (List A)
 with_front front (Ok x) = Ok (front ++ x.0, x.1)
 with_front front (Err e) = Err e
+
+-- a token of f, and then p
+abbrev pub behind_at : {Tok X A : Type 0} → (Tok → Option X) → (List Tok → Read Tok A) → List Tok → Read Tok A
+behind_at f p = and_then (one_at f) λ _. p
+
+-- p where a token of g comes
+abbrev pub optional_at : {Tok A : Type 0} → (Tok → Bool) → (List Tok → Read Tok A) → List Tok → Read Tok (Option A)
+optional_at g p = either g (and_then p λ a. done (Some a)) (done None)
+
+-- p, and p again behind each token of f
+abbrev pub separated_at : {Tok X A : Type 0} → (Tok → Option X) → (List Tok → Read Tok A) → List Tok → Read Tok (List A)
+separated_at f p = and_then p λ a. and_then (rest_at (is f) (behind_at f p)) λ as'. done (a ∷ as')
+
+-- such a list between two tokens, with no item where no token of g comes
+abbrev pub enclosed_at : {Tok X Y Z A : Type 0} → (Tok → Bool) → (Tok → Option Y) → (Tok → Option X) → (Tok → Option Z) → (List Tok → Read Tok A) → List Tok → Read Tok (List A)
+enclosed_at g open' f close p = behind_at open' (and_then (either g (separated_at f p) (done [])) λ as'. and_then (one_at close) λ _. done as')
+
+-- whether an item begins, or may begin as the input goes on: a token of `one` shows it, and a token of `two` with the next one
+abbrev pub begins_item : {Tok : Type 0} → (Tok → Bool) → (Tok → Bool) → (Tok → Tok → Bool) → Bool → List Tok → Bool
+begins_item one two both ended [] = not ended
+begins_item one two both ended (t ∷ []) = one t || (two t && not ended)
+begins_item one two both ended (t ∷ u ∷ ts) = one t || (two t && both t u)
