@@ -1,0 +1,31 @@
+-- Tokens found one after the other are tokens of the bytes.
+use Rattle.std.proofs.Common.{◌≡◌, ◌≤◌, ◌<◌, ℕ, Bool, true, false, List, [], ◌∷◌, length, sym, ap, ◌∙◌, arith, append-nil}
+use Rattle.bidel_lex.specs.declared.tokens.Token.{Token}
+use Rattle.bidel_lex.specs.declared.tokens.Lexed.{Lexed}
+use Rattle.bidel_lex.specs.declared.tokens.Lexed.TheVariants as lexed
+use Rattle.bidel_lex.specs.Next.{next_of}
+use Rattle.bidel_lex.specs.Tokens.{HasTokens, StartFrom}
+use Rattle.bidel_lex.specs.Laws.{Listed}
+use Rattle.bidel_lex.proofs.Again.{again}
+use Rattle.bidel_lex.proofs.Stable.{stable}
+use Rattle.bidel_lex.proofs.Within.{within_along}
+
+-- a token is found at the end of the input too
+found_at_end : (bytes : List ℕ) (from : ℕ) (ended : Bool) (token : Token) → from ≤ length bytes
+    → next_of bytes from ended ≡ lexed.Token token → next_of bytes from true ≡ lexed.Token token
+found_at_end bytes from true token h e = e
+found_at_end bytes from false token h e =
+    ap (λ (l : List ℕ). next_of l from true) (sym (append-nil bytes)) ∙ stable bytes [] from true h (λ m. cc) ∙ e
+
+next_starts : (bytes : List ℕ) (from : ℕ) (ended : Bool) (tokens : List Token) (last : Lexed) → from ≤ length bytes
+    → HasTokens ended bytes from tokens last → StartFrom from tokens
+next_starts bytes from ended [] last h f = tt
+next_starts bytes from ended (token ∷ tokens) last h f =
+    let place : (from ≤ token.start) × (token.start < token.end) × (token.end ≤ length bytes) = within_along bytes from ended (lexed.Token token) h f.0 in place.0
+
+pub listed : Listed
+listed bytes from ended [] last h f = tt
+listed bytes from ended (token ∷ tokens) last h f =
+    let place : (from ≤ token.start) × (token.start < token.end) × (token.end ≤ length bytes) = within_along bytes from ended (lexed.Token token) h f.0 in
+    let start : token.start ≤ length bytes = omega arith in
+    (found_at_end bytes token.start ended token start (again bytes from ended token h f.0), next_starts bytes token.end ended tokens last place.2 f.1, listed bytes token.end ended tokens last place.2 f.1)
