@@ -1,0 +1,5 @@
+use Rattle.expr_lang.proofs.Resolving.{resolved-means}
+use Rattle.expr_lang.proofs.laws.resolve_means.Goals as goal
+
+pub returns : goal.returns
+returns c = λ columns row t e found. rw found at (resolved-means columns row t)
