@@ -7,9 +7,11 @@ mod lists;
 mod literals;
 mod numbers;
 mod operators;
+mod parse;
 mod read_error;
 mod statement;
 mod statements;
 mod terminals;
 
+pub use parse::parse_statement;
 pub use statement::{OpText, Parsed, Statement, Syntax, TableName};

@@ -16,12 +16,13 @@ closed-last open' S p r over = record {
   some = r.some;
 }
 
--- ---- a closed phrase and then a last one
+-- ---- a phrase and then a last one, which begins with nothing that may continue the first
 
-module _ {Tok A B : Type 0} (open' : B → Bool → List Tok → Bool) (S : List Tok → A → Type 0) (T : A → List Tok → B → Type 0)
-    (p : List Tok → Read Tok A) (f : Bool → A → List Tok → Read Tok B) (rp : Reads none S p) (rf : (a : A) → ReadsLast open' (T a) (λ ended. f ended a)) where
-  goes_on : (ended : Bool) (front us : List Tok) (a : A) → S front a → and_then p (f ended) (front ++ us) ≡ f ended a us
-  goes_on ended front us a h = ap (λ (r : Read Tok A). r >>= λ x. f ended x.0 x.1) (rp.reads front us a h (starts_none us))
+module _ {Tok A B : Type 0} (open' : B → Bool → List Tok → Bool) (c : Tok → Bool) (S : List Tok → A → Type 0) (T : A → List Tok → B → Type 0)
+    (p : List Tok → Read Tok A) (f : Bool → A → List Tok → Read Tok B) (rp : Reads c S p) (rf : (a : A) → ReadsLast open' (T a) (λ ended. f ended a))
+    (apart : (a : A) (right us : List Tok) (b : B) → T a right b → starts c (right ++ us) ≡ false) where
+  goes_on : (ended : Bool) (front us : List Tok) (a : A) → p (front ++ us) ≡ Ok (a, us) → and_then p (f ended) (front ++ us) ≡ f ended a us
+  goes_on ended front us a h = ap (λ (r : Read Tok A). r >>= λ x. f ended x.0 x.1) h
 
   begins_through : (front : List Tok) → Begins S front → Begins (Seq S T) front
   begins_through front b =
@@ -65,7 +66,7 @@ module _ {Tok A B : Type 0} (open' : B → Bool → List Tok → Bool) (S : List
           spelled = record { value = a; left = s.front; right = t.front ++ t.begins.more; whole = append_assoc s.front t.front t.begins.more; first = s.spelled; second = t.begins.spelled };
         };
         first = λ ended vs some n. ap (and_then p (f ended)) (append_assoc s.front t.front vs)
-            ∙ goes_on ended s.front (t.front ++ vs) a s.spelled
+            ∙ goes_on ended s.front (t.front ++ vs) a (s.again (t.front ++ vs) (next_same t.front vs e n ∙ sym (ap next t.whole)))
             ∙ t.first ended vs some n;
       }
 
@@ -74,9 +75,15 @@ module _ {Tok A B : Type 0} (open' : B → Bool → List Tok → Bool) (S : List
     takes = takes_both;
     stops = λ ended ts e h. elim (bind_err (p ts) (λ x. f ended x.0 x.1) e h) [ at_first g ↦ stops_first ts e g | at_second x g k ↦ stops_second ended ts e x.1 x.0 g k ];
     reads = λ ended front us b q h. ap (and_then p (f ended)) (ap (λ (l : List Tok). l ++ us) q.whole ∙ append_assoc q.left q.right us)
-        ∙ goes_on ended q.left (q.right ++ us) q.value q.first ∙ (rf q.value).reads ended q.right us b q.second h;
+        ∙ goes_on ended q.left (q.right ++ us) q.value (rp.reads q.left (q.right ++ us) q.value q.first (apart q.value q.right us b q.second)) ∙ (rf q.value).reads ended q.right us b q.second h;
     some = begins_through [] rp.some;
   }
+
+-- a phrase that nothing continues, and then a last one
+pub closed-then : {Tok A B : Type 0} (open' : B → Bool → List Tok → Bool) (S : List Tok → A → Type 0) (T : A → List Tok → B → Type 0)
+    (p : List Tok → Read Tok A) (f : Bool → A → List Tok → Read Tok B) → Reads none S p → ((a : A) → ReadsLast open' (T a) (λ ended. f ended a))
+    → ReadsLast open' (Seq S T) (λ ended. and_then p (f ended))
+closed-then open' S T p f rp rf = then-last open' none S T p f rp rf (λ a right us b h. starts_none (right ++ us))
 
 -- ---- one or the other, by the first token
 
@@ -291,4 +298,4 @@ module _ {Tok A : Type 0} (knows : Bool → List Tok → Bool) (S : List Tok →
 -- one token and then a last phrase
 pub word-last : {Tok A B : Type 0} (open' : B → Bool → List Tok → Bool) (f : Tok → Option A) (t : Tok) (a : A) (known : f t ≡ Some a) (T : A → List Tok → B → Type 0) (q : Bool → A → List Tok → Read Tok B)
     → ((a : A) → ReadsLast open' (T a) (λ ended. q ended a)) → ReadsLast open' (Seq (OneOf f) T) (λ ended. and_then (one_at f) (q ended))
-word-last open' f t a known T q r = then-last open' (OneOf f) T (one_at f) q (one-reads none f t a known) r
+word-last open' f t a known T q r = closed-then open' (OneOf f) T (one_at f) q (one-reads none f t a known) r

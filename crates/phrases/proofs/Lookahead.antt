@@ -32,6 +32,17 @@ weaker true b c h = refl
 weaker false true c h = refl
 weaker false false c h = h
 
+neither : (a b c : Bool) → a ≡ false → b ≡ false → (a || (b && c)) ≡ false
+neither false false c h k = refl
+neither true b c h k = cc
+neither false true c h k = cc
+
+not_both : (a b c : Bool) → a ≡ false → c ≡ false → (a || (b && c)) ≡ false
+not_both false true false h k = refl
+not_both false false c h k = refl
+not_both true b c h k = cc
+not_both false true true h k = cc
+
 -- the first is so, or both the others are
 pub data Shown (a b c : Bool) : Type 0 where
   at_once : a ≡ true → Shown a b c
@@ -87,3 +98,13 @@ module _ {Tok A : Type 0} (one two : Tok → Bool) (both : Tok → Tok → Bool)
   pub items-last : ReadsLast (λ _. knows) (Many S) (λ ended ts. many_at knows item ended (length ts + 1) ts)
   items-last = many-last knows S item items (λ ended. refl) (λ front a s. long_begun front (begun front a s))
       (λ ended front us a s. knows_begun ended front us (begun front a s)) stays
+
+-- no item begins with a token of neither, nor with two tokens that don't go together
+pub not_begun : {Tok : Type 0} (one two : Tok → Bool) (both : Tok → Tok → Bool) (ended : Bool) (t : Tok) (ts : List Tok)
+    → one t ≡ false → two t ≡ false → begins_item one two both ended (t ∷ ts) ≡ false
+not_begun one two both ended t [] h k = neither (one t) (two t) (not ended) h k
+not_begun one two both ended t (u ∷ ts) h k = neither (one t) (two t) (both t u) h k
+
+pub not_begun_both : {Tok : Type 0} (one two : Tok → Bool) (both : Tok → Tok → Bool) (ended : Bool) (t u : Tok) (ts : List Tok)
+    → one t ≡ false → both t u ≡ false → begins_item one two both ended (t ∷ u ∷ ts) ≡ false
+not_begun_both one two both ended t u ts h k = not_both (one t) (two t) (both t u) h k

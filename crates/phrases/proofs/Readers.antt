@@ -322,3 +322,14 @@ known f t a h = ap is_some h
 pub headed : {Tok A B : Type 0} (f : Tok → Option A) (t : Tok) (T : A → List Tok → B → Type 0) (all : (x : Tok) (a : A) → f x ≡ Some a → x ≡ t)
     (front : List Tok) (y : B) (h : Seq (OneOf f) T front y) → front ≡ t ∷ h.right
 headed f t T all front y h = h.whole ∙ ap (λ (l : List _). l ++ h.right) (h.first.1 ∙ ap (λ t. t ∷ []) (all h.first.0 h.value h.first.2))
+
+-- one token begins so
+pub begins_token : {Tok A : Type 0} (g : Tok → Bool) (f : Tok → Option A) (b : Bool) (all : (t : Tok) (a : A) → f t ≡ Some a → g t ≡ b)
+    (front us : List Tok) (a : A) → OneOf f front a → starts g (front ++ us) ≡ b
+begins_token g f b all front us a h = ap (λ (l : List _). starts g (l ++ us)) h.1 ∙ all h.0 a h.2
+
+-- a phrase that begins with another begins as that does
+pub begins_first : {Tok A B : Type 0} (g : Tok → Bool) (b : Bool) (S : List Tok → A → Type 0) (T : A → List Tok → B → Type 0)
+    (begins : (front us : List Tok) (a : A) → S front a → starts g (front ++ us) ≡ b) (front us : List Tok) (y : B) → Seq S T front y → starts g (front ++ us) ≡ b
+begins_first g b S T begins front us y h =
+    ap (λ (l : List _). starts g l) (ap (λ (l : List _). l ++ us) h.whole ∙ append_assoc h.left h.right us) ∙ begins h.left (h.right ++ us) h.value h.first
