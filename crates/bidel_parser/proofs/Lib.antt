@@ -8,3 +8,4 @@ pub mod ExpressionLaws
 pub mod OperatorLaws
 pub mod StatementLaws
 pub mod ParsingLaws
+pub mod ScriptLaws

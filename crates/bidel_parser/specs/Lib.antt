@@ -7,3 +7,4 @@ pub mod Expressions
 pub mod Operators
 pub mod Statements
 pub mod Parsing
+pub mod Laws
