@@ -1,22 +1,22 @@
 -- Expressions are read as their grammar says.
 use Rattle.std.proofs.Common.{◌≡◌, ◌++◌, ◌∷◌, [], ℕ, ◌+◌, ◌-◌, ◌≤◌, List, Bool, true, false, refl, ap, ◌∙◌, sym, subst, inl, inr, arith, append-nil}
-use Rattle.std.specs.Prelude.{Option, Some, None, codes, bytes_eq}
+use Rattle.std.specs.Prelude.{Some, codes, bytes_eq}
 use Rattle.par_base.specs.declared.value.Value.{Value}
 use Rattle.par_base.specs.Names.{is_name, is_reserved}
 use Rattle.expr_lang.specs.Terms.{Literal as LiteralTerm, Column, Binary}
 use Rattle.expr_lang.specs.declared.tree.BinaryOp.{BinaryOp}
 use Rattle.expr_lang.specs.declared.tree.BinaryOp.TheVariants.{Multiply}
-use Rattle.phrases.specs.Phrases.{Nothing, Seq, Either, OneOf}
-use Rattle.phrases.specs.Reading.{starts, is, none, or, and_then, done}
+use Rattle.phrases.specs.Phrases.{Nothing, Seq, OneOf}
+use Rattle.phrases.specs.Reading.{is, none, or}
 use Rattle.phrases.specs.Reads.{Reads}
-use Rattle.phrases.specs.Chains.{Part, Within, Chain, chain, opens}
-use Rattle.phrases.proofs.Readers.{either-reads, respell, begins_one, begins_token, begins_first, known}
+use Rattle.phrases.specs.Chains.{Part, Within, chain, opens}
+use Rattle.phrases.proofs.Readers.{either-reads, respell, begins_one, begins_first, known}
 use Rattle.phrases.proofs.Lists.{made-reads}
 use Rattle.phrases.proofs.Chains.{chain-reads, part, part_is, opens-append}
-use Rattle.bidel_parser.specs.Lexemes.{Lexeme, word, number, reference, «text», symbol, name_of, positive_of, negative_of}
-use Rattle.bidel_parser.specs.Literals.{Literal, NullLiteral, SignedLiteral, literal_at, name_at, null_of, minus_of}
-use Rattle.bidel_parser.specs.Expressions.{Tree, cost, weight, product_of, Operand, Product, IsExpr, Expression, most_operators, most_parentheses, operand_at, item_at, expression_at}
-use Rattle.bidel_parser.proofs.WordLemmas.{when_some, same_bytes, keyword_is, sign_is, name_is, negative_is, positive_is, null_no_name}
+use Rattle.bidel_parser.specs.Lexemes.{Lexeme, word, number, reference, «text», symbol, name_of}
+use Rattle.bidel_parser.specs.Literals.{Literal, literal_at, name_at}
+use Rattle.bidel_parser.specs.Expressions.{Tree, cost, weight, product_of, Operand, Product, Expression, most_operators, most_parentheses, operand_at, item_at, expression_at}
+use Rattle.bidel_parser.proofs.WordLemmas.{when_some, same_bytes, keyword_is, sign_is, name_is, negative_is, positive_is}
 use Rattle.bidel_parser.proofs.LiteralLaws.{by_positive, literal-reads, literal_starts, name-reads}
 
 null_starts : is name_of (word (codes "null")) ≡ false
@@ -52,7 +52,7 @@ literal_opens ts v (inl h) = ends_opens h.left h.right ts h.whole h.second.0 (on
 literal_opens ts v (inr (inl h)) =
     let n = negative_is h.second.0 v h.second.2 in
     two_opens h.first.0 h.second.0 h.left h.right ts h.whole h.first.1 h.second.1 (weight_at h.first.0 (symbol (codes "-")) (sign_is (codes "-") h.first.0 h.value h.first.2) refl)
-        (weight_at h.second.0 (number n.0) n.1 refl)
+    (weight_at h.second.0 (number n.0) n.1 refl)
 literal_opens ts v (inr (inr h)) = let n = positive_is h.0 v h.2 in one_opens h.0 ts h.1 (weight_at h.0 (number n.0) n.1 refl)
 
 operand_free : (ts : List Lexeme) (e : Tree) → Operand ts e → (cost e ≡ 0) × (opens weight ts ≡ 0)
@@ -77,6 +77,7 @@ item-reads ops parens = respell none none (Seq Operand λ e. Nothing (part e ops
         let none_open : opens weight front ≡ 0 = ap (opens weight) same ∙ free.1 in
         let none_cost : cost x.0 ≡ 0 = sym (ap cost tree) ∙ free.0 in
         (subst (λ (l : List Lexeme). Operand l x.0) (sym same) (subst (λ (e : Tree). Operand h.left e) tree h.first), omega arith, omega arith)
+
     from : (front : List Lexeme) (x : Part Tree) → Within cost weight Operand ops parens front x → Seq Operand (λ e. Nothing (part e ops parens)) front x
     from front x h =
         let free = operand_free front x.0 h.0 in
@@ -112,10 +113,17 @@ expression-reads = respell expression_goes expression_goes (Seq (Within cost wei
         let spent : h.value.1 + cost h.value.0 ≡ most_operators = w.1 in
         let opened : h.value.2 + opens weight h.left ≡ most_parentheses = w.2 in
         subst (λ (t : Tree). Expression front t) h.second.1
-            (subst (λ (l : List Lexeme). Expression l h.value.0) (sym same) (record { spelled = w.0; few = omega arith; open' = omega arith }))
+        (subst (λ (l : List Lexeme). Expression l h.value.0) (sym same) (record { spelled = w.0; few = omega arith; open' = omega arith }))
+
     from : (front : List Lexeme) (e : Tree) → Expression front e → Seq (Within cost weight Product most_operators most_parentheses) (λ x. Nothing x.0) front e
     from front e h =
         let few : cost e ≤ most_operators = h.few in
         let open' : opens weight front ≤ most_parentheses = h.open' in
-        record { value = part e (most_operators - cost e) (most_parentheses - opens weight front); left = front; right = []; whole = sym (append-nil front);
-            first = (h.spelled, omega arith, omega arith); second = (refl, refl) }
+        record {
+          value = part e (most_operators - cost e) (most_parentheses - opens weight front);
+          left = front;
+          right = [];
+          whole = sym (append-nil front);
+          first = (h.spelled, omega arith, omega arith);
+          second = (refl, refl);
+        }

@@ -1,17 +1,17 @@
 -- Names, literals and lists of them are read as their grammar says.
-use Rattle.std.proofs.Common.{◌≡◌, ◌++◌, ◌∷◌, [], ℕ, List, Bool, true, false, refl, ap, ◌∙◌, inl, inr}
-use Rattle.std.specs.Prelude.{Option, Some, None, ◌||◌, codes, pos, neg_ℤ}
+use Rattle.std.proofs.Common.{◌≡◌, ◌++◌, ℕ, List, Bool, true, false, refl, ap, ◌∙◌, inl, inr}
+use Rattle.std.specs.Prelude.{Some, ◌||◌, codes, pos, neg_ℤ}
 use Rattle.par_base.specs.Names.{is_name, is_reserved}
 use Rattle.par_base.specs.declared.value.Value.{Value}
 use Rattle.par_base.specs.declared.value.Value.TheVariants.{Null, Int}
-use Rattle.phrases.specs.Phrases.{Nothing, Seq, Either, OneOf}
-use Rattle.phrases.specs.Reading.{starts, is, is_some, none, or, one_at, behind_at}
+use Rattle.phrases.specs.Phrases.{Either, OneOf}
+use Rattle.phrases.specs.Reading.{starts, is, none, or, one_at, behind_at}
 use Rattle.phrases.specs.Reads.{Reads}
 use Rattle.phrases.proofs.Readers.{done-reads, either-reads, one-reads, word as then_word, begins_one, begins_token, known}
 use Rattle.phrases.proofs.Lists.{enclosed-reads}
-use Rattle.bidel_parser.specs.Lexemes.{Lexeme, word, number, symbol, keyword, name_of, positive_of, negative_of}
+use Rattle.bidel_parser.specs.Lexemes.{Lexeme, word, number, symbol, name_of, positive_of, negative_of}
 use Rattle.bidel_parser.specs.Literals.{comma_of, open_of, close_of, minus_of, null_of, Names, NullLiteral, SignedLiteral, Literal, Tuple, name_at, names_at, null_at, literal_at, begins_literal, tuple_at}
-use Rattle.bidel_parser.proofs.WordLemmas.{by_keyword, by_sign, name_not, null_no_name, positive_is}
+use Rattle.bidel_parser.proofs.WordLemmas.{by_keyword, by_sign, positive_is}
 
 -- what every number says of a test
 pub by_positive : (g : Lexeme → Bool) (b : Bool) → ((n : ℕ) → g (number n) ≡ b) → (t : Lexeme) (v : Value) → positive_of t ≡ Some v → g t ≡ b
@@ -29,12 +29,13 @@ positive-reads = one-reads none positive_of (number 0) (Int (pos 0)) refl
 pub literal-reads : Reads none Literal literal_at
 literal-reads = either-reads none (is null_of) NullLiteral (Either SignedLiteral (OneOf positive_of)) null_at _ null-reads
     (either-reads none (is minus_of) SignedLiteral (OneOf positive_of) _ _ signed-reads positive-reads
-        (begins_one (is minus_of) minus_of true _ (known minus_of))
-        (λ front us v h clear. begins_token (is minus_of) positive_of false (by_positive (is minus_of) false (λ n. refl)) front us v h))
+    (begins_one (is minus_of) minus_of true _ (known minus_of))
+    (λ front us v h clear. begins_token (is minus_of) positive_of false (by_positive (is minus_of) false (λ n. refl)) front us v h))
     (begins_one (is null_of) null_of true _ (known null_of))
     (λ front us v h clear. elim h [
-        inl s ↦ begins_one (is null_of) minus_of false _ (by_sign (is null_of) false (codes "-") refl) front us v s
-        | inr p ↦ begins_token (is null_of) positive_of false (by_positive (is null_of) false (λ n. refl)) front us v p ])
+      | inl s ↦ begins_one (is null_of) minus_of false _ (by_sign (is null_of) false (codes "-") refl) front us v s
+      | inr p ↦ begins_token (is null_of) positive_of false (by_positive (is null_of) false (λ n. refl)) front us v p
+    ])
 
 -- how a literal begins, by a test that knows its three ways
 pub literal_starts : (g : Lexeme → Bool) (b : Bool) → g (word (codes "null")) ≡ b → g (symbol (codes "-")) ≡ b → ((t : Lexeme) (v : Value) → positive_of t ≡ Some v → g t ≡ b)

@@ -1,17 +1,17 @@
 -- Operators are read as their grammar says, and known by their first words.
-use Rattle.std.proofs.Common.{◌≡◌, ◌++◌, ◌∷◌, [], ℕ, ◌<◌, List, Bool, true, false, Ok, refl, ap, ◌∙◌, sym, inl, inr, ◌⊎◌}
-use Rattle.std.specs.Prelude.{Option, Some, None, ◌||◌, codes}
+use Rattle.std.proofs.Common.{◌≡◌, ◌++◌, ◌∷◌, [], List, Bool, true, false, Ok, refl, ap, ◌∙◌, sym, inl, inr, ◌⊎◌}
+use Rattle.std.specs.Prelude.{Some, ◌||◌, codes}
 use Rattle.par_base.specs.Names.{is_name, is_reserved}
 use Rattle.expr_lang.specs.Terms.{Column}
-use Rattle.phrases.specs.Phrases.{Nothing, Seq, Either, OneOf, Many}
-use Rattle.phrases.specs.Reading.{starts, is, is_some, none, or, one_at, many_at}
+use Rattle.phrases.specs.Phrases.{Many}
+use Rattle.phrases.specs.Reading.{is, none}
 use Rattle.phrases.specs.Reads.{Reads, ReadsLast}
 use Rattle.phrases.specs.Chains.{joined}
 use Rattle.phrases.proofs.Readers.{then-reads, done-reads, either-reads, word as then_word, closed, begins_one, known, headed}
 use Rattle.phrases.proofs.Lasts.{closed-then, made-last}
 use Rattle.phrases.proofs.Lookahead.{Begun, by_one, by_two, GoesOn, items-last}
-use Rattle.bidel_parser.specs.Lexemes.{Lexeme, word, symbol, keyword, name_of}
-use Rattle.bidel_parser.specs.Literals.{semicolon_of, Names, name_at, names_at}
+use Rattle.bidel_parser.specs.Lexemes.{Lexeme, word, symbol, name_of}
+use Rattle.bidel_parser.specs.Literals.{semicolon_of, Names, names_at}
 use Rattle.bidel_parser.specs.Expressions.{Expression, expression_at}
 use Rattle.bidel_parser.specs.Views.{OpView, CreateTable, AddColumn}
 use Rattle.bidel_parser.specs.Operators.{create_of, table_of, add_of, column_of, as_of, into_of, CreateTableOp, AddColumnOp, Operator, ClosedOperator, ListedOperators, begins_operator, create_table_at, add_column_at, operator_at, closed_operator_at, operators_at, listed_operators_at}
@@ -33,9 +33,9 @@ add-column-reads =
     then_word none name_of (word (codes "x")) (codes "x") name_x _ _ (λ column.
     then_word none as_of (word (codes "as")) tt refl _ _ (λ _.
     then-reads none expression_goes Expression _ expression_at _ expression-reads (λ value.
-        then_word none into_of (word (codes "into")) tt refl _ _ (λ _.
-        then_word none name_of (word (codes "x")) (codes "x") name_x _ _ (λ table. done-reads none (AddColumn column value table))))
-        (λ value right us o h clear. begins_one expression_goes into_of false _ (by_keyword expression_goes false (codes "into") refl) right us o h)))))
+    then_word none into_of (word (codes "into")) tt refl _ _ (λ _.
+    then_word none name_of (word (codes "x")) (codes "x") name_x _ _ (λ table. done-reads none (AddColumn column value table))))
+    (λ value right us o h clear. begins_one expression_goes into_of false _ (by_keyword expression_goes false (codes "into") refl) right us o h)))))
 
 operator-reads : Reads none Operator operator_at
 operator-reads = either-reads none (is create_of) CreateTableOp AddColumnOp create_table_at add_column_at create-table-reads add-column-reads
@@ -55,7 +55,8 @@ begun front o h = elim h.first [ inl c ↦ created c | inr a ↦ added a ]
         let first : h.left ≡ word (codes "create") ∷ c.right = headed create_of (word (codes "create")) _ (keyword_is (codes "create")) h.left h.value c in
         let second : c.right ≡ word (codes "table") ∷ c.second.right = headed table_of (word (codes "table")) _ (keyword_is (codes "table")) c.right h.value c.second in
         by_two (word (codes "create")) (word (codes "table")) (c.second.right ++ h.right)
-            (h.whole ∙ ap (λ (l : List Lexeme). l ++ h.right) (first ∙ ap (λ (l : List Lexeme). word (codes "create") ∷ l) second)) refl refl
+        (h.whole ∙ ap (λ (l : List Lexeme). l ++ h.right) (first ∙ ap (λ (l : List Lexeme). word (codes "create") ∷ l) second)) refl refl
+
     added : AddColumnOp h.left h.value → Begun (is add_of) (is create_of) (λ _ t. is table_of t) front
     added a = by_one (word (codes "add")) (a.right ++ h.right)
         (h.whole ∙ ap (λ (l : List Lexeme). l ++ h.right) (headed add_of (word (codes "add")) _ (keyword_is (codes "add")) h.left h.value a)) refl
@@ -81,8 +82,9 @@ either_one false b h = inr h
 
 first_goes : (t : Lexeme) → (is add_of t || is create_of t) ≡ true → GoesOn closed_operator_at [] t
 first_goes t h = elim (either_one (is add_of t) (is create_of t) h) [
-    inl a ↦ record { more = added_tokens; answer = (AddColumn (codes "x") (Column (codes "x")) (codes "x"), []); starts' = ap (λ (t : Lexeme). Some t) (sym (is_keyword (codes "add") t a)); whole = add_goes }
-    | inr c ↦ record { more = word (codes "create") ∷ created_tokens; answer = (CreateTable (codes "x") [], []); starts' = ap (λ (t : Lexeme). Some t) (sym (is_keyword (codes "create") t c)); whole = create_goes } ]
+  | inl a ↦ record { more = added_tokens; answer = (AddColumn (codes "x") (Column (codes "x")) (codes "x"), []); starts' = ap (λ (t : Lexeme). Some t) (sym (is_keyword (codes "add") t a)); whole = add_goes }
+  | inr c ↦ record { more = word (codes "create") ∷ created_tokens; answer = (CreateTable (codes "x") [], []); starts' = ap (λ (t : Lexeme). Some t) (sym (is_keyword (codes "create") t c)); whole = create_goes }
+]
 
 second_goes : (t u : Lexeme) → is create_of t ≡ true → is table_of u ≡ true → GoesOn closed_operator_at (t ∷ []) u
 second_goes t u h k = record {

@@ -1,5 +1,5 @@
 -- What reading a statement says of the answer.
-use Rattle.std.proofs.Common.{◌≡◌, ◌-◌, ◌≤◌, ◌<◌, ◌⊎◌, ℕ, zero, suc, List, [], ◌∷◌, Bool, true, false, Ok, Err, refl, ap, ◌∙◌, sym, subst, length, ◌==◌, take, drop, arith, inl, inr, length-drop}
+use Rattle.std.proofs.Common.{◌≡◌, ◌-◌, ◌≤◌, ◌<◌, ◌⊎◌, ℕ, zero, suc, List, [], ◌∷◌, Bool, true, false, Ok, refl, ◌∙◌, sym, subst, length, ◌==◌, take, drop, arith, inl, inr, length-drop}
 use Rattle.std.proofs.lemmas.List.{length-map, take_all}
 use Rattle.phrases.specs.Phrases.{Begins}
 use Rattle.phrases.proofs.Fronts.{whole_front, no_front, first_fault, begins_all, rest_within, fault_within}

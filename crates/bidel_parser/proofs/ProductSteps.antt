@@ -1,5 +1,5 @@
 -- The turns of the loop that reads a product.
-use Rattle.std.proofs.Common.{◌≡◌, ◌≢◌, ◌-◌, ℕ, suc, List, Bool, false, Ok, Err, ap, ◌∙◌, sym, arith}
+use Rattle.std.proofs.Common.{◌≡◌, ◌≢◌, ◌-◌, ℕ, suc, List, false, Ok, Err, ap, ◌∙◌, sym, arith}
 use Rattle.expr_lang.specs.Terms.{Binary}
 use Rattle.expr_lang.specs.declared.tree.BinaryOp.{BinaryOp}
 use Rattle.phrases.specs.Reading.{Read, ◌>>=◌, and_then, one_at, starts, is, done}
@@ -33,8 +33,8 @@ product_goes k n a b o ts us vs e h i =
     let some : k ≢ 0 = omega arith in
     let less : k - 1 ≡ n = omega arith in
     ap tree_of (
-      ap (λ (m : ℕ). joined Binary product_of item_at n (Binary o a b) m most_parentheses vs) (sym less)
-      ∙ chain_goes Binary product_of item_at k n a k most_parentheses ts vs (o, us) (b, k - 1, most_parentheses) e some h (item_goes (k - 1) most_parentheses us vs b i))
+    ap (λ (m : ℕ). joined Binary product_of item_at n (Binary o a b) m most_parentheses vs) (sym less)
+    ∙ chain_goes Binary product_of item_at k n a k most_parentheses ts vs (o, us) (b, k - 1, most_parentheses) e some h (item_goes (k - 1) most_parentheses us vs b i))
 
 pub product_stops : (k n : ℕ) (a : Tree) (o : BinaryOp) (ts us e : List Lexeme) → k ≡ suc n → one_at product_of ts ≡ Ok (o, us) → operand_at us ≡ Err e
     → product_turns k a ts ≡ Err e

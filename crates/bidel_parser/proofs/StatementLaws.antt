@@ -1,21 +1,19 @@
 -- Statements are read as their grammar says, and where a script begins no statement stays open.
-use Rattle.std.proofs.Common.{◌≡◌, ◌++◌, ◌∷◌, [], ℕ, ◌<◌, List, Bool, true, false, Ok, refl, ap, ◌∙◌, sym, inl, inr, ◌⊎◌, length, arith}
-use Rattle.std.specs.Prelude.{Option, Some, None, ◌||◌, codes}
-use Rattle.par_base.specs.declared.value.Value.{Value}
-use Rattle.phrases.specs.Phrases.{Nothing, Seq, Either, OneOf, Many, Behind, Optional, Separated}
-use Rattle.phrases.specs.Reading.{starts, is, none, or, one_at, either, behind_at, separated_at}
+use Rattle.std.proofs.Common.{◌≡◌, ◌++◌, ◌∷◌, [], ◌<◌, List, Bool, true, false, refl, ap, ◌∙◌, sym, inl, inr, length, arith}
+use Rattle.std.specs.Prelude.{None, codes}
+use Rattle.phrases.specs.Phrases.{Either, OneOf, Behind, Optional, Separated}
+use Rattle.phrases.specs.Reading.{is, none, or, either, behind_at, separated_at}
 use Rattle.phrases.specs.Reads.{Reads, ReadsLast}
 use Rattle.phrases.specs.Fronts.{IsOver}
 use Rattle.phrases.proofs.Readers.{then-reads, done-reads, word as then_word, closed, begins_one, known, headed}
 use Rattle.phrases.proofs.Lists.{optional-reads, separated-reads}
 use Rattle.phrases.proofs.Lasts.{closed-last, then-last, either-last, made-last, word-last}
 use Rattle.phrases.proofs.Lookahead.{not_begun, not_begun_both}
-use Rattle.bidel_parser.specs.declared.statement.TableName.{TableName}
-use Rattle.bidel_parser.specs.Lexemes.{Lexeme, word, symbol, keyword, name_of}
+use Rattle.bidel_parser.specs.Lexemes.{Lexeme, word, symbol, name_of}
 use Rattle.bidel_parser.specs.Literals.{comma_of, semicolon_of, dot_of, star_of, Tuple, name_at, tuple_at}
-use Rattle.bidel_parser.specs.Views.{OpView, StatementView, CreateVersion, Insert, Select}
+use Rattle.bidel_parser.specs.Views.{StatementView, CreateVersion, Insert, Select}
 use Rattle.bidel_parser.specs.Operators.{create_of, table_of, add_of, into_of, ListedOperators, begins_operator, listed_operators_at}
-use Rattle.bidel_parser.specs.Statements.{schema_of, version_of, from_of, with_of, insert_of, values_of, select_of, of_version, TableOf, CreateVersionStatement, InsertStatement, SelectStatement, IsStatement, Script, stays_open, table_at, origin_at, create_version_at, insert_at, select_at, statement_at}
+use Rattle.bidel_parser.specs.Statements.{schema_of, version_of, from_of, with_of, insert_of, values_of, select_of, of_version, TableOf, CreateVersionStatement, InsertStatement, SelectStatement, IsStatement, stays_open, table_at, origin_at, create_version_at, insert_at, select_at, statement_at}
 use Rattle.bidel_parser.proofs.WordLemmas.{keyword_is, by_keyword, by_sign}
 use Rattle.bidel_parser.proofs.LiteralLaws.{name_x, name-reads, tuple-reads}
 use Rattle.bidel_parser.proofs.OperatorLaws.{listed-last}
@@ -43,9 +41,9 @@ create-last =
     word-last stays_open version_of (word (codes "version")) tt refl _ _ (λ _.
     word-last stays_open name_of (word (codes "x")) (codes "x") name_x _ _ (λ name.
     then-last stays_open origin_goes (Optional (Behind from_of (OneOf name_of))) _ origin_at _ origin-reads (λ origin.
-        word-last stays_open with_of (word (codes "with")) tt refl _ _ (λ _.
-        made-last (λ _. begins_operator) stays_open ListedOperators listed_operators_at (λ operators. CreateVersion name origin operators) listed-last (λ operators ended us. refl)))
-        (λ origin right us s h. begins_one origin_goes with_of false _ (by_keyword origin_goes false (codes "with") refl) right us s h)))))
+    word-last stays_open with_of (word (codes "with")) tt refl _ _ (λ _.
+    made-last (λ _. begins_operator) stays_open ListedOperators listed_operators_at (λ operators. CreateVersion name origin operators) listed-last (λ operators ended us. refl)))
+    (λ origin right us s h. begins_one origin_goes with_of false _ (by_keyword origin_goes false (codes "with") refl) right us s h)))))
 
 -- ---- INSERT and SELECT
 
@@ -59,9 +57,9 @@ insert-reads =
     closed none TableOf _ table_at _ table-reads (λ table.
     then_word none values_of (word (codes "values")) tt refl _ _ (λ _.
     then-reads none rows_goes (Separated comma_of Tuple) _ (separated_at comma_of tuple_at) _
-        (separated-reads none comma_of (symbol (codes ",")) tt refl Tuple tuple_at tuple-reads (λ t h. refl))
-        (λ rows. then_word none semicolon_of (symbol (codes ";")) tt refl _ _ (λ _. done-reads none (Insert table rows)))
-        (λ rows right us s h clear. begins_one rows_goes semicolon_of false _ (by_sign rows_goes false (codes ";") refl) right us s h)))))
+    (separated-reads none comma_of (symbol (codes ",")) tt refl Tuple tuple_at tuple-reads (λ t h. refl))
+    (λ rows. then_word none semicolon_of (symbol (codes ";")) tt refl _ _ (λ _. done-reads none (Insert table rows)))
+    (λ rows right us s h clear. begins_one rows_goes semicolon_of false _ (by_sign rows_goes false (codes ";") refl) right us s h)))))
 
 select-reads : Reads none SelectStatement select_at
 select-reads =
@@ -83,14 +81,15 @@ pub statement-last : ReadsLast stays_open IsStatement statement_at
 statement-last = either-last stays_open (is create_of) CreateVersionStatement (Either InsertStatement SelectStatement) create_version_at (λ ended. either (is insert_of) insert_at select_at)
     create-last
     (either-last stays_open (is insert_of) InsertStatement SelectStatement (λ ended. insert_at) (λ ended. select_at)
-        (closed-last stays_open InsertStatement insert_at insert-reads insert_over)
-        (closed-last stays_open SelectStatement select_at select-reads select_over)
-        (begins_one (is insert_of) insert_of true _ (known insert_of))
-        (begins_one (is insert_of) select_of false _ (by_keyword (is insert_of) false (codes "select") refl)))
+    (closed-last stays_open InsertStatement insert_at insert-reads insert_over)
+    (closed-last stays_open SelectStatement select_at select-reads select_over)
+    (begins_one (is insert_of) insert_of true _ (known insert_of))
+    (begins_one (is insert_of) select_of false _ (by_keyword (is insert_of) false (codes "select") refl)))
     (begins_one (is create_of) create_of true _ (known create_of))
     (λ front us s h. elim h [
-        inl i ↦ begins_one (is create_of) insert_of false _ (by_keyword (is create_of) false (codes "insert") refl) front us s i
-        | inr i ↦ begins_one (is create_of) select_of false _ (by_keyword (is create_of) false (codes "select") refl) front us s i ])
+      | inl i ↦ begins_one (is create_of) insert_of false _ (by_keyword (is create_of) false (codes "insert") refl) front us s i
+      | inr i ↦ begins_one (is create_of) select_of false _ (by_keyword (is create_of) false (codes "select") refl) front us s i
+    ])
 
 -- how a statement begins
 data Begun (front : List Lexeme) : Type 0 where

@@ -1,6 +1,6 @@
 -- Which token a kind of tokens has.
-use Rattle.std.proofs.Common.{◌≡◌, ◌≢◌, ◌≤◌, ℕ, List, [], ◌∷◌, Bool, true, false, refl, ap, ◌∙◌, sym, cond, ◌⊎◌, inl, inr}
-use Rattle.std.specs.Prelude.{Option, Some, None, bytes_eq, codes}
+use Rattle.std.proofs.Common.{◌≡◌, ℕ, List, Bool, true, false, refl, ap, ◌∙◌, sym, cond}
+use Rattle.std.specs.Prelude.{Some, None, bytes_eq, codes}
 use Rattle.std.proofs.lemmas.Slice.Eq.{bytes_eq-Decides}
 use Rattle.par_base.specs.Names.{is_name, is_reserved}
 use Rattle.par_base.specs.declared.value.Value.{Value}

@@ -1,5 +1,5 @@
 -- What a reader of the code answers, by what reading gives.
-use Rattle.std.specs.Prelude.{◌≡◌, ℕ, List, length, Result, Ok, Err, Option, Some, None, ⊤, false, MatchOption}
+use Rattle.std.specs.Prelude.{◌≡◌, List, length, Result, Ok, Err, Option, ⊤, false, MatchOption}
 use Rattle.phrases.specs.Reading.{Read, starts, one_at, is}
 use Rattle.bidel_parser.specs.Lexemes.{Lexeme, lexemes}
 use Rattle.bidel_parser.specs.declared.cursor.Cursor.{Cursor}

@@ -1,11 +1,10 @@
 -- Expressions: which tokens spell which tree, and reading them.
-use Rattle.std.specs.Prelude.{◌≡◌, ◌≤◌, ◌+◌, ℕ, List, Bool, Option, Some, None, codes, bytes_eq, if◌then◌else◌}
-use Rattle.par_base.specs.declared.value.Value.{Value}
+use Rattle.std.specs.Prelude.{◌≤◌, ◌+◌, ℕ, List, Option, Some, None, codes, bytes_eq, if◌then◌else◌}
 use Rattle.expr_lang.specs.Terms.{Term, Literal as LiteralTerm, Column, Unary, Binary}
 use Rattle.expr_lang.specs.declared.tree.BinaryOp.{BinaryOp}
 use Rattle.expr_lang.specs.declared.tree.BinaryOp.TheVariants.{Multiply}
 use Rattle.phrases.specs.Phrases.{Nothing, Seq, OneOf, Either}
-use Rattle.phrases.specs.Reading.{Read, and_then, one_at, done, either, is}
+use Rattle.phrases.specs.Reading.{Read, and_then, done, either, is}
 use Rattle.phrases.specs.Chains.{Item, Chain, chain, opens}
 use Rattle.bidel_parser.specs.Lexemes.{Lexeme, symbol, name_of}
 use Rattle.bidel_parser.specs.Literals.{Literal, literal_at, name_at, open_of}

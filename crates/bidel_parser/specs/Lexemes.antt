@@ -1,5 +1,5 @@
 -- Tokens with what is written in them, and the kinds of one token that the grammar names.
-use Rattle.std.specs.Prelude.{ℕ, ℤ, pos, neg_ℤ, ◌+◌, ◌-◌, ◌*◌, ◌^◌, ◌==◌, ◌&&◌, List, [], ◌∷◌, drop, map, slice_range, bytes_eq, nat_le, Bool, false, Option, Some, None, if◌then◌else◌}
+use Rattle.std.specs.Prelude.{ℕ, pos, neg_ℤ, ◌+◌, ◌-◌, ◌*◌, ◌^◌, ◌==◌, ◌&&◌, List, [], ◌∷◌, drop, map, slice_range, bytes_eq, nat_le, Bool, false, Option, Some, None, if◌then◌else◌}
 use Rattle.par_base.specs.Names.{folded, is_name}
 use Rattle.par_base.specs.declared.value.Value.{Value}
 use Rattle.par_base.specs.declared.value.Value.TheVariants.{Int}

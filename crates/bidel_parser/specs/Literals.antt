@@ -1,5 +1,5 @@
 -- Names, literals and lists of them, and reading them.
-use Rattle.std.specs.Prelude.{◌||◌, ℕ, List, Bool, true, false, Option, Some, None, codes}
+use Rattle.std.specs.Prelude.{◌||◌, ℕ, List, Bool, Option, codes}
 use Rattle.par_base.specs.declared.value.Value.{Value}
 use Rattle.par_base.specs.declared.value.Value.TheVariants.{Null}
 use Rattle.phrases.specs.Phrases.{Nothing, Seq, OneOf, Either, Enclosed}

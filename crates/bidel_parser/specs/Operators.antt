@@ -1,5 +1,5 @@
 -- Operators: which tokens spell which, and reading them.
-use Rattle.std.specs.Prelude.{ℕ, ◌+◌, ◌∷◌, List, Bool, Option, length, codes}
+use Rattle.std.specs.Prelude.{◌+◌, ◌∷◌, List, Bool, Option, length, codes}
 use Rattle.phrases.specs.Phrases.{Nothing, Seq, OneOf, Either, Many}
 use Rattle.phrases.specs.Reading.{Read, and_then, one_at, done, either, is, begins_item, many_at}
 use Rattle.bidel_parser.specs.Lexemes.{Lexeme, keyword, name_of}

@@ -36,23 +36,33 @@ fn next_operator(cursor: Cursor<'_>) -> Option<(BinaryOp, Cursor<'_>)>
 {
     let next = next_token(cursor)?;
     match next.kind {
-        TokenKind::Symbol if next.written == "*".as_bytes() => Some((BinaryOp::Multiply, next.rest)),
+        TokenKind::Symbol if next.written == "*".as_bytes() => Some((
+            BinaryOp::Multiply,
+            next.rest,
+        )),
         _ => None,
     }
 }
 
-fn joined_by(alloc: Global, op: BinaryOp, left: ExprText, right: ExprText) -> Result<ExprText, ReadError>
+fn joined_by(
+    alloc: Global,
+    op: BinaryOp,
+    left: ExprText,
+    right: ExprText,
+) -> Result<ExprText, ReadError>
     ensures { MatchResult result (λ whole. text_term whole ≡ Binary op (text_term left) (text_term right)) (λ e. e ≡ ReadError.Memory) }
 {
     Ok(ExprText::Binary(op, Box::new(alloc, left)?, Box::new(alloc, right)?))
 }
 
 // The operands behind the first one, each with its operator.
-fn further_operands<'a>(alloc: Global, first: ExprText, cursor: Cursor<'a>) -> Result<(ExprText, Cursor<'a>), ReadError>
-    ensures {
-        Gives (λ x. (text_term x.0, ahead x.1)) result
-            (and_then (joined Binary product_of item_at most_operators (text_term first) most_operators most_parentheses) (λ x. done x.0) (ahead cursor.entry))
-    }
+fn further_operands<'a>(
+    alloc: Global,
+    first: ExprText,
+    cursor: Cursor<'a>,
+) -> Result<(ExprText, Cursor<'a>), ReadError>
+    ensures { Gives (λ x. (text_term x.0, ahead x.1)) result
+        (and_then (joined Binary product_of item_at most_operators (text_term first) most_operators most_parentheses) (λ x. done x.0) (ahead cursor.entry)) }
 {
     let mut whole = first;
     let mut rest = cursor;
@@ -69,7 +79,10 @@ fn further_operands<'a>(alloc: Global, first: ExprText, cursor: Cursor<'a>) -> R
 }
 
 /// An expression.
-pub fn take_expression<'a>(alloc: Global, cursor: Cursor<'a>) -> Result<(ExprText, Cursor<'a>), ReadError>
+pub fn take_expression<'a>(
+    alloc: Global,
+    cursor: Cursor<'a>,
+) -> Result<(ExprText, Cursor<'a>), ReadError>
     ensures { Gives (λ x. (text_term x.0, ahead x.1)) result (expression_at (ahead cursor.entry)) }
 {
     let (first, rest) = operand(alloc, cursor)?;

@@ -58,7 +58,11 @@ impl Item for Literals {
 }
 
 // The items behind the first one.
-fn further_items<'a, I: Item>(alloc: Global, first: I::Value, cursor: Cursor<'a>) -> Result<(List<I::Value>, Cursor<'a>), ReadError>
+fn further_items<'a, I: Item>(
+    alloc: Global,
+    first: I::Value,
+    cursor: Cursor<'a>,
+) -> Result<(List<I::Value>, Cursor<'a>), ReadError>
     ensures { Gives (λ x. (x.0, ahead x.1)) result (with_front (first ∷ []) (rest_at (is comma_of) (behind_at comma_of I.item_at) (ahead cursor.entry))) }
 {
     let mut items = List::new(alloc);
@@ -77,7 +81,10 @@ fn further_items<'a, I: Item>(alloc: Global, first: I::Value, cursor: Cursor<'a>
 }
 
 /// Items with commas between them.
-pub fn take_separated<'a, I: Item>(alloc: Global, cursor: Cursor<'a>) -> Result<(List<I::Value>, Cursor<'a>), ReadError>
+pub fn take_separated<'a, I: Item>(
+    alloc: Global,
+    cursor: Cursor<'a>,
+) -> Result<(List<I::Value>, Cursor<'a>), ReadError>
     ensures { Gives (λ x. (x.0, ahead x.1)) result (separated_at comma_of I.item_at (ahead cursor.entry)) }
 {
     let (first, rest) = I::take(alloc, cursor)?;
@@ -85,7 +92,10 @@ pub fn take_separated<'a, I: Item>(alloc: Global, cursor: Cursor<'a>) -> Result<
 }
 
 // The names between parentheses.
-fn enclosed_names<'a>(alloc: Global, cursor: Cursor<'a>) -> Result<(List<Name>, Cursor<'a>), ReadError>
+fn enclosed_names<'a>(
+    alloc: Global,
+    cursor: Cursor<'a>,
+) -> Result<(List<Name>, Cursor<'a>), ReadError>
     ensures { Gives (λ x. (x.0, ahead x.1)) result (either (is name_of) (separated_at comma_of name_at) (done []) (ahead cursor.entry)) }
 {
     match next_name(alloc, cursor)? {
@@ -95,7 +105,10 @@ fn enclosed_names<'a>(alloc: Global, cursor: Cursor<'a>) -> Result<(List<Name>, 
 }
 
 /// Names in parentheses.
-pub fn take_names<'a>(alloc: Global, cursor: Cursor<'a>) -> Result<(List<Name>, Cursor<'a>), ReadError>
+pub fn take_names<'a>(
+    alloc: Global,
+    cursor: Cursor<'a>,
+) -> Result<(List<Name>, Cursor<'a>), ReadError>
     ensures { Gives (λ x. (x.0, ahead x.1)) result (names_at (ahead cursor.entry)) }
 {
     let rest = take_sign(cursor, "(")?;
@@ -108,7 +121,11 @@ pub fn take_names<'a>(alloc: Global, cursor: Cursor<'a>) -> Result<(List<Name>, 
 fn enclosed_literals<'a>(alloc: Global, cursor: Cursor<'a>) -> Result<(Row, Cursor<'a>), ReadError>
     ensures { Gives (λ x. (x.0, ahead x.1)) result (either begins_literal (separated_at comma_of literal_at) (done []) (ahead cursor.entry)) }
 {
-    if is_literal_next(cursor) { take_separated::<Literals>(alloc, cursor) } else { Ok((List::new(alloc), cursor)) }
+    if is_literal_next(cursor) {
+        take_separated::<Literals>(alloc, cursor)
+    } else {
+        Ok((List::new(alloc), cursor))
+    }
 }
 
 /// Literals in parentheses.

@@ -47,5 +47,7 @@ pub fn take_literal(cursor: Cursor<'_>) -> Result<(Value, Cursor<'_>), ReadError
 pub fn is_literal_next(cursor: Cursor<'_>) -> bool
     ensures { result ≡ starts begins_literal (ahead cursor.entry) }
 {
-    next_keyword(cursor, "null").is_some() || next_sign(cursor, "-").is_some() || next_positive(cursor).is_some()
+    next_keyword(cursor, "null").is_some()
+        || next_sign(cursor, "-").is_some()
+        || next_positive(cursor).is_some()
 }

@@ -11,7 +11,11 @@ fn add_digit(value: u64, digit: u8) -> Option<u64>
     ensures { MatchOption result (nat_le (10 * value + (digit - 48)) (2 ^ 63) ≡ false) (λ grown. (grown ≡ 10 * value + (digit - 48)) × (grown ≤ 2 ^ 63)) }
 {
     let digit = u64::from(digit.saturating_sub(b'0'));
-    if value <= (GREATEST_NUMBER - digit) / 10 { Some(10 * value + digit) } else { None }
+    if value <= (GREATEST_NUMBER - digit) / 10 {
+        Some(10 * value + digit)
+    } else {
+        None
+    }
 }
 
 /// The value of a number's digits, unless it is over the greatest.
@@ -33,5 +37,9 @@ pub fn negated(value: u64) -> i64
     requires { value ≤ 2 ^ 63 }
     ensures { result ≡ neg_ℤ (pos value) }
 {
-    if value == GREATEST_NUMBER { i64::MIN } else { -(value as i64) }
+    if value == GREATEST_NUMBER {
+        i64::MIN
+    } else {
+        -(value as i64)
+    }
 }

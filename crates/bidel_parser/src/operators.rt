@@ -36,13 +36,24 @@ fn add_column<'a>(alloc: Global, cursor: Cursor<'a>) -> Result<(OpText, Cursor<'
     let (value, rest) = take_expression(alloc, rest)?;
     let rest = take_keyword(rest, "into")?;
     let (table, rest) = take_name(alloc, rest)?;
-    Ok((OpText::AddColumn { column, value, table }, rest))
+    Ok((
+        OpText::AddColumn {
+            column,
+            value,
+            table,
+        },
+        rest,
+    ))
 }
 
 fn take_operator<'a>(alloc: Global, cursor: Cursor<'a>) -> Result<(OpText, Cursor<'a>), ReadError>
     ensures { Gives (λ x. (op_view x.0, ahead x.1)) result (operator_at (ahead cursor.entry)) }
 {
-    if is_keyword_next(cursor, "create") { create_table(alloc, cursor) } else { add_column(alloc, cursor) }
+    if is_keyword_next(cursor, "create") {
+        create_table(alloc, cursor)
+    } else {
+        add_column(alloc, cursor)
+    }
 }
 
 // An operator and its semicolon.
@@ -66,7 +77,12 @@ fn operator_begins(cursor: Cursor<'_>, ended: bool) -> bool
 }
 
 // The operators behind the first one.
-fn further_operators<'a>(alloc: Global, first: OpText, cursor: Cursor<'a>, ended: bool) -> Result<(List<OpText>, Cursor<'a>), ReadError>
+fn further_operators<'a>(
+    alloc: Global,
+    first: OpText,
+    cursor: Cursor<'a>,
+    ended: bool,
+) -> Result<(List<OpText>, Cursor<'a>), ReadError>
     ensures { Gives (λ x. (map op_view x.0, ahead x.1)) result (with_front (op_view first ∷ []) (operators_at ended (ahead cursor.entry))) }
 {
     let mut operators = List::new(alloc);
@@ -84,7 +100,11 @@ fn further_operators<'a>(alloc: Global, first: OpText, cursor: Cursor<'a>, ended
 }
 
 /// Operators, each with its semicolon, up to where none begins.
-pub fn take_operators<'a>(alloc: Global, cursor: Cursor<'a>, ended: bool) -> Result<(List<OpText>, Cursor<'a>), ReadError>
+pub fn take_operators<'a>(
+    alloc: Global,
+    cursor: Cursor<'a>,
+    ended: bool,
+) -> Result<(List<OpText>, Cursor<'a>), ReadError>
     ensures { Gives (λ x. (map op_view x.0, ahead x.1)) result (listed_operators_at ended (ahead cursor.entry)) }
 {
     let (first, rest) = closed_operator(alloc, cursor)?;

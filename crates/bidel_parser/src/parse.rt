@@ -22,7 +22,12 @@ fn start(bytes: &[u8], tokens: &[Token]) -> usize
 }
 
 /// The statement at the front of the tokens of some bytes; `ended` says that no tokens come after them.
-pub fn parse_statement(alloc: Global, bytes: &[u8], tokens: &[Token], ended: bool) -> Result<Parsed, Fault<Syntax>>
+pub fn parse_statement(
+    alloc: Global,
+    bytes: &[u8],
+    tokens: &[Token],
+    ended: bool,
+) -> Result<Parsed, Fault<Syntax>>
     requires { AreTokens bytes.now tokens.now }
     ensures { Parses bytes.now tokens.now ended result }
 {
@@ -30,13 +35,18 @@ pub fn parse_statement(alloc: Global, bytes: &[u8], tokens: &[Token], ended: boo
         return Ok(Parsed::Nothing);
     }
     match take_statement(alloc, Cursor { bytes, tokens }, ended) {
-        Ok((statement, rest)) => Ok(Parsed::Whole { statement, used: tokens.len() - rest.tokens.len() }),
+        Ok((statement, rest)) => Ok(Parsed::Whole {
+            statement,
+            used: tokens.len() - rest.tokens.len(),
+        }),
         Err(ReadError::Memory) => Err(Fault::Memory),
         Err(ReadError::Left(left)) => {
             if left == 0 && !ended {
                 Ok(Parsed::More)
             } else {
-                Err(Fault::Refused(Syntax { at: start(bytes, &tokens[tokens.len() - left..]) }))
+                Err(Fault::Refused(Syntax {
+                    at: start(bytes, &tokens[tokens.len() - left..]),
+                }))
             }
         }
     }

@@ -22,7 +22,13 @@ fn table<'a>(alloc: Global, cursor: Cursor<'a>) -> Result<(TableName, Cursor<'a>
     let (version, rest) = take_name(alloc, cursor)?;
     let rest = take_sign(rest, ".")?;
     let (table, rest) = take_name(alloc, rest)?;
-    Ok((TableName { version: Some(version), table }, rest))
+    Ok((
+        TableName {
+            version: Some(version),
+            table,
+        },
+        rest,
+    ))
 }
 
 // [ FROM name ]
@@ -39,7 +45,11 @@ fn origin<'a>(alloc: Global, cursor: Cursor<'a>) -> Result<(Option<Name>, Cursor
 }
 
 // CREATE SCHEMA VERSION name [ FROM name ] WITH operator ";" { operator ";" }
-fn create_version<'a>(alloc: Global, cursor: Cursor<'a>, ended: bool) -> Result<(Statement, Cursor<'a>), ReadError>
+fn create_version<'a>(
+    alloc: Global,
+    cursor: Cursor<'a>,
+    ended: bool,
+) -> Result<(Statement, Cursor<'a>), ReadError>
     ensures { Gives (λ x. (statement_view x.0, ahead x.1)) result (create_version_at ended (ahead cursor.entry)) }
 {
     let rest = take_keyword(cursor, "create")?;
@@ -49,7 +59,14 @@ fn create_version<'a>(alloc: Global, cursor: Cursor<'a>, ended: bool) -> Result<
     let (from, rest) = origin(alloc, rest)?;
     let rest = take_keyword(rest, "with")?;
     let (operators, rest) = take_operators(alloc, rest, ended)?;
-    Ok((Statement::CreateVersion { name, from, operators }, rest))
+    Ok((
+        Statement::CreateVersion {
+            name,
+            from,
+            operators,
+        },
+        rest,
+    ))
 }
 
 // INSERT INTO name "." name VALUES tuple { "," tuple } ";"
@@ -74,11 +91,23 @@ fn select<'a>(alloc: Global, cursor: Cursor<'a>) -> Result<(Statement, Cursor<'a
     let rest = take_keyword(rest, "from")?;
     let (table, rest) = table(alloc, rest)?;
     let rest = take_sign(rest, ";")?;
-    Ok((Statement::Select { table, items: None, filter: None, csv: false }, rest))
+    Ok((
+        Statement::Select {
+            table,
+            items: None,
+            filter: None,
+            csv: false,
+        },
+        rest,
+    ))
 }
 
 /// The statement at the front of the tokens.
-pub fn take_statement<'a>(alloc: Global, cursor: Cursor<'a>, ended: bool) -> Result<(Statement, Cursor<'a>), ReadError>
+pub fn take_statement<'a>(
+    alloc: Global,
+    cursor: Cursor<'a>,
+    ended: bool,
+) -> Result<(Statement, Cursor<'a>), ReadError>
     ensures { Gives (λ x. (statement_view x.0, ahead x.1)) result (statement_at ended (ahead cursor.entry)) }
 {
     if is_keyword_next(cursor, "create") {

@@ -28,7 +28,10 @@ pub fn next_token(cursor: Cursor<'_>) -> Option<Next<'_>>
         [token, rest @ ..] => Some(Next {
             kind: token.kind,
             written: &cursor.bytes[token.start..token.end],
-            rest: Cursor { bytes: cursor.bytes, tokens: rest },
+            rest: Cursor {
+                bytes: cursor.bytes,
+                tokens: rest,
+            },
         }),
         _ => None,
     }
@@ -37,7 +40,11 @@ pub fn next_token(cursor: Cursor<'_>) -> Option<Next<'_>>
 fn fold(byte: u8) -> u8
     ensures { result ≡ folded byte }
 {
-    if byte.is_ascii_uppercase() { byte + 32 } else { byte }
+    if byte.is_ascii_uppercase() {
+        byte + 32
+    } else {
+        byte
+    }
 }
 
 // Whether the bytes are the word, whichever case they are written in.
@@ -46,7 +53,8 @@ fn is_word(written: &[u8], word: &[u8]) -> bool
 {
     match (written, word) {
         ([], []) => true,
-        ([byte, rest @ ..], [letter, letters @ ..]) => fold(*byte) == *letter && is_word(rest, letters),
+        ([byte, rest @ ..], [letter, letters @ ..]) => fold(*byte) == *letter
+            && is_word(rest, letters),
         _ => false,
     }
 }
@@ -91,7 +99,10 @@ pub fn next_sign<'a>(cursor: Cursor<'a>, written: &str) -> Option<Cursor<'a>>
 }
 
 /// A name and what comes after it, where a name comes next.
-pub fn next_name<'a>(alloc: Global, cursor: Cursor<'a>) -> Result<Option<(Name, Cursor<'a>)>, ReadError>
+pub fn next_name<'a>(
+    alloc: Global,
+    cursor: Cursor<'a>,
+) -> Result<Option<(Name, Cursor<'a>)>, ReadError>
     ensures { MatchResult result (IsNext (λ x. (x.0, ahead x.1)) name_of (ahead cursor.entry)) (λ e. e ≡ ReadError.Memory) }
 {
     let Some(next) = next_token(cursor) else {

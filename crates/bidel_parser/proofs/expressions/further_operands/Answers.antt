@@ -1,6 +1,6 @@
-use Rattle.std.proofs.Common.{◌≡◌, ◌+◌, ◌-◌, ℕ, arith, sym, ap, ◌∙◌}
+use Rattle.std.proofs.Common.{◌+◌, ◌-◌, arith, sym, ap, ◌∙◌}
 use Rattle.std.proofs.lemmas.Result.{err_from_is_err_and}
-use Rattle.expr_lang.specs.Terms.{text_term, Binary}
+use Rattle.expr_lang.specs.Terms.{text_term}
 use Rattle.bidel_parser.specs.Expressions.{Tree, most_operators, operand_at}
 use Rattle.bidel_parser.specs.Answers.{ahead}
 use Rattle.bidel_parser.proofs.Cursors.{fails_through}
@@ -15,13 +15,13 @@ returns-in_err-right c =
     let p = err_from_is_err_and c.from_residual.result c.from_residual.ensures.1 in
     rw (p.1, p.2) (fails_through _ (operand_at (ahead c.in-Some.operator.1)) _ c.in_err-right.ensures
     (λ e h. sym c.loop-turn.invariant.same
-        ∙ product_stops (most_operators - c.loop-turn._turn) (most_operators - (c.loop-turn._turn + 1)) _ c.in-Some.operator.0 (ahead c.loop-turn.rest) (ahead c.in-Some.operator.1) e (omega arith) c.in-Some.ensures h))
+    ∙ product_stops (most_operators - c.loop-turn._turn) (most_operators - (c.loop-turn._turn + 1)) _ c.in-Some.operator.0 (ahead c.loop-turn.rest) (ahead c.in-Some.operator.1) e (omega arith) c.in-Some.ensures h))
 
 pub loop-turn-preserved : goal.loop-turn-preserved
 loop-turn-preserved c = record {
   same = ap (λ (a : Tree). product_turns (most_operators - (c.loop-turn._turn + 1)) a (ahead c.in_ok-right.after)) c.in_ok-whole.ensures
       ∙ product_goes (most_operators - c.loop-turn._turn) (most_operators - (c.loop-turn._turn + 1)) (text_term c.loop-turn.whole) (text_term c.in_ok-right.right) c.in-Some.operator.0
-          (ahead c.loop-turn.rest) (ahead c.in-Some.operator.1) (ahead c.in_ok-right.after) (omega arith) c.in-Some.ensures c.in_ok-right.ensures
+      (ahead c.loop-turn.rest) (ahead c.in-Some.operator.1) (ahead c.in_ok-right.after) (omega arith) c.in-Some.ensures c.in_ok-right.ensures
       ∙ c.loop-turn.invariant.same;
 }
 

@@ -1,4 +1,4 @@
-use Rattle.std.proofs.Common.{◌≡◌, ◌+◌, ◌-◌, ◌∷◌, ◌++◌, [], List, ℕ, arith, sym, ap, ◌∙◌, refl, length, subst, inl, inr}
+use Rattle.std.proofs.Common.{◌≡◌, ◌+◌, ◌-◌, ◌∷◌, ◌++◌, [], List, ℕ, arith, sym, ap, ◌∙◌, length}
 use Rattle.std.proofs.lemmas.Result.{err_from_is_err_and}
 use Rattle.phrases.specs.Reading.{with_front}
 use Rattle.phrases.proofs.Steps.{rest_turns, rest_full, rest_ends, rest_goes, rest_stops}
@@ -25,22 +25,23 @@ returns-in_err-item g c =
     let p = err_from_is_err_and c.from_residual-in_err-item.result c.from_residual-in_err-item.ensures.1 in
     rw (p.1, p.2) (fails_through _ (g.I.Item.item_at (ahead c.in-Some.after)) _ c.in_err-item.ensures
     (λ e h. sym c.loop-turn.invariant.same
-        ∙ rest_stops comma_of g.I.Item.item_at _ (length (ahead c.args.cursor) - c.loop-turn._turn) _ _ _ e tt (omega (arith, ahead_length c.args.cursor)) c.in-Some.ensures h))
+    ∙ rest_stops comma_of g.I.Item.item_at _ (length (ahead c.args.cursor) - c.loop-turn._turn) _ _ _ e tt (omega (arith, ahead_length c.args.cursor)) c.in-Some.ensures h))
 
 pub loop-turn-preserved : goal.loop-turn-preserved
 loop-turn-preserved g c = record {
   same = ap (λ (l : List _). with_front l (rest_turns comma_of g.I.Item.item_at (length (ahead c.args.cursor) + 1 - (c.loop-turn._turn + 1)) (ahead c.in_ok-item.after))) c.in_ok-push-2.ensures.ok
       ∙ rest_goes comma_of g.I.Item.item_at (length (ahead c.args.cursor) + 1 - c.loop-turn._turn) (length (ahead c.args.cursor) + 1 - (c.loop-turn._turn + 1)) c.loop-turn.items c.in_ok-item.item
-          (ahead c.loop-turn.rest) (ahead c.in-Some.after) (ahead c.in_ok-item.after) tt (omega (arith, ahead_length c.args.cursor)) c.in-Some.ensures c.in_ok-item.ensures
+      (ahead c.loop-turn.rest) (ahead c.in-Some.after) (ahead c.in_ok-item.after) tt (omega (arith, ahead_length c.args.cursor)) c.in-Some.ensures c.in_ok-item.ensures
       ∙ c.loop-turn.invariant.same;
 }
 
 pub returns : goal.returns
 returns g c = elim c.loop-turn-test.branch [
-    else-loop-turn-test w ↦ absurd (omega arith)
-    | then-loop-turn-test+in-Some+in_ok-item+in_ok-push-2+else-turn-turn-end w ↦ rw (w.items-is, w.rest-is) (
+  | else-loop-turn-test w ↦ absurd (omega arith)
+  | then-loop-turn-test+in-Some+in_ok-item+in_ok-push-2+else-turn-turn-end w ↦ rw (w.items-is, w.rest-is) (
       sym (ap (λ (l : List _). with_front l (rest_turns comma_of g.I.Item.item_at (length (ahead c.args.cursor) + 1 - (c.loop-turn._turn + 1)) (ahead w.in_ok-item.after))) w.in_ok-push-2.ensures.ok
-          ∙ rest_goes comma_of g.I.Item.item_at (length (ahead c.args.cursor) + 1 - c.loop-turn._turn) (length (ahead c.args.cursor) + 1 - (c.loop-turn._turn + 1)) c.loop-turn.items w.in_ok-item.item
-              (ahead c.loop-turn.rest) (ahead w.in-Some.after) (ahead w.in_ok-item.after) tt (omega (arith, ahead_length c.args.cursor)) w.in-Some.ensures w.in_ok-item.ensures
-          ∙ c.loop-turn.invariant.same)
-      ∙ rest_full comma_of g.I.Item.item_at (length (ahead c.args.cursor) + 1 - (c.loop-turn._turn + 1)) w.push-in-loop-turn.new.self (ahead w.in_ok-item.after) (omega (arith, ahead_length c.args.cursor))) ]
+      ∙ rest_goes comma_of g.I.Item.item_at (length (ahead c.args.cursor) + 1 - c.loop-turn._turn) (length (ahead c.args.cursor) + 1 - (c.loop-turn._turn + 1)) c.loop-turn.items w.in_ok-item.item
+      (ahead c.loop-turn.rest) (ahead w.in-Some.after) (ahead w.in_ok-item.after) tt (omega (arith, ahead_length c.args.cursor)) w.in-Some.ensures w.in_ok-item.ensures
+      ∙ c.loop-turn.invariant.same)
+      ∙ rest_full comma_of g.I.Item.item_at (length (ahead c.args.cursor) + 1 - (c.loop-turn._turn + 1)) w.push-in-loop-turn.new.self (ahead w.in_ok-item.after) (omega (arith, ahead_length c.args.cursor)))
+]

@@ -1,4 +1,4 @@
-use Rattle.std.proofs.Common.{◌≡◌, refl, ◌<◌, ◌-◌, List, length, arith, subst, sym, inl, inr, ap, ℕ, ◌∙◌}
+use Rattle.std.proofs.Common.{refl, ◌-◌, length, arith, sym, inl, inr, ap, ℕ, ◌∙◌}
 use Rattle.bidel_parser.specs.Parsing.{start_of}
 use Rattle.bidel_parser.proofs.TokensWithin.{tokens_within}
 use Rattle.bidel_parser.proofs.ParsingLaws.{whole, whole_within, left_within, none_whole, begins, fault, rest_is, some_length}
@@ -25,10 +25,18 @@ returns-then-not-ended c =
 pub returns-else-left-eq0 : goal.returns-else-left-eq0
 returns-else-left-eq0 c =
     let f = rw c.in-Err-Left.field-0-is at c.in-Err-Left.ensures in
-    let at : ℕ = length c.args.tokens.now - c.in-Err-Left.left in
-    (none_whole c.args.bytes.now c.args.tokens.now c.args.ended c.in-Err-Left.left f,
-    fault c.args.bytes.now c.args.tokens.now c.args.ended c.in-Err-Left.left f c.start.result
-        (elim c.else-left-eq0.either [ inl h ↦ inr (h.1, elim c.else-ended.branch [
-            else-ended-via-then-ended+else-is_empty w ↦ some_length c.args.tokens.now (sym w.is_empty.ensures ∙ w.if-is_empty.false)
-            | else-ended-via-else-ended w ↦ (let clash = sym w.if-ended.false ∙ h.1 in cc) ]) | inr h ↦ inl (omega (arith, h)) ])
-        (c.start.ensures ∙ ap (start_of (length c.args.bytes.now)) (rest_is c.args.tokens.now at (length c.args.tokens.now - at) refl)))
+    let at : ℕ = length c.args.tokens.now - c.in-Err-Left.left in (
+      none_whole c.args.bytes.now c.args.tokens.now c.args.ended c.in-Err-Left.left f,
+      fault c.args.bytes.now c.args.tokens.now c.args.ended c.in-Err-Left.left f c.start.result
+          (elim c.else-left-eq0.either [
+            | inl h ↦ inr (
+              h.1,
+              elim c.else-ended.branch [
+                | else-ended-via-then-ended+else-is_empty w ↦ some_length c.args.tokens.now (sym w.is_empty.ensures ∙ w.if-is_empty.false)
+                | else-ended-via-else-ended w ↦ (let clash = sym w.if-ended.false ∙ h.1 in cc)
+              ],
+            )
+            | inr h ↦ inl (omega (arith, h))
+          ])
+          (c.start.ensures ∙ ap (start_of (length c.args.bytes.now)) (rest_is c.args.tokens.now at (length c.args.tokens.now - at) refl)),
+    )
