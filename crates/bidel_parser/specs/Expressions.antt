@@ -5,7 +5,7 @@ use Rattle.expr_lang.specs.declared.tree.BinaryOp.{BinaryOp}
 use Rattle.expr_lang.specs.declared.tree.BinaryOp.TheVariants.{Multiply}
 use Rattle.phrases.specs.Phrases.{Nothing, Seq, OneOf, Either}
 use Rattle.phrases.specs.Reading.{Read, and_then, done, either, is}
-use Rattle.phrases.specs.Chains.{Item, Chain, chain, opens}
+use Rattle.phrases.specs.Chains.{Item, Chain, chain, joined, opens}
 use Rattle.bidel_parser.specs.Lexemes.{Lexeme, symbol, name_of}
 use Rattle.bidel_parser.specs.Literals.{Literal, literal_at, name_at, open_of}
 
@@ -66,3 +66,7 @@ item_at ops parens = and_then operand_at λ e. done (e, ops, parens)
 
 abbrev pub expression_at : List Lexeme → Read Lexeme Tree
 expression_at = and_then (chain Binary product_of item_at most_operators most_parentheses) λ x. done x.0
+
+-- the operands behind the first one
+abbrev pub product_at : Tree → List Lexeme → Read Lexeme Tree
+product_at first = and_then (joined Binary product_of item_at most_operators first most_operators most_parentheses) λ x. done x.0

@@ -1,5 +1,5 @@
 -- Tokens with what is written in them, and the kinds of one token that the grammar names.
-use Rattle.std.specs.Prelude.{ℕ, pos, neg_ℤ, ◌+◌, ◌-◌, ◌*◌, ◌^◌, ◌==◌, ◌&&◌, List, [], ◌∷◌, drop, map, slice_range, bytes_eq, nat_le, Bool, false, Option, Some, None, if◌then◌else◌}
+use Rattle.std.specs.Prelude.{◌≡◌, ◌≤◌, ℕ, pos, neg_ℤ, ◌+◌, ◌-◌, ◌*◌, ◌^◌, ◌==◌, ◌&&◌, List, [], ◌∷◌, drop, map, slice_range, bytes_eq, nat_le, Bool, false, Option, Some, None, if◌then◌else◌}
 use Rattle.par_base.specs.Names.{folded, is_name}
 use Rattle.par_base.specs.declared.value.Value.{Value}
 use Rattle.par_base.specs.declared.value.Value.TheVariants.{Int}
@@ -15,10 +15,19 @@ pub data Lexeme : Type 0 where
   «text» : List ℕ → Lexeme
   symbol : List ℕ → Lexeme
 
+-- the value of digits and one more digit
+abbrev pub value_with : ℕ → ℕ → ℕ
+value_with value digit = 10 * value + (digit - 48)
+
 -- the value of decimal digits behind digits with a value
 unfoldable pub value_after : ℕ → List ℕ → ℕ
 value_after value [] = value
-value_after value (digit ∷ digits) = value_after (10 * value + (digit - 48)) digits
+value_after value (digit ∷ digits) = value_after (value_with value digit) digits
+
+-- the number, where it is at most 2^63
+abbrev pub IsCapped : ℕ → Option ℕ → Type 0
+IsCapped n None = nat_le n (2 ^ 63) ≡ false
+IsCapped n (Some m) = (m ≡ n) × (m ≤ 2 ^ 63)
 
 -- a text without its closing quote, and with each doubled quote once
 unfoldable pub undoubled : List ℕ → List ℕ

@@ -1,9 +1,9 @@
 -- Names, literals and lists of them, and reading them.
-use Rattle.std.specs.Prelude.{◌||◌, ℕ, List, Bool, Option, codes}
+use Rattle.std.specs.Prelude.{◌||◌, ◌∷◌, [], ℕ, List, Bool, Option, codes}
 use Rattle.par_base.specs.declared.value.Value.{Value}
 use Rattle.par_base.specs.declared.value.Value.TheVariants.{Null}
 use Rattle.phrases.specs.Phrases.{Nothing, Seq, OneOf, Either, Enclosed}
-use Rattle.phrases.specs.Reading.{Read, and_then, one_at, done, either, is, behind_at, enclosed_at}
+use Rattle.phrases.specs.Reading.{Read, and_then, one_at, done, either, is, behind_at, rest_at, separated_at, enclosed_at, with_front}
 use Rattle.bidel_parser.specs.Lexemes.{Lexeme, keyword, sign, name_of, positive_of, negative_of}
 
 -- ---- the signs
@@ -72,3 +72,11 @@ begins_literal t = is null_of t || (is minus_of t || is positive_of t)
 
 abbrev pub tuple_at : List Lexeme → Read Lexeme (List Value)
 tuple_at = enclosed_at begins_literal open_of comma_of close_of literal_at
+
+-- the items of a list behind the first one
+abbrev pub further_at : {A : Type 0} → A → (List Lexeme → Read Lexeme A) → List Lexeme → Read Lexeme (List A)
+further_at first item ts = with_front (first ∷ []) (rest_at (is comma_of) (behind_at comma_of item) ts)
+
+-- items with commas, and none where no token of g comes
+abbrev pub listed_at : {A : Type 0} → (Lexeme → Bool) → (List Lexeme → Read Lexeme A) → List Lexeme → Read Lexeme (List A)
+listed_at g item = either g (separated_at comma_of item) (done [])

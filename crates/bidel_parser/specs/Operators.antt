@@ -1,7 +1,7 @@
 -- Operators: which tokens spell which, and reading them.
-use Rattle.std.specs.Prelude.{◌+◌, ◌∷◌, List, Bool, Option, length, codes}
+use Rattle.std.specs.Prelude.{◌+◌, ◌∷◌, [], List, Bool, Option, length, codes}
 use Rattle.phrases.specs.Phrases.{Nothing, Seq, OneOf, Either, Many}
-use Rattle.phrases.specs.Reading.{Read, and_then, one_at, done, either, is, begins_item, many_at}
+use Rattle.phrases.specs.Reading.{Read, and_then, one_at, done, either, is, begins_item, many_at, with_front}
 use Rattle.bidel_parser.specs.Lexemes.{Lexeme, keyword, name_of}
 use Rattle.bidel_parser.specs.Literals.{semicolon_of, Names, name_at, names_at}
 use Rattle.bidel_parser.specs.Expressions.{Expression, expression_at}
@@ -75,3 +75,7 @@ operators_at ended ts = many_at begins_operator closed_operator_at ended (length
 -- one operator with its semicolon, and further ones
 abbrev pub listed_operators_at : Bool → List Lexeme → Read Lexeme (List OpView)
 listed_operators_at ended = and_then closed_operator_at λ o. and_then (operators_at ended) λ os. done (o ∷ os)
+
+-- the further operators, with the one before them
+abbrev pub further_operators_at : Bool → OpView → List Lexeme → Read Lexeme (List OpView)
+further_operators_at ended first ts = with_front (first ∷ []) (operators_at ended ts)

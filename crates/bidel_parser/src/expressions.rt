@@ -3,8 +3,8 @@ ghost use Rattle.std.specs.Prelude.{◌≡◌, MatchResult};
 ghost use Rattle.expr_lang.specs.Terms.{text_term, Binary};
 ghost use Rattle.phrases.specs.Reading.{and_then, done};
 ghost use Rattle.phrases.specs.Chains.{joined};
-ghost use Rattle.bidel_parser.specs.Expressions.{product_of, operand_at, item_at, expression_at, most_operators, most_parentheses};
-ghost use Rattle.bidel_parser.specs.Answers.{ahead, IsNext, Gives};
+ghost use Rattle.bidel_parser.specs.Expressions.{product_of, operand_at, product_at, expression_at};
+ghost use Rattle.bidel_parser.specs.Answers.{IsNext, Gives, Makes};
 
 use crate::cursor::Cursor;
 use crate::literals::take_literal;
@@ -19,7 +19,7 @@ const MOST_OPERATORS: u32 = 128;
 
 // A literal or a name.
 fn operand<'a>(alloc: Global, cursor: Cursor<'a>) -> Result<(ExprText, Cursor<'a>), ReadError>
-    ensures { Gives (λ x. (text_term x.0, ahead x.1)) result (operand_at (ahead cursor.entry)) }
+    ensures { Gives text_term operand_at cursor.entry result }
 {
     match next_name(alloc, cursor)? {
         Some((name, rest)) => Ok((ExprText::Column(name), rest)),
@@ -32,7 +32,7 @@ fn operand<'a>(alloc: Global, cursor: Cursor<'a>) -> Result<(ExprText, Cursor<'a
 
 // An operator of a product and what comes after it, where one comes next.
 fn next_operator(cursor: Cursor<'_>) -> Option<(BinaryOp, Cursor<'_>)>
-    ensures { IsNext (λ x. (x.0, ahead x.1)) product_of (ahead cursor.entry) result }
+    ensures { IsNext product_of cursor.entry result }
 {
     let next = next_token(cursor)?;
     match next.kind {
@@ -50,7 +50,7 @@ fn joined_by(
     left: ExprText,
     right: ExprText,
 ) -> Result<ExprText, ReadError>
-    ensures { MatchResult result (λ whole. text_term whole ≡ Binary op (text_term left) (text_term right)) (λ e. e ≡ ReadError.Memory) }
+    ensures { Makes (Binary op (text_term left) (text_term right)) result }
 {
     Ok(ExprText::Binary(op, Box::new(alloc, left)?, Box::new(alloc, right)?))
 }
@@ -61,8 +61,7 @@ fn further_operands<'a>(
     first: ExprText,
     cursor: Cursor<'a>,
 ) -> Result<(ExprText, Cursor<'a>), ReadError>
-    ensures { Gives (λ x. (text_term x.0, ahead x.1)) result
-        (and_then (joined Binary product_of item_at most_operators (text_term first) most_operators most_parentheses) (λ x. done x.0) (ahead cursor.entry)) }
+    ensures { Gives text_term (product_at (text_term first)) cursor.entry result }
 {
     let mut whole = first;
     let mut rest = cursor;
@@ -83,7 +82,7 @@ pub fn take_expression<'a>(
     alloc: Global,
     cursor: Cursor<'a>,
 ) -> Result<(ExprText, Cursor<'a>), ReadError>
-    ensures { Gives (λ x. (text_term x.0, ahead x.1)) result (expression_at (ahead cursor.entry)) }
+    ensures { Gives text_term expression_at cursor.entry result }
 {
     let (first, rest) = operand(alloc, cursor)?;
     further_operands(alloc, first, rest)

@@ -2,7 +2,7 @@
 ghost use Rattle.std.specs.Prelude.{◌≡◌, ◌∷◌, []};
 ghost use Rattle.phrases.specs.Reading.{starts, is, either, done, rest_at, behind_at, separated_at, enclosed_at, with_front};
 ghost use Rattle.bidel_parser.specs.Lexemes.{name_of};
-ghost use Rattle.bidel_parser.specs.Literals.{comma_of, name_at, names_at, literal_at, tuple_at, begins_literal};
+ghost use Rattle.bidel_parser.specs.Literals.{comma_of, further_at, listed_at, name_at, names_at, literal_at, tuple_at, begins_literal};
 ghost use Rattle.bidel_parser.specs.Answers.{ahead, Gives};
 
 use crate::cursor::Cursor;
@@ -25,7 +25,7 @@ pub trait Item {
 
     /// An item.
     fn take<'a>(alloc: Global, cursor: Cursor<'a>) -> Result<(Self::Value, Cursor<'a>), ReadError>
-        ensures { Gives (λ x. (x.0, ahead x.1)) result (item_at (ahead cursor.entry)) };
+        ensures { Gives (λ x. x) item_at cursor.entry result };
 }
 
 /// The names of a list.
@@ -63,7 +63,7 @@ fn further_items<'a, I: Item>(
     first: I::Value,
     cursor: Cursor<'a>,
 ) -> Result<(List<I::Value>, Cursor<'a>), ReadError>
-    ensures { Gives (λ x. (x.0, ahead x.1)) result (with_front (first ∷ []) (rest_at (is comma_of) (behind_at comma_of I.item_at) (ahead cursor.entry))) }
+    ensures { Gives (λ x. x) (further_at first I.item_at) cursor.entry result }
 {
     let mut items = List::new(alloc);
     items.push(first)?;
@@ -85,7 +85,7 @@ pub fn take_separated<'a, I: Item>(
     alloc: Global,
     cursor: Cursor<'a>,
 ) -> Result<(List<I::Value>, Cursor<'a>), ReadError>
-    ensures { Gives (λ x. (x.0, ahead x.1)) result (separated_at comma_of I.item_at (ahead cursor.entry)) }
+    ensures { Gives (λ x. x) (separated_at comma_of I.item_at) cursor.entry result }
 {
     let (first, rest) = I::take(alloc, cursor)?;
     further_items::<I>(alloc, first, rest)
@@ -96,7 +96,7 @@ fn enclosed_names<'a>(
     alloc: Global,
     cursor: Cursor<'a>,
 ) -> Result<(List<Name>, Cursor<'a>), ReadError>
-    ensures { Gives (λ x. (x.0, ahead x.1)) result (either (is name_of) (separated_at comma_of name_at) (done []) (ahead cursor.entry)) }
+    ensures { Gives (λ x. x) (listed_at (is name_of) name_at) cursor.entry result }
 {
     match next_name(alloc, cursor)? {
         Some((first, rest)) => further_items::<Names>(alloc, first, rest),
@@ -109,7 +109,7 @@ pub fn take_names<'a>(
     alloc: Global,
     cursor: Cursor<'a>,
 ) -> Result<(List<Name>, Cursor<'a>), ReadError>
-    ensures { Gives (λ x. (x.0, ahead x.1)) result (names_at (ahead cursor.entry)) }
+    ensures { Gives (λ x. x) names_at cursor.entry result }
 {
     let rest = take_sign(cursor, "(")?;
     let (names, rest) = enclosed_names(alloc, rest)?;
@@ -119,7 +119,7 @@ pub fn take_names<'a>(
 
 // The literals between parentheses.
 fn enclosed_literals<'a>(alloc: Global, cursor: Cursor<'a>) -> Result<(Row, Cursor<'a>), ReadError>
-    ensures { Gives (λ x. (x.0, ahead x.1)) result (either begins_literal (separated_at comma_of literal_at) (done []) (ahead cursor.entry)) }
+    ensures { Gives (λ x. x) (listed_at begins_literal literal_at) cursor.entry result }
 {
     if is_literal_next(cursor) {
         take_separated::<Literals>(alloc, cursor)
@@ -130,7 +130,7 @@ fn enclosed_literals<'a>(alloc: Global, cursor: Cursor<'a>) -> Result<(Row, Curs
 
 /// Literals in parentheses.
 pub fn take_tuple<'a>(alloc: Global, cursor: Cursor<'a>) -> Result<(Row, Cursor<'a>), ReadError>
-    ensures { Gives (λ x. (x.0, ahead x.1)) result (tuple_at (ahead cursor.entry)) }
+    ensures { Gives (λ x. x) tuple_at cursor.entry result }
 {
     let rest = take_sign(cursor, "(")?;
     let (literals, rest) = enclosed_literals(alloc, rest)?;

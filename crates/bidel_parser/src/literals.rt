@@ -12,7 +12,7 @@ use par_base::Value;
 
 /// The integer of a number, without a sign.
 fn take_positive(cursor: Cursor<'_>) -> Result<(Value, Cursor<'_>), ReadError>
-    ensures { Gives (λ x. (x.0, ahead x.1)) result (one_at positive_of (ahead cursor.entry)) }
+    ensures { Gives (λ x. x) (one_at positive_of) cursor.entry result }
 {
     match next_positive(cursor) {
         Some(read) => Ok(read),
@@ -22,7 +22,7 @@ fn take_positive(cursor: Cursor<'_>) -> Result<(Value, Cursor<'_>), ReadError>
 
 /// The integer of a number behind a minus sign.
 fn take_negative(cursor: Cursor<'_>) -> Result<(Value, Cursor<'_>), ReadError>
-    ensures { Gives (λ x. (x.0, ahead x.1)) result (one_at negative_of (ahead cursor.entry)) }
+    ensures { Gives (λ x. x) (one_at negative_of) cursor.entry result }
 {
     match next_negative(cursor) {
         Some(read) => Ok(read),
@@ -32,7 +32,7 @@ fn take_negative(cursor: Cursor<'_>) -> Result<(Value, Cursor<'_>), ReadError>
 
 /// NULL, or a number with or without a minus sign.
 pub fn take_literal(cursor: Cursor<'_>) -> Result<(Value, Cursor<'_>), ReadError>
-    ensures { Gives (λ x. (x.0, ahead x.1)) result (literal_at (ahead cursor.entry)) }
+    ensures { Gives (λ x. x) literal_at cursor.entry result }
 {
     if let Some(rest) = next_keyword(cursor, "null") {
         return Ok((Value::Null, rest));

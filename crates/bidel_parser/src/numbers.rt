@@ -1,6 +1,6 @@
 //! The value of a number's digits.
 ghost use Rattle.std.specs.Prelude.{◌≡◌, ◌≤◌, ◌+◌, ◌*◌, ◌-◌, ◌^◌, false, nat_le, pos, neg_ℤ, MatchOption};
-ghost use Rattle.bidel_parser.specs.Lexemes.{value_after};
+ghost use Rattle.bidel_parser.specs.Lexemes.{IsCapped, value_after, value_with};
 
 /// The greatest value of a number, which only a minus sign before it makes an `i64`.
 const GREATEST_NUMBER: u64 = 1 << 63;
@@ -8,7 +8,7 @@ const GREATEST_NUMBER: u64 = 1 << 63;
 /// The value of digits and one more digit, unless it is over the greatest.
 fn add_digit(value: u64, digit: u8) -> Option<u64>
     requires { value ≤ 2 ^ 63 }
-    ensures { MatchOption result (nat_le (10 * value + (digit - 48)) (2 ^ 63) ≡ false) (λ grown. (grown ≡ 10 * value + (digit - 48)) × (grown ≤ 2 ^ 63)) }
+    ensures { IsCapped (value_with value digit) result }
 {
     let digit = u64::from(digit.saturating_sub(b'0'));
     if value <= (GREATEST_NUMBER - digit) / 10 {
@@ -20,7 +20,7 @@ fn add_digit(value: u64, digit: u8) -> Option<u64>
 
 /// The value of a number's digits, unless it is over the greatest.
 pub fn number_value(digits: &[u8]) -> Option<u64>
-    ensures { MatchOption result (nat_le (value_after 0 digits.now) (2 ^ 63) ≡ false) (λ value. (value ≡ value_after 0 digits.now) × (value ≤ 2 ^ 63)) }
+    ensures { IsCapped (value_after 0 digits.now) result }
 {
     let mut value = 0;
     for digit in digits {

@@ -2,7 +2,7 @@
 ghost use Rattle.std.specs.Prelude.{◌≡◌, ◌∷◌, [], map};
 ghost use Rattle.phrases.specs.Reading.{with_front};
 ghost use Rattle.bidel_parser.specs.Views.{op_view};
-ghost use Rattle.bidel_parser.specs.Operators.{create_table_at, add_column_at, operator_at, closed_operator_at, operators_at, listed_operators_at, begins_operator};
+ghost use Rattle.bidel_parser.specs.Operators.{further_operators_at, create_table_at, add_column_at, operator_at, closed_operator_at, operators_at, listed_operators_at, begins_operator};
 ghost use Rattle.bidel_parser.specs.Answers.{ahead, Gives};
 
 use crate::cursor::Cursor;
@@ -16,7 +16,7 @@ use std::alloc::Global;
 
 // CREATE TABLE name names
 fn create_table<'a>(alloc: Global, cursor: Cursor<'a>) -> Result<(OpText, Cursor<'a>), ReadError>
-    ensures { Gives (λ x. (op_view x.0, ahead x.1)) result (create_table_at (ahead cursor.entry)) }
+    ensures { Gives op_view create_table_at cursor.entry result }
 {
     let rest = take_keyword(cursor, "create")?;
     let rest = take_keyword(rest, "table")?;
@@ -27,7 +27,7 @@ fn create_table<'a>(alloc: Global, cursor: Cursor<'a>) -> Result<(OpText, Cursor
 
 // ADD COLUMN name AS expr INTO name
 fn add_column<'a>(alloc: Global, cursor: Cursor<'a>) -> Result<(OpText, Cursor<'a>), ReadError>
-    ensures { Gives (λ x. (op_view x.0, ahead x.1)) result (add_column_at (ahead cursor.entry)) }
+    ensures { Gives op_view add_column_at cursor.entry result }
 {
     let rest = take_keyword(cursor, "add")?;
     let rest = take_keyword(rest, "column")?;
@@ -47,7 +47,7 @@ fn add_column<'a>(alloc: Global, cursor: Cursor<'a>) -> Result<(OpText, Cursor<'
 }
 
 fn take_operator<'a>(alloc: Global, cursor: Cursor<'a>) -> Result<(OpText, Cursor<'a>), ReadError>
-    ensures { Gives (λ x. (op_view x.0, ahead x.1)) result (operator_at (ahead cursor.entry)) }
+    ensures { Gives op_view operator_at cursor.entry result }
 {
     if is_keyword_next(cursor, "create") {
         create_table(alloc, cursor)
@@ -58,7 +58,7 @@ fn take_operator<'a>(alloc: Global, cursor: Cursor<'a>) -> Result<(OpText, Curso
 
 // An operator and its semicolon.
 fn closed_operator<'a>(alloc: Global, cursor: Cursor<'a>) -> Result<(OpText, Cursor<'a>), ReadError>
-    ensures { Gives (λ x. (op_view x.0, ahead x.1)) result (closed_operator_at (ahead cursor.entry)) }
+    ensures { Gives op_view closed_operator_at cursor.entry result }
 {
     let (operator, rest) = take_operator(alloc, cursor)?;
     let rest = take_sign(rest, ";")?;
@@ -83,7 +83,7 @@ fn further_operators<'a>(
     cursor: Cursor<'a>,
     ended: bool,
 ) -> Result<(List<OpText>, Cursor<'a>), ReadError>
-    ensures { Gives (λ x. (map op_view x.0, ahead x.1)) result (with_front (op_view first ∷ []) (operators_at ended (ahead cursor.entry))) }
+    ensures { Gives (map op_view) (further_operators_at ended (op_view first)) cursor.entry result }
 {
     let mut operators = List::new(alloc);
     operators.push(first)?;
@@ -105,7 +105,7 @@ pub fn take_operators<'a>(
     cursor: Cursor<'a>,
     ended: bool,
 ) -> Result<(List<OpText>, Cursor<'a>), ReadError>
-    ensures { Gives (λ x. (map op_view x.0, ahead x.1)) result (listed_operators_at ended (ahead cursor.entry)) }
+    ensures { Gives (map op_view) (listed_operators_at ended) cursor.entry result }
 {
     let (first, rest) = closed_operator(alloc, cursor)?;
     further_operators(alloc, first, rest, ended)

@@ -17,7 +17,7 @@ use std::alloc::Global;
 
 // name "." name
 fn table<'a>(alloc: Global, cursor: Cursor<'a>) -> Result<(TableName, Cursor<'a>), ReadError>
-    ensures { Gives (λ x. (x.0, ahead x.1)) result (table_at (ahead cursor.entry)) }
+    ensures { Gives (λ x. x) table_at cursor.entry result }
 {
     let (version, rest) = take_name(alloc, cursor)?;
     let rest = take_sign(rest, ".")?;
@@ -33,7 +33,7 @@ fn table<'a>(alloc: Global, cursor: Cursor<'a>) -> Result<(TableName, Cursor<'a>
 
 // [ FROM name ]
 fn origin<'a>(alloc: Global, cursor: Cursor<'a>) -> Result<(Option<Name>, Cursor<'a>), ReadError>
-    ensures { Gives (λ x. (x.0, ahead x.1)) result (origin_at (ahead cursor.entry)) }
+    ensures { Gives (λ x. x) origin_at cursor.entry result }
 {
     match next_keyword(cursor, "from") {
         Some(rest) => {
@@ -50,7 +50,7 @@ fn create_version<'a>(
     cursor: Cursor<'a>,
     ended: bool,
 ) -> Result<(Statement, Cursor<'a>), ReadError>
-    ensures { Gives (λ x. (statement_view x.0, ahead x.1)) result (create_version_at ended (ahead cursor.entry)) }
+    ensures { Gives statement_view (create_version_at ended) cursor.entry result }
 {
     let rest = take_keyword(cursor, "create")?;
     let rest = take_keyword(rest, "schema")?;
@@ -71,7 +71,7 @@ fn create_version<'a>(
 
 // INSERT INTO name "." name VALUES tuple { "," tuple } ";"
 fn insert<'a>(alloc: Global, cursor: Cursor<'a>) -> Result<(Statement, Cursor<'a>), ReadError>
-    ensures { Gives (λ x. (statement_view x.0, ahead x.1)) result (insert_at (ahead cursor.entry)) }
+    ensures { Gives statement_view insert_at cursor.entry result }
 {
     let rest = take_keyword(cursor, "insert")?;
     let rest = take_keyword(rest, "into")?;
@@ -84,7 +84,7 @@ fn insert<'a>(alloc: Global, cursor: Cursor<'a>) -> Result<(Statement, Cursor<'a
 
 // SELECT "*" FROM name "." name ";"
 fn select<'a>(alloc: Global, cursor: Cursor<'a>) -> Result<(Statement, Cursor<'a>), ReadError>
-    ensures { Gives (λ x. (statement_view x.0, ahead x.1)) result (select_at (ahead cursor.entry)) }
+    ensures { Gives statement_view select_at cursor.entry result }
 {
     let rest = take_keyword(cursor, "select")?;
     let rest = take_sign(rest, "*")?;
@@ -108,7 +108,7 @@ pub fn take_statement<'a>(
     cursor: Cursor<'a>,
     ended: bool,
 ) -> Result<(Statement, Cursor<'a>), ReadError>
-    ensures { Gives (λ x. (statement_view x.0, ahead x.1)) result (statement_at ended (ahead cursor.entry)) }
+    ensures { Gives statement_view (statement_at ended) cursor.entry result }
 {
     if is_keyword_next(cursor, "create") {
         create_version(alloc, cursor, ended)

@@ -3,26 +3,18 @@ ghost use Rattle.std.specs.Prelude.{◌≡◌, ◌∷◌, [], map, false, bytes_
 ghost use Rattle.par_base.specs.Names.{folded};
 ghost use Rattle.phrases.specs.Reading.{one_at, starts, is};
 ghost use Rattle.bidel_parser.specs.Lexemes.{lexeme_of, keyword, starts_both, sign, name_of, number_of, positive_of, negative_of};
-ghost use Rattle.bidel_parser.specs.Answers.{ahead, IsNext, Gives};
+ghost use Rattle.bidel_parser.specs.Answers.{ahead, IsFirst, IsNext, IsThere, Gives, Passes};
 
-use crate::cursor::Cursor;
+use crate::cursor::{Cursor, Next};
 use crate::numbers::{negated, number_value};
 use crate::read_error::ReadError;
 use bidel_lex::TokenKind;
 use par_base::{Name, Value, read_name};
 use std::alloc::Global;
 
-/// A token, what is written in it, and what comes after it.
-#[derive(Clone, Copy)]
-pub struct Next<'a> {
-    pub kind: TokenKind,
-    pub written: &'a [u8],
-    pub rest: Cursor<'a>,
-}
-
 /// The token that comes next.
 pub fn next_token(cursor: Cursor<'_>) -> Option<Next<'_>>
-    ensures { MatchOption result (ahead cursor.entry ≡ []) (λ n. ahead cursor.entry ≡ lexeme_of n.kind n.written.now ∷ ahead n.rest) }
+    ensures { IsFirst cursor.entry result }
 {
     match cursor.tokens {
         [token, rest @ ..] => Some(Next {
@@ -61,7 +53,7 @@ fn is_word(written: &[u8], word: &[u8]) -> bool
 
 /// What comes after a reserved word, where that comes next.
 pub fn next_keyword<'a>(cursor: Cursor<'a>, word: &str) -> Option<Cursor<'a>>
-    ensures { IsNext (λ rest. (tt, ahead rest)) (keyword word.now) (ahead cursor.entry) result }
+    ensures { IsThere (keyword word.now) cursor.entry result }
 {
     let next = next_token(cursor)?;
     match next.kind {
@@ -89,7 +81,7 @@ pub fn are_keywords_next(cursor: Cursor<'_>, first: &str, second: &str) -> bool
 
 /// What comes after a symbol, where that comes next.
 pub fn next_sign<'a>(cursor: Cursor<'a>, written: &str) -> Option<Cursor<'a>>
-    ensures { IsNext (λ rest. (tt, ahead rest)) (sign written.now) (ahead cursor.entry) result }
+    ensures { IsThere (sign written.now) cursor.entry result }
 {
     let next = next_token(cursor)?;
     match next.kind {
@@ -103,7 +95,7 @@ pub fn next_name<'a>(
     alloc: Global,
     cursor: Cursor<'a>,
 ) -> Result<Option<(Name, Cursor<'a>)>, ReadError>
-    ensures { MatchResult result (IsNext (λ x. (x.0, ahead x.1)) name_of (ahead cursor.entry)) (λ e. e ≡ ReadError.Memory) }
+    ensures { MatchResult result (IsNext name_of cursor.entry) (λ e. e ≡ ReadError.Memory) }
 {
     let Some(next) = next_token(cursor) else {
         return Ok(None);
@@ -119,7 +111,7 @@ pub fn next_name<'a>(
 
 // The value of a number and what comes after it, where a number comes next.
 fn next_number(cursor: Cursor<'_>) -> Option<(u64, Cursor<'_>)>
-    ensures { IsNext (λ x. (x.0, ahead x.1)) number_of (ahead cursor.entry) result }
+    ensures { IsNext number_of cursor.entry result }
 {
     let next = next_token(cursor)?;
     match next.kind {
@@ -130,7 +122,7 @@ fn next_number(cursor: Cursor<'_>) -> Option<(u64, Cursor<'_>)>
 
 /// An integer without a sign, where one comes next.
 pub fn next_positive(cursor: Cursor<'_>) -> Option<(Value, Cursor<'_>)>
-    ensures { IsNext (λ x. (x.0, ahead x.1)) positive_of (ahead cursor.entry) result }
+    ensures { IsNext positive_of cursor.entry result }
 {
     let (value, rest) = next_number(cursor)?;
     match i64::try_from(value) {
@@ -141,7 +133,7 @@ pub fn next_positive(cursor: Cursor<'_>) -> Option<(Value, Cursor<'_>)>
 
 /// An integer behind a minus sign, where its number comes next.
 pub fn next_negative(cursor: Cursor<'_>) -> Option<(Value, Cursor<'_>)>
-    ensures { IsNext (λ x. (x.0, ahead x.1)) negative_of (ahead cursor.entry) result }
+    ensures { IsNext negative_of cursor.entry result }
 {
     let (value, rest) = next_number(cursor)?;
     Some((Value::Int(negated(value)), rest))
@@ -149,7 +141,7 @@ pub fn next_negative(cursor: Cursor<'_>) -> Option<(Value, Cursor<'_>)>
 
 /// A reserved word.
 pub fn take_keyword<'a>(cursor: Cursor<'a>, word: &str) -> Result<Cursor<'a>, ReadError>
-    ensures { Gives (λ rest. (tt, ahead rest)) result (one_at (keyword word.now) (ahead cursor.entry)) }
+    ensures { Passes (one_at (keyword word.now)) cursor.entry result }
 {
     match next_keyword(cursor, word) {
         Some(rest) => Ok(rest),
@@ -159,7 +151,7 @@ pub fn take_keyword<'a>(cursor: Cursor<'a>, word: &str) -> Result<Cursor<'a>, Re
 
 /// A symbol.
 pub fn take_sign<'a>(cursor: Cursor<'a>, written: &str) -> Result<Cursor<'a>, ReadError>
-    ensures { Gives (λ rest. (tt, ahead rest)) result (one_at (sign written.now) (ahead cursor.entry)) }
+    ensures { Passes (one_at (sign written.now)) cursor.entry result }
 {
     match next_sign(cursor, written) {
         Some(rest) => Ok(rest),
@@ -169,7 +161,7 @@ pub fn take_sign<'a>(cursor: Cursor<'a>, written: &str) -> Result<Cursor<'a>, Re
 
 /// A name.
 pub fn take_name<'a>(alloc: Global, cursor: Cursor<'a>) -> Result<(Name, Cursor<'a>), ReadError>
-    ensures { Gives (λ x. (x.0, ahead x.1)) result (one_at name_of (ahead cursor.entry)) }
+    ensures { Gives (λ x. x) (one_at name_of) cursor.entry result }
 {
     match next_name(alloc, cursor)? {
         Some(read) => Ok(read),

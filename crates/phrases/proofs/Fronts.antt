@@ -15,12 +15,12 @@ module _ {Tok A : Type 0} (open' : A → Bool → List Tok → Bool) (S : List T
   pub whole_front : (ended : Bool) (ts rest : List Tok) (s : A) → p ended ts ≡ Ok (s, rest) → IsFront open' S ended ts s (length ts - length rest)
   whole_front ended ts rest s h =
       let t = r.takes ended ts rest s h in
-    let long : length ts - length rest ≡ length t.front = omega (arith, ap length t.whole, length-append t.front rest) in
-    record {
-      within = omega (arith, ap length t.whole, length-append t.front rest);
-      spelled = subst (λ (r : List Tok). S r s) (sym (ap (λ (r : List Tok). take (length ts - length rest) r) t.whole ∙ take_at t.front rest _ (sym long))) t.spelled;
-      over = ap (λ (r : List Tok). open' s ended r) (ap (λ (r : List Tok). drop (length ts - length rest) r) t.whole ∙ drop_at t.front rest _ (sym long)) ∙ t.over;
-    }
+      let long : length ts - length rest ≡ length t.front = omega (arith, ap length t.whole, length-append t.front rest) in
+      record {
+        within = omega (arith, ap length t.whole, length-append t.front rest);
+        spelled = subst (λ (r : List Tok). S r s) (sym (ap (λ (r : List Tok). take (length ts - length rest) r) t.whole ∙ take_at t.front rest _ (sym long))) t.spelled;
+        over = ap (λ (r : List Tok). open' s ended r) (ap (λ (r : List Tok). drop (length ts - length rest) r) t.whole ∙ drop_at t.front rest _ (sym long)) ∙ t.over;
+      }
 
   pub read_front : (ended : Bool) (ts front rest : List Tok) (s : A) → ts ≡ front ++ rest → S front s → open' s ended rest ≡ false → p ended ts ≡ Ok (s, rest)
   read_front ended ts front rest s e h o = ap (p ended) e ∙ r.reads ended front rest s h o
@@ -102,13 +102,20 @@ module _ {Tok A : Type 0} (open' : A → Bool → List Tok → Bool) (S : List T
         before = record {
           more = fault.0.more;
           value = s ∷ fault.0.value;
-          spelled = (take used ts, take at (drop used ts) ++ fault.0.more,
-              ap (λ (l : List Tok). l ++ fault.0.more) (take-add used at ts) ∙ append_assoc (take used ts) (take at (drop used ts)) fault.0.more, f.spelled, fault.0.spelled);
+          spelled = (
+            take used ts,
+            take at (drop used ts) ++ fault.0.more,
+            ap (λ (l : List Tok). l ++ fault.0.more) (take-add used at ts) ∙ append_assoc (take used ts) (take at (drop used ts)) fault.0.more,
+            f.spelled,
+            fault.0.spelled,
+          );
         }
+
         through : (more : List Tok) → take (used + at + 1) ts ++ more ≡ take used ts ++ (take (at + 1) (drop used ts) ++ more)
         through more =
             let sum : used + at + 1 ≡ used + (at + 1) = omega arith in
             ap (λ (n : ℕ). take n ts ++ more) sum ∙ ap (λ (l : List Tok). l ++ more) (take-add used (at + 1) ts) ∙ append_assoc (take used ts) (take (at + 1) (drop used ts)) more
+
         behind : (more : List Tok) (ss : List A) → used + at < length ts → Many S (take used ts ++ (take (at + 1) (drop used ts) ++ more)) ss → ⊥
         behind more [] lt h = absurd (omega (arith, long (take used ts) s f.spelled, ap length h, length-append (take used ts) (take (at + 1) (drop used ts) ++ more)))
         behind more (s2 ∷ ss) lt h =

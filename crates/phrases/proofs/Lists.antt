@@ -1,10 +1,10 @@
 -- Optional phrases, and lists with separators.
-use Rattle.std.proofs.Common.{◌≡◌, ◌++◌, ◌∷◌, [], List, Bool, true, false, refl, ap, append_assoc, append-nil, ◌∙◌, sym}
+use Rattle.std.proofs.Common.{◌≡◌, ◌++◌, ◌∷◌, [], List, Bool, true, false, ap, append_assoc, ◌∙◌}
 use Rattle.std.specs.Prelude.{Option, Some, None}
-use Rattle.phrases.specs.Reading.{Read, next, test, starts, and_then, one_at, done, either, is, none, or, rest_at, behind_at, optional_at, separated_at, enclosed_at}
+use Rattle.phrases.specs.Reading.{Read, starts, and_then, done, either, is, none, or, rest_at, behind_at, optional_at, separated_at, enclosed_at}
 use Rattle.phrases.specs.Phrases.{Nothing, Seq, Either, OneOf, Many, Behind, Optional, Separated, Enclosed}
 use Rattle.phrases.specs.Reads.{Reads}
-use Rattle.phrases.proofs.Readers.{then-reads, done-reads, either-reads, respell, word, begins_one, known, starts_left, starts_right, starts_none, or_left, or_right}
+use Rattle.phrases.proofs.Readers.{then-reads, done-reads, either-reads, respell, word, begins_one, known, starts_left, or_right}
 use Rattle.phrases.proofs.Manys.{many-reads, apart}
 
 -- a phrase with a value made of it
@@ -44,7 +44,7 @@ module _ {Tok X A : Type 0} (c : Tok → Bool) (f : Tok → Option X) (sign : To
   apart_first a right us b h clear =
       ap (λ (l : List Tok). starts c l) (ap (λ (l : List Tok). l ++ us) h.whole ∙ append_assoc h.left h.right us)
       ∙ apart c (is f) (Behind f S) (behind_at f p) behind-reads behind_begins fresh h.value h.left (h.right ++ us) h.first
-          (ap (λ (l : List Tok). starts (or (is f) c) (l ++ us)) h.second.0 ∙ clear)
+      (ap (λ (l : List Tok). starts (or (is f) c) (l ++ us)) h.second.0 ∙ clear)
 
   pub separated-reads : Reads (or (is f) c) (Separated f S) (separated_at f p)
   separated-reads = then-reads (or (is f) c) c S (λ a. Seq (Many (Behind f S)) λ as'. Nothing (a ∷ as')) p _ r
@@ -72,5 +72,5 @@ module _ {Tok X A : Type 0} (c : Tok → Bool) (f : Tok → Option X) (sign : To
     pub enclosed-reads : Reads none (Enclosed open' f close S) (enclosed_at g open' f close p)
     enclosed-reads = word none open' first y opens _ _ (λ _.
         then-reads none goes (Either (Separated f S) (Nothing [])) (λ as'. Seq (OneOf close) λ _. Nothing as') _ _ list-reads
-            (λ as'. word none close last z closes _ _ (λ _. done-reads none as'))
-            (λ as' right us b h clear. begins_one goes close false _ over right us b h))
+        (λ as'. word none close last z closes _ _ (λ _. done-reads none as'))
+        (λ as' right us b h clear. begins_one goes close false _ over right us b h))

@@ -1,6 +1,6 @@
 -- Items that are known by their first token or by their first two.
-use Rattle.std.proofs.Common.{◌≡◌, ◌≢◌, ◌++◌, ◌∷◌, [], ℕ, zero, suc, take, ◌≤◌, List, Bool, true, false, Ok, Err, refl, ap, ◌∙◌, sym, ◌<◌, ◌+◌, length, arith}
-use Rattle.std.specs.Prelude.{Option, Some, None, not, ◌||◌, ◌&&◌}
+use Rattle.std.proofs.Common.{◌≡◌, ◌≢◌, ◌++◌, ◌∷◌, [], ℕ, zero, suc, take, ◌≤◌, List, Bool, true, false, Ok, Err, refl, ap, ◌∙◌, ◌<◌, ◌+◌, length, arith}
+use Rattle.std.specs.Prelude.{Some, not, ◌||◌, ◌&&◌}
 use Rattle.phrases.specs.Reading.{Read, next, none, many_at, begins_item}
 use Rattle.phrases.specs.Phrases.{Many}
 use Rattle.phrases.specs.Reads.{Reads, ReadsLast}
