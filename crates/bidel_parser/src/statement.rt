@@ -12,17 +12,36 @@ pub struct TableName {
 /// An operator, with its names, lists and expressions in the order of its text.
 #[derive(Debug, Drop)]
 pub enum OpText {
-    CreateTable { table: Name, columns: List<Name> },
-    AddColumn { column: Name, value: ExprText, table: Name },
+    CreateTable {
+        table: Name,
+        columns: List<Name>,
+    },
+    AddColumn {
+        column: Name,
+        value: ExprText,
+        table: Name,
+    },
 }
 
 /// A statement.
 #[derive(Debug, Drop)]
 pub enum Statement {
-    CreateVersion { name: Name, from: Option<Name>, operators: List<OpText> },
-    Insert { table: TableName, rows: List<Row> },
+    CreateVersion {
+        name: Name,
+        from: Option<Name>,
+        operators: List<OpText>,
+    },
+    Insert {
+        table: TableName,
+        rows: List<Row>,
+    },
     /// `items` is None where all columns are asked for.
-    Select { table: TableName, items: Option<List<Name>>, filter: Option<ExprText>, csv: bool },
+    Select {
+        table: TableName,
+        items: Option<List<Name>>,
+        filter: Option<ExprText>,
+        csv: bool,
+    },
 }
 
 /// What stands at the front of some tokens.
