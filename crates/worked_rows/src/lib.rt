@@ -1,0 +1,12 @@
+//! Worked scripts with their replies, run through the top call. This crate has nothing but tests:
+//! they show printed lines, statuses at failing ends, and that a run with ample memory ends well.
+#![tactic(auto)]
+
+#[cfg(test)]
+mod ends;
+#[cfg(test)]
+mod faults;
+#[cfg(test)]
+mod replies;
+#[cfg(test)]
+mod runs;
