@@ -1,0 +1,5 @@
+use Rattle.bidel_lex.proofs.Stable.{stable}
+use Rattle.bidel_lex.proofs.laws.answers_are_stable.Goals as goal
+
+pub returns : goal.returns
+returns c = stable

@@ -1,0 +1,5 @@
+use Rattle.bidel_lex.proofs.Within.{within}
+use Rattle.bidel_lex.proofs.laws.answers_lie_within.Goals as goal
+
+pub returns : goal.returns
+returns c = within

@@ -1,0 +1,5 @@
+use Rattle.bidel_lex.proofs.ReadBack.{end_exactly}
+use Rattle.bidel_lex.proofs.laws.end_comes_exactly.Goals as goal
+
+pub returns : goal.returns
+returns c = end_exactly

@@ -1,0 +1,5 @@
+use Rattle.bidel_lex.proofs.Found.{spelled}
+use Rattle.bidel_lex.proofs.laws.tokens_are_spelled.Goals as goal
+
+pub returns : goal.returns
+returns c = spelled
