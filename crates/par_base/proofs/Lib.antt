@@ -1,2 +1,3 @@
 pub mod LiteralLemmas
+pub mod NamedFiles
 pub mod NameText

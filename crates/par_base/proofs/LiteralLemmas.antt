@@ -1,5 +1,5 @@
 -- Literal texts: one character more of a quoted text, and which value a text could be that of.
-use Rattle.std.proofs.Common.{◌≡◌, ◌≢◌, ◌++◌, ◌∷◌, [], ℕ, ◌+◌, ◌<◌, List, Bool, true, false, length, get_or, suc, drop, flat_map, cond, refl, ap, ◌∙◌, sym, subst, append_assoc, append-nil, drop-cons, add-one, arith}
+use Rattle.std.proofs.Common.{◌≡◌, ◌≢◌, ◌++◌, ◌∷◌, [], ℕ, ◌+◌, ◌<◌, List, Bool, true, false, length, get_or, suc, drop, flat_map, cond, refl, ap, ◌∙◌, sym, append_assoc, append-nil, drop-cons, add-one, arith}
 use Rattle.std.specs.Prelude.{encode_utf8, encode_utf8_all, ◌==◌, ◌&&◌}
 use Rattle.std.proofs.lemmas.Str.{inside_one, encodes-append, encode_ascii}
 use Rattle.std.proofs.lemmas.Grind.{flat_map-append}

@@ -4,3 +4,4 @@ pub mod InMemory
 pub mod Lends
 pub mod Literals
 pub mod Names
+pub mod Reading

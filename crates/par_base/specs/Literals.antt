@@ -1,5 +1,5 @@
 -- The literal text of a value.
-use Rattle.std.specs.Prelude.{◌≡◌, ◌<◌, ◌^◌, ℕ, ℤ, List, [], ◌∷◌, ◌++◌, codes, decimal, flat_map, ◌==◌, ◌&&◌, Bool, true, false, if◌then◌else◌, Option, Some, ⊤, IsUtf8, FitsSigned}
+use Rattle.std.specs.Prelude.{◌≡◌, ◌<◌, ◌^◌, ℕ, List, [], ◌∷◌, ◌++◌, codes, decimal, flat_map, ◌==◌, ◌&&◌, Bool, false, if◌then◌else◌, Option, Some, ⊤, IsUtf8, FitsSigned}
 use Rattle.std.specs.Fmt.{signed_decimal}
 use Rattle.std.specs.Int.{w64}
 use Rattle.par_base.specs.declared.value.Value.{Value}

@@ -6,30 +6,37 @@
 //! `Failed` only where a count of faults rose. It knows nothing of statements, tables or versions.
 #![tactic(auto)]
 
+mod all;
 mod failures;
 mod fault;
 mod filling;
 mod limits;
 mod list;
 mod literal;
+mod memory_files;
 mod memory_sink;
 mod memory_source;
 mod name;
+mod named_file;
 mod outside;
 mod refusal;
 mod sure;
+#[cfg(test)]
+mod tests;
 mod text;
 mod value;
 
+pub use all::{ReadAll, read_all, write_all};
 pub use fault::{Fault, Memory};
 pub use limits::{Limits, Target};
 pub use list::List;
 pub use literal::{literal_text, one_literal, read_literal};
+pub use memory_files::MemoryFiles;
 pub use memory_sink::MemorySink;
 pub use memory_source::MemorySource;
 pub use name::{Name, is_reserved_word, read_name};
 pub use outside::{Failed, Files, Sink, Source};
 pub use refusal::{IdsSpent, Refusal};
-pub use sure::{SureSink, SureSource};
+pub use sure::{SureFiles, SureSink, SureSource};
 pub use text::Text;
 pub use value::{Row, Value};

@@ -1,4 +1,4 @@
-use Rattle.std.proofs.Common.{◌≡◌, ◌∙◌, sym, arith}
+use Rattle.std.proofs.Common.{◌∙◌, sym, arith}
 use Rattle.par_base.proofs.LiteralLemmas.{text_answers, reference_only, null_only, int_only}
 use Rattle.par_base.proofs.literal.candidate.Goals as goal
 

@@ -1,5 +1,5 @@
 use Rattle.std.proofs.Common.{◌≡◌, ◌∙◌, sym, ap, subst, ℕ, List, IsUtf8, false, Vec, Global}
-use Rattle.std.specs.Prelude.{Option, Some}
+use Rattle.std.specs.Prelude.{Some}
 use Rattle.par_base.specs.declared.value.Value.TheVariants.{Text}
 use Rattle.par_base.specs.Literals.{undoubled}
 use Rattle.par_base.proofs.LiteralLemmas.{undoubled-doubled}
