@@ -6,3 +6,4 @@ pub mod Walk
 pub mod Evolve
 pub mod Act
 pub mod Kept
+pub mod Texts

@@ -1,0 +1,62 @@
+-- The lines of replies and of refusals.
+use Rattle.std.specs.Prelude.{◌≡◌, ◌++◌, ℕ, List, [], ◌∷◌, All, codes, decimal, flat_map, length, ⊤}
+use Rattle.std.specs.List.{join_by}
+use Rattle.par_base.specs.declared.value.Value.{Value}
+use Rattle.par_base.specs.Literals.{literal_of}
+use Rattle.par_base.specs.declared.refusal.Refusal.{Refusal}
+use Rattle.par_base.specs.declared.refusal.Refusal.TheVariants.{NotBuilt, UnknownVersion, VersionExists, UnknownTable, TableExists, UnknownColumn, ColumnExists, WrongCount, UnknownId, IdsSpent, BadPartition, InvalidLayout, NoVersionInUse, TooManyOperators, TooManyColumns, ColumnsDiffer, SameTable, NothingPending}
+use Rattle.engine_core.specs.declared.reply.Reply.{Reply}
+use Rattle.engine_core.specs.declared.reply.Reply.TheVariants.{Done, Inserted, Rows}
+
+-- a text with its line feed
+abbrev pub line : List ℕ → List ℕ
+line text = text ++ 10 ∷ []
+
+-- the names of a header: `p|x`
+abbrev pub header_text : List (List ℕ) → List ℕ
+header_text names = join_by (λ name. name) (codes "|") names
+
+-- the literal texts of a row: `#1|null`
+abbrev pub row_text : List Value → List ℕ
+row_text row = join_by literal_of (codes "|") row
+
+-- each row has one value for each name of the header
+abbrev pub HasWidth : List (List ℕ) → List (List Value) → Type 0
+HasWidth header rows = All (λ row. length row ≡ length header) rows
+
+-- the header, the rows in order, and their count
+abbrev pub rows_lines : List (List ℕ) → List (List Value) → List ℕ
+rows_lines header rows = line (header_text header) ++ flat_map (λ row. line (row_text row)) rows ++ line (codes "rows " ++ decimal (length rows))
+
+-- a reply that can be printed: its rows are as wide as its header
+abbrev pub IsReply : Reply → Type 0
+IsReply Done = ⊤
+IsReply (Inserted ids) = ⊤
+IsReply (Rows header rows csv) = HasWidth header rows
+
+-- the lines of a reply
+unfoldable pub reply_bytes : Reply → List ℕ
+reply_bytes Done = line (codes "ok")
+reply_bytes (Inserted ids) = line (codes "inserted " ++ decimal (length ids) ++ flat_map (λ id. codes " #" ++ decimal id) ids)
+reply_bytes (Rows header rows csv) = rows_lines header rows
+
+-- the line of a refusal: `refused`, its number and its text
+unfoldable pub refusal_bytes : Refusal → List ℕ
+refusal_bytes NotBuilt = line (codes "refused 0 not built")
+refusal_bytes (UnknownVersion version) = line (codes "refused 1 unknown version " ++ version)
+refusal_bytes (VersionExists version) = line (codes "refused 2 version exists " ++ version)
+refusal_bytes (UnknownTable table) = line (codes "refused 3 unknown table " ++ table)
+refusal_bytes (TableExists table) = line (codes "refused 4 table exists " ++ table)
+refusal_bytes (UnknownColumn column) = line (codes "refused 5 unknown column " ++ column)
+refusal_bytes (ColumnExists column) = line (codes "refused 6 column exists " ++ column)
+refusal_bytes (WrongCount given wanted) = line (codes "refused 7 wrong count " ++ decimal given ++ codes " of " ++ decimal wanted)
+refusal_bytes (UnknownId id next) = line (codes "refused 8 unknown id #" ++ decimal id ++ codes ", next #" ++ decimal next)
+refusal_bytes (IdsSpent needed limit) = line (codes "refused 9 ids spent, needs #" ++ decimal needed ++ codes ", limit #" ++ decimal limit)
+refusal_bytes (BadPartition column) = line (codes "refused 10 bad partition " ++ column)
+refusal_bytes (InvalidLayout table) = line (codes "refused 11 invalid layout " ++ table)
+refusal_bytes NoVersionInUse = line (codes "refused 12 no version in use")
+refusal_bytes (TooManyOperators limit) = line (codes "refused 13 too many operators, limit " ++ decimal limit)
+refusal_bytes (TooManyColumns table limit) = line (codes "refused 14 too many columns " ++ table ++ codes ", limit " ++ decimal limit)
+refusal_bytes (ColumnsDiffer first second) = line (codes "refused 15 columns differ " ++ first ++ codes " " ++ second)
+refusal_bytes (SameTable table) = line (codes "refused 16 same table " ++ table)
+refusal_bytes NothingPending = line (codes "refused 17 nothing pending")

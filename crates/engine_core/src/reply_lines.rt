@@ -1,0 +1,121 @@
+//! The lines of a reply.
+//!
+//! Header and rows are added to one string, each by a function that ends its own line.
+ghost use Rattle.std.specs.Prelude.{◌≡◌, ◌++◌, codes, flat_map, string_bytes, IfOk, OnOk};
+ghost use Rattle.engine_core.specs.Texts.{IsReply, reply_bytes, rows_lines, header_text, row_text, line};
+ghost use Rattle.par_base.specs.Literals.{literal_of};
+
+use crate::Reply;
+use par_base::{Memory, Name, Row, Text, Value, literal_text};
+use std::alloc::Global;
+
+/// The lines that answer an accepted statement, each with its line feed. Rows as CSV come with
+/// their own stage. Until then `csv` changes nothing, and they are printed as all other rows.
+#[tactic(auto, unfolding(crate::specs::Texts::reply_bytes))]
+pub fn reply_text(alloc: Global, reply: &Reply) -> Result<Text, Memory>
+    requires { IsReply reply.now }
+    ensures { IfOk result (λ text. text ≡ reply_bytes reply.now) }
+{
+    match reply {
+        Reply::Done => Text::from_str(alloc, "ok\n"),
+        Reply::Inserted { ids } => inserted_text(alloc, ids.as_slice()),
+        Reply::Rows {
+            header,
+            rows,
+            csv: _,
+        } => rows_text(alloc, header.as_slice(), rows.as_slice()),
+    }
+}
+
+#[tactic(auto, unfolding(crate::specs::Texts::reply_bytes))]
+fn inserted_text(alloc: Global, ids: &[u64]) -> Result<Text, Memory>
+    ensures { IfOk result (λ text. text ≡ reply_bytes (Reply.Inserted ids.now)) }
+{
+    let count = ids.len();
+    let mut text = format!(in alloc; "inserted {count}")?;
+    for id in ids {
+        write!(text, " #{id}")?;
+    }
+    text.push('\n')?;
+    Ok(Text::from_string(text))
+}
+
+fn rows_text(alloc: Global, header: &[Name], rows: &[Row]) -> Result<Text, Memory>
+    ensures { IfOk result (λ text. text ≡ rows_lines header.now rows.now) }
+{
+    let mut text = String::new(alloc);
+    push_header(&mut text, header)?;
+    for row in rows {
+        push_row(alloc, &mut text, row.as_slice())?;
+    }
+    let count = rows.len();
+    write!(text, "rows {count}\n")?;
+    Ok(Text::from_string(text))
+}
+
+// Adds the line of a header.
+fn push_header(text: &mut String, names: &[Name]) -> Result<(), Memory>
+    ensures { OnOk result (string_bytes text.new ≡ string_bytes text.old ++ line (header_text names.now)) }
+{
+    match names {
+        [] => {
+            text.push('\n')?;
+            Ok(())
+        }
+        [first, rest @ ..] => {
+            text.push_str(first.as_str())?;
+            push_more_names(text, rest)
+        }
+    }
+}
+
+// Adds each name with a `|` before it, and the line feed.
+fn push_more_names(text: &mut String, names: &[Name]) -> Result<(), Memory>
+    ensures { OnOk result (string_bytes text.new
+        ≡ string_bytes text.old ++ line (flat_map (λ name. codes "|" ++ name) names.now)) }
+{
+    for name in names {
+        text.push('|')?;
+        text.push_str(name.as_str())?;
+    }
+    text.push('\n')?;
+    Ok(())
+}
+
+// Adds the line of a row.
+fn push_row(alloc: Global, text: &mut String, row: &[Value]) -> Result<(), Memory>
+    ensures { OnOk result (string_bytes text.new ≡ string_bytes text.old ++ line (row_text row.now)) }
+{
+    match row {
+        [] => {
+            text.push('\n')?;
+            Ok(())
+        }
+        [first, rest @ ..] => {
+            push_value(alloc, text, first)?;
+            push_more_values(alloc, text, rest)
+        }
+    }
+}
+
+// Adds the literal text of each value with a `|` before it, and the line feed.
+fn push_more_values(alloc: Global, text: &mut String, values: &[Value]) -> Result<(), Memory>
+    ensures { OnOk result (string_bytes text.new
+        ≡ string_bytes text.old ++ line (flat_map (λ value. codes "|" ++ literal_of value) values.now)) }
+{
+    for value in values {
+        text.push('|')?;
+        push_value(alloc, text, value)?;
+    }
+    text.push('\n')?;
+    Ok(())
+}
+
+// Adds the literal text of a value.
+fn push_value(alloc: Global, text: &mut String, value: &Value) -> Result<(), Memory>
+    ensures { OnOk result (string_bytes text.new ≡ string_bytes text.old ++ literal_of value.now) }
+{
+    let literal = literal_text(alloc, value)?;
+    text.push_str(literal.as_str())?;
+    Ok(())
+}
