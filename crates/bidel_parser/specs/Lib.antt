@@ -1,1 +1,10 @@
+pub mod Within
+pub mod Lexemes
+pub mod Answers
 pub mod Views
+pub mod Literals
+pub mod Expressions
+pub mod Operators
+pub mod Statements
+pub mod Parsing
+pub mod Laws

@@ -11,4 +11,5 @@ pub first_unknown_id-both : {C : Type 0} (next : ℕ) (t u : Term C) → find (i
 unfolding first_unknown_id
 first_unknown_id-both next t u = find-append (is_unknown next) (references_in t) (references_in u)
 
+-- for the call that looks into both operands
 pub ruleset both = (first_unknown_id-both)

@@ -22,16 +22,19 @@ place_of-within : (columns : List (List ℕ)) (name : List ℕ) (place : ℕ) �
 unfolding place_of
 place_of-within columns name place found = (position-Some (bytes_eq name) columns place [] found).0
 
+-- a place that was found fits
 column_fits : (name : List ℕ) (width : ℕ) (o : Option ℕ) → ((place : ℕ) → o ≡ Some place → place < width) → IfOk (column_at name o) (λ e. fits_row e width ≡ true)
 unfolding fits_row
 column_fits name width None within = tt
 column_fits name width (Some place) within = lt-ltb place width (within place refl)
 
+-- an operator at an operand that fits, fits
 unary_fits : (op : UnaryOp) (width : ℕ) (r : Result (Term ℕ) (List ℕ)) → IfOk r (λ e. fits_row e width ≡ true) → IfOk (unary_at op r) (λ e. fits_row e width ≡ true)
 unfolding fits_row
 unary_fits op width (Ok t) fits = fits
 unary_fits op width (Err name) fits = tt
 
+-- an operator between operands that fit, fits
 binary_fits : (op : BinaryOp) (width : ℕ) (r s : Result (Term ℕ) (List ℕ)) → IfOk r (λ e. fits_row e width ≡ true) → IfOk s (λ e. fits_row e width ≡ true) → IfOk (binary_at op r s) (λ e. fits_row e width ≡ true)
 unfolding fits_row
 binary_fits op width (Ok t) (Ok u) left right = rw (left, right)
@@ -55,22 +58,26 @@ value_named-first (column ∷ columns) (value ∷ row) name zero within here bef
 value_named-first (column ∷ columns) (value ∷ row) name (suc place) within here before =
     rw (before 0 (omega arith)) (value_named-first columns row name place (omega arith) here (λ k less. before (suc k) (omega arith)))
 
+-- the value at the place of a name is the value under the name
 place_of-value : (columns : List (List ℕ)) (row : List Value) (name : List ℕ) (place : ℕ) → place_of columns name ≡ Some place → unwrap_or (slice_get row place) Null ≡ value_named columns row name
 unfolding place_of
 place_of-value columns row name place found =
     let at = position-Some (bytes_eq name) columns place [] found in
     value_named-first columns row name place at.0 at.1 at.2
 
+-- a place that was found means its name
 column_means : (name : List ℕ) (row : List Value) (w : Value) (o : Option ℕ) → ((place : ℕ) → o ≡ Some place → unwrap_or (slice_get row place) Null ≡ w) → IfOk (column_at name o) (λ e. val e row ≡ w)
 unfolding val
 column_means name row w None same = tt
 column_means name row w (Some place) same = same place refl
 
+-- an operator means what it means at its operand
 unary_means : (op : UnaryOp) (row : List Value) (v : Value) (r : Result (Term ℕ) (List ℕ)) → IfOk r (λ e. val e row ≡ v) → IfOk (unary_at op r) (λ e. val e row ≡ unary_of op v)
 unfolding val
 unary_means op row v (Ok t) same = ap (unary_of op) same
 unary_means op row v (Err name) same = tt
 
+-- an operator means what it means between its operands
 binary_means : (op : BinaryOp) (row : List Value) (v w : Value) (r s : Result (Term ℕ) (List ℕ)) → IfOk r (λ e. val e row ≡ v) → IfOk s (λ e. val e row ≡ w) → IfOk (binary_at op r s) (λ e. val e row ≡ binary_of op v w)
 unfolding val
 binary_means op row v w (Ok t) (Ok u) left right = ap (λ x. binary_of op x (val u row)) left ∙ ap (binary_of op v) right
@@ -97,10 +104,12 @@ position_from-missing (column ∷ columns) name at =
       | false ↦ position_from-missing columns name (at + 1)
     ]
 
+-- an operator refuses what its operand refuses
 unary-refused : (op : UnaryOp) (r : Result (Term ℕ) (List ℕ)) → refused_name (unary_at op r) ≡ refused_name r
 unary-refused op (Ok t) = refl
 unary-refused op (Err name) = refl
 
+-- an operator refuses what its left operand refuses, or else its right one
 binary-refused : (op : BinaryOp) (r s : Result (Term ℕ) (List ℕ)) → refused_name (binary_at op r s) ≡ option_or (refused_name r) (refused_name s)
 binary-refused op (Ok t) (Ok u) = refl
 binary-refused op (Ok t) (Err name) = refl

@@ -20,6 +20,7 @@ fits_i64 (negsuc n) = nat_lt n (2 ^ 63)
 abbrev pub in_range : ℤ → Value
 in_range z = if fits_i64 z then Int z else Null
 
+-- the integer is 0
 abbrev pub is_zero : ℤ → Bool
 is_zero (pos n) = n == 0
 is_zero (negsuc n) = false
@@ -28,6 +29,7 @@ is_zero (negsuc n) = false
 abbrev pub truth : Bool → Value
 truth b = if b then Int (pos 1) else Int (pos 0)
 
+-- the value is null
 abbrev pub is_null : Value → Bool
 is_null Null = true
 is_null (Int z) = false

@@ -21,12 +21,14 @@ abbrev pub column_at : List ℕ → Option ℕ → Result (Term ℕ) (List ℕ)
 column_at name (Some place) = Ok (Column place)
 column_at name None = Err name
 
+-- an operator at a resolved operand, or the operand's refusal
 abbrev pub unary_at : UnaryOp → Result (Term ℕ) (List ℕ) → Result (Term ℕ) (List ℕ)
 unary_at op (Ok t) = Ok (Unary op t)
 unary_at op (Err name) = Err name
 
--- the refusal of the left operand comes first
-abbrev pub binary_at : BinaryOp → Result (Term ℕ) (List ℕ) → Result (Term ℕ) (List ℕ) → Result (Term ℕ) (List ℕ)
+-- an operator between resolved operands; the refusal of the left one comes first
+abbrev pub binary_at :
+    BinaryOp → Result (Term ℕ) (List ℕ) → Result (Term ℕ) (List ℕ) → Result (Term ℕ) (List ℕ)
 binary_at op (Err name) r = Err name
 binary_at op (Ok t) (Err name) = Err name
 binary_at op (Ok t) (Ok u) = Ok (Binary op t u)
@@ -63,7 +65,8 @@ first_unknown_id next t = find (is_unknown next) (references_in t)
 
 -- the value under the first column with this name
 abbrev pub value_named : List (List ℕ) → List Value → List ℕ → Value
-value_named (column ∷ columns) (value ∷ row) name = if bytes_eq name column then value else value_named columns row name
+value_named (column ∷ columns) (value ∷ row) name =
+    if bytes_eq name column then value else value_named columns row name
 value_named _ _ name = Null
 
 -- the value of an expression by names, at a row whose columns have these names
@@ -71,4 +74,5 @@ unfoldable pub val_by_name : List (List ℕ) → List Value → Term (List ℕ) 
 val_by_name columns row (Literal v) = v
 val_by_name columns row (Column name) = value_named columns row name
 val_by_name columns row (Unary op t) = unary_of op (val_by_name columns row t)
-val_by_name columns row (Binary op t u) = binary_of op (val_by_name columns row t) (val_by_name columns row u)
+val_by_name columns row (Binary op t u) =
+    binary_of op (val_by_name columns row t) (val_by_name columns row u)

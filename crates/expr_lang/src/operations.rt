@@ -1,6 +1,6 @@
 //! What each operator gives on values.
 ghost use Rattle.std.specs.Prelude.{◌≡◌, ◌+ℤ◌, ◌-ℤ◌, ◌*ℤ◌, neg_ℤ, IfOk};
-ghost use Rattle.expr_lang.specs.Operations.{truth, in_range, quotient, remainder, is_true, is_null, ints_of, comparison_of, joined, unary_of, binary_of};
+ghost use Rattle.expr_lang.specs.Operations.{truth, in_range, quotient, remainder, is_true, is_null, ints_of, on_ints, comparison_of, joined, unary_of, binary_of};
 
 use crate::{BinaryOp, UnaryOp};
 use par_base::{Memory, Text, Value};
@@ -20,51 +20,6 @@ fn negated(x: i64) -> Value
     ensures { result ≡ in_range (neg_ℤ x) }
 {
     match x.checked_neg() {
-        Some(number) => Value::Int(number),
-        None => Value::Null,
-    }
-}
-
-fn sum_of(x: i64, y: i64) -> Value
-    ensures { result ≡ in_range (x +ℤ y) }
-{
-    match x.checked_add(y) {
-        Some(number) => Value::Int(number),
-        None => Value::Null,
-    }
-}
-
-fn difference_of(x: i64, y: i64) -> Value
-    ensures { result ≡ in_range (x -ℤ y) }
-{
-    match x.checked_sub(y) {
-        Some(number) => Value::Int(number),
-        None => Value::Null,
-    }
-}
-
-fn product_of(x: i64, y: i64) -> Value
-    ensures { result ≡ in_range (x *ℤ y) }
-{
-    match x.checked_mul(y) {
-        Some(number) => Value::Int(number),
-        None => Value::Null,
-    }
-}
-
-fn quotient_of(x: i64, y: i64) -> Value
-    ensures { result ≡ quotient x y }
-{
-    match x.checked_div(y) {
-        Some(number) => Value::Int(number),
-        None => Value::Null,
-    }
-}
-
-fn remainder_of(x: i64, y: i64) -> Value
-    ensures { result ≡ remainder x y }
-{
-    match x.checked_rem(y) {
         Some(number) => Value::Int(number),
         None => Value::Null,
     }
@@ -95,6 +50,66 @@ fn integers(left: &Value, right: &Value) -> Option<(i64, i64)>
     }
 }
 
+fn sum_of(left: &Value, right: &Value) -> Value
+    ensures { result ≡ on_ints (λ x y. in_range (x +ℤ y)) left.now right.now }
+{
+    let Some((x, y)) = integers(left, right) else {
+        return Value::Null;
+    };
+    match x.checked_add(y) {
+        Some(number) => Value::Int(number),
+        None => Value::Null,
+    }
+}
+
+fn difference_of(left: &Value, right: &Value) -> Value
+    ensures { result ≡ on_ints (λ x y. in_range (x -ℤ y)) left.now right.now }
+{
+    let Some((x, y)) = integers(left, right) else {
+        return Value::Null;
+    };
+    match x.checked_sub(y) {
+        Some(number) => Value::Int(number),
+        None => Value::Null,
+    }
+}
+
+fn product_of(left: &Value, right: &Value) -> Value
+    ensures { result ≡ on_ints (λ x y. in_range (x *ℤ y)) left.now right.now }
+{
+    let Some((x, y)) = integers(left, right) else {
+        return Value::Null;
+    };
+    match x.checked_mul(y) {
+        Some(number) => Value::Int(number),
+        None => Value::Null,
+    }
+}
+
+fn quotient_of(left: &Value, right: &Value) -> Value
+    ensures { result ≡ on_ints quotient left.now right.now }
+{
+    let Some((x, y)) = integers(left, right) else {
+        return Value::Null;
+    };
+    match x.checked_div(y) {
+        Some(number) => Value::Int(number),
+        None => Value::Null,
+    }
+}
+
+fn remainder_of(left: &Value, right: &Value) -> Value
+    ensures { result ≡ on_ints remainder left.now right.now }
+{
+    let Some((x, y)) = integers(left, right) else {
+        return Value::Null;
+    };
+    match x.checked_rem(y) {
+        Some(number) => Value::Int(number),
+        None => Value::Null,
+    }
+}
+
 fn ordering(left: &Value, right: &Value) -> Option<Ordering>
     ensures { result ≡ comparison_of left.now right.now }
 {
@@ -107,7 +122,7 @@ fn ordering(left: &Value, right: &Value) -> Option<Ordering>
 }
 
 fn join(alloc: Global, left: &Value, right: &Value) -> Result<Value, Memory>
-    ensures { IfOk result (λ value. value ≡ joined left.now right.now) }
+    ensures { IfOk result (λ made. made ≡ joined left.now right.now) }
 {
     match (left, right) {
         (Value::Text(a), Value::Text(b)) => join_texts(alloc, a, b),
@@ -116,7 +131,7 @@ fn join(alloc: Global, left: &Value, right: &Value) -> Result<Value, Memory>
 }
 
 fn join_texts(alloc: Global, left: &Text, right: &Text) -> Result<Value, Memory>
-    ensures { IfOk result (λ value. value ≡ joined (Value.Text left.now) (Value.Text right.now)) }
+    ensures { IfOk result (λ made. made ≡ joined (Value.Text left.now) (Value.Text right.now)) }
 {
     if left.len() > TEXT_LIMIT || right.len() > TEXT_LIMIT - left.len() {
         return Ok(Value::Null);
@@ -148,48 +163,23 @@ pub(crate) fn binary(
     left: &Value,
     right: &Value,
 ) -> Result<Value, Memory>
-    ensures { IfOk result (λ value. value ≡ binary_of op left.now right.now) }
+    ensures { IfOk result (λ made. made ≡ binary_of op left.now right.now) }
 {
-    let pair = integers(left, right);
     let order = ordering(left, right);
     match op {
         BinaryOp::Or => Ok(truth_value(is_true_value(left) || is_true_value(right))),
         BinaryOp::And => Ok(truth_value(is_true_value(left) && is_true_value(right))),
-        BinaryOp::Equal => Ok(truth_value(order == Some(Ordering::Equal))),
-        BinaryOp::NotEqual => Ok(truth_value(matches!(
-            order,
-            Some(Ordering::Less | Ordering::Greater)
-        ))),
-        BinaryOp::Less => Ok(truth_value(order == Some(Ordering::Less))),
-        BinaryOp::LessOrEqual => Ok(truth_value(matches!(
-            order,
-            Some(Ordering::Less | Ordering::Equal)
-        ))),
-        BinaryOp::Greater => Ok(truth_value(order == Some(Ordering::Greater))),
-        BinaryOp::GreaterOrEqual => Ok(truth_value(matches!(
-            order,
-            Some(Ordering::Greater | Ordering::Equal)
-        ))),
-        BinaryOp::Add => Ok(match pair {
-            Some((x, y)) => sum_of(x, y),
-            None => Value::Null
-        }),
-        BinaryOp::Subtract => Ok(match pair {
-            Some((x, y)) => difference_of(x, y),
-            None => Value::Null
-        }),
+        BinaryOp::Equal => Ok(truth_value(order.is_some_and(Ordering::is_eq))),
+        BinaryOp::NotEqual => Ok(truth_value(order.is_some_and(Ordering::is_ne))),
+        BinaryOp::Less => Ok(truth_value(order.is_some_and(Ordering::is_lt))),
+        BinaryOp::LessOrEqual => Ok(truth_value(order.is_some_and(Ordering::is_le))),
+        BinaryOp::Greater => Ok(truth_value(order.is_some_and(Ordering::is_gt))),
+        BinaryOp::GreaterOrEqual => Ok(truth_value(order.is_some_and(Ordering::is_ge))),
+        BinaryOp::Add => Ok(sum_of(left, right)),
+        BinaryOp::Subtract => Ok(difference_of(left, right)),
         BinaryOp::Concat => join(alloc, left, right),
-        BinaryOp::Multiply => Ok(match pair {
-            Some((x, y)) => product_of(x, y),
-            None => Value::Null
-        }),
-        BinaryOp::Divide => Ok(match pair {
-            Some((x, y)) => quotient_of(x, y),
-            None => Value::Null
-        }),
-        BinaryOp::Remainder => Ok(match pair {
-            Some((x, y)) => remainder_of(x, y),
-            None => Value::Null
-        }),
+        BinaryOp::Multiply => Ok(product_of(left, right)),
+        BinaryOp::Divide => Ok(quotient_of(left, right)),
+        BinaryOp::Remainder => Ok(remainder_of(left, right)),
     }
 }

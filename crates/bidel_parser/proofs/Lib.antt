@@ -1,0 +1,11 @@
+pub mod DigitLemmas
+pub mod Cursors
+pub mod TokensWithin
+pub mod ProductSteps
+pub mod WordLemmas
+pub mod LiteralLaws
+pub mod ExpressionLaws
+pub mod OperatorLaws
+pub mod StatementLaws
+pub mod ParsingLaws
+pub mod ScriptLaws

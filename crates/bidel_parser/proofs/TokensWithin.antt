@@ -1,0 +1,36 @@
+-- The tokens of the bytes lie within them.
+use Rattle.std.proofs.Common.{◌≡◌, ◌≤◌, ◌<◌, ℕ, List, [], ◌∷◌, Bool, true, false, refl, ap, ◌∙◌, sym, length, drop, arith, inl, inr, nat_le}
+use Rattle.std.specs.Prelude.{◌&&◌}
+use Rattle.std.proofs.lemmas.Bool.{le-leb}
+use Rattle.std.proofs.lemmas.Bool.Decides.{leb_tells}
+use Rattle.std.proofs.Math.ListN.{drop_of_length-le}
+use Rattle.bidel_lex.specs.declared.tokens.Token.{Token}
+use Rattle.bidel_lex.specs.declared.tokens.Lexed.TheVariants as lexed
+use Rattle.bidel_lex.specs.Next.{lexed_at, next_of}
+use Rattle.bidel_lex.specs.Tokens.{AreTokens}
+use Rattle.bidel_lex.proofs.Within.{within_along}
+use Rattle.bidel_parser.specs.Within.{are_within}
+
+-- past the bytes nothing is found
+past_end : (bytes : List ℕ) (at : ℕ) → length bytes ≤ at → next_of bytes at true ≡ lexed.End
+unfolding lexed_at
+past_end bytes at h = rw (drop_of_length-le bytes h) refl
+
+starts_within : (bytes : List ℕ) (token : Token) → next_of bytes token.start true ≡ lexed.Token token → token.start ≤ length bytes
+starts_within bytes token h = elim (leb_tells token.start (length bytes)) [
+    inl k ↦ k.1
+    | inr k ↦ (let past : length bytes ≤ token.start = omega (arith, k.1) in let clash = sym h ∙ past_end bytes token.start past in cc) ]
+
+all_true : (a b c : Bool) → a ≡ true → b ≡ true → c ≡ true → ((a && b) && c) ≡ true
+all_true true true true h k i = refl
+all_true true true false h k i = cc
+all_true true false c h k i = cc
+all_true false b c h k i = cc
+
+pub tokens_within : (bytes : List ℕ) (tokens : List Token) → AreTokens bytes tokens → are_within (length bytes) tokens ≡ true
+tokens_within bytes [] h = refl
+tokens_within bytes (token ∷ tokens) h =
+    let w = within_along bytes token.start true (lexed.Token token) (starts_within bytes token h.0) h.0 in
+    let order : token.start ≤ token.end = omega (arith, w.1) in
+    all_true (nat_le token.start token.end) (nat_le token.end (length bytes)) (are_within (length bytes) tokens)
+        (le-leb token.start token.end order) (le-leb token.end (length bytes) w.2) (tokens_within bytes tokens h.2)

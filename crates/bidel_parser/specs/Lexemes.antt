@@ -1,0 +1,81 @@
+-- Tokens with what is written in them, and the kinds of one token that the grammar names.
+use Rattle.std.specs.Prelude.{ℕ, ℤ, pos, neg_ℤ, ◌+◌, ◌-◌, ◌*◌, ◌^◌, ◌==◌, ◌&&◌, List, [], ◌∷◌, drop, map, slice_range, bytes_eq, nat_le, Bool, false, Option, Some, None, if◌then◌else◌}
+use Rattle.par_base.specs.Names.{folded, is_name}
+use Rattle.par_base.specs.declared.value.Value.{Value}
+use Rattle.par_base.specs.declared.value.Value.TheVariants.{Int}
+use Rattle.bidel_lex.specs.declared.tokens.Token.{Token}
+use Rattle.bidel_lex.specs.declared.tokens.TokenKind.{TokenKind}
+use Rattle.bidel_lex.specs.declared.tokens.TokenKind.TheVariants as kind
+
+-- a token and what is written in it: a word in lower case, a number, the number of a reference, a text, a symbol
+pub data Lexeme : Type 0 where
+  word : List ℕ → Lexeme
+  number : ℕ → Lexeme
+  reference : ℕ → Lexeme
+  «text» : List ℕ → Lexeme
+  symbol : List ℕ → Lexeme
+
+-- the value of decimal digits behind digits with a value
+unfoldable pub value_after : ℕ → List ℕ → ℕ
+value_after value [] = value
+value_after value (digit ∷ digits) = value_after (10 * value + (digit - 48)) digits
+
+-- a text without its closing quote, and with each doubled quote once
+unfoldable pub undoubled : List ℕ → List ℕ
+undoubled [] = []
+undoubled (b ∷ []) = []
+undoubled (b ∷ c ∷ bytes) = if b == 39 then 39 ∷ undoubled bytes else b ∷ undoubled (c ∷ bytes)
+
+-- what a token of a kind says, that is written in these bytes
+abbrev pub lexeme_of : TokenKind → List ℕ → Lexeme
+lexeme_of kind.Word bytes = word (map folded bytes)
+lexeme_of kind.Number bytes = number (value_after 0 bytes)
+lexeme_of kind.Reference bytes = reference (value_after 0 (drop 1 bytes))
+lexeme_of kind.Text bytes = «text» (undoubled (drop 1 bytes))
+lexeme_of kind.Symbol bytes = symbol bytes
+
+-- what a token of the bytes says
+abbrev pub lexeme : List ℕ → Token → Lexeme
+lexeme bytes token = lexeme_of token.kind (slice_range bytes token.start token.end)
+
+-- what the tokens of the bytes say, in order
+abbrev pub lexemes : List ℕ → List Token → List Lexeme
+lexemes bytes tokens = map (lexeme bytes) tokens
+
+-- ---- one token
+
+-- this reserved word
+abbrev pub keyword : List ℕ → Lexeme → Option (Unit {0})
+keyword reserved (word w) = if bytes_eq reserved w then Some tt else None
+keyword reserved _ = None
+
+-- this symbol
+abbrev pub sign : List ℕ → Lexeme → Option (Unit {0})
+sign written (symbol s) = if bytes_eq written s then Some tt else None
+sign written _ = None
+
+-- a name: a word that is not reserved
+abbrev pub name_of : Lexeme → Option (List ℕ)
+name_of (word w) = if is_name w then Some w else None
+name_of _ = None
+
+-- a number, of at most 2^63
+abbrev pub number_of : Lexeme → Option ℕ
+number_of (number n) = if nat_le n (2 ^ 63) then Some n else None
+number_of _ = None
+
+-- a number that is an integer without a sign
+abbrev pub positive_of : Lexeme → Option Value
+positive_of (number n) = if nat_le n (2 ^ 63 - 1) then Some (Int (pos n)) else None
+positive_of _ = None
+
+-- a number that is an integer behind a minus sign
+abbrev pub negative_of : Lexeme → Option Value
+negative_of (number n) = if nat_le n (2 ^ 63) then Some (Int (neg_ℤ (pos n))) else None
+negative_of _ = None
+
+-- whether a token of f comes next, and one of g behind it
+abbrev pub starts_both : (Lexeme → Bool) → (Lexeme → Bool) → List Lexeme → Bool
+starts_both f g [] = false
+starts_both f g (t ∷ []) = false
+starts_both f g (t ∷ u ∷ ts) = f t && g u

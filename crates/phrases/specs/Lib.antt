@@ -1,0 +1,6 @@
+pub mod Phrases
+pub mod Reading
+pub mod Reads
+pub mod Fronts
+pub mod Chains
+pub mod Laws
