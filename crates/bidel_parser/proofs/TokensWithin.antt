@@ -13,7 +13,7 @@ use Rattle.bidel_parser.specs.Within.{are_within}
 
 -- past the bytes nothing is found
 past_end : (bytes : List ℕ) (at : ℕ) → length bytes ≤ at → next_of bytes at true ≡ lexed.End
-unfolding lexed_at
+unfolding lexed_at next_of
 past_end bytes at h = rw (drop_of_length-le bytes h) refl
 
 starts_within : (bytes : List ℕ) (token : Token) → next_of bytes token.start true ≡ lexed.Token token → token.start ≤ length bytes
@@ -30,7 +30,7 @@ all_true false b c h k i = cc
 pub tokens_within : (bytes : List ℕ) (tokens : List Token) → AreTokens bytes tokens → are_within (length bytes) tokens ≡ true
 tokens_within bytes [] h = refl
 tokens_within bytes (token ∷ tokens) h =
-    let w = within_along bytes token.start true (lexed.Token token) (starts_within bytes token h.0) h.0 in
+    let w = within_along bytes token.start true (lexed.Token token) h.0 in
     let order : token.start ≤ token.end = omega (arith, w.1) in
     all_true (nat_le token.start token.end) (nat_le token.end (length bytes)) (are_within (length bytes) tokens)
         (le-leb token.start token.end order) (le-leb token.end (length bytes) w.2) (tokens_within bytes tokens h.2)

@@ -1,12 +1,13 @@
 -- What reading one statement says of fronts, faults and scripts: for any statement S that a reader reads, where no statement
 -- stays open at the beginning of a script.
-use Rattle.std.proofs.Common.{◌≡◌, ◌≢◌, ◌++◌, ◌∷◌, [], ◌+◌, ◌-◌, ◌≤◌, ◌<◌, List, Bool, true, false, Ok, Err, refl, ap, append_assoc, append-nil, ◌∙◌, sym, subst, arith, length, length-append, take, drop}
+use Rattle.std.proofs.Common.{◌≡◌, ◌≢◌, ◌++◌, ◌∷◌, [], ℕ, ◌+◌, ◌-◌, ◌≤◌, ◌<◌, List, Bool, true, false, Ok, Err, refl, ap, append_assoc, append-nil, ◌∙◌, sym, subst, arith, length, length-append, length-drop, take, drop}
 use Rattle.std.specs.Prelude.{Some}
-use Rattle.std.proofs.lemmas.List.{take_at, take_all, drop_at, take-append-drop}
+use Rattle.std.proofs.lemmas.List.{take_at, take_all, drop_at, take-append-drop, take-append-le, drop-append-le}
+use Rattle.std.proofs.Math.Seq.{take-add}
 use Rattle.phrases.specs.Reading.{Read, next}
 use Rattle.phrases.specs.Phrases.{Many, Begins}
 use Rattle.phrases.specs.Reads.{ReadsLast}
-use Rattle.phrases.specs.Fronts.{IsFront, NoFront, FirstFault, IsOver, FollowsFront, PrecedesScript, HasNoScript, IsEmptyScript}
+use Rattle.phrases.specs.Fronts.{IsFront, NoFront, FirstFault, IsOver, FollowsFront, PrecedesScript, HasNoScript, IsEmptyScript, StaysFront, FaultStays, FaultFollows, ShowsEnd}
 use Rattle.phrases.specs.Laws.{Fronts}
 use Rattle.phrases.proofs.Readers.{same_answer}
 
@@ -14,10 +15,12 @@ module _ {Tok A : Type 0} (open' : A → Bool → List Tok → Bool) (S : List T
   pub whole_front : (ended : Bool) (ts rest : List Tok) (s : A) → p ended ts ≡ Ok (s, rest) → IsFront open' S ended ts s (length ts - length rest)
   whole_front ended ts rest s h =
       let t = r.takes ended ts rest s h in
-      let long : length ts - length rest ≡ length t.front = omega (arith, ap length t.whole, length-append t.front rest) in (
-        subst (λ (r : List Tok). S r s) (sym (ap (λ (r : List Tok). take (length ts - length rest) r) t.whole ∙ take_at t.front rest _ (sym long))) t.spelled,
-        ap (λ (r : List Tok). open' s ended r) (ap (λ (r : List Tok). drop (length ts - length rest) r) t.whole ∙ drop_at t.front rest _ (sym long)) ∙ t.over,
-      )
+    let long : length ts - length rest ≡ length t.front = omega (arith, ap length t.whole, length-append t.front rest) in
+    record {
+      within = omega (arith, ap length t.whole, length-append t.front rest);
+      spelled = subst (λ (r : List Tok). S r s) (sym (ap (λ (r : List Tok). take (length ts - length rest) r) t.whole ∙ take_at t.front rest _ (sym long))) t.spelled;
+      over = ap (λ (r : List Tok). open' s ended r) (ap (λ (r : List Tok). drop (length ts - length rest) r) t.whole ∙ drop_at t.front rest _ (sym long)) ∙ t.over;
+    }
 
   pub read_front : (ended : Bool) (ts front rest : List Tok) (s : A) → ts ≡ front ++ rest → S front s → open' s ended rest ≡ false → p ended ts ≡ Ok (s, rest)
   read_front ended ts front rest s e h o = ap (p ended) e ∙ r.reads ended front rest s h o
@@ -81,15 +84,38 @@ module _ {Tok A : Type 0} (open' : A → Bool → List Tok → Bool) (S : List T
     -- a script behind a front is that statement and a script of what follows
     pub script_front : ((front : List Tok) (s : A) → S front s → 0 < length front) → FollowsFront open' S
     script_front long ts used s f [] h =
-        absurd (omega (arith, long (take used ts) s f.0, ap length h, ap length (take-append-drop used ts), length-append (take used ts) (drop used ts)))
+        absurd (omega (arith, long (take used ts) s f.spelled, ap length h, ap length (take-append-drop used ts), length-append (take used ts) (drop used ts)))
     script_front long ts used s f (s2 ∷ ss) h =
-        let same = one_front true ts (take used ts) (drop used ts) s h.0 h.1 s2 (sym (take-append-drop used ts)) f.0 f.1 h.2 h.3 (over s2 ss h.1 h.4) in
+        let same = one_front true ts (take used ts) (drop used ts) s h.0 h.1 s2 (sym (take-append-drop used ts)) f.spelled f.over h.2 h.3 (over s2 ss h.1 h.4) in
         (ss, ap (λ (a : A). a ∷ ss) (sym same.0), subst (λ (l : List Tok). Many S l ss) (sym same.1) h.4)
 
     -- where no front is, no script is
     pub script_none : HasNoScript open' S
     script_none ts n [] h = h
     script_none ts n (s ∷ ss) h = absurd (n s h.0 h.1 h.2 h.3 (over s ss h.1 h.4))
+
+    -- no script begins with a front and with what no script behind it begins with
+    pub fault_follows : ((front : List Tok) (s : A) → S front s → 0 < length front) → ShowsEnd open' S → FaultFollows open' S
+    fault_follows long shows ts used at s f short fault = (before, λ lt b. behind b.more b.value lt (subst (λ (l : List Tok). Many S l b.value) (through b.more) b.spelled))
+      where
+        before : Begins (Many S) (take (used + at) ts)
+        before = record {
+          more = fault.0.more;
+          value = s ∷ fault.0.value;
+          spelled = (take used ts, take at (drop used ts) ++ fault.0.more,
+              ap (λ (l : List Tok). l ++ fault.0.more) (take-add used at ts) ∙ append_assoc (take used ts) (take at (drop used ts)) fault.0.more, f.spelled, fault.0.spelled);
+        }
+        through : (more : List Tok) → take (used + at + 1) ts ++ more ≡ take used ts ++ (take (at + 1) (drop used ts) ++ more)
+        through more =
+            let sum : used + at + 1 ≡ used + (at + 1) = omega arith in
+            ap (λ (n : ℕ). take n ts ++ more) sum ∙ ap (λ (l : List Tok). l ++ more) (take-add used (at + 1) ts) ∙ append_assoc (take used ts) (take (at + 1) (drop used ts)) more
+        behind : (more : List Tok) (ss : List A) → used + at < length ts → Many S (take used ts ++ (take (at + 1) (drop used ts) ++ more)) ss → ⊥
+        behind more [] lt h = absurd (omega (arith, long (take used ts) s f.spelled, ap length h, length-append (take used ts) (take (at + 1) (drop used ts) ++ more)))
+        behind more (s2 ∷ ss) lt h =
+            let within : at < length (drop used ts) = omega (arith, length-drop used ts) in
+            let ends = shows s (drop used ts) more at within f.over (fault.1 within) in
+            let same = one_front true (take used ts ++ (take (at + 1) (drop used ts) ++ more)) (take used ts) (take (at + 1) (drop used ts) ++ more) s h.0 h.1 s2 refl f.spelled ends h.2 h.3 (over s2 ss h.1 h.4) in
+            fault.1 within (record { more = more; value = ss; spelled = subst (λ (l : List Tok). Many S l ss) (sym same.1) h.4 })
 
     pub fronts : ((front : List Tok) (s : A) → S front s → 0 < length front) → Fronts open' S p
     fronts long = record {
@@ -103,9 +129,25 @@ module _ {Tok A : Type 0} (open' : A → Bool → List Tok → Bool) (S : List T
 
 -- a front and a script behind it are a script
 pub front_script : {Tok A : Type 0} (open' : A → Bool → List Tok → Bool) (S : List Tok → A → Type 0) → PrecedesScript open' S
-front_script open' S ts used s f ss h = (take used ts, drop used ts, sym (take-append-drop used ts), f.0, h)
+front_script open' S ts used s f ss h = (take used ts, drop used ts, sym (take-append-drop used ts), f.spelled, h)
 
 -- no tokens are the script of no statements alone
 pub empty_script : {Tok A : Type 0} (S : List Tok → A → Type 0) → ((front : List Tok) (s : A) → S front s → 0 < length front) → IsEmptyScript S
 empty_script S long [] h = refl
 empty_script S long (s ∷ ss) h = absurd (omega (arith, long h.0 s h.3, ap length h.2, length-append h.0 h.1))
+
+-- where what follows shows the end, it still does as tokens come
+pub front_stays : {Tok A : Type 0} (open' : A → Bool → List Tok → Bool) (S : List Tok → A → Type 0)
+    → ((ended : Bool) (s : A) (us more : List Tok) → open' s false us ≡ false → open' s ended (us ++ more) ≡ false) → StaysFront open' S
+front_stays open' S shown ts more ended s used f = record {
+  within = omega (arith, f.within, length-append ts more);
+  spelled = subst (λ (l : List _). S l s) (sym (take-append-le used ts more f.within)) f.spelled;
+  over = ap (open' s ended) (drop-append-le used ts more f.within) ∙ shown ended s (drop used ts) more f.over;
+}
+
+-- the tokens up to the fault are as before
+pub fault_stays : {Tok A : Type 0} (S : List Tok → A → Type 0) → FaultStays S
+fault_stays S ts more at lt fault =
+    let short : at ≤ length ts = omega (arith, lt) in
+    let next : at + 1 ≤ length ts = omega (arith, lt) in
+    (subst (Begins (Many S)) (sym (take-append-le at ts more short)) fault.0, λ _ b. fault.1 lt (subst (Begins (Many S)) (take-append-le (at + 1) ts more next) b))

@@ -1,5 +1,5 @@
 -- Items that are known by their first token or by their first two.
-use Rattle.std.proofs.Common.{◌≡◌, ◌≢◌, ◌++◌, ◌∷◌, [], List, Bool, true, false, Ok, Err, refl, ap, ◌∙◌, sym, ◌<◌, ◌+◌, length, arith}
+use Rattle.std.proofs.Common.{◌≡◌, ◌≢◌, ◌++◌, ◌∷◌, [], ℕ, zero, suc, take, ◌≤◌, List, Bool, true, false, Ok, Err, refl, ap, ◌∙◌, sym, ◌<◌, ◌+◌, length, arith}
 use Rattle.std.specs.Prelude.{Option, Some, None, not, ◌||◌, ◌&&◌}
 use Rattle.phrases.specs.Reading.{Read, next, none, many_at, begins_item}
 use Rattle.phrases.specs.Phrases.{Many}
@@ -108,3 +108,33 @@ not_begun one two both ended t (u ∷ ts) h k = neither (one t) (two t) (both t 
 pub not_begun_both : {Tok : Type 0} (one two : Tok → Bool) (both : Tok → Tok → Bool) (ended : Bool) (t u : Tok) (ts : List Tok)
     → one t ≡ false → both t u ≡ false → begins_item one two both ended (t ∷ u ∷ ts) ≡ false
 not_begun_both one two both ended t u ts h k = not_both (one t) (two t) (both t u) h k
+
+shown_bool : (a b c : Bool) → (a || (b && true)) ≡ false → (a || (b && c)) ≡ false
+shown_bool false false c h = refl
+shown_bool true b c h = cc
+shown_bool false true c h = cc
+
+-- where tokens show that no item begins, they still do as more come
+pub stays_shown : {Tok : Type 0} (one two : Tok → Bool) (both : Tok → Tok → Bool) (ended : Bool) (ts more : List Tok)
+    → begins_item one two both false ts ≡ false → begins_item one two both ended (ts ++ more) ≡ false
+stays_shown one two both ended [] more h = cc
+stays_shown one two both ended (t ∷ []) [] h = shown_bool (one t) (two t) (not ended) h
+stays_shown one two both ended (t ∷ []) (u ∷ more) h = shown_bool (one t) (two t) (both t u) h
+stays_shown one two both ended (t ∷ u ∷ ts) more h = h
+
+first_false : (a b : Bool) → (a || b) ≡ false → a ≡ false
+first_false true b h = cc
+first_false false b h = refl
+
+first_shown : {Tok : Type 0} (one two : Tok → Bool) (both : Tok → Tok → Bool) (t : Tok) (ts : List Tok) → begins_item one two both true (t ∷ ts) ≡ false → one t ≡ false
+first_shown one two both t [] h = first_false (one t) (two t && false) h
+first_shown one two both t (u ∷ ts) h = first_false (one t) (two t && both t u) h
+
+-- the first tokens show it as all of them do, where they are more than one token of `two`
+pub front_shown : {Tok : Type 0} (one two : Tok → Bool) (both : Tok → Tok → Bool) (ts more : List Tok) (n : ℕ) → 0 < n → n ≤ length ts
+    → begins_item one two both true ts ≡ false → ((t : Tok) → take n ts ≡ t ∷ [] → two t ≡ false) → begins_item one two both true (take n ts ++ more) ≡ false
+front_shown one two both ts more zero some lt h alone = absurd (omega arith)
+front_shown one two both [] more (suc n) some lt h alone = absurd (omega arith)
+front_shown one two both (t ∷ ts) more (suc zero) some lt h alone = not_begun one two both true t more (first_shown one two both t ts h) (alone t refl)
+front_shown one two both (t ∷ []) more (suc (suc n)) some lt h alone = absurd (omega arith)
+front_shown one two both (t ∷ u ∷ ts) more (suc (suc n)) some lt h alone = h

@@ -1,11 +1,13 @@
 -- What a statement at the front of the tokens is, and where a script has its first fault: for any statement S, whose end may
 -- still be open before what follows.
-use Rattle.std.specs.Prelude.{◌≡◌, ◌++◌, ◌∷◌, ◌<◌, ◌+◌, ℕ, List, [], Bool, true, false, take, drop, length}
+use Rattle.std.specs.Prelude.{◌≡◌, ◌++◌, ◌∷◌, ◌<◌, ◌≤◌, ◌+◌, ℕ, List, [], Bool, true, false, take, drop, length}
 use Rattle.phrases.specs.Phrases.{Begins, Many}
 
--- the first tokens spell s, and what follows fixes its end
-abbrev pub IsFront : {Tok A : Type 0} → (A → Bool → List Tok → Bool) → (List Tok → A → Type 0) → Bool → List Tok → A → ℕ → Type 0
-IsFront open' S ended ts s used = S (take used ts) s × (open' s ended (drop used ts) ≡ false)
+-- the first tokens, so many, spell s, and what follows fixes its end
+pub record IsFront {Tok A : Type 0} (open' : A → Bool → List Tok → Bool) (S : List Tok → A → Type 0) (ended : Bool) (ts : List Tok) (s : A) (used : ℕ) : Type 0 where
+  pub within : used ≤ length ts
+  pub spelled : S (take used ts) s
+  pub over : open' s ended (drop used ts) ≡ false
 
 -- no first tokens are a statement whose end is fixed
 abbrev pub NoFront : {Tok A : Type 0} → (A → Bool → List Tok → Bool) → (List Tok → A → Type 0) → Bool → List Tok → Type 0
@@ -42,3 +44,21 @@ HasNoScript {Tok} {A} open' S = (ts : List Tok) → NoFront open' S true ts → 
 -- no tokens are the script of no statements, and of no others
 abbrev pub IsEmptyScript : {Tok A : Type 0} → (List Tok → A → Type 0) → Type 0
 IsEmptyScript {Tok} {A} S = (ss : List A) → Many S [] ss → ss ≡ []
+
+-- a front whose end is fixed, whatever comes, is a front of what comes of the tokens
+abbrev pub StaysFront : {Tok A : Type 0} → (A → Bool → List Tok → Bool) → (List Tok → A → Type 0) → Type 0
+StaysFront {Tok} {A} open' S = (ts more : List Tok) (ended : Bool) (s : A) (used : ℕ) → IsFront open' S false ts s used → IsFront open' S ended (ts ++ more) s used
+
+-- a fault at a token stays as tokens come
+abbrev pub FaultStays : {Tok A : Type 0} → (List Tok → A → Type 0) → Type 0
+FaultStays {Tok} S = (ts more : List Tok) (at : ℕ) → at < length ts → FirstFault S ts at → FirstFault S (ts ++ more) at
+
+-- the first fault behind a front is the first fault of all
+abbrev pub FaultFollows : {Tok A : Type 0} → (A → Bool → List Tok → Bool) → (List Tok → A → Type 0) → Type 0
+FaultFollows {Tok} {A} open' S = (ts : List Tok) (used at : ℕ) (s : A) → IsFront open' S true ts s used → at ≤ length (drop used ts)
+    → FirstFault S (drop used ts) at → FirstFault S ts (used + at)
+
+-- the tokens up to one with which no script begins show the end of a statement before them, as all of the tokens do
+abbrev pub ShowsEnd : {Tok A : Type 0} → (A → Bool → List Tok → Bool) → (List Tok → A → Type 0) → Type 0
+ShowsEnd {Tok} {A} open' S = (s : A) (ts more : List Tok) (at : ℕ) → at < length ts → open' s true ts ≡ false
+    → (Begins (Many S) (take (at + 1) ts) → ⊥) → open' s true (take (at + 1) ts ++ more) ≡ false

@@ -1,0 +1,6 @@
+pub mod TokenLemmas
+pub mod ScriptLemmas
+pub mod OutputLemmas
+pub mod PlaceLemmas
+pub mod RunLemmas
+pub mod EndLemmas
