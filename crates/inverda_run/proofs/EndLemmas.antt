@@ -19,7 +19,8 @@ use Rattle.bidel_parser.proofs.StatementLaws.{statement_long}
 use Rattle.inverda_run.specs.Script.{IsScript, HasFault, Leads, last_of, earlier}
 use Rattle.inverda_run.specs.Output.{out_of}
 use Rattle.inverda_run.specs.Places.{place_of, fault_line}
-use Rattle.inverda_run.specs.Statuses.{limit, WasRead, Stopped, HadScript}
+use Rattle.inverda_run.specs.Statuses as statuses
+use Rattle.inverda_run.specs.Statuses.{limit, WasRead, Stopped, HadFault, HadMore, HadScript}
 use Rattle.inverda_run.specs.Calls.{AreAll, RunsAll, RunsUpTo, RunsScript, Stops, EndsScript, Ends}
 use Rattle.inverda_run.specs.declared.tokens.Tokens.{Tokens}
 use Rattle.inverda_run.specs.declared.end.End.{End}
@@ -37,7 +38,7 @@ found_at : (bytes : List ℕ) (all : Tokens) (tokens : List Token) (bad : Option
     → HasTokens true bytes 0 tokens (last_of bad)
 found_at bytes all tokens bad h same is =
     subst (λ (l : List Token). HasTokens true bytes 0 l (last_of bad)) (sym same)
-        (subst (λ (b : Option ℕ). HasTokens true bytes 0 all.tokens.items (last_of b)) is h)
+    (subst (λ (b : Option ℕ). HasTokens true bytes 0 all.tokens.items (last_of b)) is h)
 
 -- all tokens are statements, and none is bad
 pub ends_done : (bytes : List ℕ) (all : Tokens) (tokens : List Token) (held held' : Option (List ℕ)) → AreAll bytes all → tokens ≡ all.tokens.items
@@ -138,7 +139,7 @@ pub ends_bad : (bytes : List ℕ) (all : Tokens) (tokens : List Token) (at : ℕ
 ends_bad bytes all tokens at held mid held' was between is e h same bad le r later stops =
     let found = found_at bytes all tokens (Some at) h same bad in
     stops_at bytes r.statements at held mid held' was between is e (bad_none bytes tokens at found)
-        (bad_fault bytes tokens r.statements at found le r.leads) r.put later stops
+    (bad_fault bytes tokens r.statements at found le r.leads) r.put later stops
 
 -- the tokens behind some statements have a fault
 pub ends_fault : (bytes : List ℕ) (all : Tokens) (tokens : List Token) (at place : ℕ) (held mid held' : Option (List ℕ)) (was between is : ℕ) (e : End)
@@ -147,7 +148,7 @@ pub ends_fault : (bytes : List ℕ) (all : Tokens) (tokens : List Token) (at pla
 ends_fault bytes all tokens at place held mid held' was between is e h same first r later stops =
     let found = found_at bytes all tokens all.bad h same refl in
     stops_at bytes r.before place held mid held' was between is e (fault_none bytes tokens all.bad held mid at found r)
-        (subst (HasFault bytes r.before) (sym first) (fault_up bytes tokens all.bad held mid at found r)) r.put later stops
+    (subst (HasFault bytes r.before) (sym first) (fault_up bytes tokens all.bad held mid at found r)) r.put later stops
 
 -- ---- runs
 
@@ -155,24 +156,30 @@ ends_fault bytes all tokens at place held mid held' was between is e h same firs
 pub ends_read : {W : Type 0} (words : List W) (left left' : Option (List ℕ)) (read read' : ℕ) (held held' : Option (List ℕ)) (was is : ℕ) (bytes : List ℕ) (e : End)
     → words ≡ [] → Consumes left left' bytes × IsAtEnd left' × (length bytes ≤ limit) → EndsScript bytes held held' was is e
     → Ends words left left' read read' held held' was is e
-ends_read words left left' read read' held held' was is bytes Done none r h = (none, record {
-  bytes = bytes;
-  statements = h.statements;
-  read = record { taken = r.0; whole = r.1; within = r.2 };
-  script = h.script;
-  put = h.put;
-})
+ends_read words left left' read read' held held' was is bytes Done none r h = (
+  none,
+  record {
+    bytes = bytes;
+    statements = h.statements;
+    read = record { taken = r.0; whole = r.1; within = r.2 };
+    script = h.script;
+    put = h.put;
+  },
+)
 ends_read words left left' read read' held held' was is bytes Memory none r h = none
 ends_read words left left' read read' held held' was is bytes BadWords none r h = absurd h
-ends_read words left left' read read' held held' was is bytes Syntax none r h = (none, record {
-  bytes = bytes;
-  before = h.before;
-  at = h.at;
-  read = record { taken = r.0; whole = r.1; within = r.2 };
-  none = h.none;
-  fault = h.fault;
-  put = h.put;
-})
+ends_read words left left' read read' held held' was is bytes Syntax none r h = (
+  none,
+  record {
+    bytes = bytes;
+    before = h.before;
+    at = h.at;
+    read = record { taken = r.0; whole = r.1; within = r.2 };
+    none = h.none;
+    fault = h.fault;
+    put = h.put;
+  },
+)
 ends_read words left left' read read' held held' was is bytes Unread none r h = absurd h
 ends_read words left left' read read' held held' was is bytes Unwritten none r h = h
 ends_read words left left' read read' held held' was is bytes TooLong none r h = absurd h
@@ -180,13 +187,26 @@ ends_read words left left' read read' held held' was is bytes TooLong none r h =
 some_same : (one other : List ℕ) → Some one ≡ Some other → one ≡ other
 some_same one other h = cc
 
+-- what was read to its end is what the source told
+pub read_told : (left left' : Option (List ℕ)) (told bytes : List ℕ) → left ≡ Some told → WasRead left left' bytes → told ≡ bytes
+read_told None left' told bytes h r = cc
+read_told (Some b) None told bytes h r = absurd r.taken
+read_told (Some b) (Some rest) told bytes h r =
+    sym (some_same b told h) ∙ r.taken ∙ ap (λ (l : List ℕ). bytes ++ l) r.whole ∙ append-nil bytes
+
 -- a source that told a script is not stopped at a fault
-pub had_none : (left left' held held' : Option (List ℕ)) → HadScript left → Stopped left left' held held' → ⊥
-had_none None left' held held' had s = let told = had.told in cc
-had_none (Some b) None held held' had s = absurd s.read.taken
-had_none (Some b) (Some rest) held held' had s =
-    let all : b ≡ s.bytes = s.read.taken ∙ ap (λ (l : List ℕ). s.bytes ++ l) s.read.whole ∙ append-nil s.bytes in
-    s.none had.statements (subst (λ (l : List ℕ). IsScript l had.statements) (sym (some_same b had.bytes had.told) ∙ all) had.script)
+pub had_script : (left left' held held' : Option (List ℕ)) → HadScript left → Stopped left left' held held' → ⊥
+had_script left left' held held' had s =
+    s.none had.statements (subst (λ (l : List ℕ). IsScript l had.statements) (read_told left left' had.bytes s.bytes had.told s.read) had.script)
+
+-- a source that told other bytes is not run to its end
+pub had_fault : (left left' held held' : Option (List ℕ)) → HadFault left → statuses.Done left left' held held' → ⊥
+had_fault left left' held held' had d =
+    had.none d.statements (subst (λ (l : List ℕ). IsScript l d.statements) (sym (read_told left left' had.bytes d.bytes had.told d.read)) d.script)
+
+-- a source that told more bytes than the limit is not read to its end
+pub had_more : (left left' : Option (List ℕ)) (bytes : List ℕ) → HadMore left → WasRead left left' bytes → ⊥
+had_more left left' bytes had r = let same = read_told left left' had.bytes bytes had.told r in absurd (omega (arith, ap length same, had.above, r.within))
 
 -- words of which none is there
 pub no_words : {W : Type 0} (words : List W) → true ≡ (length words == 0) → words ≡ []

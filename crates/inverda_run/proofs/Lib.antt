@@ -4,3 +4,4 @@ pub mod OutputLemmas
 pub mod PlaceLemmas
 pub mod RunLemmas
 pub mod EndLemmas
+pub mod FaultLemmas

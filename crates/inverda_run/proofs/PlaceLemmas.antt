@@ -26,7 +26,7 @@ pub step_feed : (line column : ℕ) (bytes : List ℕ) (at : ℕ) (whole : Place
     → behind_all (record { line = line + 1; column = 1 }) (drop (at + 1) bytes) ≡ whole
 step_feed line column bytes at whole h e w =
     step (record { line = line; column = column }) (record { line = line + 1; column = 1 }) bytes at whole h
-        (ap (behind (record { line = line; column = column })) e) w
+    (ap (behind (record { line = line; column = column })) e) w
 
 -- over another byte
 pub step_on : (line column : ℕ) (bytes : List ℕ) (at : ℕ) (whole : Place) → at < length bytes → get_or bytes at 0 ≢ 10
@@ -34,12 +34,13 @@ pub step_on : (line column : ℕ) (bytes : List ℕ) (at : ℕ) (whole : Place) 
     → behind_all (record { line = line; column = column + 1 }) (drop (at + 1) bytes) ≡ whole
 step_on line column bytes at whole h e w =
     step (record { line = line; column = column }) (record { line = line; column = column + 1 }) bytes at whole h
-        (other (get_or bytes at 0) e) w
+    (other (get_or bytes at 0) e) w
   where
     other : (b : ℕ) → b ≢ 10 → behind (record { line = line; column = column }) b ≡ record { line = line; column = column + 1 }
     other b ne = elim (eqb_tells b 10) [
-      inl k ↦ absurd (ne k.1)
-      | inr k ↦ ap (λ (t : Bool). if t then record { line = line + 1; column = 1 } else record { line = line; column = column + 1 }) k.0 ]
+      | inl k ↦ absurd (ne k.1)
+      | inr k ↦ ap (λ (t : Bool). if t then record { line = line + 1; column = 1 } else record { line = line; column = column + 1 }) k.0
+    ]
 
 -- at the end of the bytes
 pub at_end : (line column : ℕ) (bytes : List ℕ) (at : ℕ) (whole : Place) → length bytes ≤ at
@@ -47,5 +48,5 @@ pub at_end : (line column : ℕ) (bytes : List ℕ) (at : ℕ) (whole : Place) �
 unfolding behind_all
 at_end line column bytes at whole h e =
     let all : record { line = line; column = column } ≡ whole =
-        sym (ap (behind_all (record { line = line; column = column })) (drop_of_length-le bytes h)) ∙ e in
+    sym (ap (behind_all (record { line = line; column = column })) (drop_of_length-le bytes h)) ∙ e in
     (ap (λ (p : Place). p.line) all, ap (λ (p : Place). p.column) all)

@@ -51,7 +51,7 @@ ran_more bytes tokens held mid held' s s' done used r one =
     let st = one.statement in
     let s0 = empty_state max_id in
     let front : IsFront true (drop done (lexemes bytes tokens)) st used =
-        subst (λ (l : List Lexeme). IsFront true l st used) (lexemes-drop bytes done tokens) one.front in
+    subst (λ (l : List Lexeme). IsFront true l st used) (lexemes-drop bytes done tokens) one.front in
     let text : text_of (act s st) ≡ text_of (act (state_behind s0 sts) st) = ap (λ (x : State). text_of (act x st)) r.state in
     record {
       statements = sts ++ st ∷ [];

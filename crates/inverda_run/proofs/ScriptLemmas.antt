@@ -34,9 +34,13 @@ pub leads_more : (ts : List Lexeme) (sts : List StatementView) (used : ℕ) (st 
     → Leads ts sts used → IsFront true (drop used ts) st n → Leads ts (sts ++ st ∷ []) (used + n)
 leads_more ts [] used st n h f =
     (n, 0, omega (arith, h), subst (λ (k : ℕ). IsFront true (drop k ts) st n) h f, refl)
-leads_more ts (s ∷ sts) used st n h f =
-    (h.0, h.1 + n, omega (arith, h.2), h.3,
-        leads_more (drop h.0 ts) sts h.1 st n h.4 (subst (λ (l : List Lexeme). IsFront true l st n) (drop_both ts used h.0 h.1 h.2) f))
+leads_more ts (s ∷ sts) used st n h f = (
+  h.0,
+  h.1 + n,
+  omega (arith, h.2),
+  h.3,
+  leads_more (drop h.0 ts) sts h.1 st n h.4 (subst (λ (l : List Lexeme). IsFront true l st n) (drop_both ts used h.0 h.1 h.2) f),
+)
 
 -- the statements and a script behind them are a script
 pub leads_script : (ts : List Lexeme) (sts : List StatementView) (used : ℕ) → Leads ts sts used
@@ -44,7 +48,7 @@ pub leads_script : (ts : List Lexeme) (sts : List StatementView) (used : ℕ) �
 leads_script ts [] used h rest s = subst (λ (k : ℕ). Script (drop k ts) rest) h s
 leads_script ts (st ∷ sts) used h rest s =
     front_precedes ts h.0 st h.3 (sts ++ rest)
-        (leads_script (drop h.0 ts) sts h.1 h.4 rest (subst (λ (l : List Lexeme). Script l rest) (drop_both ts used h.0 h.1 h.2) s))
+    (leads_script (drop h.0 ts) sts h.1 h.4 rest (subst (λ (l : List Lexeme). Script l rest) (drop_both ts used h.0 h.1 h.2) s))
 
 -- behind the statements stands the rest of every script
 pub script_behind : (ts : List Lexeme) (sts : List StatementView) (used : ℕ) → Leads ts sts used
@@ -65,7 +69,7 @@ leads_fault ts (st ∷ sts) used h token le f =
     let same = drop_both ts used h.0 h.1 h.2 in
     let within = leads_within (drop h.0 ts) sts h.1 h.4 in
     let inner = leads_fault (drop h.0 ts) sts h.1 h.4 token (subst (λ (l : List Lexeme). token ≤ length l) same le)
-        (subst (λ (l : List Lexeme). FirstFault l token) same f) in
+    (subst (λ (l : List Lexeme). FirstFault l token) same f) in
     let short : h.1 + token ≤ length (drop h.0 ts) = omega (arith, le, ap length same, length-drop h.1 (drop h.0 ts), within) in
     let sum : h.0 + (h.1 + token) ≡ used + token = omega (arith, h.2) in
     subst (λ (k : ℕ). FirstFault ts k) sum (fault_follows ts h.0 (h.1 + token) st h.3 short inner)
@@ -91,7 +95,7 @@ pub one_script : OneScript
 one_script bytes one other h k =
     let same = tokens_are_one bytes 0 h.tokens k.tokens End End h.found k.found in
     spelled_once (lexemes bytes h.tokens) one other h.spelled
-        (subst (λ (l : List Token). Script (lexemes bytes l) other) (sym same.0) k.spelled)
+    (subst (λ (l : List Token). Script (lexemes bytes l) other) (sym same.0) k.spelled)
 
 -- where all tokens are the statements, and none is bad, the bytes are their script
 pub all_script : (bytes : List ℕ) (tokens : List Token) (sts : List StatementView)
@@ -101,7 +105,7 @@ all_script bytes tokens sts h l = record {
   found = h;
   spelled = subst (λ (k : List StatementView). Script (lexemes bytes tokens) k) (append-nil sts)
       (leads_script (lexemes bytes tokens) sts (length tokens) l []
-          (subst (λ (l : List Lexeme). Script l []) (sym (drop_of_length-le (lexemes bytes tokens) (omega (arith, length-map tokens (lexeme bytes))))) empty_script.0));
+      (subst (λ (l : List Lexeme). Script l []) (sym (drop_of_length-le (lexemes bytes tokens) (omega (arith, length-map tokens (lexeme bytes))))) empty_script.0));
 }
 
 -- bytes with a byte that continues no token are no script

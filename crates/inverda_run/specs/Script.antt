@@ -49,3 +49,7 @@ pub record HasFault (bytes : List ℕ) (before : List StatementView) (at : ℕ) 
 -- bytes are the script of at most one list of statements
 abbrev pub OneScript : Type 0
 OneScript = (bytes : List ℕ) (one other : List StatementView) → IsScript bytes one → IsScript bytes other → one ≡ other
+
+-- bytes have at most one first fault, and at most one list of statements before it
+abbrev pub OneFault : Type 0
+OneFault = (bytes : List ℕ) (one other : List StatementView) (at place : ℕ) → HasFault bytes one at → HasFault bytes other place → (one ≡ other) × (at ≡ place)

@@ -49,6 +49,19 @@ pub record HadScript (left : Option (List ℕ)) : Type 0 where
   pub within : length bytes ≤ limit
   pub script : IsScript bytes statements
 
+-- the source told that it had bytes within the limit that are no script
+pub record HadFault (left : Option (List ℕ)) : Type 0 where
+  pub bytes : List ℕ
+  pub told : left ≡ Some bytes
+  pub within : length bytes ≤ limit
+  pub none : (statements : List StatementView) → IsScript bytes statements → ⊥
+
+-- the source told that it had more bytes than the limit
+pub record HadMore (left : Option (List ℕ)) : Type 0 where
+  pub bytes : List ℕ
+  pub told : left ≡ Some bytes
+  pub above : limit < length bytes
+
 -- more bytes than the limit were taken from the source, and the sink was given this line
 pub record Passed (left left' held held' : Option (List ℕ)) : Type 0 where
   pub bytes : List ℕ

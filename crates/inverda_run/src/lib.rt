@@ -17,5 +17,5 @@ mod tokens;
 mod top;
 mod turn;
 
-pub use laws::script_is_one;
+pub use laws::{fault_is_one, script_is_one};
 pub use top::inverda;

@@ -26,7 +26,10 @@ pub fn all_tokens(alloc: Global, bytes: &[u8]) -> Result<Tokens, Memory>
                 tokens.push(token)?;
                 from = token.end;
             }
-            Lexed::BadToken { at } => return Ok(Tokens { tokens, bad: Some(at) }),
+            Lexed::BadToken { at } => return Ok(Tokens {
+                tokens,
+                bad: Some(at),
+            }),
             Lexed::End => return Ok(Tokens { tokens, bad: None }),
             // No bytes come after these.
             Lexed::More => return Ok(Tokens { tokens, bad: None }),

@@ -3,7 +3,7 @@ ghost use Rattle.std.specs.Prelude.{◌≡◌, ◌≢◌, ◌⊎◌, ◌≤◌, 
 ghost use Rattle.std.specs.Io.KnownBytes.{Appends};
 ghost use Rattle.par_base.specs.Causes.{Rose};
 ghost use Rattle.engine_core.specs.Texts.{line};
-ghost use Rattle.inverda_run.specs.Statuses.{Done, Answers, Stopped, HadScript, Passed};
+ghost use Rattle.inverda_run.specs.Statuses.{Done, Answers, Stopped, Passed, HadFault, HadMore, HadScript};
 ghost use Rattle.inverda_run.specs.Calls.{Ends};
 
 use crate::end::End;
@@ -30,7 +30,12 @@ fn run<S: Source, K: Sink>(alloc: Global, words: &[String], script: &mut S, out:
         };
     }
     match read_all(alloc, script, LIMIT) {
-        Ok(ReadAll::Whole(bytes)) => run_script::<K, Brand>(alloc, bytes.as_slice(), out, Blank::new(1)),
+        Ok(ReadAll::Whole(bytes)) => run_script::<K, Brand>(
+            alloc,
+            bytes.as_slice(),
+            out,
+            Blank::new(1),
+        ),
         Ok(ReadAll::TooLong(_)) => match write_all(out, b"too long\n") {
             Ok(()) => End::TooLong,
             Err(Failed) => End::Unwritten,
@@ -61,10 +66,12 @@ pub fn inverda<S: Source, K: Sink, F: Files>(
 ) -> u8
     ensures statuses { (result ≡ 0) ⊎ (result ≡ 1) ⊎ (result ≡ 2) ⊎ (result ≡ 3) ⊎ (result ≡ 5) ⊎ (result ≡ 6) ⊎ (result ≡ 7) }
 
-    // A script is answered as its statements say, and runs to its end where nothing fails.
+    // A script is answered as its statements say. Where nothing fails and memory suffices, the bytes decide the status.
     ensures done { result ≡ 0 → (words.now ≡ []) × Done (S.left script.old) (S.left script.new) (K.held out.old) (K.held out.new) }
     ensures answers { result ≡ 0 → Answers (S.left script.old) (K.held out.old) (K.held out.new) }
     ensures complete { words.now ≡ [] → HadScript (S.left script.old) → ¬ Rose (S.faults script.old) (S.faults script.new) → ¬ Rose (K.faults out.old) (K.faults out.new) → (result ≡ 0) ⊎ (result ≡ 1) }
+    ensures stops { words.now ≡ [] → HadFault (S.left script.old) → ¬ Rose (S.faults script.old) (S.faults script.new) → ¬ Rose (K.faults out.old) (K.faults out.new) → (result ≡ 3) ⊎ (result ≡ 1) }
+    ensures passes { words.now ≡ [] → HadMore (S.left script.old) → ¬ Rose (S.faults script.old) (S.faults script.new) → ¬ Rose (K.faults out.old) (K.faults out.new) → (result ≡ 7) ⊎ (result ≡ 1) }
 
     // Every other end has its cause.
     ensures words { result ≡ 2 → (words.now ≢ []) × Appends (K.held out.old) (K.held out.new) (line (codes "bad words")) }

@@ -18,7 +18,7 @@ loop-used-init g c = record {
 pub take_turn-requires : goal.take_turn-requires
 take_turn-requires g c =
     subst (AreTokens c.args.bytes.now) (sym (rest_is c.args.tokens.now c.loop-used.done))
-        (are_tokens_drop c.args.bytes.now c.loop-used.done c.args.tokens.now c.requires)
+    (are_tokens_drop c.args.bytes.now c.loop-used.done c.args.tokens.now c.requires)
 
 pub loop-used-preserved : goal.loop-used-preserved
 loop-used-preserved g c =
@@ -41,4 +41,4 @@ returns-in-Fault-clause-runs g c =
     let mid = g.K.Sink.held c.loop-used.out in
     let now = g.K.Sink.held c.take_turn.new.out in
     ran_up bytes tokens (g.K.Sink.held c.args.out.now) mid now (state_of c.loop-used.engine) c.loop-used.done c.in-Fault.at c.requires c.loop-used.invariant.so_far
-        (subst (λ (l : List Token). NoFront true (lexemes bytes l) × IsFault bytes l true c.in-Fault.at × (now ≡ mid)) (rest_is tokens c.loop-used.done) c.in-Fault.ensures.turns)
+    (subst (λ (l : List Token). NoFront true (lexemes bytes l) × IsFault bytes l true c.in-Fault.at × (now ≡ mid)) (rest_is tokens c.loop-used.done) c.in-Fault.ensures.turns)
