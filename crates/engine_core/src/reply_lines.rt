@@ -2,7 +2,7 @@
 //!
 //! Header and rows are added to one string, each by a function that ends its own line.
 ghost use Rattle.std.specs.Prelude.{◌≡◌, ◌++◌, codes, flat_map, string_bytes, IfOk, OnOk};
-ghost use Rattle.engine_core.specs.Texts.{IsReply, reply_bytes, rows_lines, header_text, row_text, line};
+ghost use Rattle.engine_core.specs.Texts.{reply_bytes, rows_lines, header_text, row_text, line};
 ghost use Rattle.par_base.specs.Literals.{literal_of};
 
 use crate::Reply;
@@ -13,7 +13,6 @@ use std::alloc::Global;
 /// their own stage. Until then `csv` changes nothing, and they are printed as all other rows.
 #[tactic(auto, unfolding(crate::specs::Texts::reply_bytes))]
 pub fn reply_text(alloc: Global, reply: &Reply) -> Result<Text, Memory>
-    requires { IsReply reply.now }
     ensures { IfOk result (λ text. text ≡ reply_bytes reply.now) }
 {
     match reply {

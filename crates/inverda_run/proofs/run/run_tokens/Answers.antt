@@ -1,0 +1,44 @@
+use Rattle.std.proofs.Common.{◌≡◌, ◌≤◌, List, ℕ, true, sym, subst, arith, drop}
+use Rattle.bidel_lex.specs.declared.tokens.Token.{Token}
+use Rattle.bidel_lex.specs.Tokens.{AreTokens}
+use Rattle.bidel_parser.specs.Lexemes.{lexemes}
+use Rattle.bidel_parser.specs.Parsing.{NoFront, IsFault}
+use Rattle.engine_core.specs.Kept.{state_of}
+use Rattle.inverda_run.specs.Calls.{RunsOne}
+use Rattle.inverda_run.proofs.TokenLemmas.{are_tokens_drop}
+use Rattle.inverda_run.proofs.RunLemmas.{ran_none, ran_more, ran_up, rest_is}
+use Rattle.inverda_run.proofs.run.run_tokens.Goals as goal
+
+pub loop-used-init : goal.loop-used-init
+loop-used-init g c = record {
+  so_far = ran_none c.args.bytes.now c.args.tokens.now (g.K.Sink.held c.args.out.now) (state_of c.new-engine.result) c.new-engine.ensures;
+  later = omega arith;
+}
+
+pub take_turn-requires : goal.take_turn-requires
+take_turn-requires g c =
+    subst (AreTokens c.args.bytes.now) (sym (rest_is c.args.tokens.now c.loop-used.done))
+    (are_tokens_drop c.args.bytes.now c.loop-used.done c.args.tokens.now c.requires)
+
+pub loop-used-preserved : goal.loop-used-preserved
+loop-used-preserved g c =
+    let bytes = c.args.bytes.now in
+    let tokens = c.args.tokens.now in
+    let mid = g.K.Sink.held c.loop-used.out in
+    let now = g.K.Sink.held c.take_turn.new.out in
+    let s = state_of c.loop-used.engine in
+    let s2 = state_of c.take_turn.new.engine in
+    record {
+      so_far = ran_more bytes tokens (g.K.Sink.held c.args.out.now) mid now s s2 c.loop-used.done c.in-Ran.used c.loop-used.invariant.so_far
+          (subst (λ (l : List Token). RunsOne bytes l mid now s s2 c.in-Ran.used) (rest_is tokens c.loop-used.done) c.in-Ran.ensures.turns);
+      later = omega (arith, c.loop-used.invariant.later, c.in-Ran.ensures.later);
+    }
+
+pub returns-in-Fault-clause-runs : goal.returns-in-Fault-clause-runs
+returns-in-Fault-clause-runs g c =
+    let bytes = c.args.bytes.now in
+    let tokens = c.args.tokens.now in
+    let mid = g.K.Sink.held c.loop-used.out in
+    let now = g.K.Sink.held c.take_turn.new.out in
+    ran_up bytes tokens (g.K.Sink.held c.args.out.now) mid now (state_of c.loop-used.engine) c.loop-used.done c.in-Fault.at c.requires c.loop-used.invariant.so_far
+    (subst (λ (l : List Token). NoFront true (lexemes bytes l) × IsFault bytes l true c.in-Fault.at × (now ≡ mid)) (rest_is tokens c.loop-used.done) c.in-Fault.ensures.turns)

@@ -1,0 +1,19 @@
+use Rattle.std.proofs.Common.{◌≡◌, ◌≤◌, ◌-◌, List, length, ℕ}
+use Rattle.std.specs.Io.KnownBytes.{Appends}
+use Rattle.bidel_parser.specs.Lexemes.{lexemes}
+use Rattle.bidel_parser.specs.Views.{StatementView}
+use Rattle.engine_core.specs.Kept.{state_of, empty_state}
+use Rattle.inverda_run.specs.Script.{Leads}
+use Rattle.inverda_run.specs.Output.{out_of, max_id}
+use Rattle.inverda_run.proofs.OutputLemmas.{state_behind}
+use Rattle.inverda_run.proofs.RunLemmas.{RanSoFar}
+use Rattle.inverda_run.proofs.run.run_tokens.Given as goal
+
+abbrev pub invariant-loop-used : goal.invariant-loop-used
+invariant-loop-used g l = record {
+  so_far : RanSoFar l.bytes l.tokens (g.K.Sink.held l.fn.out) (g.K.Sink.held l.out) (state_of l.engine) l.done;
+  later : g.K.Sink.faults l.fn.out ≤ g.K.Sink.faults l.out;
+}
+
+abbrev pub decreases-loop-used : goal.decreases-loop-used
+decreases-loop-used g l = length l.tokens - l.done

@@ -1,0 +1,13 @@
+use Rattle.std.proofs.Common.{ℕ, List, subst}
+use Rattle.inverda_run.specs.Calls.{EndsScript}
+use Rattle.inverda_run.proofs.EndLemmas.{ends_read, no_words}
+use Rattle.inverda_run.proofs.top.run.Goals as goal
+
+pub returns-in-Ok-Whole-clause-ends : goal.returns-in-Ok-Whole-clause-ends
+returns-in-Ok-Whole-clause-ends g c =
+    let empty = no_words c.args.words.now c.if-not-is_empty.ensures in
+    let ran = subst (λ (l : List ℕ). EndsScript l (g.K.Sink.held c.args.out.now) (g.K.Sink.held c.run_script.new.out) (g.K.Sink.faults c.args.out.now) (g.K.Sink.faults c.run_script.new.out) c.run_script.result)
+    c.as_slice.ensures.value c.run_script.ensures.ends in
+    ends_read c.args.words.now (g.S.Source.left c.args.script.now) (g.S.Source.left c.read_all.new.source) (g.S.Source.faults c.args.script.now) (g.S.Source.faults c.read_all.new.source)
+    (g.K.Sink.held c.args.out.now) (g.K.Sink.held c.run_script.new.out) (g.K.Sink.faults c.args.out.now) (g.K.Sink.faults c.run_script.new.out)
+    c.in-Ok-Whole.bytes.items c.run_script.result empty (rw c.in-Ok-Whole.field-0-is at c.in-Ok-Whole.ensures.reads) ran

@@ -1,0 +1,5 @@
+pub mod Script
+pub mod Output
+pub mod Places
+pub mod Statuses
+pub mod Calls

@@ -1,0 +1,32 @@
+-- What a script's statements write.
+use Rattle.std.specs.Prelude.{◌++◌, ◌-◌, ◌^◌, ℕ, List, [], ◌∷◌, Ok, Err}
+use Rattle.bidel_parser.specs.Views.{StatementView}
+use Rattle.engine_core.specs.State.{State}
+use Rattle.engine_core.specs.Checks.{Checked}
+use Rattle.engine_core.specs.Act.{act}
+use Rattle.engine_core.specs.Kept.{empty_state}
+use Rattle.engine_core.specs.Texts.{reply_bytes, refusal_bytes}
+use Rattle.engine_core.specs.declared.reply.Reply.{Reply}
+
+-- the lines that answer a statement
+abbrev pub text_of : Checked (Reply × State) → List ℕ
+text_of (Ok answer) = reply_bytes answer.0
+text_of (Err refusal) = refusal_bytes refusal
+
+-- the next state; a refused statement leaves the state as it is
+abbrev pub next_state : State → Checked (Reply × State) → State
+next_state s (Ok answer) = answer.1
+next_state s (Err refusal) = s
+
+-- the lines that answer the statements, one after the other
+unfoldable pub out : State → List StatementView → List ℕ
+out s [] = []
+out s (statement ∷ statements) = text_of (act s statement) ++ out (next_state s (act s statement)) statements
+
+-- the greatest identifier that is drawn
+abbrev pub max_id : ℕ
+max_id = 2 ^ 63 - 1
+
+-- the lines that answer the statements of a script, from an empty database on
+abbrev pub out_of : List StatementView → List ℕ
+out_of statements = out (empty_state max_id) statements

@@ -1,0 +1,78 @@
+//! One statement: parsed, carried out and answered.
+ghost use Rattle.std.specs.Prelude.{◌≡◌, ◌≤◌, IfOk, OnOk};
+ghost use Rattle.bidel_lex.specs.Tokens.{AreTokens};
+ghost use Rattle.bidel_parser.specs.Views.{statement_view};
+ghost use Rattle.engine_core.specs.Act.{act};
+ghost use Rattle.engine_core.specs.Kept.{state_of};
+ghost use Rattle.inverda_run.specs.Output.{next_state, text_of};
+ghost use Rattle.inverda_run.specs.Calls.{Turns};
+
+use bidel_lex::Token;
+use bidel_parser::{Parsed, Statement, Syntax, parse_statement};
+use engine_core::{Engine, refusal_text, reply_text};
+use expr_lang::Steps;
+use par_base::{Failed, Fault, Memory, Sink, Text, write_all};
+use std::alloc::Global;
+use std::sync::ledger::Ledger;
+
+// There is one session.
+const SESSION: u8 = 0;
+
+/// What became of the tokens that are left.
+#[derive(Clone, Copy, Debug)]
+pub enum Turn {
+    /// The statement of so many first tokens was carried out and answered.
+    Ran { used: usize },
+    /// No tokens are left.
+    Over,
+    /// No statement stands there, and the first fault is at this byte.
+    Fault { at: usize },
+    /// Memory ran out.
+    Memory,
+    /// The sink failed.
+    Unwritten,
+}
+
+// Carries out a statement, and gives the lines that answer it.
+fn answer<L: Ledger>(
+    alloc: Global,
+    engine: &mut Engine,
+    statement: Statement,
+    steps: &mut Steps<L>,
+) -> Result<Text, Memory>
+    ensures text { IfOk result (λ text. text ≡ text_of (act (state_of engine.old) (statement_view statement))) }
+    ensures next { OnOk result (state_of engine.new ≡ next_state (state_of engine.old) (act (state_of engine.old) (statement_view statement))) }
+{
+    match engine.event(alloc, SESSION, statement, steps) {
+        Ok(reply) => reply_text(alloc, &reply),
+        Err(Fault::Refused(refusal)) => refusal_text(alloc, &refusal),
+        Err(Fault::Memory) => Err(Memory),
+    }
+}
+
+/// Takes the statement at the front of the tokens, carries it out, and puts the lines that answer it.
+pub fn take_turn<K: Sink, L: Ledger>(
+    alloc: Global,
+    engine: &mut Engine,
+    bytes: &[u8],
+    tokens: &[Token],
+    out: &mut K,
+    steps: &mut Steps<L>,
+) -> Turn
+    requires { AreTokens bytes.now tokens.now }
+    ensures turns { Turns bytes.now tokens.now (K.held out.old) (K.held out.new) (K.faults out.old) (K.faults out.new) (state_of engine.old) (state_of engine.new) result }
+    ensures later { K.faults out.old ≤ K.faults out.new }
+{
+    match parse_statement(alloc, bytes, tokens, true) {
+        Ok(Parsed::Whole { statement, used }) => match answer(alloc, engine, statement, steps) {
+            Ok(text) => match write_all(out, text.as_str().as_bytes()) {
+                Ok(()) => Turn::Ran { used },
+                Err(Failed) => Turn::Unwritten,
+            },
+            Err(Memory) => Turn::Memory,
+        },
+        Ok(Parsed::Nothing | Parsed::More) => Turn::Over,
+        Err(Fault::Refused(Syntax { at })) => Turn::Fault { at },
+        Err(Fault::Memory) => Turn::Memory,
+    }
+}
