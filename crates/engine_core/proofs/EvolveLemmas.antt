@@ -55,9 +55,13 @@ column_fits operators tables at column value name p ready e =
     subst (IsFit operators tables) (ok_is (column_plan operators tables at name column source.0 known.0) p few.2) (record {
       wide = omega (arith, has.wide, length-append (columns_at operators source.0) (column ∷ []));
       few = few_length name (columns_at operators source.0 ++ column ∷ []) few.1;
-      added = (slice_get-within operators source.0 has.known.0 has.known.1, length has.known.0.columns, placed.wide,
-      omega (arith, ap length columns_is, length-append (columns_at operators source.0) (column ∷ [])),
-      subst (λ (w : ℕ). fits_row known.0 w ≡ true) (ap length columns_is) (resolved_fits (columns_at operators source.0) value known.0 (resolved_value (resolved (columns_at operators source.0) value) known.0 known.1)));
+      added = (
+        slice_get-within operators source.0 has.known.0 has.known.1,
+        length has.known.0.columns,
+        placed.wide,
+        omega (arith, ap length columns_is, length-append (columns_at operators source.0) (column ∷ [])),
+        subst (λ (w : ℕ). fits_row known.0 w ≡ true) (ap length columns_is) (resolved_fits (columns_at operators source.0) value known.0 (resolved_value (resolved (columns_at operators source.0) value) known.0 known.1)),
+      );
     })
 
 planned_fits : (g : Growth) (o : OpView) (p : Planned) → AreReady g.operators g.tables → planned g o ≡ Ok p → IsFit g.operators g.tables p
@@ -94,8 +98,9 @@ grown_ready : (g : Growth) (p : Planned) → AreReady g.operators g.tables → I
 grown_ready g p ready fit = record {
   even = omega (arith, ready.even, length-append g.tables (p.table ∷ []), length-append g.operators (p.made ∷ []));
   placed = λ place o e. elim (slice_get-push g.operators place p.made o e) [
-    inl h ↦ subst (λ (ws : List ℕ). IsPlaced ws place o) (sym (map-append (λ (t : Contents). t.width) g.tables (p.table ∷ []))) (stays_placed (widths g.tables) (p.table.width ∷ []) place o (ready.placed place o h))
-    | inr h ↦ subst (λ (m : Made). IsPlaced (widths (g.tables ++ p.table ∷ [])) place m) h.1 (subst (λ (n : ℕ). IsPlaced (widths (g.tables ++ p.table ∷ [])) n p.made) (sym h.0) (new_placed g.operators g.tables p ready.even fit)) ];
+    | inl h ↦ subst (λ (ws : List ℕ). IsPlaced ws place o) (sym (map-append (λ (t : Contents). t.width) g.tables (p.table ∷ []))) (stays_placed (widths g.tables) (p.table.width ∷ []) place o (ready.placed place o h))
+    | inr h ↦ subst (λ (m : Made). IsPlaced (widths (g.tables ++ p.table ∷ [])) place m) h.1 (subst (λ (n : ℕ). IsPlaced (widths (g.tables ++ p.table ∷ [])) n p.made) (sym h.0) (new_placed g.operators g.tables p ready.even fit))
+  ];
 }
 
 -- after an operator the tables fit the operators again

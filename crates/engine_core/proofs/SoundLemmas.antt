@@ -133,8 +133,9 @@ not_spent false b next limit e = inl refl
 pub ids_fit : (next limit count : ℕ) → enough_ids next limit count ≡ Ok tt → next ≤ 2 ^ 63 → limit < 2 ^ 63 → next + count ≤ 2 ^ 63
 ids_fit next limit count e fits below =
     elim (not_spent (nat_lt 0 count) (nat_lt (limit + 1) (next + count)) next limit e) [
-      inl h ↦ omega (arith, ltb-false 0 count h)
-      | inr h ↦ omega (arith, ltb-false (limit + 1) (next + count) h) ]
+      | inl h ↦ omega (arith, ltb-false 0 count h)
+      | inr h ↦ omega (arith, ltb-false (limit + 1) (next + count) h)
+    ]
 
 -- a sound state is sound after an INSERT
 pub inserted_sound : (s : State) (v : Version) (place : ℕ) (rows : List (List Value)) → IsSound s → enough_ids s.next s.limit (length rows) ≡ Ok tt → IsSound (inserted s v place rows)
@@ -143,7 +144,7 @@ inserted_sound s v place rows sound enough =
     let start : List Contents = slice_set s.tables place (with_rows (table_at s.tables place) (numbered s.next rows)) in
     let all : AllBelow next s.tables = λ at t e. below_more s.next next t.rows (omega arith) (sound.below at t e) in
     let new : AreBelow next (with_rows (table_at s.tables place) (numbered s.next rows)).rows =
-        below_append next (table_at s.tables place).rows (numbered s.next rows) (below_at next s.tables place all) (numbered_below next s.next rows (omega arith)) in
+    below_append next (table_at s.tables place).rows (numbered s.next rows) (below_at next s.tables place all) (numbered_below next s.next rows (omega arith)) in
     record {
       ready = same_ready s.operators s.tables (along s.operators s.tables start (walk_of s.operators v)) sound.ready
           (along-same s.operators s.tables start (walk_of s.operators v) sound.ready (written-same s.tables place (numbered s.next rows)));

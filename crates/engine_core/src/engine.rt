@@ -82,7 +82,12 @@ impl Engine {
         }
     }
 
-    fn act<L: Ledger>(&mut self, alloc: Global, statement: Statement, steps: &mut Steps<L>) -> Result<Reply, Fault<Refusal>>
+    fn act<L: Ledger>(
+        &mut self,
+        alloc: Global,
+        statement: Statement,
+        steps: &mut Steps<L>,
+    ) -> Result<Reply, Fault<Refusal>>
         ensures answers { Answers (acted (state_of self.old) (statement_view statement)) result (state_of self.new) }
         ensures same { OnErr result (state_of self.new ≡ state_of self.old) }
         ensures reply { IfOk result IsReply }
@@ -111,7 +116,12 @@ impl Engine {
         }
     }
 
-    fn create_version<L: Ledger>(&mut self, alloc: Global, evolution: Evolution<'_>, steps: &mut Steps<L>) -> Result<Reply, Fault<Refusal>>
+    fn create_version<L: Ledger>(
+        &mut self,
+        alloc: Global,
+        evolution: Evolution<'_>,
+        steps: &mut Steps<L>,
+    ) -> Result<Reply, Fault<Refusal>>
         ensures answers { Answers (acted_evolve (state_of self.old) evolution.entry.name.now evolution.entry.from.now (map op_view evolution.entry.texts.now)) result (state_of self.new) }
         ensures same { OnErr result (state_of self.new ≡ state_of self.old) }
         ensures reply { IfOk result IsReply }
@@ -127,7 +137,13 @@ impl Engine {
         Ok(Reply::Done)
     }
 
-    fn insert<L: Ledger>(&mut self, alloc: Global, table: &TableName, rows: &[Row], steps: &mut Steps<L>) -> Result<Reply, Fault<Refusal>>
+    fn insert<L: Ledger>(
+        &mut self,
+        alloc: Global,
+        table: &TableName,
+        rows: &[Row],
+        steps: &mut Steps<L>,
+    ) -> Result<Reply, Fault<Refusal>>
         ensures answers { Answers (acted_insert (state_of self.old) table.now rows.now) result (state_of self.new) }
         ensures same { OnErr result (state_of self.new ≡ state_of self.old) }
         ensures reply { IfOk result IsReply }

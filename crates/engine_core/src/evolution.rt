@@ -6,8 +6,8 @@ ghost use Rattle.engine_core.specs.State.{made_of, AreReady};
 ghost use Rattle.engine_core.specs.Evolve.{with_operator, with_operators, plan_view, grown_by, growth_of, start_of, standing_of, unused_version, version_named, evolved, evolved_to};
 ghost use Rattle.engine_core.specs.Kept.{parts_state};
 
-use crate::plan::{Plan, copy_places, plan_operator};
 use crate::lookup::find_version;
+use crate::plan::{Plan, copy_places, plan_operator};
 use crate::state::{Operator, Standing, Version};
 use crate::table::Table;
 use bidel_parser::OpText;
@@ -52,12 +52,24 @@ fn add_operator<L: Ledger>(
     ensures operators { take (length operators.old) operators.new ≡ operators.old }
     ensures tables { take (length tables.old) tables.new ≡ tables.old }
 {
-    let plan = plan_operator(alloc, operators.as_slice(), tables.as_slice(), &at, text, steps)?;
+    let plan = plan_operator(
+        alloc,
+        operators.as_slice(),
+        tables.as_slice(),
+        &at,
+        text,
+        steps,
+    )?;
     Ok(grow(operators, tables, at, plan)?)
 }
 
 // Puts what an operator makes behind the others.
-fn grow(operators: &mut List<Operator>, tables: &mut List<Table>, at: Standing, plan: Plan) -> Result<Standing, Memory>
+fn grow(
+    operators: &mut List<Operator>,
+    tables: &mut List<Table>,
+    at: Standing,
+    plan: Plan,
+) -> Result<Standing, Memory>
     ensures ok { IfOk result (λ next. growth_of operators.new tables.new next ≡ grown_by (growth_of operators.old tables.old at) (plan_view plan)) }
     ensures operators { take (length operators.old) operators.new ≡ operators.old }
     ensures tables { take (length tables.old) tables.new ≡ tables.old }
@@ -85,7 +97,12 @@ pub struct Evolution<'a> {
 }
 
 // Where an evolution starts: at the version that FROM names, or in a new tree.
-fn start(alloc: Global, versions: &[Version], operators: &[Operator], from: &Option<Name>) -> Result<Standing, Fault<Refusal>>
+fn start(
+    alloc: Global,
+    versions: &[Version],
+    operators: &[Operator],
+    from: &Option<Name>,
+) -> Result<Standing, Fault<Refusal>>
     ensures { Gives (λ x. x) result (start_of versions.now (map made_of operators.now) from.now) }
 {
     match from {
@@ -114,7 +131,11 @@ fn start_at(alloc: Global, versions: &[Version], name: &Name) -> Result<Standing
 }
 
 // Refuses the name of a live version.
-fn check_unused_version(alloc: Global, versions: &[Version], name: &Name) -> Result<(), Fault<Refusal>>
+fn check_unused_version(
+    alloc: Global,
+    versions: &[Version],
+    name: &Name,
+) -> Result<(), Fault<Refusal>>
     ensures { Gives (λ x. x) result (unused_version name.now (version_named versions.now name.now)) }
 {
     match find_version(versions, name) {
@@ -170,7 +191,12 @@ pub fn evolve<L: Ledger>(
     ensures operators { OnErr result (operators.new ≡ operators.old) }
     ensures tables { OnErr result (tables.new ≡ tables.old) }
 {
-    let at = start(alloc, versions.as_slice(), operators.as_slice(), evolution.from)?;
+    let at = start(
+        alloc,
+        versions.as_slice(),
+        operators.as_slice(),
+        evolution.from,
+    )?;
     check_unused_version(alloc, versions.as_slice(), evolution.name)?;
     let operator_count = operators.len();
     let table_count = tables.len();

@@ -112,7 +112,14 @@ fn write<L: Ledger>(
     let mut now = copy_tables(alloc, seen.tables)?;
     put(&mut now, place, written);
     let way = walk(alloc, seen.operators, version)?;
-    let made = run(alloc, seen.operators, seen.tables, now, way.as_slice(), steps)?;
+    let made = run(
+        alloc,
+        seen.operators,
+        seen.tables,
+        now,
+        way.as_slice(),
+        steps,
+    )?;
     Ok(List::from_vec(made))
 }
 

@@ -46,7 +46,12 @@ fn check_room(operators: &[Operator]) -> Result<(), Fault<Refusal>>
     Ok(())
 }
 
-fn check_unused(alloc: Global, operators: &[Operator], set: &[usize], name: &Name) -> Result<(), Fault<Refusal>>
+fn check_unused(
+    alloc: Global,
+    operators: &[Operator],
+    set: &[usize],
+    name: &Name,
+) -> Result<(), Fault<Refusal>>
     ensures { Gives (λ x. x) result (unused_name name.now (place_named (map made_of operators.now) set.now name.now)) }
 {
     match find_place(operators, set, name) {
@@ -58,7 +63,12 @@ fn check_unused(alloc: Global, operators: &[Operator], set: &[usize], name: &Nam
 }
 
 /// The place of the table of a working set with this name, or the refusal.
-pub fn known_place(alloc: Global, operators: &[Operator], set: &[usize], name: &Name) -> Result<usize, Fault<Refusal>>
+pub fn known_place(
+    alloc: Global,
+    operators: &[Operator],
+    set: &[usize],
+    name: &Name,
+) -> Result<usize, Fault<Refusal>>
     ensures { Gives (λ x. x) result (known_table name.now (place_named (map made_of operators.now) set.now name.now)) }
 {
     match find_place(operators, set, name) {
@@ -122,11 +132,23 @@ pub fn copy_places(alloc: Global, places: &[usize]) -> Result<List<usize>, Memor
 fn without(alloc: Global, places: &[usize], place: usize) -> Result<List<usize>, Memory>
     ensures { IfOk result (λ made. made ≡ filter (λ n. not (n == place)) places.now) }
 {
-    Ok(List::from_vec(places.iter().copied().filter(|n| *n != place).collect(alloc)?))
+    Ok(List::from_vec(
+        places
+            .iter()
+            .copied()
+            .filter(|n| *n != place)
+            .collect(alloc)?,
+    ))
 }
 
 /// CREATE TABLE: an empty table beside the tables of the working set.
-pub fn plan_table(alloc: Global, operators: &[Operator], at: &Standing, name: &Name, columns: &[Name]) -> Result<Plan, Fault<Refusal>>
+pub fn plan_table(
+    alloc: Global,
+    operators: &[Operator],
+    at: &Standing,
+    name: &Name,
+    columns: &[Name],
+) -> Result<Plan, Fault<Refusal>>
     ensures { Gives plan_view result (planned_table (map made_of operators.now) at.now name.now columns.now) }
 {
     check_room(operators)?;
@@ -223,7 +245,17 @@ pub fn plan_operator<L: Ledger>(
     ensures { Gives plan_view result (planned (record { operators = map made_of operators.now; tables = tables.now; at = at.now }) (op_view text.now)) }
 {
     match text {
-        OpText::CreateTable { table, columns } => plan_table(alloc, operators, at, table, columns.as_slice()),
-        OpText::AddColumn { column, value, table } => plan_column(alloc, operators, tables, at, column, value, table, steps),
+        OpText::CreateTable { table, columns } => plan_table(
+            alloc,
+            operators,
+            at,
+            table,
+            columns.as_slice(),
+        ),
+        OpText::AddColumn {
+            column,
+            value,
+            table,
+        } => plan_column(alloc, operators, tables, at, column, value, table, steps),
     }
 }

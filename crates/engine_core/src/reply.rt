@@ -5,6 +5,12 @@ use par_base::{List, Name, Row};
 #[derive(Drop)]
 pub enum Reply {
     Done,
-    Inserted { ids: List<u64> },
-    Rows { header: List<Name>, rows: List<Row>, csv: bool },
+    Inserted {
+        ids: List<u64>,
+    },
+    Rows {
+        header: List<Name>,
+        rows: List<Row>,
+        csv: bool,
+    },
 }

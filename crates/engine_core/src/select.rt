@@ -68,7 +68,11 @@ fn rows_of(tables: &[Table], place: usize) -> &[(u64, Row)]
 }
 
 /// The rows of a table with their identifiers. It takes time in the number of values of that table.
-pub fn select_rows(alloc: Global, seen: Snapshot<'_>, table: &TableName) -> Result<Reply, Fault<Refusal>>
+pub fn select_rows(
+    alloc: Global,
+    seen: Snapshot<'_>,
+    table: &TableName,
+) -> Result<Reply, Fault<Refusal>>
     requires { IsSound (seen_state seen) }
     ensures gives { Gives (λ reply. (reply, seen_state seen.entry)) result (acted_select (seen_state seen.entry) table.now) }
     ensures reply { IfOk result IsReply }

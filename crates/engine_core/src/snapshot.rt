@@ -30,7 +30,11 @@ pub struct FoundTable<'a> {
     pub place: usize,
 }
 
-fn known_version<'a>(alloc: Global, versions: &'a [Version], name: &Name) -> Result<&'a Version, Fault<Refusal>>
+fn known_version<'a>(
+    alloc: Global,
+    versions: &'a [Version],
+    name: &Name,
+) -> Result<&'a Version, Fault<Refusal>>
     ensures { Gives (λ v. v.now) result (known_version name.now (version_named versions.entry.now name.now)) }
 {
     match find_version(versions, name) {
@@ -41,7 +45,11 @@ fn known_version<'a>(alloc: Global, versions: &'a [Version], name: &Name) -> Res
     }
 }
 
-fn named_version<'a>(alloc: Global, seen: Snapshot<'a>, name: &Option<Name>) -> Result<&'a Version, Fault<Refusal>>
+fn named_version<'a>(
+    alloc: Global,
+    seen: Snapshot<'a>,
+    name: &Option<Name>,
+) -> Result<&'a Version, Fault<Refusal>>
     ensures { Gives (λ v. v.now) result (version_of (seen_state seen.entry) name.now) }
 {
     match name {
@@ -52,10 +60,19 @@ fn named_version<'a>(alloc: Global, seen: Snapshot<'a>, name: &Option<Name>) -> 
 
 /// The table that a statement names. It takes one comparison for each version and each table of
 /// the version before it.
-pub fn find_table<'a>(alloc: Global, seen: Snapshot<'a>, name: &TableName) -> Result<FoundTable<'a>, Fault<Refusal>>
+pub fn find_table<'a>(
+    alloc: Global,
+    seen: Snapshot<'a>,
+    name: &TableName,
+) -> Result<FoundTable<'a>, Fault<Refusal>>
     ensures { Gives found_view result (found (seen_state seen.entry) name.now) }
 {
     let version = named_version(alloc, seen, &name.version)?;
-    let place = known_place(alloc, seen.operators, version.tables.as_slice(), &name.table)?;
+    let place = known_place(
+        alloc,
+        seen.operators,
+        version.tables.as_slice(),
+        &name.table,
+    )?;
     Ok(FoundTable { version, place })
 }

@@ -44,7 +44,12 @@ fn steps_up(alloc: Global, way: &[usize]) -> Result<Vec<Step>, Memory>
     Ok(steps)
 }
 
-fn with_others(upward: Vec<Step>, operators: &[Operator], way: &[usize], tree: usize) -> Result<Vec<Step>, Memory>
+fn with_others(
+    upward: Vec<Step>,
+    operators: &[Operator],
+    way: &[usize],
+    tree: usize,
+) -> Result<Vec<Step>, Memory>
     ensures { IfOk result (λ steps. steps.items ≡ upward.items ++ others_from 0 way.now tree (map made_of operators.now)) }
 {
     let mut steps = upward;
@@ -54,7 +59,13 @@ fn with_others(upward: Vec<Step>, operators: &[Operator], way: &[usize], tree: u
     Ok(steps)
 }
 
-fn add_other(steps: &mut Vec<Step>, operator: &Operator, place: usize, way: &[usize], tree: usize) -> Result<(), Memory>
+fn add_other(
+    steps: &mut Vec<Step>,
+    operator: &Operator,
+    place: usize,
+    way: &[usize],
+    tree: usize,
+) -> Result<(), Memory>
     ensures { OnOk result (steps.new.items ≡ steps.old.items ++ other_step way.now tree place (made_of operator.now)) }
 {
     if operator.tree == tree && !way.contains(&place) {

@@ -7,9 +7,8 @@ use adapters::{Input, Output};
 use inverda_run::inverda;
 use par_base::SureFiles;
 use std::alloc::Global;
-use std::env;
-use std::io;
 use std::process::ExitCode;
+use std::{env, io};
 
 /// The status where memory ran out before the run.
 const NO_MEMORY: u8 = 1;
@@ -38,11 +37,5 @@ fn main(rt: HostRuntime) -> ExitCode {
     let mut script = Input::new(rt.stdin());
     let mut out = Output::new(rt.stdout());
     let mut files = SureFiles::new(alloc);
-    ExitCode::from(inverda(
-        alloc,
-        words.as_slice(),
-        &mut script,
-        &mut out,
-        &mut files,
-    ))
+    ExitCode::from(inverda(alloc, words.as_slice(), &mut script, &mut out, &mut files))
 }

@@ -4,7 +4,8 @@ use inverda_run::inverda;
 use par_base::{MemorySink, MemorySource, SureFiles};
 use std::test::Fail;
 
-const SCRIPT: &str = "CREATE SCHEMA VERSION v WITH CREATE TABLE t(a);\nINSERT INTO v.t VALUES (1);\n";
+const SCRIPT: &str =
+    "CREATE SCHEMA VERSION v WITH CREATE TABLE t(a);\nINSERT INTO v.t VALUES (1);\n";
 
 #[test]
 fn a_full_sink_holds_the_front_of_the_replies(rt: HostRuntime) -> Result<(), Fail> {

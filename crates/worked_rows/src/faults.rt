@@ -16,13 +16,34 @@ SELECT FROM v.t;
 #[test]
 fn a_byte_that_begins_no_token_is_the_fault(rt: HostRuntime) -> Result<(), Fail> {
     let script = "CREATE SCHEMA VERSION v WITH CREATE TABLE t(a);\n ?";
-    expect_run(&rt, rt.alloc(), script, &Ends::sure(), 3, "ok\nsyntax 2:2\n")
+    expect_run(
+        &rt,
+        rt.alloc(),
+        script,
+        &Ends::sure(),
+        3,
+        "ok\nsyntax 2:2\n",
+    )
 }
 
 #[test]
 fn the_end_inside_a_statement_is_the_fault(rt: HostRuntime) -> Result<(), Fail> {
-    expect_run(&rt, rt.alloc(), "SELECT * FROM v.t", &Ends::sure(), 3, "syntax 1:18\n")?;
-    expect_run(&rt, rt.alloc(), "SELECT *\n", &Ends::sure(), 3, "syntax 2:1\n")
+    expect_run(
+        &rt,
+        rt.alloc(),
+        "SELECT * FROM v.t",
+        &Ends::sure(),
+        3,
+        "syntax 1:18\n",
+    )?;
+    expect_run(
+        &rt,
+        rt.alloc(),
+        "SELECT *\n",
+        &Ends::sure(),
+        3,
+        "syntax 2:1\n",
+    )
 }
 
 #[test]

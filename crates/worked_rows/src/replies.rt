@@ -39,7 +39,14 @@ fn an_empty_script_gives_no_byte(rt: HostRuntime) -> Result<(), Fail> {
 #[test]
 fn an_empty_table_shows_its_header(rt: HostRuntime) -> Result<(), Fail> {
     let script = "CREATE SCHEMA VERSION v WITH CREATE TABLE t(a); SELECT * FROM v.t;";
-    expect_run(&rt, rt.alloc(), script, &Ends::sure(), 0, "ok\np|a\nrows 0\n")
+    expect_run(
+        &rt,
+        rt.alloc(),
+        script,
+        &Ends::sure(),
+        0,
+        "ok\np|a\nrows 0\n",
+    )
 }
 
 #[test]

@@ -12,10 +12,10 @@ pub returns-in-Ok-clause-gives : goal.returns-in-Ok-clause-gives
 returns-in-Ok-clause-gives g c = λ next limit.
     let name : List ℕ = c.args.evolution.name.now in
     let begins : start_of c.args.versions.now (map made_of c.args.operators.now) c.args.evolution.from.now ≡ Ok c.in_ok-at.at =
-        ap (λ (vs : List Version). start_of vs (map made_of c.args.operators.now) c.args.evolution.from.now) (sym c.as_slice.ensures)
-        ∙ ap (λ (os : List Operator). start_of c.as_slice.result.now (map made_of os) c.args.evolution.from.now) (sym c.as_slice-2.ensures) ∙ c.in_ok-at.ensures in
+    ap (λ (vs : List Version). start_of vs (map made_of c.args.operators.now) c.args.evolution.from.now) (sym c.as_slice.ensures)
+    ∙ ap (λ (os : List Operator). start_of c.as_slice.result.now (map made_of os) c.args.evolution.from.now) (sym c.as_slice-2.ensures) ∙ c.in_ok-at.ensures in
     let unused : unused_version name (version_named c.args.versions.now name) ≡ Ok tt =
-        ap (λ (vs : List Version). unused_version name (version_named vs name)) (sym c.as_slice-3.ensures) ∙ c.in_ok-check_unused_version.ensures in
+    ap (λ (vs : List Version). unused_version name (version_named vs name)) (sym c.as_slice-3.ensures) ∙ c.in_ok-check_unused_version.ensures in
     evolved-from (parts_state c.args.versions.now c.args.operators.now c.args.tables.now next limit) name c.args.evolution.from.now (map op_view c.args.evolution.texts.now) c.in_ok-at.at begins unused
     ∙ c.in-Ok.ensures.gives next limit
 
@@ -23,10 +23,10 @@ pub returns-in-Err-clause-gives : goal.returns-in-Err-clause-gives
 returns-in-Err-clause-gives g c = λ next limit.
     let name : List ℕ = c.args.evolution.name.now in
     let begins : start_of c.args.versions.now (map made_of c.args.operators.now) c.args.evolution.from.now ≡ Ok c.in_ok-at.at =
-        ap (λ (vs : List Version). start_of vs (map made_of c.args.operators.now) c.args.evolution.from.now) (sym c.as_slice.ensures)
-        ∙ ap (λ (os : List Operator). start_of c.as_slice.result.now (map made_of os) c.args.evolution.from.now) (sym c.as_slice-2.ensures) ∙ c.in_ok-at.ensures in
+    ap (λ (vs : List Version). start_of vs (map made_of c.args.operators.now) c.args.evolution.from.now) (sym c.as_slice.ensures)
+    ∙ ap (λ (os : List Operator). start_of c.as_slice.result.now (map made_of os) c.args.evolution.from.now) (sym c.as_slice-2.ensures) ∙ c.in_ok-at.ensures in
     let unused : unused_version name (version_named c.args.versions.now name) ≡ Ok tt =
-        ap (λ (vs : List Version). unused_version name (version_named vs name)) (sym c.as_slice-3.ensures) ∙ c.in_ok-check_unused_version.ensures in
+    ap (λ (vs : List Version). unused_version name (version_named vs name)) (sym c.as_slice-3.ensures) ∙ c.in_ok-check_unused_version.ensures in
     gives_fault {X = Unit {0}} (λ _. parts_state c.add_version.new.versions c.add_version.new.operators c.add_version.new.tables next limit)
     (λ _. parts_state c.add_version.new.versions c.truncate.new.self c.truncate-in-Err.new.self next limit) c.in-Err.fault _ _
     (sym (evolved-from (parts_state c.args.versions.now c.args.operators.now c.args.tables.now next limit) name c.args.evolution.from.now (map op_view c.args.evolution.texts.now) c.in_ok-at.at begins unused))

@@ -9,7 +9,7 @@ push-requires-clause-rises c =
     let rows = c.rows-entry-items in
     let short = λ (r : ℕ × List Value). take (c.args.target.now.width - 1) r.1 in
     let made_is : c.loop-entry.made.rows ≡ map (λ r. (r.0, short r)) (take c.loop-entry.entry-index rows.result.now) =
-        ap (λ (t : Contents). t.rows) c.loop-entry.invariant ∙ ap (λ (all : Rows). map (λ r. (r.0, short r)) (take c.loop-entry.entry-index all)) (sym rows.ensures.all) in
+    ap (λ (t : Contents). t.rows) c.loop-entry.invariant ∙ ap (λ (all : Rows). map (λ r. (r.0, short r)) (take c.loop-entry.entry-index all)) (sym rows.ensures.all) in
     subst (λ (front : Rows). RiseAbove 0 (front ++ (c.entry-item.result.0, c.in_ok-row.row) ∷ [])) (sym made_is)
     (RiseAbove-made short 0 rows.result.now c.loop-entry.entry-index _ c.entry-item.result c.in_ok-row.row rows.ensures.rise c.loop-entry-test.true c.entry-item.is)
 

@@ -19,7 +19,7 @@ push-requires-clause-rises g c =
     let source = c.args.source.now in
     let added = λ (r : ℕ × List Value). r.1 ++ added_value (expr_term c.args.value.now) source.width c.args.old.now.rows r ∷ [] in
     let made_is : c.loop-at.made.rows ≡ map (λ r. (r.0, added r)) (take c.loop-at.at rows.result.now) =
-        ap (λ (t : Contents). t.rows) c.loop-at.invariant ∙ ap (λ (all : Rows). map (λ r. (r.0, added r)) (take c.loop-at.at all)) (sym rows.ensures.all) in
+    ap (λ (t : Contents). t.rows) c.loop-at.invariant ∙ ap (λ (all : Rows). map (λ r. (r.0, added r)) (take c.loop-at.at all)) (sym rows.ensures.all) in
     subst (λ (front : Rows). RiseAbove 0 (front ++ (c.entry-item.result.0, c.in_ok-row.row) ∷ [])) (sym made_is)
     (RiseAbove-made added 0 rows.result.now c.loop-at.at _ c.entry-item.result c.in_ok-row.row rows.ensures.rise c.loop-at-test.true c.entry-item.is)
 
