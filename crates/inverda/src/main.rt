@@ -8,6 +8,7 @@ use inverda_run::inverda;
 use par_base::SureFiles;
 use std::alloc::Global;
 use std::process::ExitCode;
+use std::rt::Env;
 use std::{env, io};
 
 /// The status where memory ran out before the run.
