@@ -8,3 +8,7 @@ pub mod Fronts
 pub mod Steps
 pub mod Lists
 pub mod Lookahead
+pub mod Prefixes
+pub mod Signs
+pub mod Groups
+pub mod Bounded

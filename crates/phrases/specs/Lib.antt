@@ -4,3 +4,4 @@ pub mod Reads
 pub mod Fronts
 pub mod Chains
 pub mod Laws
+pub mod Levels
