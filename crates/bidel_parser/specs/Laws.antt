@@ -1,6 +1,9 @@
 -- What holds of statements and scripts, whatever the tokens are.
-use Rattle.std.specs.Prelude.{[]}
+use Rattle.std.specs.Prelude.{◌≡◌, ◌++◌, ℕ, List, [], drop}
+use Rattle.bidel_lex.specs.declared.tokens.Token.{Token}
+use Rattle.bidel_lex.specs.Tokens.{AreTokens}
 use Rattle.phrases.specs.Fronts as fronts
+use Rattle.bidel_parser.specs.Lexemes.{lexemes}
 use Rattle.bidel_parser.specs.Statements.{IsStatement, Script, stays_open}
 
 -- two statements at the front whose end is fixed are one
@@ -34,3 +37,12 @@ FaultStays = fronts.FaultStays IsStatement
 -- the first fault behind a front is the first fault of all
 abbrev pub FaultFollows : Type 0
 FaultFollows = fronts.FaultFollows stays_open IsStatement
+
+-- what tokens say stays as bytes come
+abbrev pub LexemesStay : Type 0
+LexemesStay = (bytes more : List ℕ) (tokens : List Token) → AreTokens bytes tokens → lexemes (bytes ++ more) tokens ≡ lexemes bytes tokens
+
+-- the tokens from a place on are tokens, and say what they said
+abbrev pub RestIsTokens : Type 0
+RestIsTokens = (bytes : List ℕ) (tokens : List Token) (at : ℕ) → AreTokens bytes tokens
+    → AreTokens bytes (drop at tokens) × (lexemes bytes (drop at tokens) ≡ drop at (lexemes bytes tokens))
