@@ -3,6 +3,10 @@ use Rattle.std.proofs.Common.{◌≡◌, ◌≤◌, ◌<◌, ◌+◌, ◌-◌, �
 use Rattle.std.proofs.lemmas.Bool.{leb-false, lt-leb}
 use Rattle.std.proofs.Math.Seq.{drop-cons}
 use Rattle.std.proofs.Math.ListN.{drop_of_length-le}
+use Rattle.std.specs.Char.{digit_value}
+use Rattle.std.specs.Str.Parse.{AllDigits, digits_value, digits_value_after}
+use Rattle.std.proofs.lemmas.Str.{digit_value_digit}
+use Rattle.std.proofs.lemmas.Str.Parse.{digit_from_value}
 use Rattle.bidel_parser.specs.Lexemes.{value_after}
 
 -- one more digit
@@ -38,3 +42,13 @@ too_great value at whole most digits h e over =
     let grown = value_grows (10 * value + (get_or digits at 0 - 48)) (drop (at + 1) digits) in
     let same = sym e ∙ value_at value at digits h in
     lt-leb whole most (omega (arith, grown, same, leb-false (10 * value + (get_or digits at 0 - 48)) most over))
+
+-- with decimal digits alone it is their value
+value_is : (value : ℕ) (digits : List ℕ) → AllDigits 10 digits → value_after value digits ≡ digits_value_after 10 value digits
+value_is value [] h = value_none value
+value_is value (digit ∷ digits) h =
+    let same : 10 * value + (digit - 48) ≡ value * 10 + digit_value digit = omega (arith, digit_value_digit digit (digit_from_value digit h.0)) in
+    value_cons value digit digits ∙ value_is (10 * value + (digit - 48)) digits h.1 ∙ ap (λ (n : ℕ). digits_value_after 10 n digits) same
+
+pub digits_have_value : (digits : List ℕ) → AllDigits 10 digits → value_after 0 digits ≡ digits_value 10 digits
+digits_have_value digits h = value_is 0 digits h

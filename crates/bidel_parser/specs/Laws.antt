@@ -1,9 +1,10 @@
 -- What holds of statements and scripts, whatever the tokens are.
 use Rattle.std.specs.Prelude.{◌≡◌, ◌++◌, ℕ, List, [], drop}
+use Rattle.std.specs.Str.Parse.{AllDigits, digits_value}
 use Rattle.bidel_lex.specs.declared.tokens.Token.{Token}
 use Rattle.bidel_lex.specs.Tokens.{AreTokens}
 use Rattle.phrases.specs.Fronts as fronts
-use Rattle.bidel_parser.specs.Lexemes.{lexemes}
+use Rattle.bidel_parser.specs.Lexemes.{lexemes, value_after}
 use Rattle.bidel_parser.specs.Statements.{IsStatement, Script, stays_open}
 
 -- two statements at the front whose end is fixed are one
@@ -46,3 +47,7 @@ LexemesStay = (bytes more : List ℕ) (tokens : List Token) → AreTokens bytes 
 abbrev pub RestIsTokens : Type 0
 RestIsTokens = (bytes : List ℕ) (tokens : List Token) (at : ℕ) → AreTokens bytes tokens
     → AreTokens bytes (drop at tokens) × (lexemes bytes (drop at tokens) ≡ drop at (lexemes bytes tokens))
+
+-- the value of decimal digits is what they write
+abbrev pub DigitsHaveValue : Type 0
+DigitsHaveValue = (digits : List ℕ) → AllDigits 10 digits → value_after 0 digits ≡ digits_value 10 digits

@@ -1,6 +1,6 @@
 //! Laws of statements and scripts, each the contract of a function that does nothing.
 
-ghost use Rattle.bidel_parser.specs.Laws.{EmptyScript, FaultFollows, FaultStays, FrontLeads, FrontPrecedes, FrontStays, LexemesStay, NoScript, OneFront, RestIsTokens};
+ghost use Rattle.bidel_parser.specs.Laws.{DigitsHaveValue, EmptyScript, FaultFollows, FaultStays, FrontLeads, FrontPrecedes, FrontStays, LexemesStay, NoScript, OneFront, RestIsTokens};
 
 /// Two statements at the front whose end is fixed are one.
 pub fn front_is_one()
@@ -50,4 +50,9 @@ pub fn lexemes_stay()
 /// The tokens from a place on are tokens, and say what they said.
 pub fn rest_is_tokens()
     ensures { RestIsTokens }
+{}
+
+/// The value of decimal digits is what they write.
+pub fn digits_have_value()
+    ensures { DigitsHaveValue }
 {}

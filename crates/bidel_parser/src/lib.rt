@@ -25,8 +25,9 @@ mod statements;
 mod terminals;
 
 pub use laws::{
-    fault_follows_front, fault_stays, front_is_one, front_leads_script, front_precedes_script,
-    front_stays, lexemes_stay, no_front_is_no_script, no_tokens_are_no_statements, rest_is_tokens,
+    digits_have_value, fault_follows_front, fault_stays, front_is_one, front_leads_script,
+    front_precedes_script, front_stays, lexemes_stay, no_front_is_no_script,
+    no_tokens_are_no_statements, rest_is_tokens,
 };
 pub use parse::parse_statement;
 pub use statement::{OpText, Parsed, Statement, Syntax, TableName};
