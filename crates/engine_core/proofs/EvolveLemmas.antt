@@ -1,5 +1,5 @@
 -- What an operator makes fits the operators and tables before it.
-use Rattle.std.proofs.Common.{◌≡◌, ℕ, ◌+◌, ◌<◌, ◌≤◌, ◌⊎◌, inl, inr, List, [], ◌∷◌, ◌++◌, true, length, length-append, map, Some, None, Ok, Err, refl, ap, ◌∙◌, sym, subst, arith, drop}
+use Rattle.std.proofs.Common.{◌≡◌, ℕ, ◌+◌, ◌<◌, ◌≤◌, inl, inr, List, [], ◌∷◌, ◌++◌, true, length, length-append, map, Some, None, Ok, Err, refl, ap, ◌∙◌, sym, subst, arith, drop}
 use Rattle.std.proofs.lemmas.List.{map-append, length-map}
 use Rattle.std.specs.Prelude.{Option, Result, slice_get, IfSome}
 use Rattle.std.specs.Option.{option_map_or}
@@ -13,11 +13,11 @@ use Rattle.bidel_parser.specs.Views.{OpView, CreateTable, AddColumn, op_view}
 use Rattle.bidel_parser.specs.declared.statement.OpText.{OpText}
 use Rattle.engine_core.specs.Tables.{Contents}
 use Rattle.engine_core.specs.Checks.{Checked, ◌then◌, Gives}
-use Rattle.engine_core.specs.State.{State, Made, Origin, IsPlaced, AreReady, widths, table_at}
+use Rattle.engine_core.specs.State.{State, Made, Origin, IsPlaced, AreReady, widths}
 use Rattle.engine_core.specs.Evolve.{Growth, Planned, planned, planned_table, planned_column, column_plan, grown_by, with_operator, with_operators, evolved, evolved_to, start_of, unused_version, version_named, room_for_operator, unused_name, known_table, place_named, columns_at, new_columns, repeated, row_name, few_columns, known_columns}
 use Rattle.engine_core.specs.declared.state.Standing.{Standing}
 use Rattle.engine_core.proofs.PushLemmas.{slice_get-push, slice_get-more, slice_get-last, slice_get-within}
-use Rattle.engine_core.proofs.PlanLemmas.{HasTable, known_has_table, few_length, resolved_value, resolved_fits}
+use Rattle.engine_core.proofs.PlanLemmas.{known_has_table, few_length, resolved_value, resolved_fits}
 
 -- the check before gave something
 pub then_ok : {A B : Type 0} (r : Result A Refusal) (f : A → Result B Refusal) (y : B) → (r then f) ≡ Ok y → (x : A) × (r ≡ Ok x) × (f x ≡ Ok y)

@@ -1,10 +1,8 @@
 -- New rows under new identifiers.
-use Rattle.std.proofs.Common.{◌≡◌, ℕ, zero, suc, ◌+◌, ◌<◌, ◌≤◌, List, [], ◌∷◌, ◌++◌, Bool, true, false, cond, length, length-append, get_or, take, take-suc, length-take, map, Ok, Err, refl, ap, ◌∙◌, sym, subst, arith, append_assoc, add-one, eqb}
+use Rattle.std.proofs.Common.{◌≡◌, ℕ, zero, suc, ◌+◌, ◌<◌, ◌≤◌, List, [], ◌∷◌, ◌++◌, Bool, true, false, cond, length, get_or, take, take-suc, length-take, Ok, Err, refl, ap, ◌∙◌, sym, subst, arith, append_assoc, add-one, eqb}
 use Rattle.std.proofs.lemmas.List.{map-append}
-use Rattle.std.specs.Prelude.{Result}
 use Rattle.std.proofs.lemmas.Bool.{eqb-true}
 use Rattle.par_base.specs.declared.value.Value.{Value}
-use Rattle.par_base.specs.declared.refusal.Refusal.{Refusal}
 use Rattle.par_base.specs.declared.refusal.Refusal.TheVariants.{WrongCount}
 use Rattle.engine_core.specs.Tables.{Rows, Contents, RiseAbove, AreBelow}
 use Rattle.engine_core.specs.Checks.{Checked}

@@ -5,15 +5,14 @@ use Rattle.std.specs.Str.{bytes_eq}
 use Rattle.std.specs.List.{find}
 use Rattle.std.specs.Option.{option_map_or}
 use Rattle.std.proofs.lemmas.Bool.{ltb-false}
-use Rattle.par_base.specs.declared.refusal.Refusal.{Refusal}
-use Rattle.par_base.specs.declared.refusal.Refusal.TheVariants.{UnknownTable, TooManyColumns}
+use Rattle.par_base.specs.declared.refusal.Refusal.TheVariants.{TooManyColumns}
 use Rattle.expr_lang.specs.Terms.{Term}
 use Rattle.expr_lang.specs.Val.{fits_row}
 use Rattle.expr_lang.specs.Resolved.{resolved}
 use Rattle.expr_lang.proofs.Resolving.{resolved-fits}
 use Rattle.engine_core.specs.Tables.{Contents}
 use Rattle.engine_core.specs.Checks.{Checked}
-use Rattle.engine_core.specs.State.{Made, table_at, widths, AreReady}
+use Rattle.engine_core.specs.State.{Made, table_at, AreReady}
 use Rattle.engine_core.specs.Evolve.{is_named, place_named, known_table, columns_at, few_columns, known_columns}
 use Rattle.engine_core.proofs.WalkLemmas.{width_at}
 

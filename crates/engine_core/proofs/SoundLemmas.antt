@@ -1,18 +1,17 @@
 -- Every event leaves a sound state.
 use Rattle.std.proofs.Common.{◌≡◌, ℕ, zero, suc, ◌+◌, ◌-◌, ◌<◌, ◌≤◌, ◌^◌, ◌⊎◌, inl, inr, List, [], ◌∷◌, ◌++◌, Bool, true, false, cond, length, get_or, take, map, Ok, Err, Some, None, refl, ap, ◌∙◌, sym, subst, arith}
-use Rattle.std.specs.Prelude.{Option, Result, slice_get, slice_set, max, nat_lt, ◌&&◌, All}
+use Rattle.std.specs.Prelude.{Option, slice_get, slice_set, max, nat_lt, ◌&&◌, All}
 use Rattle.std.specs.List.{AllByRecursion}
 use Rattle.std.proofs.lemmas.List.Elements.{All-from_recursion}
 use Rattle.std.proofs.lemmas.List.{length-map}
-use Rattle.std.proofs.lemmas.Bool.{ltb-false, ltb-true}
+use Rattle.std.proofs.lemmas.Bool.{ltb-false}
 use Rattle.par_base.specs.declared.value.Value.{Value}
-use Rattle.par_base.specs.declared.refusal.Refusal.{Refusal}
 use Rattle.par_base.specs.declared.refusal.Refusal.TheVariants.{IdsSpent}
 use Rattle.bidel_parser.specs.declared.statement.TableName.{TableName}
 use Rattle.engine_core.specs.Tables.{Rows, Contents, AreBelow, AreWide}
 use Rattle.engine_core.specs.Mappings.{forward_of, backward_of}
 use Rattle.engine_core.specs.Checks.{Checked}
-use Rattle.engine_core.specs.State.{State, Made, Origin, IsPlaced, IsSound, AreReady, AreSame, widths, table_at, no_table}
+use Rattle.engine_core.specs.State.{State, Made, Origin, IsPlaced, IsSound, AreReady, AreSame, table_at}
 use Rattle.engine_core.specs.Walk.{origin_at, taken_back, carried_on, after_step, along, walk_of, numbered, with_rows, inserted}
 use Rattle.engine_core.specs.Evolve.{Growth, Planned, planned, column_plan, grown_by, with_operator, with_operators, evolved, evolved_to, start_of, unused_version, version_named, room_for_operator, unused_name, known_table, place_named, columns_at, new_columns, repeated, row_name, few_columns, known_columns}
 use Rattle.expr_lang.specs.Resolved.{resolved}

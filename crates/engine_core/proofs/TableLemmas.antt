@@ -1,7 +1,6 @@
 -- Rows that rise, and rows of one width.
-use Rattle.std.proofs.Common.{◌≡◌, ℕ, zero, suc, ◌+◌, ◌<◌, ◌≤◌, List, [], ◌∷◌, ◌++◌, Bool, true, false, cond, length, get_or, Some, refl, ap, ◌∙◌, sym, arith, eqb, eq-eqb, map, take, subst}
+use Rattle.std.proofs.Common.{◌≡◌, ℕ, zero, suc, ◌<◌, List, [], ◌∷◌, ◌++◌, Bool, cond, length, get_or, Some, refl, ap, ◌∙◌, sym, arith, eqb, eq-eqb, map, take, subst}
 use Rattle.std.proofs.lemmas.Bool.{ne_eqb}
-use Rattle.std.specs.Prelude.{Option}
 use Rattle.par_base.specs.declared.value.Value.{Value}
 use Rattle.engine_core.specs.Tables.{Rows, RiseAbove, AreWide, row_of}
 

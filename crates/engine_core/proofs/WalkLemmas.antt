@@ -1,11 +1,10 @@
 -- The tables along a walk keep their widths.
-use Rattle.std.proofs.Common.{◌≡◌, ℕ, zero, suc, ◌+◌, ◌-◌, ◌<◌, ◌≤◌, List, [], ◌∷◌, ◌++◌, Bool, true, false, cond, length, Some, None, refl, ap, ◌∙◌, sym, subst, arith, map, drop, get_or, append_assoc, drop-cons, add-one}
+use Rattle.std.proofs.Common.{◌≡◌, ℕ, zero, suc, ◌+◌, ◌<◌, List, [], ◌∷◌, ◌++◌, true, length, Some, None, refl, ap, ◌∙◌, sym, subst, arith, map, drop, get_or, append_assoc, drop-cons, add-one}
 use Rattle.std.specs.Prelude.{Option, slice_get, slice_set, option_and_then, IfSome}
-use Rattle.expr_lang.specs.Terms.{Term}
 use Rattle.expr_lang.specs.Val.{fits_row}
 use Rattle.engine_core.specs.Tables.{Contents}
 use Rattle.engine_core.specs.Mappings.{forward_of, backward_of}
-use Rattle.engine_core.specs.State.{Made, Origin, IsPlaced, table_at, made_of, widths, AreReady, AreSame}
+use Rattle.engine_core.specs.State.{Made, Origin, table_at, made_of, widths, AreReady, AreSame}
 use Rattle.engine_core.specs.Walk.{origin_at, taken_back, carried_on, after_step, along, other_step, others_from}
 use Rattle.engine_core.specs.declared.state.Operator.{Operator}
 use Rattle.engine_core.specs.declared.walk.Step.{Step}

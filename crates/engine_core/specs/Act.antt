@@ -1,5 +1,5 @@
 -- One event: the reply or refusal of a statement, and the next state.
-use Rattle.std.specs.Prelude.{ℕ, ◌+◌, max, Bool, true, false, ◌&&◌, ◌==◌, nat_lt, List, [], ◌∷◌, map, length, Option, Some, None, Result, Ok, Err, if◌then◌else◌}
+use Rattle.std.specs.Prelude.{ℕ, ◌+◌, max, Bool, true, false, ◌&&◌, ◌==◌, nat_lt, List, [], ◌∷◌, map, length, Option, Some, None, Ok, Err, if◌then◌else◌}
 use Rattle.par_base.specs.declared.value.Value.{Value}
 use Rattle.par_base.specs.declared.value.Value.TheVariants.{Reference}
 use Rattle.par_base.specs.declared.refusal.Refusal.{Refusal}
@@ -7,7 +7,7 @@ use Rattle.par_base.specs.declared.refusal.Refusal.TheVariants.{NotBuilt, NoVers
 use Rattle.expr_lang.specs.Terms.{Term}
 use Rattle.bidel_parser.specs.declared.statement.TableName.{TableName}
 use Rattle.bidel_parser.specs.Views.{OpView, StatementView, CreateVersion, Insert, Select}
-use Rattle.engine_core.specs.Tables.{Contents, Rows}
+use Rattle.engine_core.specs.Tables.{Rows}
 use Rattle.engine_core.specs.Checks.{Checked, ◌then◌}
 use Rattle.engine_core.specs.State.{State, table_at}
 use Rattle.engine_core.specs.Walk.{inserted, numbered}

@@ -1,9 +1,8 @@
 -- CREATE SCHEMA VERSION: the checks and the effect of each operator.
-use Rattle.std.specs.Prelude.{ℕ, ◌+◌, Bool, false, not, ◌==◌, nat_le, nat_lt, List, [], ◌∷◌, ◌++◌, codes, filter, map, length, Option, Some, None, Result, Ok, Err, slice_get, if◌then◌else◌}
+use Rattle.std.specs.Prelude.{ℕ, Bool, false, not, ◌==◌, nat_le, nat_lt, List, [], ◌∷◌, ◌++◌, codes, filter, map, length, Option, Some, None, Result, Ok, Err, slice_get, if◌then◌else◌}
 use Rattle.std.specs.List.{find, list_any}
 use Rattle.std.specs.Str.{bytes_eq}
 use Rattle.std.specs.Option.{option_map_or}
-use Rattle.par_base.specs.declared.refusal.Refusal.{Refusal}
 use Rattle.par_base.specs.declared.refusal.Refusal.TheVariants.{UnknownVersion, VersionExists, UnknownTable, TableExists, UnknownColumn, ColumnExists, TooManyOperators, TooManyColumns}
 use Rattle.expr_lang.specs.Terms.{Term}
 use Rattle.expr_lang.specs.Resolved.{resolved}
@@ -11,7 +10,7 @@ use Rattle.bidel_parser.specs.Views.{OpView, CreateTable, AddColumn}
 use Rattle.engine_core.specs.Tables.{Contents}
 use Rattle.engine_core.specs.Mappings.{forward_of}
 use Rattle.engine_core.specs.Checks.{Checked, ◌then◌}
-use Rattle.engine_core.specs.State.{Made, Origin, State, made_of, table_at, no_table}
+use Rattle.engine_core.specs.State.{Made, State, made_of, table_at, no_table}
 use Rattle.engine_core.specs.declared.state.Version.{Version}
 use Rattle.engine_core.specs.declared.state.Standing.{Standing}
 use Rattle.engine_core.specs.declared.state.Operator.{Operator}

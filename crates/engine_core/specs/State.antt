@@ -1,5 +1,5 @@
 -- The state of the model: versions, the operators that made their tables, and a whole table for each operator.
-use Rattle.std.specs.Prelude.{◌≡◌, ℕ, ◌<◌, ◌≤◌, ◌+◌, ◌^◌, List, [], ◌∷◌, map, length, true, Option, Some, None, unwrap_or, option_and_then, slice_get, IfSome, refl}
+use Rattle.std.specs.Prelude.{◌≡◌, ℕ, ◌<◌, ◌≤◌, ◌+◌, ◌^◌, List, [], map, length, true, Option, Some, unwrap_or, slice_get, IfSome}
 use Rattle.std.specs.Option.{option_map}
 use Rattle.expr_lang.specs.Terms.{Term, expr_term}
 use Rattle.expr_lang.specs.Val.{fits_row}

@@ -1,6 +1,6 @@
 -- Tables: identifiers with their rows.
 use Rattle.std.specs.Prelude.{◌≡◌, ℕ, ◌<◌, ◌==◌, List, [], ◌∷◌, length, if◌then◌else◌, Option, Some, None, refl}
-use Rattle.std.specs.Coded.{Coded, code_by, coded×, coded_ℕ, coded_list}
+use Rattle.std.specs.Coded.{Coded, code_by, coded×, coded_ℕ}
 use Rattle.par_base.specs.declared.value.Value.{Value}
 
 -- identifiers with the values of their rows

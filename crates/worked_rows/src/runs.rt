@@ -9,6 +9,7 @@ const ROOM: usize = 65536;
 
 /// Where the calls fail: the numbers of failing calls of the source and of the sink, and the room
 /// of the sink.
+#[derive(Clone, Copy)]
 pub struct Ends<'a> {
     pub takes: &'a [u64],
     pub puts: &'a [u64],

@@ -1,4 +1,4 @@
-use Rattle.std.proofs.Common.{◌≡◌, ◌+◌, ◌∷◌, map, take, drop, length, sym, ◌∙◌, ap}
+use Rattle.std.proofs.Common.{◌+◌, ◌∷◌, drop, sym, ◌∙◌, ap}
 use Rattle.bidel_parser.specs.Views.{op_view}
 use Rattle.engine_core.specs.Evolve.{growth_of}
 use Rattle.engine_core.proofs.PushLemmas.{front-trans}

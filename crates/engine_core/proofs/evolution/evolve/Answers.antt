@@ -1,4 +1,4 @@
-use Rattle.std.proofs.Common.{◌≡◌, ◌∙◌, ℕ, List, Ok, sym, ap, subst, map}
+use Rattle.std.proofs.Common.{◌≡◌, ◌∙◌, ℕ, List, Ok, sym, ap, map}
 use Rattle.bidel_parser.specs.Views.{op_view}
 use Rattle.engine_core.specs.State.{made_of}
 use Rattle.engine_core.specs.Evolve.{start_of, unused_version, version_named}

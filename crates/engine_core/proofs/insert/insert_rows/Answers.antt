@@ -1,7 +1,6 @@
 use Rattle.std.proofs.Common.{◌≡◌, ◌∙◌, sym, ap, subst, Ok, length, ℕ}
 use Rattle.engine_core.specs.Act.{right_counts}
 use Rattle.engine_core.specs.Kept.{seen_state, found_view}
-use Rattle.engine_core.proofs.PlanLemmas.{HasTable}
 use Rattle.engine_core.proofs.SoundLemmas.{found_table}
 use Rattle.engine_core.proofs.insert.insert_rows.Goals as goal
 

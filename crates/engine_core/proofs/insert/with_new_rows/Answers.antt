@@ -1,4 +1,4 @@
-use Rattle.std.proofs.Common.{◌≡◌, ◌+◌, ◌∙◌, sym, ap, arith, take, length}
+use Rattle.std.proofs.Common.{◌∙◌, sym, ap, arith, length}
 use Rattle.engine_core.specs.Tables.{Contents}
 use Rattle.engine_core.proofs.InsertLemmas.{rows-push, rises-push, right_counts-at}
 use Rattle.engine_core.proofs.insert.with_new_rows.Goals as goal

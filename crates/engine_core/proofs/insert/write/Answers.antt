@@ -1,8 +1,8 @@
-use Rattle.std.proofs.Common.{◌≡◌, ◌∙◌, sym, ap, subst, map, List}
+use Rattle.std.proofs.Common.{◌∙◌, sym, ap, subst, map, List}
 use Rattle.std.specs.Prelude.{slice_set}
 use Rattle.engine_core.specs.Tables.{Contents}
 use Rattle.engine_core.specs.State.{made_of, table_at, AreSame}
-use Rattle.engine_core.specs.Walk.{along, walk_of, numbered, with_rows}
+use Rattle.engine_core.specs.Walk.{along, numbered, with_rows}
 use Rattle.engine_core.specs.declared.walk.Step.{Step}
 use Rattle.engine_core.proofs.SoundLemmas.{put_written, written-same}
 use Rattle.engine_core.proofs.insert.write.Goals as goal

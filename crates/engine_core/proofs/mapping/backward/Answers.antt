@@ -1,4 +1,4 @@
-use Rattle.std.proofs.Common.{◌≡◌, ◌-◌, ◌++◌, ◌∷◌, [], sym, ◌∙◌, ap, subst, ◌<◌, ℕ, List, length, map, take, arith, length-take}
+use Rattle.std.proofs.Common.{◌≡◌, ◌-◌, ◌++◌, ◌∷◌, [], sym, ◌∙◌, ap, subst, ℕ, List, length, map, take, arith, length-take}
 use Rattle.par_base.specs.declared.value.Value.{Value}
 use Rattle.engine_core.specs.Tables.{Rows, Contents, RiseAbove}
 use Rattle.engine_core.proofs.TableLemmas.{AreWide-at, RiseAbove-made}

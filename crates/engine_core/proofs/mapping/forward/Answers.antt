@@ -1,4 +1,4 @@
-use Rattle.std.proofs.Common.{◌≡◌, ◌+◌, ◌++◌, ◌∷◌, [], sym, ◌∙◌, ap, subst, ◌<◌, ℕ, List, length, map, take, true, arith, length-append}
+use Rattle.std.proofs.Common.{◌≡◌, ◌+◌, ◌++◌, ◌∷◌, [], sym, ◌∙◌, ap, subst, ℕ, List, length, map, take, true, arith, length-append}
 use Rattle.par_base.specs.declared.value.Value.{Value}
 use Rattle.expr_lang.specs.Terms.{expr_term}
 use Rattle.expr_lang.specs.Val.{fits_row}

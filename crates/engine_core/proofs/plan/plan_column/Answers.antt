@@ -1,9 +1,9 @@
-use Rattle.std.proofs.Common.{◌≡◌, ◌+◌, ◌∷◌, [], ◌++◌, ℕ, List, length, length-append, map, true, sym, ◌∙◌, ap, subst, arith}
+use Rattle.std.proofs.Common.{◌≡◌, ℕ, List, length, length-append, map, true, sym, ◌∙◌, ap, subst, arith}
 use Rattle.expr_lang.specs.Terms.{text_term, expr_term}
 use Rattle.expr_lang.specs.Val.{fits_row}
 use Rattle.expr_lang.specs.Resolved.{resolved}
 use Rattle.engine_core.specs.State.{made_of}
-use Rattle.engine_core.proofs.PlanLemmas.{HasTable, known_has_table, few_length, resolved_value, resolved_fits}
+use Rattle.engine_core.proofs.PlanLemmas.{known_has_table, few_length, resolved_value, resolved_fits}
 use Rattle.engine_core.proofs.plan.plan_column.Goals as goal
 
 pub first_target-requires-clause-within : goal.first_target-requires-clause-within

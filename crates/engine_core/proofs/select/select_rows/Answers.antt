@@ -1,4 +1,4 @@
-use Rattle.std.proofs.Common.{◌≡◌, ◌+◌, ◌∙◌, sym, ap, subst, length, arith, List}
+use Rattle.std.proofs.Common.{◌≡◌, ◌+◌, sym, ap, subst, length, arith, List}
 use Rattle.std.specs.Prelude.{All}
 use Rattle.par_base.specs.declared.value.Value.{Value}
 use Rattle.engine_core.specs.State.{table_at}

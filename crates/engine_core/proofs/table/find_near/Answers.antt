@@ -1,4 +1,4 @@
-use Rattle.std.proofs.Common.{◌≡◌, ◌∙◌, sym, ap, arith, Some, ◌<◌, ℕ, length, subst}
+use Rattle.std.proofs.Common.{◌≡◌, sym, Some, ◌<◌, ℕ, length, subst}
 use Rattle.std.proofs.lemmas.Bool.{ltb-true}
 use Rattle.engine_core.specs.Tables.{row_of}
 use Rattle.engine_core.proofs.TableLemmas.{row_of-at}

@@ -1,4 +1,4 @@
-use Rattle.std.proofs.Common.{◌≡◌, ◌+◌, ◌∷◌, sym, subst, map, drop, arith, ◌∙◌, refl, drop-cons, add-one, List}
+use Rattle.std.proofs.Common.{sym, subst, map, ◌∙◌, List}
 use Rattle.engine_core.specs.State.{made_of, AreSame}
 use Rattle.engine_core.specs.Tables.{Contents}
 use Rattle.engine_core.proofs.WalkLemmas.{after_step-same, along-step, drop_at}

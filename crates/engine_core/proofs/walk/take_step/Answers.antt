@@ -1,6 +1,6 @@
-use Rattle.std.proofs.Common.{◌≡◌, sym, map, arith, refl}
+use Rattle.std.proofs.Common.{sym, map, arith, refl}
 use Rattle.engine_core.specs.State.{made_of, origin_of}
-use Rattle.engine_core.proofs.WalkLemmas.{CanStep, can_step}
+use Rattle.engine_core.proofs.WalkLemmas.{can_step}
 use Rattle.engine_core.proofs.walk.take_step.Goals as goal
 
 pub take_back-requires-clause-within : goal.take_back-requires-clause-within

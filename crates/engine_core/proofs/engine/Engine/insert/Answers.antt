@@ -1,4 +1,4 @@
-use Rattle.std.proofs.Common.{◌≡◌, ◌∙◌, sym, ap, subst}
+use Rattle.std.proofs.Common.{◌∙◌, sym, ap, subst}
 use Rattle.engine_core.specs.State.{State, IsSound}
 use Rattle.engine_core.specs.Kept.{state_of, seen_state, written_reply}
 use Rattle.engine_core.proofs.SoundLemmas.{acted_insert_sound}
