@@ -13,7 +13,7 @@ use Rattle.inverda_run.specs.Script.{HasFault, Leads, last_of, earlier, OneFault
 use Rattle.inverda_run.proofs.TokenLemmas.{tokens_are_one}
 
 -- where no statement stands, none is at the front
-front_none : (ts : List Lexeme) (m : ℕ) (st : StatementView) (used : ℕ) → m ≡ 0 → NoFront true (drop m ts) → IsFront true ts st used → ⊥
+pub front_none : (ts : List Lexeme) (m : ℕ) (st : StatementView) (used : ℕ) → m ≡ 0 → NoFront true (drop m ts) → IsFront true ts st used → ⊥
 front_none ts m st used zero none f =
     subst (λ (k : ℕ). NoFront true (drop k ts)) zero none st (take used ts) (drop used ts) (sym (take-append-drop used ts)) f.spelled f.over
 

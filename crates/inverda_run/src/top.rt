@@ -3,7 +3,7 @@ ghost use Rattle.std.specs.Prelude.{◌≡◌, ◌≢◌, ◌⊎◌, ◌≤◌, 
 ghost use Rattle.std.specs.Io.KnownBytes.{Appends};
 ghost use Rattle.par_base.specs.Causes.{Rose};
 ghost use Rattle.engine_core.specs.Texts.{line};
-ghost use Rattle.inverda_run.specs.Statuses.{Done, Answers, Stopped, Passed, HadFault, HadMore, HadScript};
+ghost use Rattle.inverda_run.specs.Statuses.{Done, Answers, Begun, Stopped, Passed, HadFault, HadMore, HadScript};
 ghost use Rattle.inverda_run.specs.Calls.{Ends};
 
 use crate::end::End;
@@ -81,6 +81,9 @@ pub fn inverda<S: Source, K: Sink, F: Files>(
     ensures read { result ≡ 5 → (words.now ≡ []) × Rose (S.faults script.old) (S.faults script.new) × Appends (K.held out.old) (K.held out.new) (line (codes "read fault")) }
     ensures write { result ≡ 6 → Rose (K.faults out.old) (K.faults out.new) }
     ensures long { result ≡ 7 → (words.now ≡ []) × Passed (S.left script.old) (S.left script.new) (K.held out.old) (K.held out.new) }
+
+    // Where memory or the sink gave out, a front was put of what else would have been.
+    ensures begun { (result ≡ 1) ⊎ (result ≡ 6) → words.now ≡ [] → ¬ Rose (S.faults script.old) (S.faults script.new) → Begun (S.left script.old) (K.held out.old) (K.held out.new) }
 
     // No count falls, and the files stay as they were.
     ensures later_read { S.faults script.old ≤ S.faults script.new }
