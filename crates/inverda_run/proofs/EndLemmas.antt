@@ -130,7 +130,7 @@ stops_front bytes before at held mid held' none f p q text (inr a) =
     let one = one_fault bytes before a.before at a.at f a.fault in
     let line : List ℕ = fault_line (place_of bytes at) in
     let same : out_of before ++ line ≡ text =
-        ap (λ (l : List StatementView). out_of l ++ line) one.0 ∙ ap (λ (n : ℕ). out_of a.before ++ fault_line (place_of bytes n)) one.1 ∙ sym a.same in
+    ap (λ (l : List StatementView). out_of l ++ line) one.0 ∙ ap (λ (n : ℕ). out_of a.before ++ fault_line (place_of bytes n)) one.1 ∙ sym a.same in
     subst (PutsFront held held') same (puts_behind held mid held' (out_of before) line p q)
 
 -- the last line of a fault, behind the lines that answer the statements before it
@@ -182,11 +182,6 @@ read_told None left' told bytes h r = cc
 read_told (Some b) None told bytes h r = absurd r.taken
 read_told (Some b) (Some rest) told bytes h r =
     sym (some_same b told h) ∙ r.taken ∙ ap (λ (l : List ℕ). bytes ++ l) r.whole ∙ append-nil bytes
-
--- nothing was put
-pub begun_none : (left held held' : Option (List ℕ)) → held' ≡ held → Begun left held held'
-begun_none None held held' same = tt
-begun_none (Some b) held held' same = λ within text w. puts_none held held' text same
 
 -- what was put begins what the run of the bytes that the source told puts
 begun_read : (left left' held held' : Option (List ℕ)) (bytes : List ℕ) → WasRead left left' bytes → BeginsScript bytes held held' → Begun left held held'

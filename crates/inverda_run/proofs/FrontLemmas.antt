@@ -30,8 +30,9 @@ use Rattle.inverda_run.proofs.FaultLemmas.{front_none}
 -- a front of bytes is one of more bytes
 pub puts_more : (held held' : Option (List ℕ)) (xs ys : List ℕ) → PutsFront held held' xs → PutsFront held held' (xs ++ ys)
 puts_more held held' xs ys p = elim (leb_tells p.0 (length xs)) [
-  inl k ↦ (p.0, subst (Appends held held') (sym (take-append-le p.0 xs ys k.1)) p.1)
-  | inr k ↦ (length xs, subst (Appends held held') (take_all p.0 xs (omega (arith, k.1)) ∙ sym (take_at xs ys (length xs) refl)) p.1) ]
+  | inl k ↦ (p.0, subst (Appends held held') (sym (take-append-le p.0 xs ys k.1)) p.1)
+  | inr k ↦ (length xs, subst (Appends held held') (take_all p.0 xs (omega (arith, k.1)) ∙ sym (take_at xs ys (length xs) refl)) p.1)
+]
 
 -- bytes, and a front of others
 pub puts_behind : (held mid held' : Option (List ℕ)) (xs ys : List ℕ) → Appends held mid xs → PutsFront mid held' ys → PutsFront held held' (xs ++ ys)
@@ -55,10 +56,10 @@ leads_first ts [] before m n h k none = (before, refl)
 leads_first ts (s ∷ sts) [] m n h k none = absurd (front_none ts n s h.0 k none h.3)
 leads_first ts (s ∷ sts) (t ∷ before) m n h k none =
     let same = one_front true ts (take h.0 ts) (drop h.0 ts) s (take k.0 ts) (drop k.0 ts) t
-        (sym (take-append-drop h.0 ts)) h.3.spelled h.3.over (sym (take-append-drop k.0 ts)) k.3.spelled k.3.over in
+    (sym (take-append-drop h.0 ts)) h.3.spelled h.3.over (sym (take-append-drop k.0 ts)) k.3.spelled k.3.over in
     let left : drop n ts ≡ drop k.1 (drop h.0 ts) = ap (λ (i : ℕ). drop i ts) k.2 ∙ sym (drop-drop k.1 k.0 ts) ∙ ap (drop k.1) (sym same.1) in
     let inner = leads_first (drop h.0 ts) sts before h.1 k.1 h.4 (subst (λ (l : List Lexeme). Leads l before k.1) (sym same.1) k.4)
-        (subst (NoFront true) left none) in
+    (subst (NoFront true) left none) in
     (inner.0, ap (λ (x : StatementView). x ∷ before) (sym same.0) ∙ ap (λ (l : List StatementView). s ∷ l) inner.1)
 
 -- what the statements put begins what a script puts that begins with them
@@ -73,13 +74,13 @@ pub begins_script : (bytes : List ℕ) (tokens : List Token) (bad : Option ℕ) 
 begins_script bytes tokens bad held held' h r text (inl a) =
     let same = (tokens_are_one bytes 0 tokens a.script.tokens (last_of bad) EndOfInput h a.script.found).0 in
     let behind = script_behind (lexemes bytes tokens) r.statements r.used r.leads a.statements
-        (subst (λ (l : List Token). Script (lexemes bytes l) a.statements) (sym same) a.script.spelled) in
+    (subst (λ (l : List Token). Script (lexemes bytes l) a.statements) (sym same) a.script.spelled) in
     subst (PutsFront held held') (sym a.same) (out_more held held' r.statements a.statements behind.0 behind.1 r.put)
 begins_script bytes tokens bad held held' h r text (inr a) =
     let f = a.fault in
     let same = (tokens_are_one bytes 0 tokens f.tokens (last_of bad) (last_of f.bad) h f.found).0 in
     let first = leads_first (lexemes bytes tokens) r.statements a.before r.used f.used r.leads
-        (subst (λ (l : List Token). Leads (lexemes bytes l) a.before f.used) (sym same) f.leads)
-        (subst (λ (l : List Token). NoFront true (drop f.used (lexemes bytes l))) (sym same) f.none) in
+    (subst (λ (l : List Token). Leads (lexemes bytes l) a.before f.used) (sym same) f.leads)
+    (subst (λ (l : List Token). NoFront true (drop f.used (lexemes bytes l))) (sym same) f.none) in
     subst (PutsFront held held') (sym a.same) (puts_more held held' (out_of a.before) (fault_line (place_of bytes a.at))
-        (out_more held held' r.statements a.before first.0 first.1 r.put))
+    (out_more held held' r.statements a.before first.0 first.1 r.put))

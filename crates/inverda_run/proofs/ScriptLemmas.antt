@@ -56,9 +56,11 @@ pub script_behind : (ts : List Lexeme) (sts : List StatementView) (used : ℕ) �
 script_behind ts [] used h all s = (all, refl, subst (λ (k : ℕ). Script (drop k ts) all) (sym h) s)
 script_behind ts (st ∷ sts) used h all s =
     let tail = front_leads ts h.0 st h.3 all s in
-    let inner = script_behind (drop h.0 ts) sts h.1 h.4 tail.0 tail.2 in
-    (inner.0, tail.1 ∙ ap (λ (l : List StatementView). st ∷ l) inner.1,
-        subst (λ (l : List Lexeme). Script l inner.0) (sym (drop_both ts used h.0 h.1 h.2)) inner.2)
+    let inner = script_behind (drop h.0 ts) sts h.1 h.4 tail.0 tail.2 in (
+      inner.0,
+      tail.1 ∙ ap (λ (l : List StatementView). st ∷ l) inner.1,
+      subst (λ (l : List Lexeme). Script l inner.0) (sym (drop_both ts used h.0 h.1 h.2)) inner.2,
+    )
 
 -- the first fault behind the statements is the first fault of all
 pub leads_fault : (ts : List Lexeme) (sts : List StatementView) (used : ℕ) → Leads ts sts used

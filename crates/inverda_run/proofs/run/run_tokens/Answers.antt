@@ -46,7 +46,7 @@ returns-in-Fault-clause-runs g c =
 pub returns-in-Memory-clause-runs : goal.returns-in-Memory-clause-runs
 returns-in-Memory-clause-runs g c =
     ran_front c.args.bytes.now c.args.tokens.now (g.K.Sink.held c.args.out.now) (g.K.Sink.held c.loop-used.out) (g.K.Sink.held c.take_turn.new.out)
-        (state_of c.loop-used.engine) c.loop-used.done c.loop-used.invariant.so_far c.in-Memory.ensures.turns
+    (state_of c.loop-used.engine) c.loop-used.done c.loop-used.invariant.so_far c.in-Memory.ensures.turns
 
 pub returns-in-Unwritten-clause-runs : goal.returns-in-Unwritten-clause-runs
 returns-in-Unwritten-clause-runs g c =
@@ -54,7 +54,8 @@ returns-in-Unwritten-clause-runs g c =
     let tokens = c.args.tokens.now in
     let mid = g.K.Sink.held c.loop-used.out in
     let now = g.K.Sink.held c.take_turn.new.out in
-    let s = state_of c.loop-used.engine in
-    (omega (arith, c.loop-used.invariant.later, c.in-Unwritten.ensures.turns.0),
-        ran_part bytes tokens (g.K.Sink.held c.args.out.now) mid now s c.loop-used.done c.loop-used.invariant.so_far
-            (subst (λ (l : List Token). RunsPart bytes l mid now s) (rest_is tokens c.loop-used.done) c.in-Unwritten.ensures.turns.1))
+    let s = state_of c.loop-used.engine in (
+      omega (arith, c.loop-used.invariant.later, c.in-Unwritten.ensures.turns.0),
+      ran_part bytes tokens (g.K.Sink.held c.args.out.now) mid now s c.loop-used.done c.loop-used.invariant.so_far
+          (subst (λ (l : List Token). RunsPart bytes l mid now s) (rest_is tokens c.loop-used.done) c.in-Unwritten.ensures.turns.1),
+    )

@@ -25,10 +25,11 @@ returns-in-Fault-clause-ends g c =
 pub returns-in-Memory-clause-ends : goal.returns-in-Memory-clause-ends
 returns-in-Memory-clause-ends g c =
     ends_front c.args.bytes.now c.in-Ok.all c.as_slice.result.now (g.K.Sink.held c.args.out.now) (g.K.Sink.held c.run_tokens.new.out)
-        c.in-Ok.ensures.found c.as_slice.ensures.value c.in-Memory.ensures.runs
+    c.in-Ok.ensures.found c.as_slice.ensures.value c.in-Memory.ensures.runs
 
 pub returns-clause-ends : goal.returns-clause-ends
-returns-clause-ends g c =
-    (c.in-Unwritten.ensures.runs.0,
-        ends_front c.args.bytes.now c.in-Ok.all c.as_slice.result.now (g.K.Sink.held c.args.out.now) (g.K.Sink.held c.run_tokens.new.out)
-            c.in-Ok.ensures.found c.as_slice.ensures.value c.in-Unwritten.ensures.runs.1)
+returns-clause-ends g c = (
+  c.in-Unwritten.ensures.runs.0,
+  ends_front c.args.bytes.now c.in-Ok.all c.as_slice.result.now (g.K.Sink.held c.args.out.now) (g.K.Sink.held c.run_tokens.new.out)
+      c.in-Ok.ensures.found c.as_slice.ensures.value c.in-Unwritten.ensures.runs.1,
+)

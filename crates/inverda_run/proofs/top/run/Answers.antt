@@ -13,7 +13,9 @@ returns-in-Ok-Whole-clause-ends g c =
     c.in-Ok-Whole.bytes.items c.run_script.result empty (rw c.in-Ok-Whole.field-0-is at c.in-Ok-Whole.ensures.reads) ran
 
 pub returns-in-Ok-TooLong-clause-ends : goal.returns-in-Ok-TooLong-clause-ends
-returns-in-Ok-TooLong-clause-ends g c =
-    (c.in-Err-write_all.ensures.cause.failed, λ none safe.
-        begun_passed (g.S.Source.left c.args.script.now) (g.S.Source.left c.read_all.new.source) (g.K.Sink.held c.args.out.now) (g.K.Sink.held c.write_all-in-Ok-TooLong.new.sink)
-            c.in-Ok-TooLong.field-0-0.items (rw c.in-Ok-TooLong.field-0-is at c.in-Ok-TooLong.ensures.reads))
+returns-in-Ok-TooLong-clause-ends g c = (
+  c.in-Err-write_all.ensures.cause.failed,
+  λ none safe.
+      begun_passed (g.S.Source.left c.args.script.now) (g.S.Source.left c.read_all.new.source) (g.K.Sink.held c.args.out.now) (g.K.Sink.held c.write_all-in-Ok-TooLong.new.sink)
+      c.in-Ok-TooLong.field-0-0.items (rw c.in-Ok-TooLong.field-0-is at c.in-Ok-TooLong.ensures.reads),
+)

@@ -25,10 +25,12 @@ pub returns-in-Ok-clause-turns : goal.returns-in-Ok-clause-turns
 returns-in-Ok-clause-turns g c =
     let st = statement_view c.in-Ok-Whole.statement in
     let front : IsFront true (lexemes c.args.bytes.now c.args.tokens.now) st c.in-Ok-Whole.used = rw c.in-Ok-Whole.field-0-is at c.in-Ok-Whole.ensures in
-    let part = c.in-Err-write_all.ensures.err in
-    (c.in-Err-write_all.ensures.cause.failed, record {
-      statement = st;
-      used = c.in-Ok-Whole.used;
-      front = front;
-      put = subst (PutsFront (g.K.Sink.held c.args.out.now) (g.K.Sink.held c.write_all.new.sink)) (c.as_bytes.ensures.value ∙ c.as_str.ensures ∙ c.in-Ok.ensures.text) part;
-    })
+    let part = c.in-Err-write_all.ensures.err in (
+      c.in-Err-write_all.ensures.cause.failed,
+      record {
+        statement = st;
+        used = c.in-Ok-Whole.used;
+        front = front;
+        put = subst (PutsFront (g.K.Sink.held c.args.out.now) (g.K.Sink.held c.write_all.new.sink)) (c.as_bytes.ensures.value ∙ c.as_str.ensures ∙ c.in-Ok.ensures.text) part;
+      },
+    )
