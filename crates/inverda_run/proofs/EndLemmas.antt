@@ -1,20 +1,17 @@
 -- How the run of a script ends.
-use Rattle.std.proofs.Common.{◌≡◌, ◌+◌, ◌-◌, ◌≤◌, ◌<◌, ◌==◌, ◌⊎◌, ℕ, List, [], ◌∷◌, ◌++◌, Option, None, Some, true, min, inl, inr, refl, sym, ap, subst, ◌∙◌, append-nil, drop, length, arith, length-drop, length-append}
+use Rattle.std.proofs.Common.{◌≡◌, ◌+◌, ◌≤◌, ◌<◌, ◌==◌, ℕ, List, [], ◌∷◌, ◌++◌, Option, None, Some, true, inl, inr, refl, sym, ap, subst, ◌∙◌, append-nil, drop, length, arith, length-drop, length-append}
 use Rattle.std.proofs.lemmas.List.{drop-drop, length-map}
 use Rattle.std.proofs.lemmas.Bool.Decides.{eqb_tells}
 use Rattle.std.proofs.Math.ListN.{drop_of_length-le}
 use Rattle.std.specs.Io.KnownBytes.{Appends, Consumes, IsAtEnd}
 use Rattle.std.proofs.KnownBytes.{Appends-trans}
-use Rattle.par_base.specs.Causes.{Rose}
 use Rattle.bidel_lex.specs.declared.tokens.Token.{Token}
-use Rattle.bidel_lex.specs.declared.tokens.Lexed.TheVariants.{End as EndOfInput, BadToken}
+use Rattle.bidel_lex.specs.declared.tokens.Lexed.TheVariants.{BadToken}
 use Rattle.bidel_lex.specs.Tokens.{AreTokens, HasTokens}
 use Rattle.bidel_lex.proofs.Listed.{listed}
-use Rattle.phrases.specs.Phrases.{Begins}
 use Rattle.bidel_parser.specs.Lexemes.{Lexeme, lexeme, lexemes}
 use Rattle.bidel_parser.specs.Views.{StatementView}
-use Rattle.bidel_parser.specs.Statements.{Script}
-use Rattle.bidel_parser.specs.Parsing.{NoFront, FirstFault, IsFault, start_of}
+use Rattle.bidel_parser.specs.Parsing.{NoFront, FirstFault, start_of}
 use Rattle.bidel_parser.proofs.StatementLaws.{statement_long}
 use Rattle.inverda_run.specs.Script.{IsScript, HasFault, Leads, last_of, earlier}
 use Rattle.inverda_run.specs.Output.{out_of}

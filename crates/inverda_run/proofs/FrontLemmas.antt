@@ -1,5 +1,5 @@
 -- A run that memory or the sink ends puts a front of what it puts otherwise.
-use Rattle.std.proofs.Common.{◌≡◌, ◌+◌, ◌≤◌, ◌<◌, ◌⊎◌, ℕ, List, [], ◌∷◌, ◌++◌, Option, None, Some, true, inl, inr, refl, sym, ap, subst, ◌∙◌, append-nil, append_assoc, take-append-drop, drop, take, length, arith}
+use Rattle.std.proofs.Common.{◌≡◌, ◌+◌, ℕ, List, [], ◌∷◌, ◌++◌, Option, true, inl, inr, refl, sym, ap, subst, ◌∙◌, take-append-drop, drop, take, length, arith}
 use Rattle.std.proofs.lemmas.List.{drop-drop, take-append-le, take_all, take_at}
 use Rattle.std.proofs.lemmas.Bool.Decides.{leb_tells}
 use Rattle.std.proofs.Math.Seq.{take-append-add}
@@ -11,14 +11,14 @@ use Rattle.bidel_lex.specs.Tokens.{HasTokens}
 use Rattle.bidel_parser.specs.Lexemes.{Lexeme, lexemes}
 use Rattle.bidel_parser.specs.Views.{StatementView}
 use Rattle.bidel_parser.specs.Statements.{Script}
-use Rattle.bidel_parser.specs.Parsing.{IsFront, NoFront}
+use Rattle.bidel_parser.specs.Parsing.{NoFront}
 use Rattle.bidel_parser.proofs.ScriptLaws.{one_front}
 use Rattle.engine_core.specs.State.{State}
 use Rattle.engine_core.specs.Kept.{empty_state}
-use Rattle.inverda_run.specs.Script.{IsScript, HasFault, Leads, last_of}
+use Rattle.inverda_run.specs.Script.{Leads, last_of}
 use Rattle.inverda_run.specs.Output.{out, out_of, max_id}
 use Rattle.inverda_run.specs.Places.{place_of, fault_line}
-use Rattle.inverda_run.specs.Statuses.{PutsFront, Writes, IsAnswer, IsFaultAnswer}
+use Rattle.inverda_run.specs.Statuses.{PutsFront}
 use Rattle.inverda_run.specs.Calls.{RunsFront, BeginsScript}
 use Rattle.inverda_run.proofs.TokenLemmas.{tokens_are_one}
 use Rattle.inverda_run.proofs.ScriptLemmas.{script_behind}

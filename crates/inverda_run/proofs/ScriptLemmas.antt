@@ -1,8 +1,7 @@
 -- Statements at the front of a script, and scripts.
-use Rattle.std.proofs.Common.{◌≡◌, ◌+◌, ◌-◌, ◌≤◌, ◌<◌, ℕ, zero, suc, List, [], ◌∷◌, ◌++◌, Bool, true, false, Option, None, Some, refl, sym, ap, subst, ◌∙◌, drop, take, length, map, arith, length-drop, length-append, append-nil}
+use Rattle.std.proofs.Common.{◌≡◌, ◌+◌, ◌≤◌, ◌<◌, ℕ, zero, suc, List, [], ◌∷◌, ◌++◌, true, Option, refl, sym, ap, subst, ◌∙◌, drop, take, length, arith, length-drop, length-append, append-nil}
 use Rattle.std.proofs.lemmas.List.{take_at, drop_at, drop-drop, length-map}
 use Rattle.std.proofs.Math.ListN.{drop_of_length-le}
-use Rattle.phrases.specs.Phrases.{Begins, Many}
 use Rattle.bidel_lex.specs.declared.tokens.Token.{Token}
 use Rattle.bidel_lex.specs.declared.tokens.Lexed.TheVariants.{End, BadToken}
 use Rattle.bidel_lex.specs.Tokens.{HasTokens}
@@ -12,7 +11,7 @@ use Rattle.bidel_parser.specs.Statements.{Script, IsStatement, stays_open}
 use Rattle.bidel_parser.specs.Parsing.{IsFront, NoFront, FirstFault}
 use Rattle.bidel_parser.proofs.StatementLaws.{script_over, statement_long}
 use Rattle.bidel_parser.proofs.ScriptLaws.{front_leads, front_precedes, no_script, empty_script, fault_follows}
-use Rattle.inverda_run.specs.Script.{IsScript, Leads, last_of, HasFault, OneScript}
+use Rattle.inverda_run.specs.Script.{IsScript, Leads, last_of, OneScript}
 use Rattle.inverda_run.proofs.TokenLemmas.{tokens_are_one}
 
 -- a statement has tokens

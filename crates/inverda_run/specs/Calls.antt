@@ -1,5 +1,5 @@
 -- What the inner calls give.
-use Rattle.std.specs.Prelude.{◌≡◌, ◌≢◌, ◌≤◌, ◌<◌, ◌++◌, ℕ, Bool, true, List, [], drop, take, length, Option, Some, None, codes, ⊤}
+use Rattle.std.specs.Prelude.{◌≡◌, ◌≢◌, ◌≤◌, ◌<◌, ◌++◌, ℕ, true, List, [], drop, length, Option, codes}
 use Rattle.std.specs.Io.KnownBytes.{Appends}
 use Rattle.par_base.specs.Causes.{Rose}
 use Rattle.bidel_lex.specs.declared.tokens.Token.{Token}

@@ -1,4 +1,4 @@
-use Rattle.std.proofs.Common.{◌≡◌, ◌≤◌, List, ℕ, true, sym, subst, arith, drop}
+use Rattle.std.proofs.Common.{◌≡◌, List, true, sym, subst, arith}
 use Rattle.bidel_lex.specs.declared.tokens.Token.{Token}
 use Rattle.bidel_lex.specs.Tokens.{AreTokens}
 use Rattle.bidel_parser.specs.Lexemes.{lexemes}
