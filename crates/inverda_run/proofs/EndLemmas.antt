@@ -1,31 +1,30 @@
 -- How the run of a script ends.
-use Rattle.std.proofs.Common.{◌≡◌, ◌+◌, ◌-◌, ◌≤◌, ◌<◌, ◌==◌, ◌⊎◌, ℕ, List, [], ◌∷◌, ◌++◌, Option, None, Some, true, min, inl, inr, refl, sym, ap, subst, ◌∙◌, append-nil, drop, length, arith, length-drop}
+use Rattle.std.proofs.Common.{◌≡◌, ◌+◌, ◌≤◌, ◌<◌, ◌==◌, ℕ, List, [], ◌∷◌, ◌++◌, Option, None, Some, true, inl, inr, refl, sym, ap, subst, ◌∙◌, append-nil, drop, length, arith, length-drop, length-append}
 use Rattle.std.proofs.lemmas.List.{drop-drop, length-map}
 use Rattle.std.proofs.lemmas.Bool.Decides.{eqb_tells}
 use Rattle.std.proofs.Math.ListN.{drop_of_length-le}
 use Rattle.std.specs.Io.KnownBytes.{Appends, Consumes, IsAtEnd}
 use Rattle.std.proofs.KnownBytes.{Appends-trans}
-use Rattle.par_base.specs.Causes.{Rose}
 use Rattle.bidel_lex.specs.declared.tokens.Token.{Token}
-use Rattle.bidel_lex.specs.declared.tokens.Lexed.TheVariants.{End as EndOfInput, BadToken}
+use Rattle.bidel_lex.specs.declared.tokens.Lexed.TheVariants.{BadToken}
 use Rattle.bidel_lex.specs.Tokens.{AreTokens, HasTokens}
 use Rattle.bidel_lex.proofs.Listed.{listed}
-use Rattle.phrases.specs.Phrases.{Begins}
 use Rattle.bidel_parser.specs.Lexemes.{Lexeme, lexeme, lexemes}
 use Rattle.bidel_parser.specs.Views.{StatementView}
-use Rattle.bidel_parser.specs.Statements.{Script}
-use Rattle.bidel_parser.specs.Parsing.{NoFront, FirstFault, IsFault, start_of}
+use Rattle.bidel_parser.specs.Parsing.{NoFront, FirstFault, start_of}
 use Rattle.bidel_parser.proofs.StatementLaws.{statement_long}
 use Rattle.inverda_run.specs.Script.{IsScript, HasFault, Leads, last_of, earlier}
 use Rattle.inverda_run.specs.Output.{out_of}
 use Rattle.inverda_run.specs.Places.{place_of, fault_line}
 use Rattle.inverda_run.specs.Statuses as statuses
-use Rattle.inverda_run.specs.Statuses.{limit, WasRead, Stopped, HadFault, HadMore, HadScript}
-use Rattle.inverda_run.specs.Calls.{AreAll, RunsAll, RunsUpTo, RunsScript, Stops, EndsScript, Ends}
+use Rattle.inverda_run.specs.Statuses.{limit, WasRead, Stopped, HadFault, HadMore, HadScript, PutsFront, Writes, Begun}
+use Rattle.inverda_run.specs.Calls.{AreAll, RunsAll, RunsUpTo, RunsFront, RunsScript, Stops, BeginsScript, EndsScript, Ends}
 use Rattle.inverda_run.specs.declared.tokens.Tokens.{Tokens}
 use Rattle.inverda_run.specs.declared.end.End.{End}
 use Rattle.inverda_run.specs.declared.end.End.TheVariants.{Done, Memory, BadWords, Syntax, Unread, Unwritten, TooLong}
 use Rattle.inverda_run.proofs.RunLemmas.{lexemes-drop}
+use Rattle.inverda_run.proofs.FrontLemmas.{puts_none, puts_behind, begins_script}
+use Rattle.inverda_run.proofs.FaultLemmas.{one_fault}
 use Rattle.inverda_run.proofs.ScriptLemmas.{all_script, bad_none, stopped_none, leads_fault}
 
 -- all tokens of the bytes are tokens of them
@@ -48,6 +47,11 @@ ends_done bytes all tokens held held' h same none r = record {
   script = all_script bytes tokens r.statements (found_at bytes all tokens None h same none) r.leads;
   put = r.put;
 }
+
+-- memory or the sink ended the run of the tokens
+pub ends_front : (bytes : List ℕ) (all : Tokens) (tokens : List Token) (held held' : Option (List ℕ)) → AreAll bytes all → tokens ≡ all.tokens.items
+    → RunsFront bytes tokens held held' → BeginsScript bytes held held'
+ends_front bytes all tokens held held' h same r = begins_script bytes tokens all.bad held held' (found_at bytes all tokens all.bad h same refl) r
 
 -- ---- faults
 
@@ -114,12 +118,25 @@ fault_none bytes tokens bad held held' at h r =
     let some : r.used < length tokens = elim f.within [ inl k ↦ omega (arith, k, length-drop r.used tokens) | inr k ↦ omega (arith, k.2, length-drop r.used tokens) ] in
     stopped_none bytes tokens bad r.before r.used h r.leads (subst (NoFront true) (lexemes-drop bytes r.used tokens) r.none) some
 
+-- a front of the last line of a fault, behind the lines that answer the statements before it
+stops_front : (bytes : List ℕ) (before : List StatementView) (at : ℕ) (held mid held' : Option (List ℕ))
+    → ((sts : List StatementView) → IsScript bytes sts → ⊥) → HasFault bytes before at → Appends held mid (out_of before)
+    → PutsFront mid held' (fault_line (place_of bytes at)) → BeginsScript bytes held held'
+stops_front bytes before at held mid held' none f p q text (inl a) = absurd (none a.statements a.script)
+stops_front bytes before at held mid held' none f p q text (inr a) =
+    let one = one_fault bytes before a.before at a.at f a.fault in
+    let line : List ℕ = fault_line (place_of bytes at) in
+    let same : out_of before ++ line ≡ text =
+    ap (λ (l : List StatementView). out_of l ++ line) one.0 ∙ ap (λ (n : ℕ). out_of a.before ++ fault_line (place_of bytes n)) one.1 ∙ sym a.same in
+    subst (PutsFront held held') same (puts_behind held mid held' (out_of before) line p q)
+
 -- the last line of a fault, behind the lines that answer the statements before it
 stops_at : (bytes : List ℕ) (before : List StatementView) (at : ℕ) (held mid held' : Option (List ℕ)) (was between is : ℕ) (e : End)
     → ((sts : List StatementView) → IsScript bytes sts → ⊥) → HasFault bytes before at → Appends held mid (out_of before) → was ≤ between
     → Stops bytes at mid held' between is e → EndsScript bytes held held' was is e
 stops_at bytes before at held mid held' was between is Done none f p later h = absurd h
-stops_at bytes before at held mid held' was between is Memory none f p later h = tt
+stops_at bytes before at held mid held' was between is Memory none f p later h =
+    stops_front bytes before at held mid held' none f p (puts_none mid held' (fault_line (place_of bytes at)) h)
 stops_at bytes before at held mid held' was between is BadWords none f p later h = absurd h
 stops_at bytes before at held mid held' was between is Syntax none f p later h = record {
   before = before;
@@ -129,7 +146,8 @@ stops_at bytes before at held mid held' was between is Syntax none f p later h =
   put = Appends-trans held mid held' (out_of before) (fault_line (place_of bytes at)) p h;
 }
 stops_at bytes before at held mid held' was between is Unread none f p later h = absurd h
-stops_at bytes before at held mid held' was between is Unwritten none f p later h = omega (arith, later, h)
+stops_at bytes before at held mid held' was between is Unwritten none f p later h =
+    (omega (arith, later, h.0), stops_front bytes before at held mid held' none f p h.1)
 stops_at bytes before at held mid held' was between is TooLong none f p later h = absurd h
 
 -- all tokens are statements, and then comes a byte that continues no token
@@ -152,6 +170,29 @@ ends_fault bytes all tokens at place held mid held' was between is e h same firs
 
 -- ---- runs
 
+some_same : (one other : List ℕ) → Some one ≡ Some other → one ≡ other
+some_same one other h = cc
+
+-- what was read to its end is what the source told
+pub read_told : (left left' : Option (List ℕ)) (told bytes : List ℕ) → left ≡ Some told → WasRead left left' bytes → told ≡ bytes
+read_told None left' told bytes h r = cc
+read_told (Some b) None told bytes h r = absurd r.taken
+read_told (Some b) (Some rest) told bytes h r =
+    sym (some_same b told h) ∙ r.taken ∙ ap (λ (l : List ℕ). bytes ++ l) r.whole ∙ append-nil bytes
+
+-- what was put begins what the run of the bytes that the source told puts
+begun_read : (left left' held held' : Option (List ℕ)) (bytes : List ℕ) → WasRead left left' bytes → BeginsScript bytes held held' → Begun left held held'
+begun_read None left' held held' bytes r h = tt
+begun_read (Some b) left' held held' bytes r h = λ within text w.
+    h text (subst (λ (l : List ℕ). Writes l text) (read_told (Some b) left' b bytes refl r) w)
+
+-- the source told more bytes than the limit
+pub begun_passed : (left left' held held' : Option (List ℕ)) (bytes : List ℕ) → Consumes left left' bytes × (limit < length bytes) → Begun left held held'
+begun_passed None left' held held' bytes h = tt
+begun_passed (Some b) None held held' bytes h = absurd h.0
+begun_passed (Some b) (Some rest) held held' bytes h = λ within text w.
+    absurd (omega (arith, within, h.1, ap length h.0, length-append bytes rest))
+
 -- the source was read to its end, and its bytes were run
 pub ends_read : {W : Type 0} (words : List W) (left left' : Option (List ℕ)) (read read' : ℕ) (held held' : Option (List ℕ)) (was is : ℕ) (bytes : List ℕ) (e : End)
     → words ≡ [] → Consumes left left' bytes × IsAtEnd left' × (length bytes ≤ limit) → EndsScript bytes held held' was is e
@@ -166,7 +207,8 @@ ends_read words left left' read read' held held' was is bytes Done none r h = (
     put = h.put;
   },
 )
-ends_read words left left' read read' held held' was is bytes Memory none r h = none
+ends_read words left left' read read' held held' was is bytes Memory none r h =
+    (none, λ safe. begun_read left left' held held' bytes (record { taken = r.0; whole = r.1; within = r.2 }) h)
 ends_read words left left' read read' held held' was is bytes BadWords none r h = absurd h
 ends_read words left left' read read' held held' was is bytes Syntax none r h = (
   none,
@@ -181,18 +223,9 @@ ends_read words left left' read read' held held' was is bytes Syntax none r h = 
   },
 )
 ends_read words left left' read read' held held' was is bytes Unread none r h = absurd h
-ends_read words left left' read read' held held' was is bytes Unwritten none r h = h
+ends_read words left left' read read' held held' was is bytes Unwritten none r h =
+    (h.0, λ same safe. begun_read left left' held held' bytes (record { taken = r.0; whole = r.1; within = r.2 }) h.1)
 ends_read words left left' read read' held held' was is bytes TooLong none r h = absurd h
-
-some_same : (one other : List ℕ) → Some one ≡ Some other → one ≡ other
-some_same one other h = cc
-
--- what was read to its end is what the source told
-pub read_told : (left left' : Option (List ℕ)) (told bytes : List ℕ) → left ≡ Some told → WasRead left left' bytes → told ≡ bytes
-read_told None left' told bytes h r = cc
-read_told (Some b) None told bytes h r = absurd r.taken
-read_told (Some b) (Some rest) told bytes h r =
-    sym (some_same b told h) ∙ r.taken ∙ ap (λ (l : List ℕ). bytes ++ l) r.whole ∙ append-nil bytes
 
 -- a source that told a script is not stopped at a fault
 pub had_script : (left left' held held' : Option (List ℕ)) → HadScript left → Stopped left left' held held' → ⊥

@@ -1,5 +1,5 @@
 -- The bytes have one first fault.
-use Rattle.std.proofs.Common.{◌≡◌, ◌+◌, ◌≤◌, ◌<◌, ℕ, List, [], ◌∷◌, ◌++◌, Option, None, Some, true, false, inl, inr, refl, sym, ap, subst, ◌∙◌, append_assoc, take-append-drop, drop, take, length, arith}
+use Rattle.std.proofs.Common.{◌≡◌, ◌+◌, ◌≤◌, ◌<◌, ℕ, List, [], ◌∷◌, ◌++◌, Option, None, Some, true, inl, inr, refl, sym, ap, subst, ◌∙◌, append_assoc, take-append-drop, drop, take, length, arith}
 use Rattle.std.proofs.lemmas.Bool.Decides.{leb_tells}
 use Rattle.std.proofs.lemmas.List.{drop-drop, length-map, take-take}
 use Rattle.phrases.specs.Phrases.{Begins}
@@ -9,11 +9,11 @@ use Rattle.bidel_parser.specs.Views.{StatementView}
 use Rattle.bidel_parser.specs.Statements.{Script}
 use Rattle.bidel_parser.specs.Parsing.{IsFront, NoFront, FirstFault, start_of}
 use Rattle.bidel_parser.proofs.ScriptLaws.{one_front}
-use Rattle.inverda_run.specs.Script.{HasFault, Leads, last_of, earlier, OneFault}
+use Rattle.inverda_run.specs.Script.{Leads, last_of, earlier, OneFault}
 use Rattle.inverda_run.proofs.TokenLemmas.{tokens_are_one}
 
 -- where no statement stands, none is at the front
-front_none : (ts : List Lexeme) (m : ℕ) (st : StatementView) (used : ℕ) → m ≡ 0 → NoFront true (drop m ts) → IsFront true ts st used → ⊥
+pub front_none : (ts : List Lexeme) (m : ℕ) (st : StatementView) (used : ℕ) → m ≡ 0 → NoFront true (drop m ts) → IsFront true ts st used → ⊥
 front_none ts m st used zero none f =
     subst (λ (k : ℕ). NoFront true (drop k ts)) zero none st (take used ts) (drop used ts) (sym (take-append-drop used ts)) f.spelled f.over
 

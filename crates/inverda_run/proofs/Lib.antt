@@ -5,3 +5,4 @@ pub mod PlaceLemmas
 pub mod RunLemmas
 pub mod EndLemmas
 pub mod FaultLemmas
+pub mod FrontLemmas

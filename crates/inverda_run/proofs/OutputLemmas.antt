@@ -23,3 +23,11 @@ out-more s [] st = append-nil (text_of (act s st))
 out-more s (t ∷ ts) st =
     let s2 = next_state s (act s t) in
     ap (λ (l : List ℕ). text_of (act s t) ++ l) (out-more s2 ts st) ∙ sym (append_assoc (text_of (act s t)) (out s2 ts) (text_of (act (state_behind s2 ts) st)))
+
+-- the lines of statements and of those behind them
+pub out-append : (s : State) (sts rest : List StatementView) → out s (sts ++ rest) ≡ out s sts ++ out (state_behind s sts) rest
+unfolding out state_behind
+out-append s [] rest = refl
+out-append s (t ∷ ts) rest =
+    let s2 = next_state s (act s t) in
+    ap (λ (l : List ℕ). text_of (act s t) ++ l) (out-append s2 ts rest) ∙ sym (append_assoc (text_of (act s t)) (out s2 ts) (out (state_behind s2 ts) rest))

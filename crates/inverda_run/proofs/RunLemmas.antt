@@ -1,5 +1,5 @@
 -- The statements that were run so far.
-use Rattle.std.proofs.Common.{◌≡◌, ◌+◌, ◌-◌, ◌≤◌, ◌<◌, ℕ, List, [], ◌∷◌, ◌++◌, Option, None, Some, true, refl, sym, ap, subst, ◌∙◌, drop, take, length, arith, length-drop}
+use Rattle.std.proofs.Common.{◌≡◌, ◌+◌, ◌-◌, ◌≤◌, ℕ, List, [], ◌∷◌, ◌++◌, Option, true, refl, sym, ap, subst, ◌∙◌, drop, take, length, arith, length-drop}
 use Rattle.std.specs.Io.KnownBytes.{Appends}
 use Rattle.std.proofs.lemmas.List.{drop-map, take_all}
 use Rattle.std.proofs.KnownBytes.{Appends-nil, Appends-trans}
@@ -13,9 +13,11 @@ use Rattle.engine_core.specs.Kept.{empty_state}
 use Rattle.engine_core.specs.Act.{act}
 use Rattle.inverda_run.specs.Script.{Leads}
 use Rattle.inverda_run.specs.Output.{out, out_of, text_of, next_state, max_id}
-use Rattle.inverda_run.specs.Calls.{RunsOne, RunsAll, RunsUpTo}
+use Rattle.inverda_run.specs.Statuses.{PutsFront}
+use Rattle.inverda_run.specs.Calls.{RunsOne, RunsAll, RunsUpTo, RunsPart, RunsFront}
 use Rattle.inverda_run.proofs.TokenLemmas.{are_tokens_drop, fault_within}
 use Rattle.inverda_run.proofs.ScriptLemmas.{leads_more}
+use Rattle.inverda_run.proofs.FrontLemmas.{puts_all, puts_behind}
 use Rattle.inverda_run.proofs.OutputLemmas.{state_behind, state_behind-more, out-more}
 
 -- so many first tokens are statements, which brought the state about, and their lines were put
@@ -86,6 +88,33 @@ ran_up bytes tokens held mid held' s done at are r stop = record {
   within = fault_within bytes (drop done tokens) at (are_tokens_drop bytes done tokens are) stop.1;
   put = subst (λ (h : Option (List ℕ)). Appends held h (out_of r.statements)) (sym stop.2) r.put;
 }
+
+-- where memory ran out
+pub ran_front : (bytes : List ℕ) (tokens : List Token) (held mid held' : Option (List ℕ)) (s : State) (done : ℕ)
+    → RanSoFar bytes tokens held mid s done → held' ≡ mid → RunsFront bytes tokens held held'
+ran_front bytes tokens held mid held' s done r same = record {
+  statements = r.statements;
+  used = done;
+  leads = r.leads;
+  put = puts_all held held' (out_of r.statements) (subst (λ (h : Option (List ℕ)). Appends held h (out_of r.statements)) (sym same) r.put);
+}
+
+-- where the sink failed
+pub ran_part : (bytes : List ℕ) (tokens : List Token) (held mid held' : Option (List ℕ)) (s : State) (done : ℕ)
+    → RanSoFar bytes tokens held mid s done → RunsPart bytes (drop done tokens) mid held' s → RunsFront bytes tokens held held'
+ran_part bytes tokens held mid held' s done r part =
+    let sts = r.statements in
+    let st = part.statement in
+    let s0 = empty_state max_id in
+    let text : text_of (act s st) ≡ text_of (act (state_behind s0 sts) st) = ap (λ (x : State). text_of (act x st)) r.state in
+    record {
+      statements = sts ++ st ∷ [];
+      used = done + part.used;
+      leads = leads_more (lexemes bytes tokens) sts done st part.used r.leads
+          (subst (λ (l : List Lexeme). IsFront true l st part.used) (lexemes-drop bytes done tokens) part.front);
+      put = subst (PutsFront held held') (ap (λ (l : List ℕ). out s0 sts ++ l) text ∙ sym (out-more s0 sts st))
+          (puts_behind held mid held' (out s0 sts) (text_of (act s st)) r.put part.put);
+    }
 
 -- the tokens that are left
 pub rest_is : (tokens : List Token) (done : ℕ) → take (length tokens - done) (drop done tokens) ≡ drop done tokens

@@ -1,8 +1,7 @@
 -- Statements at the front of a script, and scripts.
-use Rattle.std.proofs.Common.{◌≡◌, ◌+◌, ◌-◌, ◌≤◌, ◌<◌, ℕ, zero, suc, List, [], ◌∷◌, ◌++◌, Bool, true, false, Option, None, Some, refl, sym, ap, subst, ◌∙◌, drop, take, length, map, arith, length-drop, length-append, append-nil}
+use Rattle.std.proofs.Common.{◌≡◌, ◌+◌, ◌≤◌, ◌<◌, ℕ, zero, suc, List, [], ◌∷◌, ◌++◌, true, Option, refl, sym, ap, subst, ◌∙◌, drop, take, length, arith, length-drop, length-append, append-nil}
 use Rattle.std.proofs.lemmas.List.{take_at, drop_at, drop-drop, length-map}
 use Rattle.std.proofs.Math.ListN.{drop_of_length-le}
-use Rattle.phrases.specs.Phrases.{Begins, Many}
 use Rattle.bidel_lex.specs.declared.tokens.Token.{Token}
 use Rattle.bidel_lex.specs.declared.tokens.Lexed.TheVariants.{End, BadToken}
 use Rattle.bidel_lex.specs.Tokens.{HasTokens}
@@ -12,7 +11,7 @@ use Rattle.bidel_parser.specs.Statements.{Script, IsStatement, stays_open}
 use Rattle.bidel_parser.specs.Parsing.{IsFront, NoFront, FirstFault}
 use Rattle.bidel_parser.proofs.StatementLaws.{script_over, statement_long}
 use Rattle.bidel_parser.proofs.ScriptLaws.{front_leads, front_precedes, no_script, empty_script, fault_follows}
-use Rattle.inverda_run.specs.Script.{IsScript, Leads, last_of, HasFault, OneScript}
+use Rattle.inverda_run.specs.Script.{IsScript, Leads, last_of, OneScript}
 use Rattle.inverda_run.proofs.TokenLemmas.{tokens_are_one}
 
 -- a statement has tokens
@@ -50,14 +49,17 @@ leads_script ts (st ∷ sts) used h rest s =
     front_precedes ts h.0 st h.3 (sts ++ rest)
     (leads_script (drop h.0 ts) sts h.1 h.4 rest (subst (λ (l : List Lexeme). Script l rest) (drop_both ts used h.0 h.1 h.2) s))
 
--- behind the statements stands the rest of every script
+-- every script begins with the statements, and its rest stands behind them
 pub script_behind : (ts : List Lexeme) (sts : List StatementView) (used : ℕ) → Leads ts sts used
-    → (all : List StatementView) → Script ts all → (rest : List StatementView) × Script (drop used ts) rest
-script_behind ts [] used h all s = (all, subst (λ (k : ℕ). Script (drop k ts) all) (sym h) s)
+    → (all : List StatementView) → Script ts all → (rest : List StatementView) × (all ≡ sts ++ rest) × Script (drop used ts) rest
+script_behind ts [] used h all s = (all, refl, subst (λ (k : ℕ). Script (drop k ts) all) (sym h) s)
 script_behind ts (st ∷ sts) used h all s =
     let tail = front_leads ts h.0 st h.3 all s in
-    let inner = script_behind (drop h.0 ts) sts h.1 h.4 tail.0 tail.2 in
-    (inner.0, subst (λ (l : List Lexeme). Script l inner.0) (sym (drop_both ts used h.0 h.1 h.2)) inner.1)
+    let inner = script_behind (drop h.0 ts) sts h.1 h.4 tail.0 tail.2 in (
+      inner.0,
+      tail.1 ∙ ap (λ (l : List StatementView). st ∷ l) inner.1,
+      subst (λ (l : List Lexeme). Script l inner.0) (sym (drop_both ts used h.0 h.1 h.2)) inner.2,
+    )
 
 -- the first fault behind the statements is the first fault of all
 pub leads_fault : (ts : List Lexeme) (sts : List StatementView) (used : ℕ) → Leads ts sts used
@@ -122,5 +124,5 @@ stopped_none bytes tokens bad before used h l none lt sts k =
     let same = (tokens_are_one bytes 0 tokens k.tokens (last_of bad) End h k.found).0 in
     let ts : List Lexeme = lexemes bytes tokens in
     let behind = script_behind ts before used l sts (subst (λ (l : List Token). Script (lexemes bytes l) sts) (sym same) k.spelled) in
-    let empty : drop used ts ≡ [] = no_script (drop used ts) none behind.0 behind.1 in
+    let empty : drop used ts ≡ [] = no_script (drop used ts) none behind.0 behind.2 in
     absurd (omega (arith, ap length empty, length-drop used ts, length-map tokens (lexeme bytes), lt))

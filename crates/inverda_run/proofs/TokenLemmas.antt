@@ -1,9 +1,8 @@
 -- The tokens of some bytes.
-use Rattle.std.proofs.Common.{◌≡◌, ◌+◌, ◌≤◌, ℕ, zero, suc, List, [], ◌∷◌, ◌++◌, Bool, true, false, Option, None, Some, refl, sym, ap, ◌∙◌, drop, length, arith}
+use Rattle.std.proofs.Common.{◌≡◌, ◌≤◌, ℕ, zero, suc, List, [], ◌∷◌, true, false, refl, sym, ap, ◌∙◌, drop, length, arith}
 use Rattle.bidel_lex.specs.declared.tokens.Token.{Token}
 use Rattle.bidel_lex.specs.declared.tokens.Lexed.{Lexed}
 use Rattle.bidel_lex.specs.declared.tokens.Lexed.TheVariants as lexed
-use Rattle.bidel_lex.specs.Next.{next_of}
 use Rattle.bidel_lex.proofs.Within.{within_along}
 use Rattle.bidel_parser.specs.Parsing.{IsFault, start_of}
 use Rattle.bidel_lex.specs.Tokens.{AreTokens, HasTokens, is_token}

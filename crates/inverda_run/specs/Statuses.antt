@@ -1,5 +1,5 @@
 -- What the statuses of a run say. Source and sink tell their bytes before and now, where they know them.
-use Rattle.std.specs.Prelude.{◌≡◌, ◌++◌, ◌≤◌, ◌<◌, ℕ, List, length, Option, Some, None, codes, ⊤}
+use Rattle.std.specs.Prelude.{◌≡◌, ◌++◌, ◌≤◌, ◌<◌, ◌⊎◌, ℕ, List, length, take, Option, Some, None, codes, ⊤}
 use Rattle.std.specs.Io.KnownBytes.{Consumes, Appends, IsAtEnd}
 use Rattle.bidel_parser.specs.Views.{StatementView}
 use Rattle.engine_core.specs.Texts.{line}
@@ -68,3 +68,30 @@ pub record Passed (left left' held held' : Option (List ℕ)) : Type 0 where
   pub taken : Consumes left left' bytes
   pub above : limit < length bytes
   pub put : Appends held held' (line (codes "too long"))
+
+-- the sink was given a front of these bytes
+abbrev pub PutsFront : Option (List ℕ) → Option (List ℕ) → List ℕ → Type 0
+PutsFront held held' bytes = (n : ℕ) × Appends held held' (take n bytes)
+
+-- the bytes are a script, and the text answers its statements
+pub record IsAnswer (bytes text : List ℕ) : Type 0 where
+  pub statements : List StatementView
+  pub script : IsScript bytes statements
+  pub same : text ≡ out_of statements
+
+-- the bytes are no script, and the text answers the statements before the first fault and says its place
+pub record IsFaultAnswer (bytes text : List ℕ) : Type 0 where
+  pub before : List StatementView
+  pub at : ℕ
+  pub none : (statements : List StatementView) → IsScript bytes statements → ⊥
+  pub fault : HasFault bytes before at
+  pub same : text ≡ out_of before ++ fault_line (place_of bytes at)
+
+-- what the run of the bytes puts where nothing fails and memory suffices
+abbrev pub Writes : List ℕ → List ℕ → Type 0
+Writes bytes text = IsAnswer bytes text ⊎ IsFaultAnswer bytes text
+
+-- where the source told bytes within the limit, the sink was given a front of what their run puts where nothing fails
+abbrev pub Begun : Option (List ℕ) → Option (List ℕ) → Option (List ℕ) → Type 0
+Begun None held held' = ⊤
+Begun (Some bytes) held held' = length bytes ≤ limit → (text : List ℕ) → Writes bytes text → PutsFront held held' text

@@ -36,7 +36,8 @@ pub fn run_tokens<K: Sink, L: Ledger>(
     steps: &mut Steps<L>,
 ) -> Ran
     requires { AreTokens bytes.now tokens.now }
-    ensures runs { Runs bytes.now tokens.now (K.held out.old) (K.held out.new) (K.faults out.old) (K.faults out.new) result }
+    ensures runs { Runs bytes.now tokens.now (K.held out.old) (K.held out.new) (K.faults out.old)
+        (K.faults out.new) result }
     ensures later { K.faults out.old ≤ K.faults out.new }
 {
     let mut engine = Engine::new(alloc, Limits { max_id: MAX_ID });

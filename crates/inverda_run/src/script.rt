@@ -15,7 +15,8 @@ use std::sync::ledger::{Blank, Ledger};
 // Puts the last line of a fault at a byte.
 fn stop<K: Sink>(alloc: Global, bytes: &[u8], at: usize, out: &mut K) -> End
     requires { at ≤ length bytes.now }
-    ensures stops { Stops bytes.now at (K.held out.old) (K.held out.new) (K.faults out.old) (K.faults out.new) result }
+    ensures stops { Stops bytes.now at (K.held out.old) (K.held out.new) (K.faults out.old)
+        (K.faults out.new) result }
     ensures later { K.faults out.old ≤ K.faults out.new }
 {
     match syntax_line(alloc, bytes, at) {
@@ -43,7 +44,8 @@ pub fn run_script<K: Sink, L: Ledger>(alloc: Global, bytes: &[u8], out: &mut K, 
     requires name { blank.name ≡ L.name }
     requires parts { blank.parts ≡ L.parts }
     requires one { blank.parts ≡ 1 }
-    ensures ends { EndsScript bytes.now (K.held out.old) (K.held out.new) (K.faults out.old) (K.faults out.new) result }
+    ensures ends { EndsScript bytes.now (K.held out.old) (K.held out.new) (K.faults out.old)
+        (K.faults out.new) result }
     ensures later { K.faults out.old ≤ K.faults out.new }
 {
     let mut steps = Steps::<L>::new(blank);

@@ -3,7 +3,8 @@ ghost use Rattle.std.specs.Prelude.{◌≡◌, ◌≢◌, ◌⊎◌, ◌≤◌, 
 ghost use Rattle.std.specs.Io.KnownBytes.{Appends};
 ghost use Rattle.par_base.specs.Causes.{Rose};
 ghost use Rattle.engine_core.specs.Texts.{line};
-ghost use Rattle.inverda_run.specs.Statuses.{Done, Answers, Stopped, Passed, HadFault, HadMore, HadScript};
+ghost use Rattle.inverda_run.specs.Statuses.{Done, Answers, Begun, Stopped, Passed};
+ghost use Rattle.inverda_run.specs.Statuses.{HadFault, HadMore, HadScript};
 ghost use Rattle.inverda_run.specs.Calls.{Ends};
 
 use crate::end::End;
@@ -18,8 +19,11 @@ const LIMIT: u32 = 268_435_456;
 
 // Reads the script to its end and runs it.
 fn run<S: Source, K: Sink>(alloc: Global, words: &[String], script: &mut S, out: &mut K) -> End
-    ensures ends { Ends words.now (S.left script.old) (S.left script.new) (S.faults script.old) (S.faults script.new) (K.held out.old) (K.held out.new) (K.faults out.old) (K.faults out.new) result }
-    ensures untouched { words.now ≢ [] → (S.left script.new ≡ S.left script.old) × (S.faults script.new ≡ S.faults script.old) }
+    ensures ends { Ends words.now (S.left script.old) (S.left script.new) (S.faults script.old)
+        (S.faults script.new) (K.held out.old) (K.held out.new) (K.faults out.old) (K.faults out.new)
+        result }
+    ensures untouched { words.now ≢ [] → (S.left script.new ≡ S.left script.old)
+        × (S.faults script.new ≡ S.faults script.old) }
     ensures later_read { S.faults script.old ≤ S.faults script.new }
     ensures later_write { K.faults out.old ≤ K.faults out.new }
 {
@@ -48,12 +52,13 @@ fn run<S: Source, K: Sink>(alloc: Global, words: &[String], script: &mut S, out:
     }
 }
 
-/// Runs the script that the source gives, and puts the lines that answer its statements. The answer is a status:
+/// Runs the script that the source gives, and puts the lines that answer its statements. The answer
+/// is a status:
 ///
 /// - 0: all statements were carried out and answered
 /// - 1: memory ran out
 /// - 2: there were words; the last line is `bad words`
-/// - 3: the bytes are no script; the last line is `syntax` with the line and the column of the first fault
+/// - 3: the bytes are no script; the last line is `syntax` with line and column of the first fault
 /// - 5: the source failed; the last line is `read fault`
 /// - 6: the sink failed
 /// - 7: the script has more than 268,435,456 bytes; the last line is `too long`
@@ -64,29 +69,48 @@ pub fn inverda<S: Source, K: Sink, F: Files>(
     out: &mut K,
     files: &mut F,
 ) -> u8
-    ensures statuses { (result ≡ 0) ⊎ (result ≡ 1) ⊎ (result ≡ 2) ⊎ (result ≡ 3) ⊎ (result ≡ 5) ⊎ (result ≡ 6) ⊎ (result ≡ 7) }
+    ensures statuses { (result ≡ 0) ⊎ (result ≡ 1) ⊎ (result ≡ 2) ⊎ (result ≡ 3) ⊎ (result ≡ 5)
+        ⊎ (result ≡ 6) ⊎ (result ≡ 7) }
 
-    // A script is answered as its statements say. Where nothing fails and memory suffices, the bytes decide the status.
-    ensures done { result ≡ 0 → (words.now ≡ []) × Done (S.left script.old) (S.left script.new) (K.held out.old) (K.held out.new) }
+    // A script is answered as its statements say. Where nothing fails, the bytes decide the status.
+    ensures done { result ≡ 0 → (words.now ≡ [])
+        × Done (S.left script.old) (S.left script.new) (K.held out.old) (K.held out.new) }
     ensures answers { result ≡ 0 → Answers (S.left script.old) (K.held out.old) (K.held out.new) }
-    ensures complete { words.now ≡ [] → HadScript (S.left script.old) → ¬ Rose (S.faults script.old) (S.faults script.new) → ¬ Rose (K.faults out.old) (K.faults out.new) → (result ≡ 0) ⊎ (result ≡ 1) }
-    ensures stops { words.now ≡ [] → HadFault (S.left script.old) → ¬ Rose (S.faults script.old) (S.faults script.new) → ¬ Rose (K.faults out.old) (K.faults out.new) → (result ≡ 3) ⊎ (result ≡ 1) }
-    ensures passes { words.now ≡ [] → HadMore (S.left script.old) → ¬ Rose (S.faults script.old) (S.faults script.new) → ¬ Rose (K.faults out.old) (K.faults out.new) → (result ≡ 7) ⊎ (result ≡ 1) }
+    ensures complete { words.now ≡ [] → HadScript (S.left script.old)
+        → ¬ Rose (S.faults script.old) (S.faults script.new)
+        → ¬ Rose (K.faults out.old) (K.faults out.new) → (result ≡ 0) ⊎ (result ≡ 1) }
+    ensures stops { words.now ≡ [] → HadFault (S.left script.old)
+        → ¬ Rose (S.faults script.old) (S.faults script.new)
+        → ¬ Rose (K.faults out.old) (K.faults out.new) → (result ≡ 3) ⊎ (result ≡ 1) }
+    ensures passes { words.now ≡ [] → HadMore (S.left script.old)
+        → ¬ Rose (S.faults script.old) (S.faults script.new)
+        → ¬ Rose (K.faults out.old) (K.faults out.new) → (result ≡ 7) ⊎ (result ≡ 1) }
 
     // Every other end has its cause.
-    ensures words { result ≡ 2 → (words.now ≢ []) × Appends (K.held out.old) (K.held out.new) (line (codes "bad words")) }
+    ensures words { result ≡ 2 → (words.now ≢ [])
+        × Appends (K.held out.old) (K.held out.new) (line (codes "bad words")) }
     ensures words_only { words.now ≢ [] → (result ≡ 2) ⊎ (result ≡ 6) }
-    ensures untouched { words.now ≢ [] → (S.left script.new ≡ S.left script.old) × (S.faults script.new ≡ S.faults script.old) }
-    ensures syntax { result ≡ 3 → (words.now ≡ []) × Stopped (S.left script.old) (S.left script.new) (K.held out.old) (K.held out.new) }
-    ensures read { result ≡ 5 → (words.now ≡ []) × Rose (S.faults script.old) (S.faults script.new) × Appends (K.held out.old) (K.held out.new) (line (codes "read fault")) }
+    ensures untouched { words.now ≢ [] → (S.left script.new ≡ S.left script.old)
+        × (S.faults script.new ≡ S.faults script.old) }
+    ensures syntax { result ≡ 3 → (words.now ≡ [])
+        × Stopped (S.left script.old) (S.left script.new) (K.held out.old) (K.held out.new) }
+    ensures read { result ≡ 5 → (words.now ≡ []) × Rose (S.faults script.old) (S.faults script.new)
+        × Appends (K.held out.old) (K.held out.new) (line (codes "read fault")) }
     ensures write { result ≡ 6 → Rose (K.faults out.old) (K.faults out.new) }
-    ensures long { result ≡ 7 → (words.now ≡ []) × Passed (S.left script.old) (S.left script.new) (K.held out.old) (K.held out.new) }
+    ensures long { result ≡ 7 → (words.now ≡ [])
+        × Passed (S.left script.old) (S.left script.new) (K.held out.old) (K.held out.new) }
+
+    // Where memory ran out or the sink failed, a front was put of what would be otherwise.
+    ensures begun { (result ≡ 1) ⊎ (result ≡ 6) → words.now ≡ []
+        → ¬ Rose (S.faults script.old) (S.faults script.new)
+        → Begun (S.left script.old) (K.held out.old) (K.held out.new) }
 
     // No count falls, and the files stay as they were.
     ensures later_read { S.faults script.old ≤ S.faults script.new }
     ensures later_write { K.faults out.old ≤ K.faults out.new }
     ensures same { (file : List ℕ) → F.told files.new file ≡ F.told files.old file }
-    ensures same_faults { (F.faults files.new ≡ F.faults files.old) × (F.missing files.new ≡ F.missing files.old) }
+    ensures same_faults { (F.faults files.new ≡ F.faults files.old)
+        × (F.missing files.new ≡ F.missing files.old) }
 {
     match run(alloc, words, script, out) {
         End::Done => 0,

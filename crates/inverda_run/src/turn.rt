@@ -40,8 +40,10 @@ fn answer<L: Ledger>(
     statement: Statement,
     steps: &mut Steps<L>,
 ) -> Result<Text, Memory>
-    ensures text { IfOk result (λ text. text ≡ text_of (act (state_of engine.old) (statement_view statement))) }
-    ensures next { OnOk result (state_of engine.new ≡ next_state (state_of engine.old) (act (state_of engine.old) (statement_view statement))) }
+    ensures text { IfOk result (λ text.
+        text ≡ text_of (act (state_of engine.old) (statement_view statement))) }
+    ensures next { OnOk result (state_of engine.new
+        ≡ next_state (state_of engine.old) (act (state_of engine.old) (statement_view statement))) }
 {
     match engine.event(alloc, SESSION, statement, steps) {
         Ok(reply) => reply_text(alloc, &reply),
@@ -50,7 +52,8 @@ fn answer<L: Ledger>(
     }
 }
 
-/// Takes the statement at the front of the tokens, carries it out, and puts the lines that answer it.
+/// Takes the statement at the front of the tokens, carries it out, and puts the lines that answer
+/// it.
 pub fn take_turn<K: Sink, L: Ledger>(
     alloc: Global,
     engine: &mut Engine,
@@ -60,7 +63,8 @@ pub fn take_turn<K: Sink, L: Ledger>(
     steps: &mut Steps<L>,
 ) -> Turn
     requires { AreTokens bytes.now tokens.now }
-    ensures turns { Turns bytes.now tokens.now (K.held out.old) (K.held out.new) (K.faults out.old) (K.faults out.new) (state_of engine.old) (state_of engine.new) result }
+    ensures turns { Turns bytes.now tokens.now (K.held out.old) (K.held out.new) (K.faults out.old)
+        (K.faults out.new) (state_of engine.old) (state_of engine.new) result }
     ensures later { K.faults out.old ≤ K.faults out.new }
 {
     match parse_statement(alloc, bytes, tokens, true) {

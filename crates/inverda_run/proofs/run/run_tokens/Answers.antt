@@ -1,12 +1,12 @@
-use Rattle.std.proofs.Common.{◌≡◌, ◌≤◌, List, ℕ, true, sym, subst, arith, drop}
+use Rattle.std.proofs.Common.{◌≡◌, List, true, sym, subst, arith}
 use Rattle.bidel_lex.specs.declared.tokens.Token.{Token}
 use Rattle.bidel_lex.specs.Tokens.{AreTokens}
 use Rattle.bidel_parser.specs.Lexemes.{lexemes}
 use Rattle.bidel_parser.specs.Parsing.{NoFront, IsFault}
 use Rattle.engine_core.specs.Kept.{state_of}
-use Rattle.inverda_run.specs.Calls.{RunsOne}
+use Rattle.inverda_run.specs.Calls.{RunsOne, RunsPart}
 use Rattle.inverda_run.proofs.TokenLemmas.{are_tokens_drop}
-use Rattle.inverda_run.proofs.RunLemmas.{ran_none, ran_more, ran_up, rest_is}
+use Rattle.inverda_run.proofs.RunLemmas.{ran_none, ran_more, ran_up, ran_front, ran_part, rest_is}
 use Rattle.inverda_run.proofs.run.run_tokens.Goals as goal
 
 pub loop-used-init : goal.loop-used-init
@@ -42,3 +42,20 @@ returns-in-Fault-clause-runs g c =
     let now = g.K.Sink.held c.take_turn.new.out in
     ran_up bytes tokens (g.K.Sink.held c.args.out.now) mid now (state_of c.loop-used.engine) c.loop-used.done c.in-Fault.at c.requires c.loop-used.invariant.so_far
     (subst (λ (l : List Token). NoFront true (lexemes bytes l) × IsFault bytes l true c.in-Fault.at × (now ≡ mid)) (rest_is tokens c.loop-used.done) c.in-Fault.ensures.turns)
+
+pub returns-in-Memory-clause-runs : goal.returns-in-Memory-clause-runs
+returns-in-Memory-clause-runs g c =
+    ran_front c.args.bytes.now c.args.tokens.now (g.K.Sink.held c.args.out.now) (g.K.Sink.held c.loop-used.out) (g.K.Sink.held c.take_turn.new.out)
+    (state_of c.loop-used.engine) c.loop-used.done c.loop-used.invariant.so_far c.in-Memory.ensures.turns
+
+pub returns-in-Unwritten-clause-runs : goal.returns-in-Unwritten-clause-runs
+returns-in-Unwritten-clause-runs g c =
+    let bytes = c.args.bytes.now in
+    let tokens = c.args.tokens.now in
+    let mid = g.K.Sink.held c.loop-used.out in
+    let now = g.K.Sink.held c.take_turn.new.out in
+    let s = state_of c.loop-used.engine in (
+      omega (arith, c.loop-used.invariant.later, c.in-Unwritten.ensures.turns.0),
+      ran_part bytes tokens (g.K.Sink.held c.args.out.now) mid now s c.loop-used.done c.loop-used.invariant.so_far
+          (subst (λ (l : List Token). RunsPart bytes l mid now s) (rest_is tokens c.loop-used.done) c.in-Unwritten.ensures.turns.1),
+    )

@@ -1,11 +1,5 @@
-use Rattle.std.proofs.Common.{◌≡◌, ◌≤◌, ◌-◌, List, length, ℕ}
-use Rattle.std.specs.Io.KnownBytes.{Appends}
-use Rattle.bidel_parser.specs.Lexemes.{lexemes}
-use Rattle.bidel_parser.specs.Views.{StatementView}
-use Rattle.engine_core.specs.Kept.{state_of, empty_state}
-use Rattle.inverda_run.specs.Script.{Leads}
-use Rattle.inverda_run.specs.Output.{out_of, max_id}
-use Rattle.inverda_run.proofs.OutputLemmas.{state_behind}
+use Rattle.std.proofs.Common.{◌≤◌, ◌-◌, length}
+use Rattle.engine_core.specs.Kept.{state_of}
 use Rattle.inverda_run.proofs.RunLemmas.{RanSoFar}
 use Rattle.inverda_run.proofs.run.run_tokens.Given as goal
 

@@ -1,4 +1,4 @@
-use Rattle.inverda_run.proofs.EndLemmas.{all_are, ends_done, ends_bad, ends_fault}
+use Rattle.inverda_run.proofs.EndLemmas.{all_are, ends_done, ends_bad, ends_fault, ends_front}
 use Rattle.inverda_run.proofs.script.run_script.Goals as goal
 
 pub run_tokens-requires : goal.run_tokens-requires
@@ -21,3 +21,15 @@ returns-in-Fault-clause-ends g c =
     (g.K.Sink.held c.args.out.now) (g.K.Sink.held c.run_tokens.new.out) (g.K.Sink.held c.stop-in-Fault.new.out)
     (g.K.Sink.faults c.args.out.now) (g.K.Sink.faults c.run_tokens.new.out) (g.K.Sink.faults c.stop-in-Fault.new.out) c.stop-in-Fault.result
     c.in-Ok.ensures.found c.as_slice.ensures.value c.first_place.ensures.value c.in-Fault.ensures.runs c.in-Fault.ensures.later c.stop-in-Fault.ensures.stops
+
+pub returns-in-Memory-clause-ends : goal.returns-in-Memory-clause-ends
+returns-in-Memory-clause-ends g c =
+    ends_front c.args.bytes.now c.in-Ok.all c.as_slice.result.now (g.K.Sink.held c.args.out.now) (g.K.Sink.held c.run_tokens.new.out)
+    c.in-Ok.ensures.found c.as_slice.ensures.value c.in-Memory.ensures.runs
+
+pub returns-clause-ends : goal.returns-clause-ends
+returns-clause-ends g c = (
+  c.in-Unwritten.ensures.runs.0,
+  ends_front c.args.bytes.now c.in-Ok.all c.as_slice.result.now (g.K.Sink.held c.args.out.now) (g.K.Sink.held c.run_tokens.new.out)
+      c.in-Ok.ensures.found c.as_slice.ensures.value c.in-Unwritten.ensures.runs.1,
+)
