@@ -38,9 +38,21 @@ impl Model for Engine {
 
     ghost coded = { Prim.hlevel (codes, e.the_row.coded) };
 
-    ghost view = { λ it. record { versions = it.versions; operators = it.operators; tables = it.tables; next = it.next; limit = it.limit } };
+    ghost view = { λ it. record {
+      versions = it.versions;
+      operators = it.operators;
+      tables = it.tables;
+      next = it.next;
+      limit = it.limit;
+    } };
 
-    ghost invariant = { λ it. IsSound (state_of (record { versions = it.versions; operators = it.operators; tables = it.tables; next = it.next; limit = it.limit })) };
+    ghost invariant = { λ it. IsSound (state_of (record {
+      versions = it.versions;
+      operators = it.operators;
+      tables = it.tables;
+      next = it.next;
+      limit = it.limit;
+    })) };
 }
 
 impl Engine {
@@ -70,7 +82,8 @@ impl Engine {
         statement: Statement,
         steps: &mut Steps<L>,
     ) -> Result<Reply, Fault<Refusal>>
-        ensures answers { Answers (act (state_of self.old) (statement_view statement)) result (state_of self.new) }
+        ensures answers { Answers (act (state_of self.old) (statement_view statement)) result
+            (state_of self.new) }
         ensures same { OnErr result (state_of self.new ≡ state_of self.old) }
         ensures reply { IfOk result IsReply }
     {
@@ -88,7 +101,8 @@ impl Engine {
         statement: Statement,
         steps: &mut Steps<L>,
     ) -> Result<Reply, Fault<Refusal>>
-        ensures answers { Answers (acted (state_of self.old) (statement_view statement)) result (state_of self.new) }
+        ensures answers { Answers (acted (state_of self.old) (statement_view statement)) result
+            (state_of self.new) }
         ensures same { OnErr result (state_of self.new ≡ state_of self.old) }
         ensures reply { IfOk result IsReply }
     {
@@ -122,7 +136,8 @@ impl Engine {
         evolution: Evolution<'_>,
         steps: &mut Steps<L>,
     ) -> Result<Reply, Fault<Refusal>>
-        ensures answers { Answers (acted_evolve (state_of self.old) evolution.entry.name.now evolution.entry.from.now (map op_view evolution.entry.texts.now)) result (state_of self.new) }
+        ensures answers { Answers (acted_evolve (state_of self.old) evolution.entry.name.now
+            evolution.entry.from.now (map op_view evolution.entry.texts.now)) result (state_of self.new) }
         ensures same { OnErr result (state_of self.new ≡ state_of self.old) }
         ensures reply { IfOk result IsReply }
     {

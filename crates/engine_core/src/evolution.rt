@@ -28,7 +28,8 @@ fn add_operators<L: Ledger>(
     steps: &mut Steps<L>,
 ) -> Result<Standing, Fault<Refusal>>
     requires { AreReady (map made_of operators.old) tables.old }
-    ensures gives { Gives (growth_of operators.new tables.new) result (with_operators (growth_of operators.old tables.old start) (map op_view texts.now)) }
+    ensures gives { Gives (growth_of operators.new tables.new) result
+        (with_operators (growth_of operators.old tables.old start) (map op_view texts.now)) }
     ensures operators { take (length operators.old) operators.new ≡ operators.old }
     ensures tables { take (length tables.old) tables.new ≡ tables.old }
 {
@@ -48,7 +49,8 @@ fn add_operator<L: Ledger>(
     steps: &mut Steps<L>,
 ) -> Result<Standing, Fault<Refusal>>
     requires { AreReady (map made_of operators.old) tables.old }
-    ensures gives { Gives (growth_of operators.new tables.new) result (with_operator (growth_of operators.old tables.old at) (op_view text.now)) }
+    ensures gives { Gives (growth_of operators.new tables.new) result
+        (with_operator (growth_of operators.old tables.old at) (op_view text.now)) }
     ensures operators { take (length operators.old) operators.new ≡ operators.old }
     ensures tables { take (length tables.old) tables.new ≡ tables.old }
 {
@@ -70,7 +72,8 @@ fn grow(
     at: Standing,
     plan: Plan,
 ) -> Result<Standing, Memory>
-    ensures ok { IfOk result (λ next. growth_of operators.new tables.new next ≡ grown_by (growth_of operators.old tables.old at) (plan_view plan)) }
+    ensures ok { IfOk result (λ next. growth_of operators.new tables.new next
+        ≡ grown_by (growth_of operators.old tables.old at) (plan_view plan)) }
     ensures operators { take (length operators.old) operators.new ≡ operators.old }
     ensures tables { take (length tables.old) tables.new ≡ tables.old }
 {
@@ -156,9 +159,11 @@ fn add_version<L: Ledger>(
     steps: &mut Steps<L>,
 ) -> Result<(), Fault<Refusal>>
     requires { AreReady (map made_of operators.old) tables.old }
-    ensures gives { (next limit : ℕ) → Gives (λ _. parts_state versions.new operators.new tables.new next limit) result
+    ensures gives { (next limit : ℕ)
+        → Gives (λ _. parts_state versions.new operators.new tables.new next limit) result
         (with_operators (growth_of operators.old tables.old at) (map op_view evolution.entry.texts.now) then λ g.
-        Ok (evolved_to (parts_state versions.old operators.old tables.old next limit) evolution.entry.name.now g)) }
+        Ok (evolved_to (parts_state versions.old operators.old tables.old next limit)
+        evolution.entry.name.now g)) }
     ensures versions { OnErr result (versions.new ≡ versions.old) }
     ensures operators { take (length operators.old) operators.new ≡ operators.old }
     ensures tables { take (length tables.old) tables.new ≡ tables.old }
@@ -185,8 +190,10 @@ pub fn evolve<L: Ledger>(
     steps: &mut Steps<L>,
 ) -> Result<(), Fault<Refusal>>
     requires { AreReady (map made_of operators.old) tables.old }
-    ensures gives { (next limit : ℕ) → Gives (λ _. parts_state versions.new operators.new tables.new next limit) result
-        (evolved (parts_state versions.old operators.old tables.old next limit) evolution.entry.name.now evolution.entry.from.now (map op_view evolution.entry.texts.now)) }
+    ensures gives { (next limit : ℕ)
+        → Gives (λ _. parts_state versions.new operators.new tables.new next limit) result
+        (evolved (parts_state versions.old operators.old tables.old next limit)
+        evolution.entry.name.now evolution.entry.from.now (map op_view evolution.entry.texts.now)) }
     ensures versions { OnErr result (versions.new ≡ versions.old) }
     ensures operators { OnErr result (operators.new ≡ operators.old) }
     ensures tables { OnErr result (tables.new ≡ tables.old) }

@@ -106,7 +106,8 @@ fn write<L: Ledger>(
     requires within { place < length seen.tables.now }
     requires fits { seen.next + length rows.now ≤ 2 ^ 63 }
     requires wide { right_counts (table_at seen.tables.now place).width rows.now ≡ Ok tt }
-    ensures { IfOk result (λ made. made ≡ (inserted (seen_state seen.entry) version.now place rows.now).tables) }
+    ensures { IfOk result (λ made. made
+        ≡ (inserted (seen_state seen.entry) version.now place rows.now).tables) }
 {
     let written = with_new_rows(alloc, &seen.tables[place], rows, seen.next)?;
     let mut now = copy_tables(alloc, seen.tables)?;
@@ -133,7 +134,8 @@ pub fn insert_rows<L: Ledger>(
     steps: &mut Steps<L>,
 ) -> Result<Written, Fault<Refusal>>
     requires { IsSound (seen_state seen) }
-    ensures { Gives (written_reply (seen_state seen.entry)) result (acted_insert (seen_state seen.entry) table.now rows.now) }
+    ensures { Gives (written_reply (seen_state seen.entry)) result
+        (acted_insert (seen_state seen.entry) table.now rows.now) }
 {
     let found = find_table(alloc, seen, table)?;
     check_counts(rows, columns_of(seen.operators, found.place).len())?;

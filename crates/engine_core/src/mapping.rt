@@ -58,7 +58,8 @@ fn extended<L: Ledger>(
     steps: &mut Steps<L>,
 ) -> Result<Row, Memory>
     requires { fits_row (expr_term value.now) (length row.now) ≡ true }
-    ensures { IfOk result (λ made. made ≡ row.now ++ option_map_or (value_in place) (option_map (λ old. old.now) kept.entry) (val (expr_term value.now) row.now) ∷ []) }
+    ensures { IfOk result (λ made. made ≡ row.now ++ option_map_or (value_in place)
+        (option_map (λ old. old.now) kept.entry) (val (expr_term value.now) row.now) ∷ []) }
 {
     let added = match kept {
         Some(old) => value_at(alloc, old, place)?,

@@ -52,7 +52,8 @@ fn check_unused(
     set: &[usize],
     name: &Name,
 ) -> Result<(), Fault<Refusal>>
-    ensures { Gives (λ x. x) result (unused_name name.now (place_named (map made_of operators.now) set.now name.now)) }
+    ensures { Gives (λ x. x) result
+        (unused_name name.now (place_named (map made_of operators.now) set.now name.now)) }
 {
     match find_place(operators, set, name) {
         Some(_) => Err(Fault::Refused(Refusal::TableExists {
@@ -69,7 +70,8 @@ pub fn known_place(
     set: &[usize],
     name: &Name,
 ) -> Result<usize, Fault<Refusal>>
-    ensures { Gives (λ x. x) result (known_table name.now (place_named (map made_of operators.now) set.now name.now)) }
+    ensures { Gives (λ x. x) result
+        (known_table name.now (place_named (map made_of operators.now) set.now name.now)) }
 {
     match find_place(operators, set, name) {
         Some(place) => Ok(place),
@@ -141,15 +143,16 @@ fn without(alloc: Global, places: &[usize], place: usize) -> Result<List<usize>,
     ))
 }
 
-/// CREATE TABLE: an empty table beside the tables of the working set.
-pub fn plan_table(
+// CREATE TABLE: an empty table beside the tables of the working set.
+fn plan_table(
     alloc: Global,
     operators: &[Operator],
     at: &Standing,
     name: &Name,
     columns: &[Name],
 ) -> Result<Plan, Fault<Refusal>>
-    ensures { Gives plan_view result (planned_table (map made_of operators.now) at.now name.now columns.now) }
+    ensures { Gives plan_view result
+        (planned_table (map made_of operators.now) at.now name.now columns.now) }
 {
     check_room(operators)?;
     check_unused(alloc, operators, at.tables.as_slice(), name)?;
@@ -176,32 +179,39 @@ fn with_name(alloc: Global, names: &[Name], name: &Name) -> Result<List<Name>, M
     Ok(made)
 }
 
-/// ADD COLUMN: the target has each row of the source with the value of the expression, and takes
-/// the place of the source in the working set. It takes one step for each row.
-pub fn plan_column<L: Ledger>(
+// What ADD COLUMN says.
+#[derive(Clone, Copy)]
+struct Addition<'a> {
+    column: &'a Name,
+    value: &'a ExprText,
+    table: &'a Name,
+}
+
+// ADD COLUMN: the target has each row of the source with the value of the expression, and takes the
+// place of the source in the working set.
+fn plan_column<L: Ledger>(
     alloc: Global,
     operators: &[Operator],
     tables: &[Table],
     at: &Standing,
-    column: &Name,
-    value: &ExprText,
-    name: &Name,
+    addition: Addition<'_>,
     steps: &mut Steps<L>,
 ) -> Result<Plan, Fault<Refusal>>
     requires { AreReady (map made_of operators.now) tables.now }
-    ensures { Gives plan_view result (planned_column (map made_of operators.now) tables.now at.now column.now (text_term value.now) name.now) }
+    ensures { Gives plan_view result (planned_column (map made_of operators.now) tables.now at.now
+        addition.entry.column.now (text_term addition.entry.value.now) addition.entry.table.now) }
 {
     check_room(operators)?;
-    let source = known_place(alloc, operators, at.tables.as_slice(), name)?;
+    let source = known_place(alloc, operators, at.tables.as_slice(), addition.table)?;
     let known = columns_of(operators, source);
-    let expr = resolve_value(alloc, value, known)?;
-    check_new(alloc, known, slice::from_ref(column))?;
-    let columns = with_name(alloc, known, column)?;
-    check_few(alloc, name, columns.as_slice())?;
+    let expr = resolve_value(alloc, addition.value, known)?;
+    check_new(alloc, known, slice::from_ref(addition.column))?;
+    let columns = with_name(alloc, known, addition.column)?;
+    check_few(alloc, addition.table, columns.as_slice())?;
     let table = first_target(alloc, tables, source, &expr, steps)?;
     let operator = Operator {
         tree: at.tree,
-        name: name.copy(alloc)?,
+        name: addition.table.copy(alloc)?,
         columns,
         added: Some(Added {
             source,
@@ -226,13 +236,15 @@ fn first_target<L: Ledger>(
     requires within { source < length tables.now }
     requires room { (table_at tables.now source).width < 64 }
     requires fits { fits_row (expr_term value.now) (table_at tables.now source).width ≡ true }
-    ensures { IfOk result (λ made. made ≡ forward_of (expr_term value.now) (table_at tables.now source) no_table) }
+    ensures { IfOk result (λ made. made
+        ≡ forward_of (expr_term value.now) (table_at tables.now source) no_table) }
 {
     let before = Table::new(alloc, 0);
     forward(alloc, value, &tables[source], &before, steps)
 }
 
-/// What an operator makes.
+/// What an operator makes, or why it is refused. It takes time in the number of values of its table,
+/// and for ADD COLUMN one step for each row.
 pub fn plan_operator<L: Ledger>(
     alloc: Global,
     operators: &[Operator],
@@ -242,7 +254,9 @@ pub fn plan_operator<L: Ledger>(
     steps: &mut Steps<L>,
 ) -> Result<Plan, Fault<Refusal>>
     requires { AreReady (map made_of operators.now) tables.now }
-    ensures { Gives plan_view result (planned (record { operators = map made_of operators.now; tables = tables.now; at = at.now }) (op_view text.now)) }
+    ensures { Gives plan_view result (planned
+        (record { operators = map made_of operators.now; tables = tables.now; at = at.now })
+        (op_view text.now)) }
 {
     match text {
         OpText::CreateTable { table, columns } => plan_table(
@@ -256,6 +270,13 @@ pub fn plan_operator<L: Ledger>(
             column,
             value,
             table,
-        } => plan_column(alloc, operators, tables, at, column, value, table, steps),
+        } => {
+            let addition = Addition {
+                column,
+                value,
+                table,
+            };
+            plan_column(alloc, operators, tables, at, addition, steps)
+        }
     }
 }

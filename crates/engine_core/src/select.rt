@@ -74,7 +74,8 @@ pub fn select_rows(
     table: &TableName,
 ) -> Result<Reply, Fault<Refusal>>
     requires { IsSound (seen_state seen) }
-    ensures gives { Gives (λ reply. (reply, seen_state seen.entry)) result (acted_select (seen_state seen.entry) table.now) }
+    ensures gives { Gives (λ reply. (reply, seen_state seen.entry)) result
+        (acted_select (seen_state seen.entry) table.now) }
     ensures reply { IfOk result IsReply }
 {
     let found = find_table(alloc, seen, table)?;

@@ -50,7 +50,8 @@ fn with_others(
     way: &[usize],
     tree: usize,
 ) -> Result<Vec<Step>, Memory>
-    ensures { IfOk result (λ steps. steps.items ≡ upward.items ++ others_from 0 way.now tree (map made_of operators.now)) }
+    ensures { IfOk result (λ steps. steps.items
+        ≡ upward.items ++ others_from 0 way.now tree (map made_of operators.now)) }
 {
     let mut steps = upward;
     for (place, operator) in operators.iter().enumerate() {
@@ -66,7 +67,8 @@ fn add_other(
     way: &[usize],
     tree: usize,
 ) -> Result<(), Memory>
-    ensures { OnOk result (steps.new.items ≡ steps.old.items ++ other_step way.now tree place (made_of operator.now)) }
+    ensures { OnOk result (steps.new.items
+        ≡ steps.old.items ++ other_step way.now tree place (made_of operator.now)) }
 {
     if operator.tree == tree && !way.contains(&place) {
         steps.push(Step::Forward(place))?;
@@ -87,7 +89,8 @@ pub fn run<L: Ledger>(
 ) -> Result<Vec<Table>, Memory>
     requires ready { AreReady (map made_of operators.now) old.now }
     requires same { AreSame old.now written.items }
-    ensures { IfOk result (λ now. now.items ≡ along (map made_of operators.now) old.now written.items walk.now) }
+    ensures { IfOk result (λ now. now.items
+        ≡ along (map made_of operators.now) old.now written.items walk.now) }
 {
     let mut now = written;
     for step in walk {
@@ -106,7 +109,8 @@ fn take_step<L: Ledger>(
 ) -> Result<(), Memory>
     requires ready { AreReady (map made_of operators.now) old.now }
     requires same { AreSame old.now now.old.items }
-    ensures { OnOk result (now.new.items ≡ after_step (map made_of operators.now) old.now now.old.items step) }
+    ensures { OnOk result (now.new.items
+        ≡ after_step (map made_of operators.now) old.now now.old.items step) }
 {
     match step {
         Step::Backward(place) => match origin(operators, place) {
@@ -133,7 +137,8 @@ fn origin(operators: &[Operator], place: usize) -> Option<&Added>
 fn take_back(alloc: Global, now: &mut Vec<Table>, place: usize, source: usize) -> Result<(), Memory>
     requires within { place < length now.old.items }
     requires wide { 0 < (table_at now.old.items place).width }
-    ensures { OnOk result (now.new.items ≡ slice_set now.old.items source (backward_of (table_at now.old.items place))) }
+    ensures { OnOk result (now.new.items
+        ≡ slice_set now.old.items source (backward_of (table_at now.old.items place))) }
 {
     let made = backward(alloc, &now[place])?;
     put(now, source, made);
@@ -151,8 +156,11 @@ fn carry_on<L: Ledger>(
     requires source { added.now.source < length now.old.items }
     requires within { place < length old.now }
     requires room { (table_at now.old.items added.now.source).width < 64 }
-    requires fits { fits_row (expr_term added.now.value) (table_at now.old.items added.now.source).width ≡ true }
-    ensures { OnOk result (now.new.items ≡ slice_set now.old.items place (forward_of (expr_term added.now.value) (table_at now.old.items added.now.source) (table_at old.now place))) }
+    requires fits { fits_row (expr_term added.now.value)
+        (table_at now.old.items added.now.source).width ≡ true }
+    ensures { OnOk result (now.new.items ≡ slice_set now.old.items place
+        (forward_of (expr_term added.now.value) (table_at now.old.items added.now.source)
+        (table_at old.now place))) }
 {
     let made = forward(alloc, &added.value, &now[added.source], &old[place], steps)?;
     put(now, place, made);

@@ -1,5 +1,5 @@
 //! Ends that fail: a source at some call, a sink after some bytes, and words.
-use crate::runs::{Ends, expect_run};
+use crate::runs::{Ends, expect_bytes, expect_run};
 use inverda_run::inverda;
 use par_base::{MemorySink, MemorySource, SureFiles};
 use std::test::Fail;
@@ -7,14 +7,25 @@ use std::test::Fail;
 const SCRIPT: &str =
     "CREATE SCHEMA VERSION v WITH CREATE TABLE t(a);\nINSERT INTO v.t VALUES (1);\n";
 
+const REPLIES: &str = "ok\ninserted 1 #1\n";
+
 #[test]
 fn a_full_sink_holds_the_front_of_the_replies(rt: HostRuntime) -> Result<(), Fail> {
-    let ends = Ends {
+    let replies = REPLIES.as_bytes();
+    for room in 0..replies.len() {
+        let ends = Ends {
+            takes: &[],
+            puts: &[],
+            room,
+        };
+        expect_bytes(&rt, rt.alloc(), SCRIPT, &ends, 6, &replies[..room])?;
+    }
+    let enough = Ends {
         takes: &[],
         puts: &[],
-        room: 5,
+        room: replies.len(),
     };
-    expect_run(&rt, rt.alloc(), SCRIPT, &ends, 6, "ok\nin")
+    expect_bytes(&rt, rt.alloc(), SCRIPT, &enough, 0, replies)
 }
 
 #[test]
@@ -27,20 +38,34 @@ fn a_failing_put_ends_the_run(rt: HostRuntime) -> Result<(), Fail> {
     expect_run(&rt, rt.alloc(), SCRIPT, &ends, 6, "ok\n")
 }
 
+// The script is taken in eleven pieces, and the twelfth call finds its end.
 #[test]
-fn a_failing_take_ends_the_run(rt: HostRuntime) -> Result<(), Fail> {
-    let first = Ends {
-        takes: &[0],
+fn whichever_take_fails_ends_the_run(rt: HostRuntime) -> Result<(), Fail> {
+    for call in 0..12u64 {
+        let takes = [call];
+        let ends = Ends {
+            takes: takes.as_slice(),
+            puts: &[],
+            room: 100,
+        };
+        expect_run(&rt, rt.alloc(), SCRIPT, &ends, 5, "read fault\n")?;
+    }
+    let later = Ends {
+        takes: &[12],
         puts: &[],
         room: 100,
     };
-    expect_run(&rt, rt.alloc(), SCRIPT, &first, 5, "read fault\n")?;
-    let both = Ends {
+    expect_run(&rt, rt.alloc(), SCRIPT, &later, 0, REPLIES)
+}
+
+#[test]
+fn a_sink_that_fails_at_a_last_line_gives_its_status(rt: HostRuntime) -> Result<(), Fail> {
+    let ends = Ends {
         takes: &[1],
         puts: &[0],
         room: 100,
     };
-    expect_run(&rt, rt.alloc(), SCRIPT, &both, 6, "")
+    expect_run(&rt, rt.alloc(), SCRIPT, &ends, 6, "")
 }
 
 #[test]

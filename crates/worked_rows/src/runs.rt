@@ -36,12 +36,24 @@ pub fn expect_run(
     status: u8,
     written: &str,
 ) -> Result<(), Fail> {
+    expect_bytes(rt, alloc, script, ends, status, written.as_bytes())
+}
+
+/// The same, where what the sink holds is given as bytes.
+pub fn expect_bytes(
+    rt: &impl Abort,
+    alloc: Global,
+    script: &str,
+    ends: &Ends<'_>,
+    status: u8,
+    written: &[u8],
+) -> Result<(), Fail> {
     let bytes = Vec::from_slice(alloc, script.as_bytes())?;
     let mut source = MemorySource::new(bytes, 7, Vec::from_slice(alloc, ends.takes)?);
     let mut sink = MemorySink::new(alloc, ends.room, 5, Vec::from_slice(alloc, ends.puts)?)?;
     let mut files = SureFiles::new(alloc);
     let ended = inverda(alloc, &[], &mut source, &mut sink, &mut files);
-    assert_eq!(rt; sink.bytes(), written.as_bytes());
+    assert_eq!(rt; sink.bytes(), written);
     assert_eq!(rt; ended, status);
     Ok(())
 }
