@@ -6,3 +6,4 @@ pub mod RunLemmas
 pub mod EndLemmas
 pub mod FaultLemmas
 pub mod FrontLemmas
+pub mod TextLemmas

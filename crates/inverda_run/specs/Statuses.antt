@@ -95,3 +95,7 @@ Writes bytes text = IsAnswer bytes text ⊎ IsFaultAnswer bytes text
 abbrev pub Begun : Option (List ℕ) → Option (List ℕ) → Option (List ℕ) → Type 0
 Begun None held held' = ⊤
 Begun (Some bytes) held held' = length bytes ≤ limit → (text : List ℕ) → Writes bytes text → PutsFront held held' text
+
+-- the run of any bytes puts one text where nothing fails
+abbrev pub OneText : Type 0
+OneText = (bytes : List ℕ) → (text : List ℕ) × Writes bytes text × ((other : List ℕ) → Writes bytes other → other ≡ text)

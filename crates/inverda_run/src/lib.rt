@@ -9,8 +9,9 @@
 //! (`Stopped`, `HasFault`); that every other status comes for its cause alone; that where source and
 //! sink don't fail and memory suffices, the bytes decide the status; and that a run which memory or
 //! the sink ends has put a front of what it puts otherwise (`Begun`). The laws say that bytes are the
-//! script of one list of statements, and have one first fault. The crate knows nothing of files,
-//! options or sessions yet: with any word it only says that the words are bad.
+//! script of one list of statements at most, that they have one first fault at most, and that their
+//! run puts one text where nothing fails. The crate knows nothing of files, options or sessions yet:
+//! with any word it only says that the words are bad.
 #![tactic(auto)]
 
 mod end;
@@ -23,5 +24,5 @@ mod tokens;
 mod top;
 mod turn;
 
-pub use laws::{fault_is_one, script_is_one};
+pub use laws::{fault_is_one, script_is_one, text_is_one};
 pub use top::inverda;
