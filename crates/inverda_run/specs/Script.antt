@@ -31,9 +31,9 @@ abbrev pub earlier : ℕ → Option ℕ → ℕ
 earlier at None = at
 earlier at (Some bad) = min at bad
 
--- the first fault of the bytes is at this byte, and these are the statements before it: no more of them is whole, and the fault
--- is the first token that no script has after those before it, the end of the bytes where the tokens alone show none, or the
--- first byte that continues no token
+-- where the bytes are no script, their first fault is at this byte, and these are the statements before it: no further one is
+-- whole, and the fault is the first token that no script has after those before it, the end of the bytes where each token has
+-- one, or the first byte that continues no token, where that comes first
 pub record HasFault (bytes : List ℕ) (before : List StatementView) (at : ℕ) : Type 0 where
   pub tokens : List Token
   pub bad : Option ℕ
