@@ -1,5 +1,6 @@
 mod EvolveLemmas
 mod InsertLemmas
+mod MappingLemmas
 mod PlanLemmas
 mod PushLemmas
 mod SoundLemmas

@@ -1,5 +1,6 @@
 pub mod Tables
 pub mod Mappings
+pub mod Laws
 pub mod Checks
 pub mod State
 pub mod Walk

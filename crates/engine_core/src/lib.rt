@@ -10,6 +10,7 @@
 mod engine;
 mod evolution;
 mod insert;
+mod laws;
 mod lookup;
 mod mapping;
 mod plan;
@@ -23,6 +24,7 @@ mod table;
 mod walk;
 
 pub use engine::Engine;
+pub use laws::{source_comes_back, target_comes_back};
 pub use refusal_line::refusal_text;
 pub use reply::Reply;
 pub use reply_lines::reply_text;
