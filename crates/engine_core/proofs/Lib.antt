@@ -1,8 +1,10 @@
 mod EvolveLemmas
 mod InsertLemmas
 mod MappingLemmas
+mod OwnLemmas
 mod PlanLemmas
 mod PushLemmas
 mod SoundLemmas
+mod StayLemmas
 mod TableLemmas
 mod WalkLemmas

@@ -1,12 +1,12 @@
 -- The two mappings of ADD COLUMN undo each other.
-use Rattle.std.proofs.Common.{◌≡◌, ℕ, zero, suc, ◌+◌, ◌-◌, ◌<◌, List, [], ◌∷◌, ◌++◌, Bool, cond, length, map, take, take_at, Option, Some, refl, ap, ◌∙◌, sym, subst, arith, eqb, eq-eqb}
+use Rattle.std.proofs.Common.{◌≡◌, ℕ, zero, suc, ◌+◌, ◌-◌, ◌<◌, List, [], ◌∷◌, ◌++◌, Bool, cond, length, map, take, take_at, Option, Some, refl, ap, ◌∙◌, sym, subst, arith, eq-eqb}
 use Rattle.std.proofs.lemmas.Bool.{ne_eqb}
 use Rattle.std.specs.Option.{option_map_or}
 use Rattle.par_base.specs.declared.value.Value.{Value}
 use Rattle.expr_lang.specs.Terms.{Term}
 use Rattle.expr_lang.specs.Val.{val}
-use Rattle.engine_core.specs.Tables.{Rows, Contents, RiseAbove, AreWide, row_of}
-use Rattle.engine_core.specs.Mappings.{added_value, value_in, forward_of, backward_of}
+use Rattle.engine_core.specs.Tables.{Rows, RiseAbove, AreWide, row_of}
+use Rattle.engine_core.specs.Mappings.{added_value, value_in}
 use Rattle.engine_core.specs.Laws.{SourceComesBack, TargetComesBack}
 
 -- ---- forward and back
@@ -34,16 +34,16 @@ AreOf all (r ∷ rows) = (row_of all r.0 ≡ Some r.1) × AreOf all rows
 behind : (first : ℕ × List Value) (n : ℕ) (all rows : Rows) → first.0 < n + 1 → RiseAbove n rows → AreOf all rows → AreOf (first ∷ all) rows
 behind first n all [] h rises found = tt
 behind first n all (r ∷ rows) h rises found = (
-    ap (λ (b : Bool). cond b (Some first.1) (row_of all r.0)) (ne_eqb first.0 r.0 (omega (arith, h, rises.0))) ∙ found.0,
-    behind first r.0 all rows (omega (arith, h, rises.0)) rises.1 found.1,
-  )
+  ap (λ (b : Bool). cond b (Some first.1) (row_of all r.0)) (ne_eqb first.0 r.0 (omega (arith, h, rises.0))) ∙ found.0,
+  behind first r.0 all rows (omega (arith, h, rises.0)) rises.1 found.1,
+)
 
 are_of : (n : ℕ) (rows : Rows) → RiseAbove n rows → AreOf rows rows
 are_of n [] rises = tt
 are_of n (r ∷ rows) rises = (
-    ap (λ (b : Bool). cond b (Some r.1) (row_of rows r.0)) (eq-eqb r.0 r.0 refl),
-    behind r r.0 rows rows (omega arith) rises.1 (are_of r.0 rows rises.1),
-  )
+  ap (λ (b : Bool). cond b (Some r.1) (row_of rows r.0)) (eq-eqb r.0 r.0 refl),
+  behind r r.0 rows rows (omega arith) rises.1 (are_of r.0 rows rises.1),
+)
 
 -- a row without its last value, and that value behind it
 with_last : (n : ℕ) (row : List Value) → length row ≡ n + 1 → take n row ++ value_in n row ∷ [] ≡ row

@@ -7,4 +7,5 @@ pub mod Walk
 pub mod Evolve
 pub mod Act
 pub mod Kept
+pub mod Own
 pub mod Texts

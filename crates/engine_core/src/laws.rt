@@ -1,5 +1,6 @@
 //! Laws of the model, each the contract of a function that does nothing.
 ghost use Rattle.engine_core.specs.Laws.{SourceComesBack, TargetComesBack};
+ghost use Rattle.engine_core.specs.Own.{InsertIsOrdinary, VersionsStayOwners};
 
 /// A source that goes forward and back is as it was.
 pub fn source_comes_back()
@@ -9,4 +10,16 @@ pub fn source_comes_back()
 /// A target that goes back and forward, beside itself, is as it was: no written value is lost.
 pub fn target_comes_back()
     ensures { TargetComesBack }
+{}
+
+/// An INSERT changes the tables of its own version as in an ordinary database: the written one has
+/// the new rows behind its own, and every other one is as it was.
+pub fn insert_is_ordinary()
+    ensures { InsertIsOrdinary }
+{}
+
+/// The tables of each version are those that the operators on its way up made and no other of them
+/// took as its source: so it is from the first event on, and no event ends it.
+pub fn versions_stay_owners()
+    ensures { VersionsStayOwners }
 {}
