@@ -18,8 +18,8 @@ pub fn insert_is_ordinary()
     ensures { InsertIsOrdinary }
 {}
 
-/// The tables of each version are those that the operators on its way up made and no other of them
-/// took as its source: so it is from the first event on, and no event ends it.
+/// Each table of a version was made by an operator on its way up to the root, and none of these took
+/// it as its source: this holds from the empty database on, after every event.
 pub fn versions_stay_owners()
     ensures { VersionsStayOwners }
 {}
