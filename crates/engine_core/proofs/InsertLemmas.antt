@@ -31,10 +31,10 @@ pub RiseAbove-numbered : (n next : ℕ) (rows : Rows) (new : List (List Value)) 
 RiseAbove-numbered n next [] new rises below above = rise_from n next new above
 RiseAbove-numbered n next (r ∷ rows) new rises below above = (rises.0, RiseAbove-numbered r.0 next rows new rises.1 below.1 below.0)
 
-abbrev counted : Bool → ℕ → ℕ → Checked (Unit {0}) → Checked (Unit {0})
+abbrev pub counted : Bool → ℕ → ℕ → Checked (Unit {0}) → Checked (Unit {0})
 counted b given wanted rest = cond b rest (Err (WrongCount given wanted))
 
-counted_ok : (b : Bool) (given wanted : ℕ) (rest : Checked (Unit {0})) → counted b given wanted rest ≡ Ok tt → (b ≡ true) × (rest ≡ Ok tt)
+pub counted_ok : (b : Bool) (given wanted : ℕ) (rest : Checked (Unit {0})) → counted b given wanted rest ≡ Ok tt → (b ≡ true) × (rest ≡ Ok tt)
 counted_ok true given wanted rest e = (refl, e)
 counted_ok false given wanted rest e = cc
 

@@ -1,9 +1,11 @@
+mod AgreeLemmas
 mod EvolveLemmas
 mod InsertLemmas
 mod MappingLemmas
 mod OwnLemmas
 mod PlanLemmas
 mod PushLemmas
+mod SidesLemmas
 mod SoundLemmas
 mod StayLemmas
 mod TableLemmas

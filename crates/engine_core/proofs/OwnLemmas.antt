@@ -8,7 +8,7 @@ use Rattle.engine_core.specs.State.{State, Made, Origin}
 use Rattle.engine_core.specs.Walk.{origin_at, taken_back, carried_on, after_step, along, walk_of, other_step, others_from}
 use Rattle.engine_core.specs.Evolve.{version_named, known_table, place_named}
 use Rattle.engine_core.specs.Act.{Found, found, known_version, version_of}
-use Rattle.engine_core.specs.Own.{IsOneOf, OwnsTables, VersionsOwn, InsertIsOrdinary}
+use Rattle.engine_core.specs.Own.{IsOneOf, FallFrom, OwnsTables, VersionsOwn, InsertIsOrdinary}
 use Rattle.engine_core.specs.declared.state.Version.{Version}
 use Rattle.engine_core.specs.declared.walk.Step.{Step}
 use Rattle.engine_core.specs.declared.walk.Step.TheVariants.{Backward, Forward}
@@ -37,7 +37,7 @@ of_filter test (x ∷ xs) place h =
     cases refl h
 
 -- a list with the place has it by the test too
-one_found : (xs : List ℕ) (place : ℕ) → IsOneOf xs place → list_any (λ n. n == place) xs ≡ true
+pub one_found : (xs : List ℕ) (place : ℕ) → IsOneOf xs place → list_any (λ n. n == place) xs ≡ true
 one_found [] place h = absurd h
 one_found (x ∷ xs) place (inl same) = ap (λ (b : Bool). b || list_any (λ n. n == place) xs) (eq-eqb x place same)
 one_found (x ∷ xs) place (inr rest) = or_true (x == place) (list_any (λ n. n == place) xs) (one_found xs place rest) where
@@ -47,7 +47,7 @@ one_found (x ∷ xs) place (inr rest) = or_true (x == place) (list_any (λ n. n 
 
 module _ {A : Type 0} where
   -- another place keeps its item
-  set_other : (items : List A) (at : ℕ) (x : A) (place : ℕ) → (at ≡ place → ⊥) → slice_get (slice_set items at x) place ≡ slice_get items place
+  pub set_other : (items : List A) (at : ℕ) (x : A) (place : ℕ) → (at ≡ place → ⊥) → slice_get (slice_set items at x) place ≡ slice_get items place
   set_other [] at x place apart = refl
   set_other (y ∷ items) zero x zero apart = absurd (apart refl)
   set_other (y ∷ items) zero x (suc place) apart = refl
@@ -75,6 +75,12 @@ find_one test (y ∷ items) x e =
     let P : Bool → Type 0 = λ b. cond b (Some y) (find test items) ≡ Some x → IsOneOf (y ∷ items) x in
     let cases : P (test y) = elim (test y) as (λ b. P b) [ true ↦ λ e. inl (let same : y ≡ x = cc in same) | false ↦ λ e. inr (find_one test items x e) ] in
     cases e
+
+-- a place that is one of falling places is below their bound
+pub falls_below : (n : ℕ) (places : List ℕ) (place : ℕ) → FallFrom n places → IsOneOf places place → place < n
+falls_below n [] place falls h = absurd h
+falls_below n (x ∷ places) place falls (inl same) = omega (arith, same, falls.0)
+falls_below n (x ∷ places) place falls (inr rest) = omega (arith, falls_below x places place falls.1 rest, falls.0)
 
 -- ---- a write's walk leaves the tables of the written version alone
 
@@ -109,41 +115,41 @@ others_keep : (place : ℕ) (way : List ℕ) (tree : ℕ) (operators : List Made
 others_keep place way tree [] = tt
 others_keep place way tree (o ∷ operators) = both_keep way (other_step way tree place o) (others_from (place + 1) way tree operators) (other_keeps way tree place o) (others_keep (place + 1) way tree operators)
 
-step_leaves : (operators : List Made) (tables way : List ℕ) (old now : List Contents) (step : Step) (place : ℕ) → OwnsTables operators tables way → Keeps way step → IsOneOf tables place
+step_leaves : (operators : List Made) (tree : ℕ) (tables way : List ℕ) (old now : List Contents) (step : Step) (place : ℕ) → OwnsTables operators tree tables way → Keeps way step → IsOneOf tables place
     → slice_get (after_step operators old now step) place ≡ slice_get now place
-step_leaves operators tables way old now (Backward at) place owns keeps one = leaves (origin_at operators at) refl where
+step_leaves operators tree tables way old now (Backward at) place owns keeps one = leaves (origin_at operators at) refl where
   leaves : (o : Option Origin) → origin_at operators at ≡ o → slice_get (taken_back now at o) place ≡ slice_get now place
   leaves None e = refl
-  leaves (Some a) e = set_other now a.source _ place (λ same. (owns.apart at a keeps e).1 (subst (IsOneOf tables) (sym same) one))
-step_leaves operators tables way old now (Forward at) place owns keeps one = leaves (origin_at operators at) where
+  leaves (Some a) e = set_other now a.source _ place (λ same. (owns.apart at a keeps e).2 (subst (IsOneOf tables) (sym same) one))
+step_leaves operators tree tables way old now (Forward at) place owns keeps one = leaves (origin_at operators at) where
   leaves : (o : Option Origin) → slice_get (carried_on old now at o) place ≡ slice_get now place
   leaves None = refl
   leaves (Some a) = set_other now at _ place (λ same. keeps (subst (IsOneOf way) (sym same) (owns.made place one)))
 
-along_leaves : (operators : List Made) (tables way : List ℕ) (old now : List Contents) (steps : List Step) (place : ℕ) → OwnsTables operators tables way → AllKeep way steps → IsOneOf tables place
+along_leaves : (operators : List Made) (tree : ℕ) (tables way : List ℕ) (old now : List Contents) (steps : List Step) (place : ℕ) → OwnsTables operators tree tables way → AllKeep way steps → IsOneOf tables place
     → slice_get (along operators old now steps) place ≡ slice_get now place
 unfolding along
-along_leaves operators tables way old now [] place owns keep one = refl
-along_leaves operators tables way old now (step ∷ steps) place owns keep one =
-    along_leaves operators tables way old (after_step operators old now step) steps place owns keep.1 one
-    ∙ step_leaves operators tables way old now step place owns keep.0 one
+along_leaves operators tree tables way old now [] place owns keep one = refl
+along_leaves operators tree tables way old now (step ∷ steps) place owns keep one =
+    along_leaves operators tree tables way old (after_step operators old now step) steps place owns keep.1 one
+    ∙ step_leaves operators tree tables way old now step place owns keep.0 one
 
 walk_keeps : (operators : List Made) (v : Version) → AllKeep v.way (walk_of operators v)
 unfolding walk_of
 walk_keeps operators v = both_keep v.way (map Backward v.way) (others_from 0 v.way v.tree operators) (up_keeps v.way v.way (λ place h. h)) (others_keep 0 v.way v.tree operators)
 
 -- the version that a statement names is one of them
-named_owns : (s : State) (t : TableName) (f : Found) → VersionsOwn s → found s t ≡ Ok f → OwnsTables s.operators f.version.tables f.version.way
+pub named_owns : (s : State) (t : TableName) (f : Found) → VersionsOwn s → found s t ≡ Ok f → OwnsTables s.operators f.version.tree f.version.tables f.version.way
 named_owns s t f own e =
     let v = then_ok (version_of s t.version) _ f e in
     let place = then_ok (known_table t.table (place_named s.operators v.0.tables t.table)) _ f v.2 in
     let same : v.0 ≡ f.version = ap (λ (x : Found). x.version) (ok_is (record { version = v.0; place = place.0 }) f place.2) in
-    subst (λ (x : Version). OwnsTables s.operators x.tables x.way) same (of_name t.version v.0 v.1) where
+    subst (λ (x : Version). OwnsTables s.operators x.tree x.tables x.way) same (of_name t.version v.0 v.1) where
       known : (name : List ℕ) (o : Option Version) (v : Version) → known_version name o ≡ Ok v → o ≡ Some v
       known name (Some w) v e = ap (λ (x : Version). Some x) (ok_is w v e)
       known name None v e = cc
 
-      of_name : (name : Option (List ℕ)) (v : Version) → version_of s name ≡ Ok v → OwnsTables s.operators v.tables v.way
+      of_name : (name : Option (List ℕ)) (v : Version) → version_of s name ≡ Ok v → OwnsTables s.operators v.tree v.tables v.way
       of_name None v e = cc
       of_name (Some name) v e =
           let here = find_place _ s.versions v (known name (version_named s.versions name) v e) in
@@ -151,4 +157,4 @@ named_owns s t f own e =
 
 pub insert_is_ordinary : InsertIsOrdinary
 insert_is_ordinary s t f rows own e place one =
-    along_leaves s.operators f.version.tables f.version.way s.tables _ (walk_of s.operators f.version) place (named_owns s t f own e) (walk_keeps s.operators f.version) one
+    along_leaves s.operators f.version.tree f.version.tables f.version.way s.tables _ (walk_of s.operators f.version) place (named_owns s t f own e) (walk_keeps s.operators f.version) one

@@ -8,4 +8,5 @@ pub mod Evolve
 pub mod Act
 pub mod Kept
 pub mod Own
+pub mod Agree
 pub mod Texts

@@ -1,5 +1,6 @@
 -- Each version is an ordinary database: what an INSERT does to the tables of its own version.
-use Rattle.std.specs.Prelude.{◌≡◌, ℕ, ◌<◌, List, [], ◌∷◌, length, ◌⊎◌, Some, Ok, slice_get, slice_set}
+use Rattle.std.specs.Prelude.{◌≡◌, ℕ, ◌<◌, List, [], ◌∷◌, length, ◌⊎◌, Option, Some, Ok, slice_get, slice_set}
+use Rattle.std.specs.Option.{option_map}
 use Rattle.par_base.specs.declared.value.Value.{Value}
 use Rattle.bidel_parser.specs.declared.statement.TableName.{TableName}
 use Rattle.bidel_parser.specs.Views.{StatementView}
@@ -15,14 +16,27 @@ abbrev pub IsOneOf : List ℕ → ℕ → Type 0
 IsOneOf [] place = ⊥
 IsOneOf (x ∷ places) place = (x ≡ place) ⊎ IsOneOf places place
 
--- the tables of a working set were made by operators of its way up to the root, and none of these took one of them as its source
-pub record OwnsTables (operators : List Made) (tables way : List ℕ) : Type 0 where
-  pub within : (place : ℕ) → IsOneOf way place → place < length operators
+-- the places fall, all below n
+abbrev pub FallFrom : ℕ → List ℕ → Type 0
+FallFrom n [] = Unit {0}
+FallFrom n (x ∷ places) = (x < n) × FallFrom x places
+
+-- the tree of the operator at a place
+abbrev pub tree_at : List Made → ℕ → Option ℕ
+tree_at operators place = option_map (λ (o : Made). o.tree) (slice_get operators place)
+
+-- the tables of a working set were made by operators of its way up to the root, and none of these took one of them as its source.
+-- The operators of the way are of one tree, from the newest on; their sources are on the way too, each the source of one
+pub record OwnsTables (operators : List Made) (tree : ℕ) (tables way : List ℕ) : Type 0 where
+  pub falls : FallFrom (length operators) way
+  pub rooted : (place : ℕ) → IsOneOf way place → tree_at operators place ≡ Some tree
   pub made : (place : ℕ) → IsOneOf tables place → IsOneOf way place
-  pub apart : (place : ℕ) (a : Origin) → IsOneOf way place → origin_at operators place ≡ Some a → (a.source < place) × (IsOneOf tables a.source → ⊥)
+  pub apart : (place : ℕ) (a : Origin) → IsOneOf way place → origin_at operators place ≡ Some a → (a.source < place) × IsOneOf way a.source × (IsOneOf tables a.source → ⊥)
+  pub once : (place other : ℕ) (a b : Origin) → IsOneOf way place → IsOneOf way other → origin_at operators place ≡ Some a → origin_at operators other ≡ Some b
+      → a.source ≡ b.source → place ≡ other
 
 abbrev pub OwnTables : List Version → List Made → Type 0
-OwnTables versions operators = (place : ℕ) (v : Version) → slice_get versions place ≡ Some v → OwnsTables operators v.tables v.way
+OwnTables versions operators = (place : ℕ) (v : Version) → slice_get versions place ≡ Some v → OwnsTables operators v.tree v.tables v.way
 
 -- each version owns its tables
 abbrev pub VersionsOwn : State → Type 0

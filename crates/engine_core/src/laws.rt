@@ -1,4 +1,5 @@
 //! Laws of the model, each the contract of a function that does nothing.
+ghost use Rattle.engine_core.specs.Agree.{SidesAlwaysAgree};
 ghost use Rattle.engine_core.specs.Laws.{SourceComesBack, TargetComesBack};
 ghost use Rattle.engine_core.specs.Own.{InsertIsOrdinary, VersionsStayOwners};
 
@@ -22,4 +23,10 @@ pub fn insert_is_ordinary()
 /// it as its source: this holds from the empty database on, after every event.
 pub fn versions_stay_owners()
     ensures { VersionsStayOwners }
+{}
+
+/// All versions show the same data: after any statements from the empty database on, the target of
+/// each ADD COLUMN, without the added column, is its source.
+pub fn sides_always_agree()
+    ensures { SidesAlwaysAgree }
 {}
