@@ -35,10 +35,11 @@ pub record OwnsTables (operators : List Made) (tree : ℕ) (tables way : List �
   pub once : (place other : ℕ) (a b : Origin) → IsOneOf way place → IsOneOf way other → origin_at operators place ≡ Some a → origin_at operators other ≡ Some b
       → a.source ≡ b.source → place ≡ other
 
+-- each of these versions owns its tables
 abbrev pub OwnTables : List Version → List Made → Type 0
 OwnTables versions operators = (place : ℕ) (v : Version) → slice_get versions place ≡ Some v → OwnsTables operators v.tree v.tables v.way
 
--- each version owns its tables
+-- each version of the state owns its tables
 abbrev pub VersionsOwn : State → Type 0
 VersionsOwn s = OwnTables s.versions s.operators
 
