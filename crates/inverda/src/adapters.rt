@@ -2,6 +2,8 @@
 //!
 //! What a real stream holds isn't told: at standard input and standard output `remaining` and
 //! `contents` are None. Each error of the stream is counted as one fault.
+ghost use Rattle.std.specs.Prelude.{◌≡◌};
+
 use par_base::{Failed, Sink, Source};
 use std::io::{Read, Write};
 
@@ -13,7 +15,10 @@ pub struct Input<R: Read + Drop> {
 }
 
 impl<R: Read + Drop> Input<R> {
-    pub fn new(reader: R) -> Input<R> {
+    pub fn new(reader: R) -> Input<R>
+        ensures reader { result.reader ≡ reader }
+        ensures faults { result.faults ≡ 0 }
+    {
         Input { reader, faults: 0 }
     }
 }
@@ -42,7 +47,10 @@ pub struct Output<W: Write + Drop> {
 }
 
 impl<W: Write + Drop> Output<W> {
-    pub fn new(writer: W) -> Output<W> {
+    pub fn new(writer: W) -> Output<W>
+        ensures writer { result.writer ≡ writer }
+        ensures faults { result.faults ≡ 0 }
+    {
         Output { writer, faults: 0 }
     }
 }
