@@ -1,6 +1,7 @@
 -- Rows that rise, and rows of one width.
-use Rattle.std.proofs.Common.{◌≡◌, ℕ, zero, suc, ◌<◌, List, [], ◌∷◌, ◌++◌, Bool, cond, length, get_or, Some, refl, ap, ◌∙◌, sym, arith, eqb, eq-eqb, map, take, subst}
+use Rattle.std.proofs.Common.{◌≡◌, ℕ, zero, suc, ◌-◌, ◌<◌, List, [], ◌∷◌, ◌++◌, Bool, cond, length, get_or, Some, None, refl, ap, ◌∙◌, sym, arith, eqb, eq-eqb, map, take, subst}
 use Rattle.std.proofs.lemmas.Bool.{ne_eqb}
+use Rattle.std.specs.Prelude.{slice_get}
 use Rattle.par_base.specs.declared.value.Value.{Value}
 use Rattle.engine_core.specs.Tables.{Rows, RiseAbove, AreWide, row_of}
 
@@ -36,3 +37,25 @@ pub RiseAbove-made : (g : ℕ × List Value → List Value) (n : ℕ) (rows : Ro
 RiseAbove-made g n [] at d x row rises within e = absurd (omega arith)
 RiseAbove-made g n (r ∷ rows) zero d x row rises within e = (subst (λ (id : ℕ). n < id) (sym (ap (λ (p : ℕ × List Value). p.0) e)) rises.0, tt)
 RiseAbove-made g n (r ∷ rows) (suc at) d x row rises within e = (rises.0, RiseAbove-made g r.0 rows at d x row rises.1 (omega arith) e)
+
+-- the last of two rows or more is behind the first
+last_later : (r q : ℕ × List Value) (rows : Rows) (last : ℕ × List Value) → slice_get (r ∷ q ∷ rows) (length (r ∷ q ∷ rows) - 1) ≡ Some last → slice_get (q ∷ rows) (length (q ∷ rows) - 1) ≡ Some last
+last_later r q rows last e =
+    let same : length (r ∷ q ∷ rows) - 1 ≡ suc (length (q ∷ rows) - 1) = omega arith in
+    subst (λ (n : ℕ). slice_get (r ∷ q ∷ rows) n ≡ Some last) same e
+
+-- the last of rows that rise above n is above n
+last_above : (n : ℕ) (rows : Rows) (last : ℕ × List Value) → RiseAbove n rows → slice_get rows (length rows - 1) ≡ Some last → n < last.0
+last_above n [] last rises e = cc
+last_above n (r ∷ []) last rises e = let same : r ≡ last = cc in subst (λ (x : ℕ × List Value). n < x.0) same rises.0
+last_above n (r ∷ q ∷ rows) last rises e = omega (arith, rises.0, last_above r.0 (q ∷ rows) last rises.1 (last_later r q rows last e))
+
+-- above the last identifier there is no row
+pub none_above : (n : ℕ) (rows : Rows) (last : ℕ × List Value) (id : ℕ) → RiseAbove n rows → slice_get rows (length rows - 1) ≡ Some last → last.0 < id → row_of rows id ≡ None
+none_above n [] last id rises e less = refl
+none_above n (r ∷ []) last id rises e less =
+    let same : r ≡ last = cc in
+    ap (λ (b : Bool). cond b (Some r.1) None) (ne_eqb r.0 id (omega (arith, less, ap (λ (x : ℕ × List Value). x.0) same)))
+none_above n (r ∷ q ∷ rows) last id rises e less =
+    ap (λ (b : Bool). cond b (Some r.1) (row_of (q ∷ rows) id)) (ne_eqb r.0 id (omega (arith, less, last_above r.0 (q ∷ rows) last rises.1 (last_later r q rows last e))))
+    ∙ none_above r.0 (q ∷ rows) last id rises.1 (last_later r q rows last e) less

@@ -1,5 +1,5 @@
 //! A whole table of a version.
-ghost use Rattle.std.specs.Prelude.{◌≡◌, ◌<◌, ◌≤◌, [], ◌∷◌, ◌++◌, length, IfOk, OnOk, OnErr};
+ghost use Rattle.std.specs.Prelude.{◌≡◌, ◌<◌, ◌≤◌, true, None, [], ◌∷◌, ◌++◌, length, IfOk, OnOk, OnErr};
 ghost use Rattle.std.specs.Option.{option_map};
 ghost use Rattle.engine_core.specs.Tables.{RiseAbove, AreWide, row_of};
 
@@ -53,8 +53,8 @@ impl Table {
         self.rows.as_slice()
     }
 
-    /// The row of an identifier, which is looked for first at a place. It takes one comparison
-    /// where it stands there, and one for each row where it doesn't.
+    /// The row of an identifier, which is looked for first at a place. It takes two comparisons at
+    /// most where it stands there or is above all identifiers, and else one for each row.
     pub fn find(&self, at: usize, id: u64) -> Option<&Row>
         ensures { option_map (λ row. row.now) result ≡ row_of self.now.rows id }
     {
@@ -101,7 +101,19 @@ fn find_near(rows: &[(u64, Row)], at: usize, id: u64) -> Option<&Row>
 {
     match rows.get(at) {
         Some((found, row)) if *found == id => Some(row),
+        _ if is_above(rows, id) => None,
         _ => find_row(rows, id),
+    }
+}
+
+// Whether an identifier is above those of all rows.
+fn is_above(rows: &[(u64, Row)], id: u64) -> bool
+    requires { RiseAbove 0 rows.now }
+    ensures { result ≡ true → row_of rows.now id ≡ None }
+{
+    match rows.last() {
+        Some((last, _)) => *last < id,
+        None => true,
     }
 }
 
