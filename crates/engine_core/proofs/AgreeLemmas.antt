@@ -268,11 +268,11 @@ module _ (operators : List Made) (tree : ℕ) (tables way : List ℕ) (old : Lis
         middle (m ∷ front) rest o = middle front rest o
 
 -- after a write along its walk every operator's sides agree, where those of other trees did before
-pub walk_agrees : (operators : List Made) (tables : List ℕ) (v : Version) (old now : List Contents) → AreReady operators old → TreesAgree operators → OwnsTables operators v.tree v.tables v.way
+pub walk_agrees : (operators : List Made) (v : Version) (old now : List Contents) → AreReady operators old → TreesAgree operators → OwnsTables operators v.tree v.tables v.way
     → Runs old now → ((q : ℕ) → (tree_at operators q ≡ Some v.tree → ⊥) → AgreesAt operators now q)
     → Runs old (along operators old now (walk_of operators v)) × ((q : ℕ) → AgreesAt operators (along operators old now (walk_of operators v)) q)
 unfolding walk_of
-walk_agrees operators tables v old now ready trees owns runs far =
+walk_agrees operators v old now ready trees owns runs far =
     let start : IsUp operators v.tree v.tables v.way old now (length operators) = record {
       runs = runs;
       done = λ q one le. absurd (omega (arith, le, falls_below (length operators) v.way q owns.falls one));

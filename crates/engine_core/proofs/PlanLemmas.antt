@@ -23,7 +23,8 @@ find_passes {A} test (y ∷ items) x e =
     let cases : P (test y) = elim (test y) as (λ b. P b) [ true ↦ λ is e. let same : y ≡ x = cc in subst (λ (z : A). test z ≡ true) same is | false ↦ λ is e. find_passes test items x e ] in
     cases refl e
 
-known_place : (name : List ℕ) (o : Option ℕ) (place : ℕ) → known_table name o ≡ Ok place → o ≡ Some place
+-- the place of a known table
+pub known_place : (name : List ℕ) (o : Option ℕ) (place : ℕ) → known_table name o ≡ Ok place → o ≡ Some place
 known_place name (Some n) place e = let same : n ≡ place = cc in ap (λ (m : ℕ). Some m) same
 known_place name None place e = cc
 

@@ -20,6 +20,7 @@ use Rattle.engine_core.specs.declared.state.Version.{Version}
 use Rattle.engine_core.specs.declared.reply.Reply.{Reply}
 use Rattle.engine_core.proofs.PushLemmas.{slice_get-last}
 use Rattle.engine_core.proofs.EvolveLemmas.{then_ok, ok_is, with_operator-ready}
+use Rattle.engine_core.proofs.PlanLemmas.{known_place}
 use Rattle.engine_core.proofs.InsertLemmas.{counted_ok}
 use Rattle.engine_core.proofs.SoundLemmas.{found_table, written-same, evolved_sound, acted_insert_sound}
 use Rattle.engine_core.proofs.MappingLemmas.{source_comes_back}
@@ -48,17 +49,13 @@ wide_numbered width next (row ∷ rows) e =
     let both = counted_ok (eqb (length row) width) (length row) width (right_counts width rows) e in
     (eqb-true (length row) width both.0, wide_numbered width (next + 1) rows both.1)
 
-is_known : (name : List ℕ) (o : Option ℕ) (place : ℕ) → known_table name o ≡ Ok place → o ≡ Some place
-is_known name (Some n) place e = ap (λ (m : ℕ). Some m) (ok_is n place e)
-is_known name None place e = cc
-
 -- the table that a statement names is one of its version
 found_one_of : (s : State) (t : TableName) (f : Found) → found s t ≡ Ok f → IsOneOf f.version.tables f.place
 found_one_of s t f e =
     let v = then_ok (version_of s t.version) _ f e in
     let p = then_ok (known_table t.table (place_named s.operators v.0.tables t.table)) _ f v.2 in
     subst (λ (x : Found). IsOneOf x.version.tables x.place) (ok_is (record { version = v.0; place = p.0 }) f p.2)
-    (find_one (is_named s.operators t.table) v.0.tables p.0 (is_known t.table (place_named s.operators v.0.tables t.table) p.0 p.1))
+    (find_one (is_named s.operators t.table) v.0.tables p.0 (known_place t.table (place_named s.operators v.0.tables t.table) p.0 p.1))
 
 insert_holds : (s : State) (t : TableName) (rows : List (List Value)) (done : Reply × State) → Holds s → acted_insert s t rows ≡ Ok done → Holds done.1
 insert_holds s t rows done holds e =
@@ -80,7 +77,7 @@ insert_holds s t rows done holds e =
     let far : (q : ℕ) → (tree_at s.operators q ≡ Some v.tree → ⊥) → AgreesAt s.operators (slice_set s.tables place written) q = λ q apart.
     agrees_still s.operators s.tables place written q (λ is. apart (subst (λ (x : ℕ). tree_at s.operators x ≡ Some v.tree) is root))
     (λ b g is. apart (sym (holds.trees q b g).1 ∙ subst (λ (x : ℕ). tree_at s.operators x ≡ Some v.tree) is root)) (holds.agree q) in
-    let end = walk_agrees s.operators v.tables v s.tables (slice_set s.tables place written) holds.sound.ready holds.trees owns runs far in
+    let end = walk_agrees s.operators v s.tables (slice_set s.tables place written) holds.sound.ready holds.trees owns runs far in
     let next : State = inserted s v place rows in
     let same : next ≡ done.1 = ap (λ (x : Reply × State). x.1) (ok_is _ done ids.2) in
     let sound : IsSound next = subst IsSound (sym same) (acted_insert_sound s t rows done holds.sound e) in

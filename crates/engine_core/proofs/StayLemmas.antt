@@ -18,6 +18,7 @@ use Rattle.engine_core.specs.declared.state.Version.{Version}
 use Rattle.engine_core.specs.declared.state.Standing.{Standing}
 use Rattle.engine_core.specs.declared.reply.Reply.{Reply}
 use Rattle.engine_core.proofs.PushLemmas.{slice_get-push, slice_get-last}
+use Rattle.engine_core.proofs.PlanLemmas.{known_place}
 use Rattle.engine_core.proofs.EvolveLemmas.{then_ok, ok_is}
 use Rattle.engine_core.proofs.OwnLemmas.{falls_below, either_of, of_filter, get_front, find_place, find_one}
 
@@ -136,7 +137,7 @@ column_apart g column value name p e =
     let new = then_ok (new_columns (repeated (row_name ∷ columns_at g.operators source.0) (column ∷ []))) _ p known.2 in
     let few = then_ok (few_columns name (columns_at g.operators source.0 ++ column ∷ [])) _ p new.2 in
     let test : ℕ → Bool = λ place. not (place == source.0) in
-    let there : IsOneOf g.at.tables source.0 = find_one (is_named g.operators name) g.at.tables source.0 (is_known (place_named g.operators g.at.tables name) source.0 source.1) in
+    let there : IsOneOf g.at.tables source.0 = find_one (is_named g.operators name) g.at.tables source.0 (known_place name (place_named g.operators g.at.tables name) source.0 source.1) in
     subst (IsApart g.tables g.at) (ok_is (column_plan g.operators g.tables g.at name column source.0 known.0) p few.2) (record {
       tree = refl;
       stay = λ place h. (of_filter test g.at.tables place h).0;
@@ -145,10 +146,6 @@ column_apart g column value name p e =
       from = λ a e. ap (λ (x : Origin). forward_of x.value (table_at g.tables x.source) no_table) (let o : Origin = record { source = source.0; value = known.0 } in let same : o ≡ a = cc in same);
       empty = λ e. let o : Option Origin = Some (record { source = source.0; value = known.0 }) in let no : o ≡ None = e in cc;
     }) where
-      is_known : (o : Option ℕ) (place : ℕ) → known_table name o ≡ Ok place → o ≡ Some place
-      is_known (Some n) place e = ap (λ (m : ℕ). Some m) (let same : n ≡ place = cc in same)
-      is_known None place e = cc
-
       of_origin : (place : ℕ) (v : Term ℕ) (a : Origin) → (let o : Origin = record { source = place; value = v } in Some o ≡ Some a) → place ≡ a.source
       of_origin place v a e = let o : Origin = record { source = place; value = v } in let same : o ≡ a = cc in ap (λ (x : Origin). x.source) same
 

@@ -1,4 +1,4 @@
--- All versions show the same data: after any events the two sides of each ADD COLUMN agree.
+-- After any events the two sides of each ADD COLUMN agree.
 use Rattle.std.specs.Prelude.{◌≡◌, ℕ, ◌<◌, ◌^◌, List, [], ◌∷◌, Some, Ok, Err}
 use Rattle.bidel_parser.specs.Views.{StatementView}
 use Rattle.engine_core.specs.Mappings.{backward_of}

@@ -25,8 +25,8 @@ pub fn versions_stay_owners()
     ensures { VersionsStayOwners }
 {}
 
-/// All versions show the same data: after any statements from the empty database on, the target of
-/// each ADD COLUMN, without the added column, is its source.
+/// After any statements from the empty database on, the target of each ADD COLUMN, without the added
+/// column, is its source.
 pub fn sides_always_agree()
     ensures { SidesAlwaysAgree }
 {}

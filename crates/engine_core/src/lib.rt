@@ -4,9 +4,10 @@
 //! `Engine::event` answers and leaves exactly what the model does (`specs/Act.antt`): the reply and
 //! the next state, or the refusal in its order; that a refused or starved call leaves the state as
 //! it was; and that `reply_text` and `refusal_text` give the lines of replies and refusals. The laws
-//! say of the model that the versions of a tree always show the same rows, that an INSERT leaves its
-//! own version as an ordinary database would be, and that ADD COLUMN loses nothing. The crate must
-//! not know how statements are written, or where their bytes come from and where the lines go.
+//! say of the model that each table made by ADD COLUMN always is the table it was made from and one
+//! column more, that an INSERT leaves its own version as an ordinary database would be, and that
+//! ADD COLUMN loses nothing. The crate must not know how statements are written, or where their
+//! bytes come from and where the lines go.
 #![tactic(auto)]
 
 mod engine;
