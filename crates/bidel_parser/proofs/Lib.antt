@@ -1,10 +1,3 @@
-pub mod DigitLemmas
-pub mod Cursors
-pub mod TokensWithin
-pub mod ProductSteps
-pub mod WordLemmas
-pub mod LiteralLaws
-pub mod ExpressionLaws
 pub mod OperatorLaws
 pub mod StatementLaws
 pub mod ParsingLaws

@@ -10,14 +10,14 @@ use Rattle.phrases.specs.Chains.{joined}
 use Rattle.phrases.proofs.Readers.{then-reads, done-reads, either-reads, word as then_word, closed, begins_one, known, headed}
 use Rattle.phrases.proofs.Lasts.{closed-then, made-last}
 use Rattle.phrases.proofs.Lookahead.{Begun, by_one, by_two, GoesOn, items-last}
-use Rattle.bidel_parser.specs.Lexemes.{Lexeme, word, symbol, name_of}
-use Rattle.bidel_parser.specs.Literals.{semicolon_of, Names, names_at}
-use Rattle.bidel_parser.specs.Expressions.{Expression, expression_at}
+use Rattle.bidel_expr.specs.Lexemes.{Lexeme, word, symbol, name_of}
+use Rattle.bidel_expr.specs.Literals.{semicolon_of, Names, names_at}
+use Rattle.bidel_expr.specs.Expressions.{Expression, expression_at}
 use Rattle.bidel_parser.specs.Views.{OpView, CreateTable, AddColumn}
 use Rattle.bidel_parser.specs.Operators.{create_of, table_of, add_of, column_of, as_of, into_of, CreateTableOp, AddColumnOp, Operator, ClosedOperator, ListedOperators, begins_operator, create_table_at, add_column_at, operator_at, closed_operator_at, operators_at, listed_operators_at}
-use Rattle.bidel_parser.proofs.WordLemmas.{is_keyword, keyword_is, by_keyword}
-use Rattle.bidel_parser.proofs.LiteralLaws.{name_x, names-reads}
-use Rattle.bidel_parser.proofs.ExpressionLaws.{expression_goes, expression-reads}
+use Rattle.bidel_expr.proofs.WordLemmas.{is_keyword, keyword_is, by_keyword}
+use Rattle.bidel_expr.proofs.LiteralLaws.{name_x, names-reads}
+use Rattle.bidel_expr.proofs.ExpressionLaws.{expression_goes, expression-reads}
 
 create-table-reads : Reads none CreateTableOp create_table_at
 create-table-reads =

@@ -6,12 +6,12 @@ use Rattle.phrases.specs.Reading.{is}
 use Rattle.phrases.specs.Fronts.{ShowsEnd}
 use Rattle.phrases.proofs.Fronts as fronts
 use Rattle.phrases.proofs.Lookahead.{stays_shown, front_shown}
-use Rattle.bidel_parser.specs.Lexemes.{Lexeme, word}
+use Rattle.bidel_expr.specs.Lexemes.{Lexeme, word}
 use Rattle.bidel_parser.specs.Views.{StatementView, CreateVersion, Insert, Select}
 use Rattle.bidel_parser.specs.Operators.{create_of, table_of, add_of}
 use Rattle.bidel_parser.specs.Statements.{IsStatement, Script, stays_open, statement_at}
 use Rattle.bidel_parser.specs.Laws.{OneFront, FrontStays, FrontLeads, FrontPrecedes, NoScript, EmptyScript, FaultStays, FaultFollows}
-use Rattle.bidel_parser.proofs.WordLemmas.{is_keyword}
+use Rattle.bidel_expr.proofs.WordLemmas.{is_keyword}
 use Rattle.bidel_parser.proofs.StatementLaws.{statement-last, script_over, statement_long}
 
 -- what shows the end still does as tokens come

@@ -9,13 +9,13 @@ use Rattle.phrases.proofs.Readers.{then-reads, done-reads, word as then_word, cl
 use Rattle.phrases.proofs.Lists.{optional-reads, separated-reads}
 use Rattle.phrases.proofs.Lasts.{closed-last, then-last, either-last, made-last, word-last}
 use Rattle.phrases.proofs.Lookahead.{not_begun, not_begun_both}
-use Rattle.bidel_parser.specs.Lexemes.{Lexeme, word, symbol, name_of}
-use Rattle.bidel_parser.specs.Literals.{comma_of, semicolon_of, dot_of, star_of, Tuple, name_at, tuple_at}
+use Rattle.bidel_expr.specs.Lexemes.{Lexeme, word, symbol, name_of}
+use Rattle.bidel_expr.specs.Literals.{comma_of, semicolon_of, dot_of, star_of, Tuple, name_at, tuple_at}
 use Rattle.bidel_parser.specs.Views.{StatementView, CreateVersion, Insert, Select}
 use Rattle.bidel_parser.specs.Operators.{create_of, table_of, add_of, into_of, ListedOperators, begins_operator, listed_operators_at}
 use Rattle.bidel_parser.specs.Statements.{schema_of, version_of, from_of, with_of, insert_of, values_of, select_of, of_version, TableOf, CreateVersionStatement, InsertStatement, SelectStatement, IsStatement, stays_open, table_at, origin_at, create_version_at, insert_at, select_at, statement_at}
-use Rattle.bidel_parser.proofs.WordLemmas.{keyword_is, by_keyword, by_sign}
-use Rattle.bidel_parser.proofs.LiteralLaws.{name_x, name-reads, tuple-reads}
+use Rattle.bidel_expr.proofs.WordLemmas.{keyword_is, by_keyword, by_sign}
+use Rattle.bidel_expr.proofs.LiteralLaws.{name_x, name-reads, tuple-reads}
 use Rattle.bidel_parser.proofs.OperatorLaws.{listed-last}
 
 table-reads : Reads none TableOf table_at

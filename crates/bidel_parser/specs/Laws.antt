@@ -1,10 +1,6 @@
 -- What holds of statements and scripts, whatever the tokens are.
-use Rattle.std.specs.Prelude.{◌≡◌, ◌++◌, ℕ, List, [], drop}
-use Rattle.std.specs.Str.Parse.{AllDigits, digits_value}
-use Rattle.bidel_lex.specs.declared.tokens.Token.{Token}
-use Rattle.bidel_lex.specs.Tokens.{AreTokens}
+use Rattle.std.specs.Prelude.{[]}
 use Rattle.phrases.specs.Fronts as fronts
-use Rattle.bidel_parser.specs.Lexemes.{lexemes, value_after}
 use Rattle.bidel_parser.specs.Statements.{IsStatement, Script, stays_open}
 
 -- two statements at the front whose end is fixed are one
@@ -38,16 +34,3 @@ FaultStays = fronts.FaultStays IsStatement
 -- the first fault behind a front is the first fault of all
 abbrev pub FaultFollows : Type 0
 FaultFollows = fronts.FaultFollows stays_open IsStatement
-
--- what tokens say stays as bytes come
-abbrev pub LexemesStay : Type 0
-LexemesStay = (bytes more : List ℕ) (tokens : List Token) → AreTokens bytes tokens → lexemes (bytes ++ more) tokens ≡ lexemes bytes tokens
-
--- the tokens from a place on are tokens, and say what they said
-abbrev pub RestIsTokens : Type 0
-RestIsTokens = (bytes : List ℕ) (tokens : List Token) (at : ℕ) → AreTokens bytes tokens
-    → AreTokens bytes (drop at tokens) × (lexemes bytes (drop at tokens) ≡ drop at (lexemes bytes tokens))
-
--- the value of decimal digits is what they write
-abbrev pub DigitsHaveValue : Type 0
-DigitsHaveValue = (digits : List ℕ) → AllDigits 10 digits → value_after 0 digits ≡ digits_value 10 digits

@@ -1,9 +1,4 @@
-pub mod Within
-pub mod Lexemes
-pub mod Answers
 pub mod Views
-pub mod Literals
-pub mod Expressions
 pub mod Operators
 pub mod Statements
 pub mod Parsing

@@ -2,9 +2,9 @@
 use Rattle.std.specs.Prelude.{◌+◌, ◌∷◌, [], List, Bool, Option, length, codes}
 use Rattle.phrases.specs.Phrases.{Nothing, Seq, OneOf, Either, Many}
 use Rattle.phrases.specs.Reading.{Read, and_then, one_at, done, either, is, begins_item, many_at, with_front}
-use Rattle.bidel_parser.specs.Lexemes.{Lexeme, keyword, name_of}
-use Rattle.bidel_parser.specs.Literals.{semicolon_of, Names, name_at, names_at}
-use Rattle.bidel_parser.specs.Expressions.{Expression, expression_at}
+use Rattle.bidel_expr.specs.Lexemes.{Lexeme, keyword, name_of}
+use Rattle.bidel_expr.specs.Literals.{semicolon_of, Names, name_at, names_at}
+use Rattle.bidel_expr.specs.Expressions.{Expression, expression_at}
 use Rattle.bidel_parser.specs.Views.{OpView, CreateTable, AddColumn}
 
 -- ---- the words

@@ -8,7 +8,7 @@ use Rattle.phrases.specs.Fronts as fronts
 use Rattle.bidel_parser.specs.declared.statement.Parsed.{Parsed}
 use Rattle.bidel_parser.specs.declared.statement.Parsed.TheVariants.{Whole, More, Nothing}
 use Rattle.bidel_parser.specs.declared.statement.Syntax.{Syntax}
-use Rattle.bidel_parser.specs.Lexemes.{Lexeme, lexemes}
+use Rattle.bidel_expr.specs.Lexemes.{Lexeme, lexemes}
 use Rattle.bidel_parser.specs.Views.{StatementView, statement_view}
 use Rattle.bidel_parser.specs.Statements.{IsStatement, Script, stays_open}
 

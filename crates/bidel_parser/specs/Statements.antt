@@ -3,8 +3,8 @@ use Rattle.std.specs.Prelude.{ℕ, List, Bool, false, Option, Some, None, codes}
 use Rattle.phrases.specs.Phrases.{Nothing, Seq, OneOf, Either, Many, Behind, Optional, Separated}
 use Rattle.phrases.specs.Reading.{Read, and_then, one_at, done, either, is, behind_at, optional_at, separated_at}
 use Rattle.bidel_parser.specs.declared.statement.TableName.{TableName}
-use Rattle.bidel_parser.specs.Lexemes.{Lexeme, keyword, name_of}
-use Rattle.bidel_parser.specs.Literals.{comma_of, semicolon_of, dot_of, star_of, Tuple, name_at, tuple_at}
+use Rattle.bidel_expr.specs.Lexemes.{Lexeme, keyword, name_of}
+use Rattle.bidel_expr.specs.Literals.{comma_of, semicolon_of, dot_of, star_of, Tuple, name_at, tuple_at}
 use Rattle.bidel_parser.specs.Operators.{create_of, into_of, ListedOperators, listed_operators_at, begins_operator}
 use Rattle.bidel_parser.specs.Views.{StatementView, CreateVersion, Insert, Select}
 

@@ -1,6 +1,6 @@
 //! Laws of statements and scripts, each the contract of a function that does nothing.
 
-ghost use Rattle.bidel_parser.specs.Laws.{DigitsHaveValue, EmptyScript, FaultFollows, FaultStays, FrontLeads, FrontPrecedes, FrontStays, LexemesStay, NoScript, OneFront, RestIsTokens};
+ghost use Rattle.bidel_parser.specs.Laws.{EmptyScript, FaultFollows, FaultStays, FrontLeads, FrontPrecedes, FrontStays, NoScript, OneFront};
 
 /// Two statements at the front whose end is fixed are one.
 pub fn front_is_one()
@@ -40,19 +40,4 @@ pub fn fault_stays()
 /// The first fault behind a front is the first fault of all.
 pub fn fault_follows_front()
     ensures { FaultFollows }
-{}
-
-/// What tokens say stays as bytes come.
-pub fn lexemes_stay()
-    ensures { LexemesStay }
-{}
-
-/// The tokens from a place on are tokens, and say what they said.
-pub fn rest_is_tokens()
-    ensures { RestIsTokens }
-{}
-
-/// The value of decimal digits is what they write.
-pub fn digits_have_value()
-    ensures { DigitsHaveValue }
 {}

@@ -1,9 +1,8 @@
 //! The parser of BiDEL: the statement at the front of some tokens.
 //!
-//! A grammar says which tokens spell which statement: `specs/Lexemes.antt` has the kinds of one token, and `specs/Literals.antt`,
-//! `specs/Expressions.antt`, `specs/Operators.antt` and `specs/Statements.antt` have a rule of the grammar a definition, with the
-//! reading of it beside it. The readers in `src/` answer exactly what those readings give; that reading is what the grammar says
-//! follows from the laws of the crate `phrases`, rule by rule.
+//! A grammar says which tokens spell which statement: `specs/Operators.antt` and `specs/Statements.antt` have a rule of the grammar
+//! a definition, with the reading of it beside it, above the rules of the crate `bidel_expr`. The readers in `src/` answer exactly
+//! what those readings give; that reading is what the grammar says follows from the laws of the crate `phrases`, rule by rule.
 //!
 //! To the crates above it promises, of any tokens and whether or not more may come (`specs/Parsing.antt`): a whole statement comes
 //! exactly where one stands at the front and its end is fixed, `More` only where no statement stands there yet and a script begins
@@ -11,23 +10,15 @@
 //! It knows nothing of what statements mean, nor of the forms that its grammar doesn't have yet: those are faults.
 #![tactic(auto)]
 
-mod cursor;
-mod expressions;
 mod laws;
-mod lists;
-mod literals;
-mod numbers;
 mod operators;
 mod parse;
-mod read_error;
 mod statement;
 mod statements;
-mod terminals;
 
 pub use laws::{
-    digits_have_value, fault_follows_front, fault_stays, front_is_one, front_leads_script,
-    front_precedes_script, front_stays, lexemes_stay, no_front_is_no_script,
-    no_tokens_are_no_statements, rest_is_tokens,
+    fault_follows_front, fault_stays, front_is_one, front_leads_script, front_precedes_script,
+    front_stays, no_front_is_no_script, no_tokens_are_no_statements,
 };
 pub use parse::parse_statement;
 pub use statement::{OpText, Parsed, Statement, Syntax, TableName};

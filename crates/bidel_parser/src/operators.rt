@@ -3,14 +3,10 @@ ghost use Rattle.std.specs.Prelude.{◌≡◌, ◌∷◌, [], map};
 ghost use Rattle.phrases.specs.Reading.{with_front};
 ghost use Rattle.bidel_parser.specs.Views.{op_view};
 ghost use Rattle.bidel_parser.specs.Operators.{further_operators_at, create_table_at, add_column_at, operator_at, closed_operator_at, operators_at, listed_operators_at, begins_operator};
-ghost use Rattle.bidel_parser.specs.Answers.{ahead, Gives};
+ghost use Rattle.bidel_expr.specs.Answers.{ahead, Gives};
 
-use crate::cursor::Cursor;
-use crate::expressions::take_expression;
-use crate::lists::take_names;
-use crate::read_error::ReadError;
+use bidel_expr::{Cursor, ReadError, are_keywords_next, is_keyword_next, take_expression, take_keyword, take_name, take_names, take_sign};
 use crate::statement::OpText;
-use crate::terminals::{are_keywords_next, is_keyword_next, take_keyword, take_name, take_sign};
 use par_base::List;
 use std::alloc::Global;
 

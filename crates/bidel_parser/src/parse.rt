@@ -3,8 +3,7 @@ ghost use Rattle.std.specs.Prelude.{◌≡◌, drop, length};
 ghost use Rattle.bidel_lex.specs.Tokens.{AreTokens};
 ghost use Rattle.bidel_parser.specs.Parsing.{Parses, start_of};
 
-use crate::cursor::Cursor;
-use crate::read_error::ReadError;
+use bidel_expr::{Cursor, ReadError};
 use crate::statement::{Parsed, Syntax};
 use crate::statements::take_statement;
 use bidel_lex::Token;

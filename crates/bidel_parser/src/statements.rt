@@ -1,17 +1,14 @@
 //! Statements.
 ghost use Rattle.std.specs.Prelude.{◌≡◌};
 ghost use Rattle.phrases.specs.Reading.{separated_at};
-ghost use Rattle.bidel_parser.specs.Literals.{comma_of, tuple_at};
+ghost use Rattle.bidel_expr.specs.Literals.{comma_of, tuple_at};
 ghost use Rattle.bidel_parser.specs.Statements.{table_at, origin_at, create_version_at, insert_at, select_at, statement_at};
 ghost use Rattle.bidel_parser.specs.Views.{statement_view};
-ghost use Rattle.bidel_parser.specs.Answers.{ahead, Gives};
+ghost use Rattle.bidel_expr.specs.Answers.{ahead, Gives};
 
-use crate::cursor::Cursor;
-use crate::lists::{Tuples, take_separated};
+use bidel_expr::{Cursor, ReadError, Tuples, is_keyword_next, next_keyword, take_keyword, take_name, take_separated, take_sign};
 use crate::operators::take_operators;
-use crate::read_error::ReadError;
 use crate::statement::{Statement, TableName};
-use crate::terminals::{is_keyword_next, next_keyword, take_keyword, take_name, take_sign};
 use par_base::Name;
 use std::alloc::Global;
 

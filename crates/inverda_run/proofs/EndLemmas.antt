@@ -9,7 +9,7 @@ use Rattle.bidel_lex.specs.declared.tokens.Token.{Token}
 use Rattle.bidel_lex.specs.declared.tokens.Lexed.TheVariants.{BadToken}
 use Rattle.bidel_lex.specs.Tokens.{AreTokens, HasTokens}
 use Rattle.bidel_lex.proofs.Listed.{listed}
-use Rattle.bidel_parser.specs.Lexemes.{Lexeme, lexeme, lexemes}
+use Rattle.bidel_expr.specs.Lexemes.{Lexeme, lexeme, lexemes}
 use Rattle.bidel_parser.specs.Views.{StatementView}
 use Rattle.bidel_parser.specs.Parsing.{NoFront, FirstFault, start_of}
 use Rattle.bidel_parser.proofs.StatementLaws.{statement_long}

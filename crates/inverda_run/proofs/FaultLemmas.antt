@@ -4,7 +4,7 @@ use Rattle.std.proofs.lemmas.Bool.Decides.{leb_tells}
 use Rattle.std.proofs.lemmas.List.{drop-drop, length-map, take-take}
 use Rattle.phrases.specs.Phrases.{Begins}
 use Rattle.bidel_lex.specs.declared.tokens.Token.{Token}
-use Rattle.bidel_parser.specs.Lexemes.{Lexeme, lexeme, lexemes}
+use Rattle.bidel_expr.specs.Lexemes.{Lexeme, lexeme, lexemes}
 use Rattle.bidel_parser.specs.Views.{StatementView}
 use Rattle.bidel_parser.specs.Statements.{Script}
 use Rattle.bidel_parser.specs.Parsing.{IsFront, NoFront, FirstFault, start_of}

@@ -8,7 +8,7 @@ use Rattle.std.proofs.KnownBytes.{Appends-nil, Appends-trans}
 use Rattle.bidel_lex.specs.declared.tokens.Token.{Token}
 use Rattle.bidel_lex.specs.declared.tokens.Lexed.TheVariants.{End as EndOfInput}
 use Rattle.bidel_lex.specs.Tokens.{HasTokens}
-use Rattle.bidel_parser.specs.Lexemes.{Lexeme, lexemes}
+use Rattle.bidel_expr.specs.Lexemes.{Lexeme, lexemes}
 use Rattle.bidel_parser.specs.Views.{StatementView}
 use Rattle.bidel_parser.specs.Statements.{Script}
 use Rattle.bidel_parser.specs.Parsing.{NoFront}

@@ -5,7 +5,7 @@ use Rattle.std.proofs.lemmas.List.{drop-map, take_all}
 use Rattle.std.proofs.KnownBytes.{Appends-nil, Appends-trans}
 use Rattle.bidel_lex.specs.declared.tokens.Token.{Token}
 use Rattle.bidel_lex.specs.Tokens.{AreTokens}
-use Rattle.bidel_parser.specs.Lexemes.{Lexeme, lexeme, lexemes}
+use Rattle.bidel_expr.specs.Lexemes.{Lexeme, lexeme, lexemes}
 use Rattle.bidel_parser.specs.Views.{StatementView}
 use Rattle.bidel_parser.specs.Parsing.{IsFront, NoFront, IsFault}
 use Rattle.engine_core.specs.State.{State}

@@ -5,7 +5,7 @@ use Rattle.std.proofs.Math.ListN.{drop_of_length-le}
 use Rattle.bidel_lex.specs.declared.tokens.Token.{Token}
 use Rattle.bidel_lex.specs.declared.tokens.Lexed.TheVariants.{End, BadToken}
 use Rattle.bidel_lex.specs.Tokens.{HasTokens}
-use Rattle.bidel_parser.specs.Lexemes.{Lexeme, lexeme, lexemes}
+use Rattle.bidel_expr.specs.Lexemes.{Lexeme, lexeme, lexemes}
 use Rattle.bidel_parser.specs.Views.{StatementView}
 use Rattle.bidel_parser.specs.Statements.{Script, IsStatement, stays_open}
 use Rattle.bidel_parser.specs.Parsing.{IsFront, NoFront, FirstFault}

@@ -10,7 +10,7 @@ use Rattle.bidel_lex.specs.declared.tokens.Lexed.TheVariants as lexed
 use Rattle.bidel_lex.specs.Next.{next_of}
 use Rattle.bidel_lex.specs.Tokens.{HasTokens}
 use Rattle.bidel_lex.proofs.Within.{within_along}
-use Rattle.bidel_parser.specs.Lexemes.{Lexeme, lexeme, lexemes}
+use Rattle.bidel_expr.specs.Lexemes.{Lexeme, lexeme, lexemes}
 use Rattle.bidel_parser.specs.Views.{StatementView}
 use Rattle.bidel_parser.specs.Statements.{IsStatement, stays_open, statement_at}
 use Rattle.bidel_parser.specs.Parsing.{IsFront, NoFront, FirstFault, start_of}

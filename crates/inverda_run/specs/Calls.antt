@@ -4,7 +4,7 @@ use Rattle.std.specs.Io.KnownBytes.{Appends}
 use Rattle.par_base.specs.Causes.{Rose}
 use Rattle.bidel_lex.specs.declared.tokens.Token.{Token}
 use Rattle.bidel_lex.specs.Tokens.{HasTokens}
-use Rattle.bidel_parser.specs.Lexemes.{lexemes}
+use Rattle.bidel_expr.specs.Lexemes.{lexemes}
 use Rattle.bidel_parser.specs.Views.{StatementView}
 use Rattle.bidel_parser.specs.Parsing.{IsFront, NoFront, IsFault}
 use Rattle.engine_core.specs.State.{State}

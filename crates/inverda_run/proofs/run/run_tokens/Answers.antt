@@ -1,7 +1,7 @@
 use Rattle.std.proofs.Common.{◌≡◌, List, true, sym, subst, arith}
 use Rattle.bidel_lex.specs.declared.tokens.Token.{Token}
 use Rattle.bidel_lex.specs.Tokens.{AreTokens}
-use Rattle.bidel_parser.specs.Lexemes.{lexemes}
+use Rattle.bidel_expr.specs.Lexemes.{lexemes}
 use Rattle.bidel_parser.specs.Parsing.{NoFront, IsFault}
 use Rattle.engine_core.specs.Kept.{state_of}
 use Rattle.inverda_run.specs.Calls.{RunsOne, RunsPart}

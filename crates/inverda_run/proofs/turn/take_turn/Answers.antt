@@ -2,7 +2,7 @@ use Rattle.std.proofs.Common.{◌∙◌, subst, arith, true}
 use Rattle.std.proofs.lemmas.List.{length-map}
 use Rattle.std.specs.Io.KnownBytes.{Appends}
 use Rattle.bidel_parser.specs.Views.{statement_view}
-use Rattle.bidel_parser.specs.Lexemes.{lexeme, lexemes}
+use Rattle.bidel_expr.specs.Lexemes.{lexeme, lexemes}
 use Rattle.bidel_parser.specs.Parsing.{IsFront}
 use Rattle.inverda_run.specs.Statuses.{PutsFront}
 use Rattle.inverda_run.proofs.ScriptLemmas.{front_some}

@@ -1,0 +1,19 @@
+-- What is ahead of a cursor, and faults that go through.
+use Rattle.std.proofs.Common.{◌≡◌, List, length, Err}
+use Rattle.std.proofs.lemmas.List.{length-map}
+use Rattle.phrases.specs.Reading.{Read}
+use Rattle.bidel_expr.specs.declared.cursor.Cursor.{Cursor}
+use Rattle.bidel_expr.specs.declared.read_error.ReadError.{ReadError}
+use Rattle.bidel_expr.specs.declared.read_error.ReadError.TheVariants.{Memory, Left}
+use Rattle.bidel_expr.specs.Lexemes.{Lexeme, lexeme}
+use Rattle.bidel_expr.specs.Answers.{ahead, Fails}
+
+-- each token says one thing
+pub ahead_length : (cursor : Cursor) → length (ahead cursor) ≡ length cursor.tokens.now
+ahead_length cursor = length-map cursor.tokens.now (lexeme cursor.bytes.now)
+
+-- a fault of a part is the fault of the whole
+pub fails_through : {X Y : Type 0} (e : ReadError) (part : Read Lexeme X) (whole : Read Lexeme Y) → Fails e part
+    → ((rest : List Lexeme) → part ≡ Err rest → whole ≡ Err rest) → Fails e whole
+fails_through Memory part whole h f = tt
+fails_through (Left left) part whole h f = (h.0, f h.0 h.1, h.2)

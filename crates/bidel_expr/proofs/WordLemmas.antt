@@ -1,0 +1,88 @@
+-- Which token a kind of tokens has.
+use Rattle.std.proofs.Common.{◌≡◌, ℕ, List, Bool, true, false, refl, ap, ◌∙◌, sym, cond}
+use Rattle.std.specs.Prelude.{Some, None, bytes_eq, codes}
+use Rattle.std.proofs.lemmas.Slice.Eq.{bytes_eq-Decides}
+use Rattle.par_base.specs.Names.{is_name, is_reserved}
+use Rattle.par_base.specs.declared.value.Value.{Value}
+use Rattle.phrases.specs.Reading.{is, is_some}
+use Rattle.bidel_expr.specs.Lexemes.{Lexeme, word, number, reference, «text», symbol, keyword, sign, name_of, positive_of, negative_of}
+
+pub when_some : {A : Type 0} (b : Bool) (x y : A) → cond b (Some x) None ≡ Some y → (b ≡ true) × (x ≡ y)
+when_some true x y h = (refl, cc)
+when_some false x y h = cc
+
+when_is : {A : Type 0} (b : Bool) (x : A) → is_some (cond b (Some x) None) ≡ true → b ≡ true
+when_is true x h = refl
+when_is false x h = cc
+
+pub when_not : {A : Type 0} (b : Bool) (x : A) → b ≡ false → is_some (cond b (Some x) None) ≡ false
+when_not true x h = cc
+when_not false x h = refl
+
+pub same_bytes : (xs ys : List ℕ) → bytes_eq xs ys ≡ true → xs ≡ ys
+same_bytes xs ys h = (bytes_eq-Decides xs ys).0 h
+
+-- a token that is this reserved word
+pub is_keyword : (w : List ℕ) (t : Lexeme) → is (keyword w) t ≡ true → t ≡ word w
+is_keyword w (word v) h = ap word (sym (same_bytes w v (when_is (bytes_eq w v) tt h)))
+is_keyword w (number n) h = cc
+is_keyword w (reference n) h = cc
+is_keyword w («text» b) h = cc
+is_keyword w (symbol s) h = cc
+
+pub keyword_is : (w : List ℕ) (t : Lexeme) (u : Unit {0}) → keyword w t ≡ Some u → t ≡ word w
+keyword_is w t u h = is_keyword w t (ap is_some h)
+
+-- a token that is this symbol
+pub is_sign : (w : List ℕ) (t : Lexeme) → is (sign w) t ≡ true → t ≡ symbol w
+is_sign w (symbol s) h = ap symbol (sym (same_bytes w s (when_is (bytes_eq w s) tt h)))
+is_sign w (word v) h = cc
+is_sign w (number n) h = cc
+is_sign w (reference n) h = cc
+is_sign w («text» b) h = cc
+
+pub sign_is : (w : List ℕ) (t : Lexeme) (u : Unit {0}) → sign w t ≡ Some u → t ≡ symbol w
+sign_is w t u h = is_sign w t (ap is_some h)
+
+-- what holds of the word holds of the token that is it
+pub by_keyword : (g : Lexeme → Bool) (b : Bool) (w : List ℕ) → g (word w) ≡ b → (t : Lexeme) (u : Unit {0}) → keyword w t ≡ Some u → g t ≡ b
+by_keyword g b w k t u h = ap g (keyword_is w t u h) ∙ k
+
+pub by_sign : (g : Lexeme → Bool) (b : Bool) (w : List ℕ) → g (symbol w) ≡ b → (t : Lexeme) (u : Unit {0}) → sign w t ≡ Some u → g t ≡ b
+by_sign g b w k t u h = ap g (sign_is w t u h) ∙ k
+
+-- a token that is a name
+pub name_is : (t : Lexeme) (w : List ℕ) → name_of t ≡ Some w → (t ≡ word w) × (is_name w ≡ true)
+name_is (word v) w h = let p = when_some (is_name v) v w h in (ap word p.1, sym (ap is_name p.1) ∙ p.0)
+name_is (number n) w h = cc
+name_is (reference n) w h = cc
+name_is («text» b) w h = cc
+name_is (symbol s) w h = cc
+
+-- a name is no reserved word
+pub name_not : (k : List ℕ) → is_name k ≡ false → (t : Lexeme) (w : List ℕ) → name_of t ≡ Some w → is (keyword k) t ≡ false
+name_not k n t w h = let p = name_is t w h in ap (is (keyword k)) p.0 ∙ when_not (bytes_eq k w) tt (apart (bytes_eq k w) (λ e. same_bytes k w e))
+  where
+    apart : (b : Bool) → (b ≡ true → k ≡ w) → b ≡ false
+    apart true e = let same = e refl in let clash = sym n ∙ ap is_name same ∙ (name_is t w h).1 in cc
+    apart false e = refl
+
+-- the word null is no name
+pub null_no_name : is_name (codes "null") ≡ false
+unfolding is_name is_reserved
+null_no_name = refl
+
+-- a number is no word and no symbol
+pub positive_is : (t : Lexeme) (v : Value) → positive_of t ≡ Some v → (n : ℕ) × (t ≡ number n)
+positive_is (number n) v h = (n, refl)
+positive_is (word w) v h = cc
+positive_is (reference n) v h = cc
+positive_is («text» b) v h = cc
+positive_is (symbol s) v h = cc
+
+pub negative_is : (t : Lexeme) (v : Value) → negative_of t ≡ Some v → (n : ℕ) × (t ≡ number n)
+negative_is (number n) v h = (n, refl)
+negative_is (word w) v h = cc
+negative_is (reference n) v h = cc
+negative_is («text» b) v h = cc
+negative_is (symbol s) v h = cc

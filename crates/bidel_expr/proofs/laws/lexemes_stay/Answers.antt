@@ -1,0 +1,5 @@
+use Rattle.bidel_expr.proofs.TokensWithin.{lexemes_stay}
+use Rattle.bidel_expr.proofs.laws.lexemes_stay.Goals as goal
+
+pub returns : goal.returns
+returns c = lexemes_stay

@@ -1,0 +1,6 @@
+pub mod Within
+pub mod Lexemes
+pub mod Answers
+pub mod Literals
+pub mod Expressions
+pub mod Laws

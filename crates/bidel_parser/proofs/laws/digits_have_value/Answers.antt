@@ -1,5 +1,0 @@
-use Rattle.bidel_parser.proofs.DigitLemmas.{digits_have_value}
-use Rattle.bidel_parser.proofs.laws.digits_have_value.Goals as goal
-
-pub returns : goal.returns
-returns c = digits_have_value
