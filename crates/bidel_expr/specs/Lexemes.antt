@@ -83,6 +83,11 @@ abbrev pub negative_of : Lexeme → Option Value
 negative_of (number n) = if nat_le n (2 ^ 63) then Some (Int (neg_ℤ (pos n))) else None
 negative_of _ = None
 
+-- a text
+abbrev pub text_of : Lexeme → Option (List ℕ)
+text_of («text» b) = Some b
+text_of _ = None
+
 -- whether a token of f comes next, and one of g behind it
 abbrev pub starts_both : (Lexeme → Bool) → (Lexeme → Bool) → List Lexeme → Bool
 starts_both f g [] = false

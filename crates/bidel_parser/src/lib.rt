@@ -10,6 +10,7 @@
 //! It knows nothing of what statements mean, nor of the forms that its grammar doesn't have yet: those are faults.
 #![tactic(auto)]
 
+mod first_words;
 mod laws;
 mod operators;
 mod parse;
@@ -21,4 +22,4 @@ pub use laws::{
     front_stays, no_front_is_no_script, no_tokens_are_no_statements,
 };
 pub use parse::parse_statement;
-pub use statement::{OpText, Parsed, Statement, Syntax, TableName};
+pub use statement::{Assignment, Branch, KeyText, OpText, Parsed, Statement, Syntax, TableName};

@@ -1,0 +1,57 @@
+-- Reserved words, signs, choices between words, and parts that may be left out.
+use Rattle.std.specs.Prelude.{ℕ, List, [], ◌∷◌, Bool, true, false, Option, Some, None, codes, String, nat_le, if◌then◌else◌}
+use Rattle.phrases.specs.Phrases.{Nothing, Seq, OneOf, Either}
+use Rattle.phrases.specs.Reading.{Read, and_then, one_at, done, either, is}
+use Rattle.bidel_expr.specs.Lexemes.{Lexeme, number, keyword, sign, name_of}
+
+-- ---- the grammar
+
+-- this reserved word
+abbrev pub Word : String → List Lexeme → Unit {0} → Type 0
+Word w = OneOf (keyword (codes w))
+
+-- this sign
+abbrev pub Sign : String → List Lexeme → Unit {0} → Type 0
+Sign s = OneOf (sign (codes s))
+
+-- a name
+abbrev pub Name : List Lexeme → List ℕ → Type 0
+Name = OneOf name_of
+
+-- what a reserved word stands for, among some of them
+abbrev pub choice_of : {K : Type 0} → List (List ℕ × K) → Lexeme → Option K
+choice_of [] t = None
+choice_of (c ∷ cs) t = if is (keyword c.0) t then Some c.1 else choice_of cs t
+
+-- one of these reserved words, and what may stand behind it
+abbrev pub Choice : {K A : Type 0} → List (List ℕ × K) → (K → List Lexeme → A → Type 0) → List Lexeme → A → Type 0
+Choice cs S = Seq (OneOf (choice_of cs)) S
+
+-- whether S stands there, which may be left out
+abbrev pub Flag : {A : Type 0} → (List Lexeme → A → Type 0) → List Lexeme → Bool → Type 0
+Flag S = Either (Seq S λ _. Nothing true) (Nothing false)
+
+-- the number of a session
+abbrev pub session_of : Lexeme → Option ℕ
+session_of (number n) = if nat_le n 255 then Some n else None
+session_of _ = None
+
+-- ---- reading
+
+abbrev pub word_at : String → List Lexeme → Read Lexeme (Unit {0})
+word_at w = one_at (keyword (codes w))
+
+abbrev pub sign_at : String → List Lexeme → Read Lexeme (Unit {0})
+sign_at s = one_at (sign (codes s))
+
+abbrev pub is_word : String → Lexeme → Bool
+is_word w = is (keyword (codes w))
+
+abbrev pub is_sign : String → Lexeme → Bool
+is_sign s = is (sign (codes s))
+
+abbrev pub choice_at : {K A : Type 0} → List (List ℕ × K) → (K → List Lexeme → Read Lexeme A) → List Lexeme → Read Lexeme A
+choice_at cs p = and_then (one_at (choice_of cs)) p
+
+abbrev pub flag_at : {A : Type 0} → (Lexeme → Bool) → (List Lexeme → Read Lexeme A) → List Lexeme → Read Lexeme Bool
+flag_at g p = either g (and_then p λ _. done true) (done false)
