@@ -1,4 +1,9 @@
+pub mod WordLaws
+pub mod ChoiceLaws
+pub mod KeyLaws
 pub mod OperatorLaws
+pub mod OperatorListLaws
+pub mod TableLaws
 pub mod StatementLaws
 pub mod ParsingLaws
 pub mod ScriptLaws

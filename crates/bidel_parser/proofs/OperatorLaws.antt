@@ -1,102 +1,166 @@
--- Operators are read as their grammar says, and known by their first words.
-use Rattle.std.proofs.Common.{◌≡◌, ◌++◌, ◌∷◌, [], List, Bool, true, false, Ok, refl, ap, ◌∙◌, sym, inl, inr, ◌⊎◌}
-use Rattle.std.specs.Prelude.{Some, ◌||◌, codes}
-use Rattle.par_base.specs.Names.{is_name, is_reserved}
-use Rattle.expr_lang.specs.Terms.{Column}
-use Rattle.phrases.specs.Phrases.{Many}
-use Rattle.phrases.specs.Reading.{is, none}
-use Rattle.phrases.specs.Reads.{Reads, ReadsLast}
-use Rattle.phrases.specs.Chains.{joined}
-use Rattle.phrases.proofs.Readers.{then-reads, done-reads, either-reads, word as then_word, closed, begins_one, known, headed}
-use Rattle.phrases.proofs.Lasts.{closed-then, made-last}
-use Rattle.phrases.proofs.Lookahead.{Begun, by_one, by_two, GoesOn, items-last}
-use Rattle.bidel_expr.specs.Lexemes.{Lexeme, word, symbol, name_of}
-use Rattle.bidel_expr.specs.Literals.{semicolon_of, Names, names_at}
+-- Operators are read as their grammar says.
+use Rattle.std.proofs.Common.{◌≡◌, ◌++◌, [], List, Bool, true, false, refl, ap, ◌∙◌}
+use Rattle.std.specs.Prelude.{Some, None, codes}
+use Rattle.phrases.specs.Phrases.{Nothing, Seq, Behind, Optional}
+use Rattle.phrases.specs.Reading.{Read, and_then, starts, is, none, or, done, behind_at}
+use Rattle.phrases.specs.Reads.{Reads}
+use Rattle.phrases.proofs.Readers.{then-reads, done-reads, respell, word as then_word, closed, or_right, starts_right}
+use Rattle.phrases.proofs.Lists.{made-reads, optional-reads}
+use Rattle.bidel_expr.specs.Lexemes.{Lexeme, word}
+use Rattle.bidel_expr.specs.Literals.{comma_of, Names, name_at, names_at}
 use Rattle.bidel_expr.specs.Expressions.{Expression, expression_at}
-use Rattle.bidel_parser.specs.Views.{OpView, CreateTable, AddColumn}
-use Rattle.bidel_parser.specs.Operators.{create_of, table_of, add_of, column_of, as_of, into_of, CreateTableOp, AddColumnOp, Operator, ClosedOperator, ListedOperators, begins_operator, create_table_at, add_column_at, operator_at, closed_operator_at, operators_at, listed_operators_at}
-use Rattle.bidel_expr.proofs.WordLemmas.{is_keyword, keyword_is, by_keyword}
-use Rattle.bidel_expr.proofs.LiteralLaws.{name_x, names-reads}
+use Rattle.bidel_expr.proofs.LiteralLaws.{names-reads}
 use Rattle.bidel_expr.proofs.ExpressionLaws.{expression_goes, expression-reads}
+use Rattle.bidel_parser.specs.declared.first_words.OperatorWord.{OperatorWord}
+use Rattle.bidel_parser.specs.declared.first_words.OperatorWord.TheVariants as first
+use Rattle.bidel_parser.specs.declared.first_words.Kind.{Kind}
+use Rattle.bidel_parser.specs.declared.first_words.Kind.TheVariants as kind
+use Rattle.bidel_parser.specs.Words.{Name, choice_of}
+use Rattle.bidel_parser.specs.Views.{OpView, CreateTable, DropTable, RenameTable, RenameColumn, AddColumn, DropColumn, Join, Split, Merge}
+use Rattle.bidel_parser.specs.Operators.{operator_words, kinds, Key, key_at, CreateRest, DropRest, RenameRest, AddRest, decomposed, part_of, Part, SecondPart, DecomposeRest, JoinRest, branch_of, SplitBranch, SplitRest, MergeBranch, MergeRest, OperatorRest, Operator, ClosedOperator, create_rest_at, drop_rest_at, rename_rest_at, add_rest_at, second_part_at, optional_part_at, decompose_rest_at, join_rest_at, split_branch_at, second_branch_at, split_rest_at, merge_branch_at, merge_rest_at, operator_rest_at, operator_at, closed_operator_at}
+use Rattle.bidel_parser.proofs.WordLaws.{then_keyword, then_sign, then_name, keyword_begins, sign_begins}
+use Rattle.bidel_parser.proofs.ChoiceLaws.{maybe_begins}
+use Rattle.bidel_parser.proofs.KeyLaws.{key-reads}
 
-create-table-reads : Reads none CreateTableOp create_table_at
-create-table-reads =
-    then_word none create_of (word (codes "create")) tt refl _ _ (λ _.
-    then_word none table_of (word (codes "table")) tt refl _ _ (λ _.
-    then_word none name_of (word (codes "x")) (codes "x") name_x _ _ (λ table.
-    closed none Names _ names_at _ names-reads (λ columns. done-reads none (CreateTable table columns)))))
+-- what may continue an operator: its last expression goes on, or a second part comes
+abbrev pub operator_goes : Lexeme → Bool
+operator_goes = or (is comma_of) expression_goes
 
-add-column-reads : Reads none AddColumnOp add_column_at
-add-column-reads =
-    then_word none add_of (word (codes "add")) tt refl _ _ (λ _.
-    then_word none column_of (word (codes "column")) tt refl _ _ (λ _.
-    then_word none name_of (word (codes "x")) (codes "x") name_x _ _ (λ column.
-    then_word none as_of (word (codes "as")) tt refl _ _ (λ _.
-    then-reads none expression_goes Expression _ expression_at _ expression-reads (λ value.
-    then_word none into_of (word (codes "into")) tt refl _ _ (λ _.
-    then_word none name_of (word (codes "x")) (codes "x") name_x _ _ (λ table. done-reads none (AddColumn column value table))))
-    (λ value right us o h clear. begins_one expression_goes into_of false _ (by_keyword expression_goes false (codes "into") refl) right us o h)))))
+-- a part that ends as an expression does
+widened : {A : Type 0} (S : List Lexeme → A → Type 0) (p : List Lexeme → Read Lexeme A) → Reads expression_goes S p → Reads operator_goes S p
+widened S p r = respell expression_goes operator_goes S S p r (λ front a h. h) (λ front a h. h) (λ t h. or_right (is comma_of t) (expression_goes t) h)
 
-operator-reads : Reads none Operator operator_at
-operator-reads = either-reads none (is create_of) CreateTableOp AddColumnOp create_table_at add_column_at create-table-reads add-column-reads
-    (begins_one (is create_of) create_of true _ (known create_of))
-    (λ front us o h clear. begins_one (is create_of) add_of false _ (by_keyword (is create_of) false (codes "add") refl) front us o h)
+-- CREATE TABLE, from the name on
+pub create-table-reads : Reads operator_goes (Seq Name λ table. Seq Names λ columns. Nothing (CreateTable table columns)) (and_then name_at λ table. and_then names_at λ columns. done (CreateTable table columns))
+create-table-reads = then_name operator_goes _ _ (λ table. closed operator_goes Names _ names_at _ names-reads (λ columns. done-reads operator_goes (CreateTable table columns)))
+
+create-rest-reads : Reads operator_goes CreateRest create_rest_at
+create-rest-reads = then_keyword operator_goes "table" _ _ create-table-reads
+
+pub drop-rest-reads : (k : Kind) → Reads operator_goes (DropRest k) (drop_rest_at k)
+drop-rest-reads kind.Table = then_name operator_goes _ _ (λ table. done-reads operator_goes (DropTable table))
+drop-rest-reads kind.Column =
+    then_name operator_goes _ _ (λ column.
+    then_keyword operator_goes "from" _ _ (
+    then_name operator_goes _ _ (λ table.
+    then_keyword operator_goes "default" _ _ (
+    widened _ _ (made-reads expression_goes Expression expression_at (λ value. DropColumn column table value) expression-reads)))))
+
+rename-rest-reads : (k : Kind) → Reads operator_goes (RenameRest k) (rename_rest_at k)
+rename-rest-reads kind.Table =
+    then_name operator_goes _ _ (λ table.
+    then_keyword operator_goes "into" _ _ (
+    then_name operator_goes _ _ (λ new. done-reads operator_goes (RenameTable table new))))
+rename-rest-reads kind.Column =
+    then_name operator_goes _ _ (λ column.
+    then_keyword operator_goes "in" _ _ (
+    then_name operator_goes _ _ (λ table.
+    then_keyword operator_goes "to" _ _ (
+    then_name operator_goes _ _ (λ new. done-reads operator_goes (RenameColumn column table new))))))
+
+add-rest-reads : Reads operator_goes AddRest add_rest_at
+add-rest-reads =
+    then_keyword operator_goes "column" _ _ (
+    then_name operator_goes _ _ (λ column.
+    then_keyword operator_goes "as" _ _ (
+    then-reads operator_goes expression_goes Expression _ expression_at _ expression-reads (λ value.
+    then_keyword operator_goes "into" _ _ (
+    then_name operator_goes _ _ (λ table. done-reads operator_goes (AddColumn column value table))))
+    (λ value right us o h clear. keyword_begins expression_goes false "into" refl _ right us o h))))
+
+-- ---- DECOMPOSE and JOIN
+
+second-part-reads : Reads expression_goes SecondPart second_part_at
+second-part-reads =
+    then_sign expression_goes "," _ _ (
+    then_name expression_goes _ _ (λ table.
+    closed expression_goes Names _ names_at _ names-reads (λ columns.
+    then_keyword expression_goes "on" _ _ (
+    made-reads expression_goes Key key_at (λ key. part_of table columns key) key-reads))))
+
+optional-part-reads : Reads operator_goes (Optional SecondPart) optional_part_at
+optional-part-reads = optional-reads expression_goes (is comma_of) SecondPart second_part_at second-part-reads (λ front us part h. sign_begins (is comma_of) true "," refl _ front us part h)
+
+decompose-rest-reads : Reads operator_goes DecomposeRest decompose_rest_at
+decompose-rest-reads =
+    then_keyword operator_goes "table" _ _ (
+    then_name operator_goes _ _ (λ table.
+    then_keyword operator_goes "into" _ _ (
+    then_name operator_goes _ _ (λ target.
+    closed operator_goes Names _ names_at _ names-reads (λ columns.
+    made-reads operator_goes (Optional SecondPart) optional_part_at (λ second. decomposed table target columns second) optional-part-reads)))))
+
+join-rest-reads : (outer : Bool) → Reads operator_goes (JoinRest outer) (join_rest_at outer)
+join-rest-reads outer =
+    then_keyword operator_goes "table" _ _ (
+    then_name operator_goes _ _ (λ one.
+    then_sign operator_goes "," _ _ (
+    then_name operator_goes _ _ (λ two.
+    then_keyword operator_goes "into" _ _ (
+    then_name operator_goes _ _ (λ target.
+    then_keyword operator_goes "on" _ _ (
+    widened _ _ (made-reads expression_goes Key key_at (λ key. Join outer one two target key) key-reads))))))))
+
+-- ---- SPLIT and MERGE
+
+split-branch-reads : Reads expression_goes SplitBranch split_branch_at
+split-branch-reads =
+    then_name expression_goes _ _ (λ table.
+    then_keyword expression_goes "with" _ _ (
+    made-reads expression_goes Expression expression_at (λ condition. branch_of table condition) expression-reads))
+
+second-branch-reads : Reads operator_goes (Optional (Behind comma_of SplitBranch)) second_branch_at
+second-branch-reads = optional-reads expression_goes (is comma_of) (Behind comma_of SplitBranch) (behind_at comma_of split_branch_at)
+    (then_sign expression_goes "," SplitBranch split_branch_at split-branch-reads)
+    (λ front us branch h. sign_begins (is comma_of) true "," refl SplitBranch front us branch h)
+
+split-rest-reads : Reads operator_goes SplitRest split_rest_at
+split-rest-reads =
+    then_keyword operator_goes "table" _ _ (
+    then_name operator_goes _ _ (λ table.
+    then_keyword operator_goes "into" _ _ (
+    then-reads operator_goes expression_goes SplitBranch _ split_branch_at _ split-branch-reads (λ one.
+    made-reads operator_goes (Optional (Behind comma_of SplitBranch)) second_branch_at (λ two. Split table one two) second-branch-reads)
+    (λ one right us o h clear. maybe_begins expression_goes false (Behind comma_of SplitBranch) (λ b. Nothing (Some b)) None (λ two. Nothing (Split table one two)) us
+    (λ front us b h. sign_begins expression_goes false "," refl SplitBranch front us b h)
+    (λ two front o h. ap (λ (l : List Lexeme). starts expression_goes (l ++ us)) h.0 ∙ starts_right (is comma_of) expression_goes us clear) right o h))))
+
+merge-branch-reads : Reads none MergeBranch merge_branch_at
+merge-branch-reads =
+    then_name none _ _ (λ table.
+    then_sign none "(" _ _ (
+    then-reads none expression_goes Expression _ expression_at _ expression-reads (λ condition.
+    then_sign none ")" _ _ (done-reads none (branch_of table condition)))
+    (λ condition right us b h clear. sign_begins expression_goes false ")" refl _ right us b h)))
+
+merge-rest-reads : Reads operator_goes MergeRest merge_rest_at
+merge-rest-reads =
+    then_keyword operator_goes "table" _ _ (
+    closed operator_goes MergeBranch _ merge_branch_at _ merge-branch-reads (λ one.
+    then_sign operator_goes "," _ _ (
+    closed operator_goes MergeBranch _ merge_branch_at _ merge-branch-reads (λ two.
+    then_keyword operator_goes "into" _ _ (
+    then_name operator_goes _ _ (λ target. done-reads operator_goes (Merge one two target)))))))
+
+-- ---- operators
+
+pub operator-rest-reads : (k : OperatorWord) → Reads operator_goes (OperatorRest k) (operator_rest_at k)
+operator-rest-reads first.Create = create-rest-reads
+operator-rest-reads first.Drop = then_word operator_goes (choice_of kinds) (word (codes "table")) kind.Table refl DropRest drop_rest_at drop-rest-reads
+operator-rest-reads first.Rename = then_word operator_goes (choice_of kinds) (word (codes "table")) kind.Table refl RenameRest rename_rest_at rename-rest-reads
+operator-rest-reads first.Add = add-rest-reads
+operator-rest-reads first.Decompose = decompose-rest-reads
+operator-rest-reads first.Outer = then_keyword operator_goes "join" _ _ (join-rest-reads true)
+operator-rest-reads first.Join = join-rest-reads false
+operator-rest-reads first.Split = split-rest-reads
+operator-rest-reads first.Merge = merge-rest-reads
+
+operator-reads : Reads operator_goes Operator operator_at
+operator-reads = then_word operator_goes (choice_of operator_words) (word (codes "create")) first.Create refl OperatorRest operator_rest_at operator-rest-reads
+
+pub semicolon-reads : (o : OpView) → Reads none _ _
+semicolon-reads o = then_sign none ";" _ _ (done-reads none o)
 
 pub closed-operator-reads : Reads none ClosedOperator closed_operator_at
-closed-operator-reads = closed none Operator _ operator_at _ operator-reads (λ o. then_word none semicolon_of (symbol (codes ";")) tt refl _ _ (λ _. done-reads none o))
-
--- ---- where the operators end
-
-begun : (front : List Lexeme) (o : OpView) → ClosedOperator front o → Begun (is add_of) (is create_of) (λ _ t. is table_of t) front
-begun front o h = elim h.first [ inl c ↦ created c | inr a ↦ added a ]
-  where
-    created : CreateTableOp h.left h.value → Begun (is add_of) (is create_of) (λ _ t. is table_of t) front
-    created c =
-        let first : h.left ≡ word (codes "create") ∷ c.right = headed create_of (word (codes "create")) _ (keyword_is (codes "create")) h.left h.value c in
-        let second : c.right ≡ word (codes "table") ∷ c.second.right = headed table_of (word (codes "table")) _ (keyword_is (codes "table")) c.right h.value c.second in
-        by_two (word (codes "create")) (word (codes "table")) (c.second.right ++ h.right)
-        (h.whole ∙ ap (λ (l : List Lexeme). l ++ h.right) (first ∙ ap (λ (l : List Lexeme). word (codes "create") ∷ l) second)) refl refl
-
-    added : AddColumnOp h.left h.value → Begun (is add_of) (is create_of) (λ _ t. is table_of t) front
-    added a = by_one (word (codes "add")) (a.right ++ h.right)
-        (h.whole ∙ ap (λ (l : List Lexeme). l ++ h.right) (headed add_of (word (codes "add")) _ (keyword_is (codes "add")) h.left h.value a)) refl
-
--- one operator of each kind
-abbrev added_tokens : List Lexeme
-added_tokens = word (codes "add") ∷ word (codes "column") ∷ word (codes "x") ∷ word (codes "as") ∷ word (codes "x") ∷ word (codes "into") ∷ word (codes "x") ∷ symbol (codes ";") ∷ []
-
-add_goes : closed_operator_at added_tokens ≡ Ok (AddColumn (codes "x") (Column (codes "x")) (codes "x"), [])
-unfolding is_name is_reserved joined
-add_goes = refl
-
-abbrev created_tokens : List Lexeme
-created_tokens = word (codes "table") ∷ word (codes "x") ∷ symbol (codes "(") ∷ symbol (codes ")") ∷ symbol (codes ";") ∷ []
-
-create_goes : closed_operator_at (word (codes "create") ∷ created_tokens) ≡ Ok (CreateTable (codes "x") [], [])
-unfolding is_name is_reserved
-create_goes = refl
-
-either_one : (a b : Bool) → (a || b) ≡ true → (a ≡ true) ⊎ (b ≡ true)
-either_one true b h = inl refl
-either_one false b h = inr h
-
-first_goes : (t : Lexeme) → (is add_of t || is create_of t) ≡ true → GoesOn closed_operator_at [] t
-first_goes t h = elim (either_one (is add_of t) (is create_of t) h) [
-  | inl a ↦ record { more = added_tokens; answer = (AddColumn (codes "x") (Column (codes "x")) (codes "x"), []); starts' = ap (λ (t : Lexeme). Some t) (sym (is_keyword (codes "add") t a)); whole = add_goes }
-  | inr c ↦ record { more = word (codes "create") ∷ created_tokens; answer = (CreateTable (codes "x") [], []); starts' = ap (λ (t : Lexeme). Some t) (sym (is_keyword (codes "create") t c)); whole = create_goes }
-]
-
-second_goes : (t u : Lexeme) → is create_of t ≡ true → is table_of u ≡ true → GoesOn closed_operator_at (t ∷ []) u
-second_goes t u h k = record {
-  more = created_tokens;
-  answer = (CreateTable (codes "x") [], []);
-  starts' = ap (λ (t : Lexeme). Some t) (sym (is_keyword (codes "table") u k));
-  whole = ap (λ (t : Lexeme). closed_operator_at (t ∷ created_tokens)) (is_keyword (codes "create") t h) ∙ create_goes;
-}
-
-further-last : ReadsLast (λ _. begins_operator) (Many ClosedOperator) operators_at
-further-last = items-last (is add_of) (is create_of) (λ _ t. is table_of t) ClosedOperator closed_operator_at closed-operator-reads begun first_goes second_goes
-
-pub listed-last : ReadsLast (λ _. begins_operator) ListedOperators listed_operators_at
-listed-last = closed-then (λ _. begins_operator) ClosedOperator _ closed_operator_at _ closed-operator-reads (λ o.
-    made-last (λ _. begins_operator) (λ _. begins_operator) (Many ClosedOperator) operators_at (λ os. o ∷ os) further-last (λ os ended us. refl))
+closed-operator-reads = then-reads none operator_goes Operator _ operator_at _ operator-reads semicolon-reads
+    (λ o right us r h clear. sign_begins operator_goes false ";" refl _ right us r h)

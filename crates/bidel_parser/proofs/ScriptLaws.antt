@@ -1,45 +1,75 @@
 -- Statements and scripts, by the laws of fronts.
-use Rattle.std.proofs.Common.{◌≡◌, ◌++◌, ◌∷◌, [], ◌+◌, List, Bool, true, false, refl, ap, ◌∙◌, sym, subst, append-nil, arith, take}
-use Rattle.std.specs.Prelude.{codes}
+use Rattle.std.proofs.Common.{◌≡◌, ◌++◌, ◌∷◌, [], ◌+◌, ◌<◌, ℕ, List, Bool, true, false, refl, ap, sym, subst, append-nil, arith, length, take}
+use Rattle.std.specs.Prelude.{Some, codes}
 use Rattle.phrases.specs.Phrases.{Begins}
-use Rattle.phrases.specs.Reading.{is}
 use Rattle.phrases.specs.Fronts.{ShowsEnd}
 use Rattle.phrases.proofs.Fronts as fronts
 use Rattle.phrases.proofs.Lookahead.{stays_shown, front_shown}
 use Rattle.bidel_expr.specs.Lexemes.{Lexeme, word}
-use Rattle.bidel_parser.specs.Views.{StatementView, CreateVersion, Insert, Select}
-use Rattle.bidel_parser.specs.Operators.{create_of, table_of, add_of}
-use Rattle.bidel_parser.specs.Statements.{IsStatement, Script, stays_open, statement_at}
+use Rattle.bidel_parser.specs.declared.first_words.OperatorWord.{OperatorWord}
+use Rattle.bidel_parser.specs.declared.first_words.StatementWord.{StatementWord}
+use Rattle.bidel_parser.specs.declared.first_words.StatementWord.TheVariants as first
+use Rattle.bidel_parser.specs.Words.{choice_of}
+use Rattle.bidel_parser.specs.Views.{StatementView, CreateVersion, DropVersion, Insert, Import, Update, Delete, Select, Materialize, Step, ShowLayout, Use, Session, Advise}
+use Rattle.bidel_parser.specs.Operators.{shared_words, begins_operator}
+use Rattle.bidel_parser.specs.Statements.{statement_words, StatementRest, IsStatement, Script, stays_open, statement_at}
 use Rattle.bidel_parser.specs.Laws.{OneFront, FrontStays, FrontLeads, FrontPrecedes, NoScript, EmptyScript, FaultStays, FaultFollows}
-use Rattle.bidel_expr.proofs.WordLemmas.{is_keyword}
-use Rattle.bidel_parser.proofs.StatementLaws.{statement-last, script_over, statement_long}
+use Rattle.bidel_parser.proofs.ChoiceLaws.{by_choice, chosen_of, begins_behind}
+use Rattle.bidel_parser.proofs.OperatorListLaws.{lone, shared, both}
+use Rattle.bidel_parser.proofs.StatementLaws.{rest-last, statement-last, script_over, statement_long}
 
 -- what shows the end still does as tokens come
 shown : (ended : Bool) (s : StatementView) (us more : List Lexeme) → stays_open s false us ≡ false → stays_open s ended (us ++ more) ≡ false
-shown ended (CreateVersion name origin operators) us more h = stays_shown (is add_of) (is create_of) (λ _ t. is table_of t) ended us more h
+shown ended (CreateVersion name origin operators) us more h = stays_shown lone shared both ended us more h
+shown ended (DropVersion name) us more h = refl
 shown ended (Insert table rows) us more h = refl
+shown ended (Import table bytes) us more h = refl
+shown ended (Update table assignments filter) us more h = refl
+shown ended (Delete table filter) us more h = refl
 shown ended (Select table items filter csv) us more h = refl
+shown ended (Materialize named in_steps) us more h = refl
+shown ended Step us more h = refl
+shown ended ShowLayout us more h = refl
+shown ended (Use name) us more h = refl
+shown ended (Session number) us more h = refl
+shown ended (Advise name) us more h = refl
 
--- CREATE begins a script
-create_begins : Begins Script (word (codes "create") ∷ [])
-create_begins =
-    let stop = statement-last.stops false (word (codes "create") ∷ []) [] refl in
-    let front : stop.front ≡ word (codes "create") ∷ [] = sym (stop.whole ∙ append-nil stop.front) in
-    subst (Begins Script) front (record {
-      more = stop.begins.more;
-      value = stop.begins.value ∷ [];
-      spelled = (stop.front ++ stop.begins.more, [], sym (append-nil (stop.front ++ stop.begins.more)), stop.begins.spelled, refl);
-    })
+-- a script begins with each word that begins operators too
+begins_script : (t : Lexeme) (k : OperatorWord) → choice_of shared_words t ≡ Some k → Begins Script (t ∷ [])
+begins_script = by_choice (λ t _. Begins Script (t ∷ [])) shared_words (with_word (word (codes "create")) first.Create refl, with_word (word (codes "drop")) first.Drop refl, tt)
+  where
+    with_word : (t : Lexeme) (k : StatementWord) → choice_of statement_words t ≡ Some k → Begins Script (t ∷ [])
+    with_word t k h =
+        let b = begins_behind (choice_of statement_words) StatementRest t k [] h (rest-last k).some in
+        record {
+          more = b.more;
+          value = b.value ∷ [];
+          spelled = (t ∷ b.more, [], sym (append-nil (t ∷ b.more)), b.spelled, refl);
+        }
+
+-- the tokens up to one with which no script begins show where operators end
+operators_end : (ts more : List Lexeme) (at : ℕ) → at < length ts → begins_operator true ts ≡ false → (Begins Script (take (at + 1) ts) → ⊥) → begins_operator true (take (at + 1) ts ++ more) ≡ false
+operators_end ts more at lt h none =
+    front_shown lone shared both ts more (at + 1) (omega arith) (omega (arith, lt)) h (λ t e. alone t e (shared t) refl)
+  where
+    alone : (t : Lexeme) → take (at + 1) ts ≡ t ∷ [] → (b : Bool) → shared t ≡ b → b ≡ false
+    alone t e true k = let c = chosen_of (choice_of shared_words t) k in absurd (none (subst (Begins Script) (sym e) (begins_script t c.0 c.1)))
+    alone t e false k = refl
 
 shows_end : ShowsEnd stays_open IsStatement
-shows_end (CreateVersion name origin operators) ts more at lt h none =
-    front_shown (is add_of) (is create_of) (λ _ t. is table_of t) ts more (at + 1) (omega arith) (omega (arith, lt)) h (λ t e. alone t e (is create_of t) refl)
-  where
-    alone : (t : Lexeme) → take (at + 1) ts ≡ t ∷ [] → (b : Bool) → is create_of t ≡ b → b ≡ false
-    alone t e true k = absurd (none (subst (Begins Script) (sym (e ∙ ap (λ (t : Lexeme). t ∷ []) (is_keyword (codes "create") t k))) create_begins))
-    alone t e false k = refl
+shows_end (CreateVersion name origin operators) ts more at lt h none = operators_end ts more at lt h none
+shows_end (DropVersion name) ts more at lt h none = refl
 shows_end (Insert table rows) ts more at lt h none = refl
+shows_end (Import table bytes) ts more at lt h none = refl
+shows_end (Update table assignments filter) ts more at lt h none = refl
+shows_end (Delete table filter) ts more at lt h none = refl
 shows_end (Select table items filter csv) ts more at lt h none = refl
+shows_end (Materialize named in_steps) ts more at lt h none = refl
+shows_end Step ts more at lt h none = refl
+shows_end ShowLayout ts more at lt h none = refl
+shows_end (Use name) ts more at lt h none = refl
+shows_end (Session number) ts more at lt h none = refl
+shows_end (Advise name) ts more at lt h none = refl
 
 pub one_front : OneFront
 one_front = fronts.one_front stays_open IsStatement statement_at statement-last

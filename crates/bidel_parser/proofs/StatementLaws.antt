@@ -1,132 +1,221 @@
 -- Statements are read as their grammar says, and where a script begins no statement stays open.
-use Rattle.std.proofs.Common.{◌≡◌, ◌++◌, ◌∷◌, [], ◌<◌, List, Bool, true, false, refl, ap, ◌∙◌, sym, inl, inr, length, arith}
-use Rattle.std.specs.Prelude.{None, codes}
-use Rattle.phrases.specs.Phrases.{Either, OneOf, Behind, Optional, Separated}
-use Rattle.phrases.specs.Reading.{is, none, or, either, behind_at, separated_at}
+use Rattle.std.proofs.Common.{◌≡◌, ◌++◌, ◌∷◌, [], ◌<◌, ℕ, List, Bool, true, false, refl, ap, append_assoc, ◌∙◌, sym, subst, length, length-append, arith}
+use Rattle.std.specs.Prelude.{Option, Some, None, codes, Unit}
+use Rattle.phrases.specs.Phrases.{Nothing, Seq, OneOf, Optional, Separated}
+use Rattle.phrases.specs.Reading.{Read, starts, is, none, and_then, separated_at}
 use Rattle.phrases.specs.Reads.{Reads, ReadsLast}
 use Rattle.phrases.specs.Fronts.{IsOver}
-use Rattle.phrases.proofs.Readers.{then-reads, done-reads, word as then_word, closed, begins_one, known, headed}
-use Rattle.phrases.proofs.Lists.{optional-reads, separated-reads}
-use Rattle.phrases.proofs.Lasts.{closed-last, then-last, either-last, made-last, word-last}
+use Rattle.phrases.proofs.Readers.{then-reads, done-reads, word as then_one, headed}
+use Rattle.phrases.proofs.Lasts.{closed-last, then-last, made-last, word-last}
 use Rattle.phrases.proofs.Lookahead.{not_begun, not_begun_both}
-use Rattle.bidel_expr.specs.Lexemes.{Lexeme, word, symbol, name_of}
-use Rattle.bidel_expr.specs.Literals.{comma_of, semicolon_of, dot_of, star_of, Tuple, name_at, tuple_at}
-use Rattle.bidel_parser.specs.Views.{StatementView, CreateVersion, Insert, Select}
-use Rattle.bidel_parser.specs.Operators.{create_of, table_of, add_of, into_of, ListedOperators, begins_operator, listed_operators_at}
-use Rattle.bidel_parser.specs.Statements.{schema_of, version_of, from_of, with_of, insert_of, values_of, select_of, of_version, TableOf, CreateVersionStatement, InsertStatement, SelectStatement, IsStatement, stays_open, table_at, origin_at, create_version_at, insert_at, select_at, statement_at}
-use Rattle.bidel_expr.proofs.WordLemmas.{keyword_is, by_keyword, by_sign}
-use Rattle.bidel_expr.proofs.LiteralLaws.{name_x, name-reads, tuple-reads}
-use Rattle.bidel_parser.proofs.OperatorLaws.{listed-last}
+use Rattle.bidel_expr.specs.Lexemes.{Lexeme, word, number, «text», keyword, text_of}
+use Rattle.bidel_expr.specs.Literals.{comma_of, Tuple, tuple_at}
+use Rattle.bidel_expr.proofs.WordLemmas.{keyword_is}
+use Rattle.bidel_expr.proofs.ExpressionLaws.{expression_goes}
+use Rattle.bidel_parser.specs.declared.first_words.StatementWord.{StatementWord}
+use Rattle.bidel_parser.specs.declared.first_words.StatementWord.TheVariants as first
+use Rattle.bidel_parser.specs.Words.{Word, Sign, Name, Flag, choice_of, session_of}
+use Rattle.bidel_parser.specs.Views.{StatementView, CreateVersion, DropVersion, Insert, Import, Update, Delete, Select, Materialize, Step, ShowLayout, Use, Session, Advise}
+use Rattle.bidel_parser.specs.Operators.{ListedOperators, begins_operator, listed_operators_at}
+use Rattle.bidel_parser.specs.Statements.{statement_words, TableOf, TargetOf, AssignmentOf, Filter, Items, CreateVersionRest, DropVersionRest, InsertRest, ImportRest, UpdateRest, DeleteRest, SelectRest, MaterializeRest, ShowRest, SessionRest, StatementRest, IsStatement, stays_open, table_at, target_at, assignment_at, filter_at, items_at, origin_at, csv_at, in_steps_at, create_version_rest_at, drop_version_rest_at, insert_rest_at, import_rest_at, update_rest_at, delete_rest_at, select_rest_at, materialize_rest_at, step_rest_at, show_rest_at, use_rest_at, session_rest_at, advise_rest_at, statement_rest_at, statement_at}
+use Rattle.bidel_parser.proofs.WordLaws.{then_keyword, then_sign, then_name, keyword_last, name_last, keyword_begins, sign_begins}
+use Rattle.bidel_parser.proofs.ChoiceLaws.{by_choice, maybe_begins}
+use Rattle.bidel_parser.proofs.TableLaws.{table_goes, names_go, targets_go, assignments_go, filter_goes, origin_goes, csv_goes, in_steps_goes, table-reads, rows-reads, targets-reads, assignments-reads, items-reads, filter-reads, origin-reads, csv-reads, in-steps-reads}
+use Rattle.bidel_parser.proofs.OperatorListLaws.{lone, shared, both, listed-last}
 
-table-reads : Reads none TableOf table_at
-table-reads =
-    then_word none name_of (word (codes "x")) (codes "x") name_x _ _ (λ version.
-    then_word none dot_of (symbol (codes ".")) tt refl _ _ (λ _.
-    then_word none name_of (word (codes "x")) (codes "x") name_x _ _ (λ table. done-reads none (of_version version table))))
+-- a semicolon, and a statement
+ended-reads : (s : StatementView) → Reads none _ _
+ended-reads s = then_sign none ";" _ _ (done-reads none s)
 
--- ---- CREATE SCHEMA VERSION
-
-abbrev origin_goes : Lexeme → Bool
-origin_goes = or (is from_of) none
-
-origin-reads : Reads origin_goes (Optional (Behind from_of (OneOf name_of))) origin_at
-origin-reads = optional-reads none (is from_of) (Behind from_of (OneOf name_of)) (behind_at from_of name_at)
-    (then_word none from_of (word (codes "from")) tt refl (λ _. OneOf name_of) (λ _. name_at) (λ _. name-reads))
-    (begins_one (is from_of) from_of true _ (known from_of))
-
-create-last : ReadsLast stays_open CreateVersionStatement create_version_at
+create-last : ReadsLast stays_open CreateVersionRest create_version_rest_at
 create-last =
-    word-last stays_open create_of (word (codes "create")) tt refl _ _ (λ _.
-    word-last stays_open schema_of (word (codes "schema")) tt refl _ _ (λ _.
-    word-last stays_open version_of (word (codes "version")) tt refl _ _ (λ _.
-    word-last stays_open name_of (word (codes "x")) (codes "x") name_x _ _ (λ name.
-    then-last stays_open origin_goes (Optional (Behind from_of (OneOf name_of))) _ origin_at _ origin-reads (λ origin.
-    word-last stays_open with_of (word (codes "with")) tt refl _ _ (λ _.
+    keyword_last stays_open "schema" _ _ (
+    keyword_last stays_open "version" _ _ (
+    name_last stays_open _ _ (λ name.
+    then-last stays_open origin_goes (Optional (Seq (Word "from") λ _. Name)) _ origin_at _ origin-reads (λ origin.
+    keyword_last stays_open "with" _ _ (
     made-last (λ _. begins_operator) stays_open ListedOperators listed_operators_at (λ operators. CreateVersion name origin operators) listed-last (λ operators ended us. refl)))
-    (λ origin right us s h. begins_one origin_goes with_of false _ (by_keyword origin_goes false (codes "with") refl) right us s h)))))
+    (λ origin right us s h. keyword_begins origin_goes false "with" refl _ right us s h))))
 
--- ---- INSERT and SELECT
+drop-reads : Reads none DropVersionRest drop_version_rest_at
+drop-reads =
+    then_keyword none "schema" _ _ (
+    then_keyword none "version" _ _ (
+    then_name none _ _ (λ name. ended-reads (DropVersion name))))
 
-abbrev rows_goes : Lexeme → Bool
-rows_goes = or (is comma_of) none
-
-insert-reads : Reads none InsertStatement insert_at
+insert-reads : Reads none InsertRest insert_rest_at
 insert-reads =
-    then_word none insert_of (word (codes "insert")) tt refl _ _ (λ _.
-    then_word none into_of (word (codes "into")) tt refl _ _ (λ _.
-    closed none TableOf _ table_at _ table-reads (λ table.
-    then_word none values_of (word (codes "values")) tt refl _ _ (λ _.
-    then-reads none rows_goes (Separated comma_of Tuple) _ (separated_at comma_of tuple_at) _
-    (separated-reads none comma_of (symbol (codes ",")) tt refl Tuple tuple_at tuple-reads (λ t h. refl))
-    (λ rows. then_word none semicolon_of (symbol (codes ";")) tt refl _ _ (λ _. done-reads none (Insert table rows)))
-    (λ rows right us s h clear. begins_one rows_goes semicolon_of false _ (by_sign rows_goes false (codes ";") refl) right us s h)))))
+    then_keyword none "into" _ _ (
+    then-reads none table_goes TableOf _ table_at _ table-reads (λ table.
+    then_keyword none "values" _ _ (
+    then-reads none names_go (Separated comma_of Tuple) _ (separated_at comma_of tuple_at) _ rows-reads (λ rows. ended-reads (Insert table rows))
+    (λ rows right us s h clear. sign_begins names_go false ";" refl _ right us s h)))
+    (λ table right us s h clear. keyword_begins table_goes false "values" refl _ right us s h))
 
-select-reads : Reads none SelectStatement select_at
+import-reads : Reads none ImportRest import_rest_at
+import-reads =
+    then_keyword none "into" _ _ (
+    then-reads none table_goes TableOf _ table_at _ table-reads (λ table.
+    then_keyword none "csv" _ _ (
+    then_one none text_of («text» []) [] refl _ _ (λ bytes. ended-reads (Import table bytes))))
+    (λ table right us s h clear. keyword_begins table_goes false "csv" refl _ right us s h))
+
+update-reads : Reads none UpdateRest update_rest_at
+update-reads =
+    then-reads none table_goes TableOf _ table_at _ table-reads (λ table.
+    then_keyword none "set" _ _ (
+    then-reads none assignments_go (Separated comma_of AssignmentOf) _ (separated_at comma_of assignment_at) _ assignments-reads (λ assignments.
+    then-reads none filter_goes Filter _ filter_at _ filter-reads (λ filter. ended-reads (Update table assignments filter))
+    (λ filter right us s h clear. sign_begins filter_goes false ";" refl _ right us s h))
+    (λ assignments right us s h clear. maybe_begins assignments_go false _ _ None _ us
+    (λ front us e f. keyword_begins assignments_go false "where" refl _ front us e f)
+    (λ filter front s f. sign_begins assignments_go false ";" refl _ front us s f) right s h)))
+    (λ table right us s h clear. keyword_begins table_goes false "set" refl _ right us s h)
+
+delete-reads : Reads none DeleteRest delete_rest_at
+delete-reads =
+    then_keyword none "from" _ _ (
+    then-reads none table_goes TableOf _ table_at _ table-reads (λ table.
+    then-reads none filter_goes Filter _ filter_at _ filter-reads (λ filter. ended-reads (Delete table filter))
+    (λ filter right us s h clear. sign_begins filter_goes false ";" refl _ right us s h))
+    (λ table right us s h clear. maybe_begins table_goes false _ _ None _ us
+    (λ front us e f. keyword_begins table_goes false "where" refl _ front us e f)
+    (λ filter front s f. sign_begins table_goes false ";" refl _ front us s f) right s h))
+
+select-reads : Reads none SelectRest select_rest_at
 select-reads =
-    then_word none select_of (word (codes "select")) tt refl _ _ (λ _.
-    then_word none star_of (symbol (codes "*")) tt refl _ _ (λ _.
-    then_word none from_of (word (codes "from")) tt refl _ _ (λ _.
-    closed none TableOf _ table_at _ table-reads (λ table.
-    then_word none semicolon_of (symbol (codes ";")) tt refl _ _ (λ _. done-reads none (Select table None None false))))))
+    then-reads none names_go Items _ items_at _ items-reads (λ items.
+    then_keyword none "from" _ _ (
+    then-reads none table_goes TableOf _ table_at _ table-reads (λ table.
+    then-reads none filter_goes Filter _ filter_at _ filter-reads (λ filter.
+    then-reads none csv_goes _ _ csv_at _ csv-reads (λ csv. ended-reads (Select table items filter csv))
+    (λ csv right us s h clear. sign_begins csv_goes false ";" refl _ right us s h))
+    (λ filter right us s h clear. csv_begins filter_goes refl refl items table filter right us s h))
+    (λ table right us s h clear. maybe_begins table_goes false _ _ None _ us
+    (λ front us e f. keyword_begins table_goes false "where" refl _ front us e f)
+    (λ filter front s f. csv_begins table_goes refl refl items table filter front us s f) right s h)))
+    (λ items right us s h clear. keyword_begins names_go false "from" refl _ right us s h)
+  where
+    csv_begins : (g : Lexeme → Bool) → g (word (codes "as")) ≡ false → g (symbol (codes ";")) ≡ false → (items : Option (List (List ℕ))) (table : _) (filter : _) (right us : List Lexeme) (s : StatementView)
+        → Seq (Flag (Seq (Word "as") λ _. Word "csv")) (λ csv. Seq (Sign ";") λ _. Nothing (Select table items filter csv)) right s → starts g (right ++ us) ≡ false
+    csv_begins g a b items table filter right us s h = maybe_begins g false _ _ false _ us
+        (λ front us e f. keyword_begins g false "as" a _ front us e f)
+        (λ csv front s f. sign_begins g false ";" b _ front us s f) right s h
 
-insert_over : (ended : Bool) (front us : List Lexeme) (s : StatementView) → InsertStatement front s → stays_open s ended us ≡ false
-insert_over ended front us s h = ap (λ (s : StatementView). stays_open s ended us) (sym h.second.second.second.second.second.second.1)
+materialize-reads : Reads none MaterializeRest materialize_rest_at
+materialize-reads =
+    then-reads none targets_go (Separated comma_of TargetOf) _ (separated_at comma_of target_at) _ targets-reads (λ named.
+    then-reads none in_steps_goes _ _ in_steps_at _ in-steps-reads (λ in_steps. ended-reads (Materialize named in_steps))
+    (λ in_steps right us s h clear. sign_begins in_steps_goes false ";" refl _ right us s h))
+    (λ named right us s h clear. maybe_begins targets_go false _ _ false _ us
+    (λ front us e f. keyword_begins targets_go false "in" refl _ front us e f)
+    (λ in_steps front s f. sign_begins targets_go false ";" refl _ front us s f) right s h)
 
-select_over : (ended : Bool) (front us : List Lexeme) (s : StatementView) → SelectStatement front s → stays_open s ended us ≡ false
-select_over ended front us s h = ap (λ (s : StatementView). stays_open s ended us) (sym h.second.second.second.second.second.1)
+session-reads : Reads none SessionRest session_rest_at
+session-reads = then_one none session_of (number 0) 0 refl _ _ (λ number. ended-reads (Session number))
 
 -- ---- statements
 
+-- a statement that is none of operators is over at its semicolon
+closed : (S : List Lexeme → StatementView → Type 0) (p : List Lexeme → Read Lexeme StatementView) → Reads none S p
+    → ((front : List Lexeme) (s : StatementView) → S front s → (ended : Bool) (us : List Lexeme) → stays_open s ended us ≡ false) → ReadsLast stays_open S (λ _. p)
+closed S p r over = closed-last stays_open S p r (λ ended front us s h. over front s h ended us)
+
+-- what is said of the value holds of the statement
+is_over : (x s : StatementView) → x ≡ s → ((ended : Bool) (us : List Lexeme) → stays_open x ended us ≡ false) → (ended : Bool) (us : List Lexeme) → stays_open s ended us ≡ false
+is_over x s e h = subst (λ (s : StatementView). (ended : Bool) (us : List Lexeme) → stays_open s ended us ≡ false) e h
+
+pub rest-last : (k : StatementWord) → ReadsLast stays_open (StatementRest k) (λ ended. statement_rest_at ended k)
+rest-last first.Create = create-last
+rest-last first.Drop = closed DropVersionRest _ drop-reads (λ front s h. is_over _ s h.second.second.second.second.1 (λ ended us. refl))
+rest-last first.Insert = closed InsertRest _ insert-reads (λ front s h. is_over _ s h.second.second.second.second.second.1 (λ ended us. refl))
+rest-last first.Import = closed ImportRest _ import-reads (λ front s h. is_over _ s h.second.second.second.second.second.1 (λ ended us. refl))
+rest-last first.Update = closed UpdateRest _ update-reads (λ front s h. is_over _ s h.second.second.second.second.second.1 (λ ended us. refl))
+rest-last first.Delete = closed DeleteRest _ delete-reads (λ front s h. is_over _ s h.second.second.second.second.1 (λ ended us. refl))
+rest-last first.Select = closed SelectRest _ select-reads (λ front s h. is_over _ s h.second.second.second.second.second.second.1 (λ ended us. refl))
+rest-last first.Materialize = closed MaterializeRest _ materialize-reads (λ front s h. is_over _ s h.second.second.second.1 (λ ended us. refl))
+rest-last first.Step = closed _ _ (ended-reads Step) (λ front s h. is_over _ s h.second.1 (λ ended us. refl))
+rest-last first.Show = closed _ _ (then_keyword none "layout" _ _ (ended-reads ShowLayout)) (λ front s h. is_over _ s h.second.second.1 (λ ended us. refl))
+rest-last first.Use = closed _ _ (then_name none _ _ (λ name. ended-reads (Use name))) (λ front s h. is_over _ s h.second.second.1 (λ ended us. refl))
+rest-last first.Session = closed SessionRest _ session-reads (λ front s h. is_over _ s h.second.second.1 (λ ended us. refl))
+rest-last first.Advise = closed _ _ (then_name none _ _ (λ name. ended-reads (Advise name))) (λ front s h. is_over _ s h.second.second.1 (λ ended us. refl))
+
 pub statement-last : ReadsLast stays_open IsStatement statement_at
-statement-last = either-last stays_open (is create_of) CreateVersionStatement (Either InsertStatement SelectStatement) create_version_at (λ ended. either (is insert_of) insert_at select_at)
-    create-last
-    (either-last stays_open (is insert_of) InsertStatement SelectStatement (λ ended. insert_at) (λ ended. select_at)
-    (closed-last stays_open InsertStatement insert_at insert-reads insert_over)
-    (closed-last stays_open SelectStatement select_at select-reads select_over)
-    (begins_one (is insert_of) insert_of true _ (known insert_of))
-    (begins_one (is insert_of) select_of false _ (by_keyword (is insert_of) false (codes "select") refl)))
-    (begins_one (is create_of) create_of true _ (known create_of))
-    (λ front us s h. elim h [
-      | inl i ↦ begins_one (is create_of) insert_of false _ (by_keyword (is create_of) false (codes "insert") refl) front us s i
-      | inr i ↦ begins_one (is create_of) select_of false _ (by_keyword (is create_of) false (codes "select") refl) front us s i
-    ])
-
--- how a statement begins
-data Begun (front : List Lexeme) : Type 0 where
-  by_create : (us : List Lexeme) → front ≡ word (codes "create") ∷ word (codes "schema") ∷ us → Begun front
-  by_insert : (us : List Lexeme) → front ≡ word (codes "insert") ∷ us → Begun front
-  by_select : (us : List Lexeme) → front ≡ word (codes "select") ∷ us → Begun front
-
-begun : (front : List Lexeme) (s : StatementView) → IsStatement front s → Begun front
-begun front s (inl c) =
-    let first : front ≡ word (codes "create") ∷ c.right = headed create_of (word (codes "create")) _ (keyword_is (codes "create")) front s c in
-    let second : c.right ≡ word (codes "schema") ∷ c.second.right = headed schema_of (word (codes "schema")) _ (keyword_is (codes "schema")) c.right s c.second in
-    by_create c.second.right (first ∙ ap (λ (l : List Lexeme). word (codes "create") ∷ l) second)
-begun front s (inr (inl i)) = by_insert i.right (headed insert_of (word (codes "insert")) _ (keyword_is (codes "insert")) front s i)
-begun front s (inr (inr i)) = by_select i.right (headed select_of (word (codes "select")) _ (keyword_is (codes "select")) front s i)
-
-long_begun : (front : List Lexeme) → Begun front → 0 < length front
-long_begun front (by_create us e) = omega (arith, ap length e)
-long_begun front (by_insert us e) = omega (arith, ap length e)
-long_begun front (by_select us e) = omega (arith, ap length e)
+statement-last = word-last stays_open (choice_of statement_words) (word (codes "create")) first.Create refl StatementRest statement_rest_at rest-last
 
 -- a statement has tokens
 pub statement_long : (front : List Lexeme) (s : StatementView) → IsStatement front s → 0 < length front
-statement_long front s h = long_begun front (begun front s h)
+statement_long front s h = omega (arith, ap length h.whole, length-append h.left h.right, ap length h.first.1)
+
+-- ---- how statements begin
+
+-- a statement begins with no word of an operator, or with one and then with SCHEMA
+data Begun (front : List Lexeme) : Type 0 where
+  by_word : (t : Lexeme) (us : List Lexeme) → front ≡ t ∷ us → lone t ≡ false → shared t ≡ false → Begun front
+  by_schema : (t : Lexeme) (us : List Lexeme) → front ≡ t ∷ word (codes "schema") ∷ us → lone t ≡ false → both t (word (codes "schema")) ≡ false → Begun front
+
+-- the first word of a statement
+abbrev statement_word : StatementWord → List ℕ
+statement_word first.Create = codes "create"
+statement_word first.Drop = codes "drop"
+statement_word first.Insert = codes "insert"
+statement_word first.Import = codes "import"
+statement_word first.Update = codes "update"
+statement_word first.Delete = codes "delete"
+statement_word first.Select = codes "select"
+statement_word first.Materialize = codes "materialize"
+statement_word first.Step = codes "step"
+statement_word first.Show = codes "show"
+statement_word first.Use = codes "use"
+statement_word first.Session = codes "session"
+statement_word first.Advise = codes "advise"
+
+word_is : (t : Lexeme) (k : StatementWord) → choice_of statement_words t ≡ Some k → t ≡ word (statement_word k)
+word_is = by_choice (λ t k. t ≡ word (statement_word k)) statement_words (refl, refl, refl, refl, refl, refl, refl, refl, refl, refl, refl, refl, refl, tt)
+
+schema_next : {B : Type 0} (T : List Lexeme → B → Type 0) (ts : List Lexeme) (b : B) (h : Seq (Word "schema") (λ _. T) ts b) → ts ≡ word (codes "schema") ∷ h.right
+schema_next T ts b h = headed (keyword (codes "schema")) (word (codes "schema")) (λ _. T) (keyword_is (codes "schema")) ts b h
+
+begun_at : (k : StatementWord) (ts : List Lexeme) (s : StatementView) → StatementRest k ts s → Begun (word (statement_word k) ∷ ts)
+begun_at first.Create ts s h = by_schema (word (codes "create")) h.right (ap (λ (l : List Lexeme). word (codes "create") ∷ l) (schema_next _ ts s h)) refl refl
+begun_at first.Drop ts s h = by_schema (word (codes "drop")) h.right (ap (λ (l : List Lexeme). word (codes "drop") ∷ l) (schema_next _ ts s h)) refl refl
+begun_at first.Insert ts s h = by_word (word (codes "insert")) ts refl refl refl
+begun_at first.Import ts s h = by_word (word (codes "import")) ts refl refl refl
+begun_at first.Update ts s h = by_word (word (codes "update")) ts refl refl refl
+begun_at first.Delete ts s h = by_word (word (codes "delete")) ts refl refl refl
+begun_at first.Select ts s h = by_word (word (codes "select")) ts refl refl refl
+begun_at first.Materialize ts s h = by_word (word (codes "materialize")) ts refl refl refl
+begun_at first.Step ts s h = by_word (word (codes "step")) ts refl refl refl
+begun_at first.Show ts s h = by_word (word (codes "show")) ts refl refl refl
+begun_at first.Use ts s h = by_word (word (codes "use")) ts refl refl refl
+begun_at first.Session ts s h = by_word (word (codes "session")) ts refl refl refl
+begun_at first.Advise ts s h = by_word (word (codes "advise")) ts refl refl refl
+
+begun : (front : List Lexeme) (s : StatementView) → IsStatement front s → Begun front
+begun front s h =
+    let head : h.left ≡ word (statement_word h.value) ∷ [] = h.first.1 ∙ ap (λ (t : Lexeme). t ∷ []) (word_is h.first.0 h.value h.first.2) in
+    let whole : front ≡ word (statement_word h.value) ∷ h.right = h.whole ∙ ap (λ (l : List Lexeme). l ++ h.right) head in
+    subst Begun (sym whole) (begun_at h.value h.right s h.second)
 
 -- no operator begins where a statement does
 begins_none : (front us : List Lexeme) → Begun front → begins_operator true (front ++ us) ≡ false
-begins_none front us (by_create vs e) = ap (λ (l : List Lexeme). begins_operator true (l ++ us)) e
-    ∙ not_begun_both (is add_of) (is create_of) (λ _ t. is table_of t) true (word (codes "create")) (word (codes "schema")) (vs ++ us) refl refl
-begins_none front us (by_insert vs e) = ap (λ (l : List Lexeme). begins_operator true (l ++ us)) e
-    ∙ not_begun (is add_of) (is create_of) (λ _ t. is table_of t) true (word (codes "insert")) (vs ++ us) refl refl
-begins_none front us (by_select vs e) = ap (λ (l : List Lexeme). begins_operator true (l ++ us)) e
-    ∙ not_begun (is add_of) (is create_of) (λ _ t. is table_of t) true (word (codes "select")) (vs ++ us) refl refl
+begins_none front us (by_word t vs e h k) = ap (λ (l : List Lexeme). begins_operator true (l ++ us)) e ∙ not_begun lone shared both true t (vs ++ us) h k
+begins_none front us (by_schema t vs e h k) = ap (λ (l : List Lexeme). begins_operator true (l ++ us)) e ∙ not_begun_both lone shared both true t (word (codes "schema")) (vs ++ us) h k
 
 over_at : (s : StatementView) (ts : List Lexeme) → begins_operator true ts ≡ false → stays_open s true ts ≡ false
 over_at (CreateVersion name origin operators) ts g = g
+over_at (DropVersion name) ts g = refl
 over_at (Insert table rows) ts g = refl
+over_at (Import table bytes) ts g = refl
+over_at (Update table assignments filter) ts g = refl
+over_at (Delete table filter) ts g = refl
 over_at (Select table items filter csv) ts g = refl
+over_at (Materialize named in_steps) ts g = refl
+over_at Step ts g = refl
+over_at ShowLayout ts g = refl
+over_at (Use name) ts g = refl
+over_at (Session number) ts g = refl
+over_at (Advise name) ts g = refl
 
 pub script_over : IsOver stays_open IsStatement
 script_over s [] ts h = over_at s ts (ap (begins_operator true) h)

@@ -1,7 +1,7 @@
 -- Operators: which tokens spell which, and reading them.
 use Rattle.std.specs.Prelude.{◌≡◌, ◌+◌, ◌∷◌, [], ℕ, List, Bool, true, false, Option, Some, None, length, codes}
 use Rattle.phrases.specs.Phrases.{Nothing, Seq, OneOf, Either, Many, Behind, Optional}
-use Rattle.phrases.specs.Reading.{Read, and_then, one_at, done, either, is, begins_item, many_at, behind_at, optional_at, with_front}
+use Rattle.phrases.specs.Reading.{Read, and_then, one_at, done, either, is, begins_item, many_at, behind_at, optional_at, with_front, starts}
 use Rattle.bidel_expr.specs.Lexemes.{Lexeme}
 use Rattle.bidel_expr.specs.Literals.{comma_of, semicolon_of, Names, name_at, names_at}
 use Rattle.bidel_expr.specs.Expressions.{Expression, expression_at}
@@ -12,7 +12,8 @@ use Rattle.bidel_parser.specs.declared.first_words.Kind.TheVariants as kind
 use Rattle.bidel_parser.specs.declared.first_words.KeyWord.{KeyWord}
 use Rattle.bidel_parser.specs.declared.first_words.KeyWord.TheVariants as by
 use Rattle.bidel_parser.specs.Words.{Word, Sign, Name, choice_of, Choice, word_at, sign_at, is_word, choice_at}
-use Rattle.bidel_parser.specs.Views.{Tree, KeyView, Primary, Foreign, Condition, BranchView, OpView, CreateTable, DropTable, RenameTable, RenameColumn, AddColumn, DropColumn, DecomposeSingle, Decompose, Join, Split, Merge}
+use Rattle.bidel_parser.specs.declared.decompose.Second.{Second}
+use Rattle.bidel_parser.specs.Views.{Tree, key_view, KeyView, Primary, Foreign, Condition, BranchView, OpView, CreateTable, DropTable, RenameTable, RenameColumn, AddColumn, DropColumn, DecomposeSingle, Decompose, Join, Split, Merge}
 
 -- ---- the words that tell them apart
 
@@ -76,6 +77,13 @@ decomposed table target columns (Some part) = Decompose table target columns par
 
 abbrev pub part_of : List ℕ → List (List ℕ) → KeyView → Part
 part_of table columns key = record { table = table; columns = columns; key = key }
+
+abbrev pub part_view : Second → Part
+part_view second = part_of second.table second.columns (key_view second.key)
+
+abbrev pub optional_view : Option Second → Option Part
+optional_view None = None
+optional_view (Some second) = Some (part_view second)
 
 -- "," name names ON key
 abbrev pub SecondPart : List Lexeme → Part → Type 0
@@ -150,6 +158,11 @@ goes_on_with (Some first.Create) = is_word "table"
 goes_on_with (Some first.Drop) = is (choice_of kinds)
 goes_on_with _ = λ _. false
 
+-- whether a word comes that begins statements too, and the one behind it shows an operator
+abbrev pub shows_operator : List Lexeme → Bool
+shows_operator [] = false
+shows_operator (t ∷ ts) = starts (goes_on_with (choice_of shared_words t)) ts
+
 -- whether an operator begins, or may begin as the input goes on: CREATE and DROP show it with the word behind them
 abbrev pub begins_operator : Bool → List Lexeme → Bool
 begins_operator = begins_item (is (choice_of lone_words)) (is (choice_of shared_words)) (λ t. goes_on_with (choice_of shared_words t))
@@ -185,9 +198,12 @@ add_rest_at = and_then (word_at "column") λ _. and_then name_at λ column. and_
 abbrev pub second_part_at : List Lexeme → Read Lexeme Part
 second_part_at = and_then (sign_at ",") λ _. and_then name_at λ table. and_then names_at λ columns. and_then (word_at "on") λ _. and_then key_at λ key. done (part_of table columns key)
 
+abbrev pub optional_part_at : List Lexeme → Read Lexeme (Option Part)
+optional_part_at = optional_at (is comma_of) second_part_at
+
 abbrev pub decompose_rest_at : List Lexeme → Read Lexeme OpView
 decompose_rest_at = and_then (word_at "table") λ _. and_then name_at λ table. and_then (word_at "into") λ _. and_then name_at λ target. and_then names_at λ columns.
-    and_then (optional_at (is comma_of) second_part_at) λ second. done (decomposed table target columns second)
+    and_then optional_part_at λ second. done (decomposed table target columns second)
 
 abbrev pub join_rest_at : Bool → List Lexeme → Read Lexeme OpView
 join_rest_at outer = and_then (word_at "table") λ _. and_then name_at λ first. and_then (sign_at ",") λ _. and_then name_at λ second. and_then (word_at "into") λ _.
@@ -196,9 +212,12 @@ join_rest_at outer = and_then (word_at "table") λ _. and_then name_at λ first.
 abbrev pub split_branch_at : List Lexeme → Read Lexeme BranchView
 split_branch_at = and_then name_at λ table. and_then (word_at "with") λ _. and_then expression_at λ condition. done (branch_of table condition)
 
+abbrev pub second_branch_at : List Lexeme → Read Lexeme (Option BranchView)
+second_branch_at = optional_at (is comma_of) (behind_at comma_of split_branch_at)
+
 abbrev pub split_rest_at : List Lexeme → Read Lexeme OpView
 split_rest_at = and_then (word_at "table") λ _. and_then name_at λ table. and_then (word_at "into") λ _. and_then split_branch_at λ first.
-    and_then (optional_at (is comma_of) (behind_at comma_of split_branch_at)) λ second. done (Split table first second)
+    and_then second_branch_at λ second. done (Split table first second)
 
 abbrev pub merge_branch_at : List Lexeme → Read Lexeme BranchView
 merge_branch_at = and_then name_at λ table. and_then (sign_at "(") λ _. and_then expression_at λ condition. and_then (sign_at ")") λ _. done (branch_of table condition)

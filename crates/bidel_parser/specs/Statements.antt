@@ -192,6 +192,9 @@ step_rest_at = and_then (sign_at ";") λ _. done Step
 abbrev pub show_rest_at : List Lexeme → Read Lexeme StatementView
 show_rest_at = and_then (word_at "layout") λ _. and_then (sign_at ";") λ _. done ShowLayout
 
+abbrev pub closed_name_at : List Lexeme → Read Lexeme (List ℕ)
+closed_name_at = and_then name_at λ name. and_then (sign_at ";") λ _. done name
+
 abbrev pub use_rest_at : List Lexeme → Read Lexeme StatementView
 use_rest_at = and_then name_at λ name. and_then (sign_at ";") λ _. done (Use name)
 

@@ -1,5 +1,6 @@
 -- Reserved words, signs, choices between words, and parts that may be left out.
-use Rattle.std.specs.Prelude.{ℕ, List, [], ◌∷◌, Bool, true, false, Option, Some, None, codes, String, nat_le, if◌then◌else◌}
+use Rattle.std.specs.Prelude.{ℕ, List, [], ◌∷◌, Bool, true, false, Option, Some, None, codes, nat_le, if◌then◌else◌}
+use Prim.Native.String.{String}
 use Rattle.phrases.specs.Phrases.{Nothing, Seq, OneOf, Either}
 use Rattle.phrases.specs.Reading.{Read, and_then, one_at, done, either, is}
 use Rattle.bidel_expr.specs.Lexemes.{Lexeme, number, keyword, sign, name_of}

@@ -7,15 +7,20 @@
 //! To the crates above it promises, of any tokens and whether or not more may come (`specs/Parsing.antt`): a whole statement comes
 //! exactly where one stands at the front and its end is fixed, `More` only where no statement stands there yet and a script begins
 //! so, and a fault at the first token with which no script goes on. Its laws (`laws`) say how a script is made of such fronts.
-//! It knows nothing of what statements mean, nor of the forms that its grammar doesn't have yet: those are faults.
+//! It knows nothing of what statements mean.
 #![tactic(auto)]
 
+mod choices;
+mod decompose;
 mod first_words;
+mod keys;
 mod laws;
+mod operator_list;
 mod operators;
 mod parse;
 mod statement;
 mod statements;
+mod tables;
 
 pub use laws::{
     fault_follows_front, fault_stays, front_is_one, front_leads_script, front_precedes_script,

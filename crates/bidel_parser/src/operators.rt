@@ -1,32 +1,100 @@
-//! The operators of a CREATE SCHEMA VERSION.
-ghost use Rattle.std.specs.Prelude.{◌≡◌, ◌∷◌, [], map};
-ghost use Rattle.phrases.specs.Reading.{with_front};
-ghost use Rattle.bidel_parser.specs.Views.{op_view};
-ghost use Rattle.bidel_parser.specs.Operators.{further_operators_at, create_table_at, add_column_at, operator_at, closed_operator_at, operators_at, listed_operators_at, begins_operator};
+//! Operators, behind their first words.
+ghost use Rattle.std.specs.Prelude.{◌≡◌};
+ghost use Rattle.bidel_parser.specs.Views.{op_view, branch_view, second_view};
+ghost use Rattle.bidel_parser.specs.Operators.{create_rest_at, drop_rest_at, rename_rest_at, add_rest_at, join_rest_at, split_branch_at, second_branch_at, split_rest_at, merge_branch_at, merge_rest_at, operator_rest_at, operator_at};
 ghost use Rattle.bidel_expr.specs.Answers.{ahead, Gives};
 
-use bidel_expr::{Cursor, ReadError, are_keywords_next, is_keyword_next, take_expression, take_keyword, take_name, take_names, take_sign};
-use crate::statement::OpText;
-use par_base::List;
+use crate::choices::{KINDS, OPERATOR_WORDS, take_choice};
+use crate::decompose::decompose_rest;
+use crate::first_words::{Kind, OperatorWord};
+use crate::keys::take_key;
+use crate::statement::{Branch, OpText};
+use bidel_expr::{
+    Cursor, ReadError, next_sign, take_expression, take_keyword, take_name, take_names, take_sign,
+};
 use std::alloc::Global;
 
 // CREATE TABLE name names
-fn create_table<'a>(alloc: Global, cursor: Cursor<'a>) -> Result<(OpText, Cursor<'a>), ReadError>
-    ensures { Gives op_view create_table_at cursor.entry result }
+fn create_rest<'a>(alloc: Global, cursor: Cursor<'a>) -> Result<(OpText, Cursor<'a>), ReadError>
+    ensures { Gives op_view create_rest_at cursor.entry result }
 {
-    let rest = take_keyword(cursor, "create")?;
-    let rest = take_keyword(rest, "table")?;
+    let rest = take_keyword(cursor, "table")?;
     let (table, rest) = take_name(alloc, rest)?;
     let (columns, rest) = take_names(alloc, rest)?;
     Ok((OpText::CreateTable { table, columns }, rest))
 }
 
-// ADD COLUMN name AS expr INTO name
-fn add_column<'a>(alloc: Global, cursor: Cursor<'a>) -> Result<(OpText, Cursor<'a>), ReadError>
-    ensures { Gives op_view add_column_at cursor.entry result }
+// DROP TABLE name
+// DROP COLUMN name FROM name DEFAULT expr
+fn drop_rest<'a>(
+    alloc: Global,
+    kind: Kind,
+    cursor: Cursor<'a>,
+) -> Result<(OpText, Cursor<'a>), ReadError>
+    ensures { Gives op_view (drop_rest_at kind) cursor.entry result }
 {
-    let rest = take_keyword(cursor, "add")?;
-    let rest = take_keyword(rest, "column")?;
+    match kind {
+        Kind::Table => {
+            let (table, rest) = take_name(alloc, cursor)?;
+            Ok((OpText::DropTable { table }, rest))
+        }
+        Kind::Column => {
+            let (column, rest) = take_name(alloc, cursor)?;
+            let rest = take_keyword(rest, "from")?;
+            let (table, rest) = take_name(alloc, rest)?;
+            let rest = take_keyword(rest, "default")?;
+            let (value, rest) = take_expression(alloc, rest)?;
+            Ok((
+                OpText::DropColumn {
+                    column,
+                    table,
+                    value,
+                },
+                rest,
+            ))
+        }
+    }
+}
+
+// RENAME TABLE name INTO name
+// RENAME COLUMN name IN name TO name
+fn rename_rest<'a>(
+    alloc: Global,
+    kind: Kind,
+    cursor: Cursor<'a>,
+) -> Result<(OpText, Cursor<'a>), ReadError>
+    ensures { Gives op_view (rename_rest_at kind) cursor.entry result }
+{
+    match kind {
+        Kind::Table => {
+            let (table, rest) = take_name(alloc, cursor)?;
+            let rest = take_keyword(rest, "into")?;
+            let (new_name, rest) = take_name(alloc, rest)?;
+            Ok((OpText::RenameTable { table, new_name }, rest))
+        }
+        Kind::Column => {
+            let (column, rest) = take_name(alloc, cursor)?;
+            let rest = take_keyword(rest, "in")?;
+            let (table, rest) = take_name(alloc, rest)?;
+            let rest = take_keyword(rest, "to")?;
+            let (new_name, rest) = take_name(alloc, rest)?;
+            Ok((
+                OpText::RenameColumn {
+                    column,
+                    table,
+                    new_name,
+                },
+                rest,
+            ))
+        }
+    }
+}
+
+// ADD COLUMN name AS expr INTO name
+fn add_rest<'a>(alloc: Global, cursor: Cursor<'a>) -> Result<(OpText, Cursor<'a>), ReadError>
+    ensures { Gives op_view add_rest_at cursor.entry result }
+{
+    let rest = take_keyword(cursor, "column")?;
     let (column, rest) = take_name(alloc, rest)?;
     let rest = take_keyword(rest, "as")?;
     let (value, rest) = take_expression(alloc, rest)?;
@@ -42,67 +110,147 @@ fn add_column<'a>(alloc: Global, cursor: Cursor<'a>) -> Result<(OpText, Cursor<'
     ))
 }
 
-fn take_operator<'a>(alloc: Global, cursor: Cursor<'a>) -> Result<(OpText, Cursor<'a>), ReadError>
+// [ OUTER ] JOIN TABLE name "," name INTO name ON key, behind JOIN
+fn join_rest<'a>(
+    alloc: Global,
+    outer: bool,
+    cursor: Cursor<'a>,
+) -> Result<(OpText, Cursor<'a>), ReadError>
+    ensures { Gives op_view (join_rest_at outer) cursor.entry result }
+{
+    let rest = take_keyword(cursor, "table")?;
+    let (first, rest) = take_name(alloc, rest)?;
+    let rest = take_sign(rest, ",")?;
+    let (second, rest) = take_name(alloc, rest)?;
+    let rest = take_keyword(rest, "into")?;
+    let (target, rest) = take_name(alloc, rest)?;
+    let rest = take_keyword(rest, "on")?;
+    let (key, rest) = take_key(alloc, rest)?;
+    Ok((
+        OpText::Join {
+            outer,
+            first,
+            second,
+            target,
+            key,
+        },
+        rest,
+    ))
+}
+
+// name WITH expr
+fn split_branch<'a>(alloc: Global, cursor: Cursor<'a>) -> Result<(Branch, Cursor<'a>), ReadError>
+    ensures { Gives branch_view split_branch_at cursor.entry result }
+{
+    let (table, rest) = take_name(alloc, cursor)?;
+    let rest = take_keyword(rest, "with")?;
+    let (condition, rest) = take_expression(alloc, rest)?;
+    Ok((Branch { table, condition }, rest))
+}
+
+// [ "," name WITH expr ]
+fn second_branch<'a>(
+    alloc: Global,
+    cursor: Cursor<'a>,
+) -> Result<(Option<Branch>, Cursor<'a>), ReadError>
+    ensures { Gives second_view second_branch_at cursor.entry result }
+{
+    match next_sign(cursor, ",") {
+        Some(rest) => {
+            let (branch, rest) = split_branch(alloc, rest)?;
+            Ok((Some(branch), rest))
+        }
+        None => Ok((None, cursor)),
+    }
+}
+
+// SPLIT TABLE name INTO name WITH expr [ "," name WITH expr ]
+fn split_rest<'a>(alloc: Global, cursor: Cursor<'a>) -> Result<(OpText, Cursor<'a>), ReadError>
+    ensures { Gives op_view split_rest_at cursor.entry result }
+{
+    let rest = take_keyword(cursor, "table")?;
+    let (table, rest) = take_name(alloc, rest)?;
+    let rest = take_keyword(rest, "into")?;
+    let (first, rest) = split_branch(alloc, rest)?;
+    let (second, rest) = second_branch(alloc, rest)?;
+    Ok((
+        OpText::Split {
+            table,
+            first,
+            second,
+        },
+        rest,
+    ))
+}
+
+// name "(" expr ")"
+fn merge_branch<'a>(alloc: Global, cursor: Cursor<'a>) -> Result<(Branch, Cursor<'a>), ReadError>
+    ensures { Gives branch_view merge_branch_at cursor.entry result }
+{
+    let (table, rest) = take_name(alloc, cursor)?;
+    let rest = take_sign(rest, "(")?;
+    let (condition, rest) = take_expression(alloc, rest)?;
+    let rest = take_sign(rest, ")")?;
+    Ok((Branch { table, condition }, rest))
+}
+
+// MERGE TABLE name "(" expr ")" "," name "(" expr ")" INTO name
+fn merge_rest<'a>(alloc: Global, cursor: Cursor<'a>) -> Result<(OpText, Cursor<'a>), ReadError>
+    ensures { Gives op_view merge_rest_at cursor.entry result }
+{
+    let rest = take_keyword(cursor, "table")?;
+    let (first, rest) = merge_branch(alloc, rest)?;
+    let rest = take_sign(rest, ",")?;
+    let (second, rest) = merge_branch(alloc, rest)?;
+    let rest = take_keyword(rest, "into")?;
+    let (target, rest) = take_name(alloc, rest)?;
+    Ok((
+        OpText::Merge {
+            first,
+            second,
+            target,
+        },
+        rest,
+    ))
+}
+
+// What may stand behind the first word.
+fn operator_rest<'a>(
+    alloc: Global,
+    word: OperatorWord,
+    cursor: Cursor<'a>,
+) -> Result<(OpText, Cursor<'a>), ReadError>
+    ensures { Gives op_view (operator_rest_at word) cursor.entry result }
+{
+    match word {
+        OperatorWord::Create => create_rest(alloc, cursor),
+        OperatorWord::Drop => {
+            let (kind, rest) = take_choice(cursor, KINDS.as_slice())?;
+            drop_rest(alloc, kind, rest)
+        }
+        OperatorWord::Rename => {
+            let (kind, rest) = take_choice(cursor, KINDS.as_slice())?;
+            rename_rest(alloc, kind, rest)
+        }
+        OperatorWord::Add => add_rest(alloc, cursor),
+        OperatorWord::Decompose => decompose_rest(alloc, cursor),
+        OperatorWord::Outer => {
+            let rest = take_keyword(cursor, "join")?;
+            join_rest(alloc, true, rest)
+        }
+        OperatorWord::Join => join_rest(alloc, false, cursor),
+        OperatorWord::Split => split_rest(alloc, cursor),
+        OperatorWord::Merge => merge_rest(alloc, cursor),
+    }
+}
+
+/// An operator.
+pub fn take_operator<'a>(
+    alloc: Global,
+    cursor: Cursor<'a>,
+) -> Result<(OpText, Cursor<'a>), ReadError>
     ensures { Gives op_view operator_at cursor.entry result }
 {
-    if is_keyword_next(cursor, "create") {
-        create_table(alloc, cursor)
-    } else {
-        add_column(alloc, cursor)
-    }
-}
-
-// An operator and its semicolon.
-fn closed_operator<'a>(alloc: Global, cursor: Cursor<'a>) -> Result<(OpText, Cursor<'a>), ReadError>
-    ensures { Gives op_view closed_operator_at cursor.entry result }
-{
-    let (operator, rest) = take_operator(alloc, cursor)?;
-    let rest = take_sign(rest, ";")?;
-    Ok((operator, rest))
-}
-
-// Whether an operator begins, or may begin as the input goes on.
-fn operator_begins(cursor: Cursor<'_>, ended: bool) -> bool
-    ensures { result ≡ begins_operator ended (ahead cursor.entry) }
-{
-    match cursor.tokens {
-        [] => !ended,
-        [_] => is_keyword_next(cursor, "add") || (is_keyword_next(cursor, "create") && !ended),
-        _ => is_keyword_next(cursor, "add") || are_keywords_next(cursor, "create", "table"),
-    }
-}
-
-// The operators behind the first one.
-fn further_operators<'a>(
-    alloc: Global,
-    first: OpText,
-    cursor: Cursor<'a>,
-    ended: bool,
-) -> Result<(List<OpText>, Cursor<'a>), ReadError>
-    ensures { Gives (map op_view) (further_operators_at ended (op_view first)) cursor.entry result }
-{
-    let mut operators = List::new(alloc);
-    operators.push(first)?;
-    let mut rest = cursor;
-    for _turn in 0..=cursor.tokens.len() {
-        if !operator_begins(rest, ended) {
-            return Ok((operators, rest));
-        }
-        let (operator, after) = closed_operator(alloc, rest)?;
-        operators.push(operator)?;
-        rest = after;
-    }
-    Ok((operators, rest))
-}
-
-/// Operators, each with its semicolon, up to where none begins.
-pub fn take_operators<'a>(
-    alloc: Global,
-    cursor: Cursor<'a>,
-    ended: bool,
-) -> Result<(List<OpText>, Cursor<'a>), ReadError>
-    ensures { Gives (map op_view) (listed_operators_at ended) cursor.entry result }
-{
-    let (first, rest) = closed_operator(alloc, cursor)?;
-    further_operators(alloc, first, rest, ended)
+    let (word, rest) = take_choice(cursor, OPERATOR_WORDS.as_slice())?;
+    operator_rest(alloc, word, rest)
 }

@@ -7,8 +7,8 @@ use Rattle.bidel_parser.specs.Views.{OpView, op_view}
 use Rattle.bidel_parser.specs.Operators.{closed_operator_at, begins_operator}
 use Rattle.bidel_expr.specs.Answers.{ahead}
 use Rattle.bidel_expr.proofs.Cursors.{ahead_length, fails_through}
-use Rattle.bidel_parser.proofs.operators.further_operators.Goals as goal
-use Rattle.bidel_parser.proofs.operators.further_operators.Goals.{else-loop-turn-test, then-loop-turn-test+else-not-operator_begins+in_ok-operator+in_ok-push-2+else-turn-turn-end}
+use Rattle.bidel_parser.proofs.operator_list.further_operators.Goals as goal
+use Rattle.bidel_parser.proofs.operator_list.further_operators.Goals.{else-loop-turn-test, then-loop-turn-test+else-not-operator_begins+in_ok-operator+in_ok-push-2+else-turn-turn-end}
 
 pub loop-turn-init : goal.loop-turn-init
 loop-turn-init c =

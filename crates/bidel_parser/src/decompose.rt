@@ -1,0 +1,76 @@
+//! DECOMPOSE, behind its first word.
+ghost use Rattle.std.specs.Prelude.{◌≡◌};
+ghost use Rattle.bidel_parser.specs.Views.{op_view};
+ghost use Rattle.bidel_parser.specs.Operators.{part_view, second_part_at, optional_part_at, decompose_rest_at, optional_view};
+ghost use Rattle.bidel_expr.specs.Answers.{ahead, Gives};
+
+use crate::keys::take_key;
+use crate::statement::{KeyText, OpText};
+use bidel_expr::{Cursor, ReadError, next_sign, take_keyword, take_name, take_names};
+use par_base::{List, Name};
+use std::alloc::Global;
+
+/// The second table of a DECOMPOSE.
+#[derive(Debug, Drop)]
+pub struct Second {
+    pub table: Name,
+    pub columns: List<Name>,
+    pub key: KeyText,
+}
+
+// [ "," name names ON key ]
+fn second_part<'a>(
+    alloc: Global,
+    cursor: Cursor<'a>,
+) -> Result<(Option<Second>, Cursor<'a>), ReadError>
+    ensures { Gives optional_view optional_part_at cursor.entry result }
+{
+    match next_sign(cursor, ",") {
+        Some(rest) => {
+            let (table, rest) = take_name(alloc, rest)?;
+            let (columns, rest) = take_names(alloc, rest)?;
+            let rest = take_keyword(rest, "on")?;
+            let (key, rest) = take_key(alloc, rest)?;
+            Ok((
+                Some(Second {
+                    table,
+                    columns,
+                    key,
+                }),
+                rest,
+            ))
+        }
+        None => Ok((None, cursor)),
+    }
+}
+
+/// DECOMPOSE TABLE name INTO name names [ "," name names ON key ], behind the first word.
+pub fn decompose_rest<'a>(
+    alloc: Global,
+    cursor: Cursor<'a>,
+) -> Result<(OpText, Cursor<'a>), ReadError>
+    ensures { Gives op_view decompose_rest_at cursor.entry result }
+{
+    let rest = take_keyword(cursor, "table")?;
+    let (table, rest) = take_name(alloc, rest)?;
+    let rest = take_keyword(rest, "into")?;
+    let (target, rest) = take_name(alloc, rest)?;
+    let (columns, rest) = take_names(alloc, rest)?;
+    let (second, rest) = second_part(alloc, rest)?;
+    let operator = match second {
+        None => OpText::DecomposeSingle {
+            table,
+            target,
+            columns,
+        },
+        Some(second) => OpText::Decompose {
+            table,
+            first: target,
+            first_columns: columns,
+            second: second.table,
+            second_columns: second.columns,
+            key: second.key,
+        },
+    };
+    Ok((operator, rest))
+}

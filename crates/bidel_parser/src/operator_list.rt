@@ -1,0 +1,81 @@
+//! The operators of a CREATE SCHEMA VERSION, up to where none begins.
+ghost use Rattle.std.specs.Prelude.{◌≡◌, ◌∷◌, [], map};
+ghost use Rattle.phrases.specs.Reading.{with_front};
+ghost use Rattle.bidel_parser.specs.Views.{op_view};
+ghost use Rattle.bidel_parser.specs.Operators.{further_operators_at, closed_operator_at, operators_at, listed_operators_at, begins_operator, shows_operator};
+ghost use Rattle.bidel_expr.specs.Answers.{ahead, Gives};
+
+use crate::choices::{KINDS, LONE_WORDS, SHARED_WORDS, is_choice_next, next_choice};
+use crate::first_words::OperatorWord;
+use crate::operators::take_operator;
+use crate::statement::OpText;
+use bidel_expr::{Cursor, ReadError, is_keyword_next, take_sign};
+use par_base::List;
+use std::alloc::Global;
+
+// An operator and its semicolon.
+fn closed_operator<'a>(alloc: Global, cursor: Cursor<'a>) -> Result<(OpText, Cursor<'a>), ReadError>
+    ensures { Gives op_view closed_operator_at cursor.entry result }
+{
+    let (operator, rest) = take_operator(alloc, cursor)?;
+    let rest = take_sign(rest, ";")?;
+    Ok((operator, rest))
+}
+
+// Whether a word that begins statements too begins an operator, by the word behind it.
+fn is_shown(cursor: Cursor<'_>) -> bool
+    ensures { result ≡ shows_operator (ahead cursor.entry) }
+{
+    match next_choice(cursor, SHARED_WORDS.as_slice()) {
+        Some((OperatorWord::Create, rest)) => is_keyword_next(rest, "table"),
+        Some((OperatorWord::Drop, rest)) => is_choice_next(rest, KINDS.as_slice()),
+        _ => false,
+    }
+}
+
+// Whether an operator begins, or may begin as the input goes on.
+fn operator_begins(cursor: Cursor<'_>, ended: bool) -> bool
+    ensures { result ≡ begins_operator ended (ahead cursor.entry) }
+{
+    match cursor.tokens {
+        [] => !ended,
+        [_] => is_choice_next(cursor, LONE_WORDS.as_slice())
+            || (is_choice_next(cursor, SHARED_WORDS.as_slice()) && !ended),
+        _ => is_choice_next(cursor, LONE_WORDS.as_slice()) || is_shown(cursor),
+    }
+}
+
+// The operators behind the first one.
+fn further_operators<'a>(
+    alloc: Global,
+    first: OpText,
+    cursor: Cursor<'a>,
+    ended: bool,
+) -> Result<(List<OpText>, Cursor<'a>), ReadError>
+    ensures { Gives (map op_view) (further_operators_at ended (op_view first)) cursor.entry result }
+{
+    let mut operators = List::new(alloc);
+    operators.push(first)?;
+    let mut rest = cursor;
+    for _turn in 0..=cursor.tokens.len() {
+        if !operator_begins(rest, ended) {
+            return Ok((operators, rest));
+        }
+        let (operator, after) = closed_operator(alloc, rest)?;
+        operators.push(operator)?;
+        rest = after;
+    }
+    Ok((operators, rest))
+}
+
+/// Operators, each with its semicolon, up to where none begins.
+pub fn take_operators<'a>(
+    alloc: Global,
+    cursor: Cursor<'a>,
+    ended: bool,
+) -> Result<(List<OpText>, Cursor<'a>), ReadError>
+    ensures { Gives (map op_view) (listed_operators_at ended) cursor.entry result }
+{
+    let (first, rest) = closed_operator(alloc, cursor)?;
+    further_operators(alloc, first, rest, ended)
+}
