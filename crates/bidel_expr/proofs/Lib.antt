@@ -1,7 +1,6 @@
 pub mod DigitLemmas
 pub mod Cursors
 pub mod TokensWithin
-pub mod ProductSteps
+pub mod TextLemmas
 pub mod WordLemmas
 pub mod LiteralLaws
-pub mod ExpressionLaws
