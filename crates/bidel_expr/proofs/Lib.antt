@@ -4,3 +4,6 @@ pub mod TokensWithin
 pub mod TextLemmas
 pub mod WordLemmas
 pub mod LiteralLaws
+pub mod OperatorLemmas
+pub mod Comparisons
+pub mod ExpressionLaws
