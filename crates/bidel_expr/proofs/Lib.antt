@@ -7,3 +7,4 @@ pub mod LiteralLaws
 pub mod OperatorLemmas
 pub mod Comparisons
 pub mod ExpressionLaws
+pub mod ExpressionSteps

@@ -4,4 +4,5 @@ pub mod Answers
 pub mod Literals
 pub mod Operators
 pub mod Expressions
+pub mod Parts
 pub mod Laws

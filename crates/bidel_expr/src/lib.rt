@@ -8,6 +8,7 @@
 #![tactic(auto)]
 
 mod cursor;
+mod expressions;
 mod laws;
 mod levels;
 mod lists;
@@ -17,6 +18,7 @@ mod read_error;
 mod terminals;
 
 pub use cursor::{Cursor, Next};
+pub use expressions::take_expression;
 pub use laws::{digits_have_value, lexemes_stay, rest_is_tokens};
 pub use lists::{Item, Literals, Names, Tuples, take_names, take_separated, take_tuple};
 pub use literals::{is_literal_next, next_unsigned, take_literal, take_negative, take_text};
