@@ -1,129 +1,290 @@
 -- Expressions are read as their grammar says.
-use Rattle.std.proofs.Common.{◌≡◌, ◌++◌, ◌∷◌, [], ℕ, ◌+◌, ◌-◌, ◌≤◌, List, Bool, true, false, refl, ap, ◌∙◌, sym, subst, inl, inr, arith, append-nil}
-use Rattle.std.specs.Prelude.{Some, codes, bytes_eq}
-use Rattle.par_base.specs.declared.value.Value.{Value}
+use Rattle.std.proofs.Common.{◌≡◌, ◌++◌, ◌∷◌, [], ℕ, zero, suc, ◌+◌, ◌-◌, ◌≤◌, ◌<◌, List, Bool, true, false, refl, ap, append_assoc, append-nil, ◌∙◌, sym, subst, inl, inr, arith, length, length-append}
+use Rattle.std.specs.Prelude.{Some, codes, pos, neg_ℤ, bytes_eq}
 use Rattle.par_base.specs.Names.{is_name, is_reserved}
-use Rattle.expr_lang.specs.Terms.{Literal as LiteralTerm, Column, Binary}
+use Rattle.par_base.specs.declared.value.Value.{Value}
+use Rattle.par_base.specs.declared.value.Value.TheVariants.{Int}
+use Rattle.expr_lang.specs.Terms.{Literal as LiteralTerm, Column, Unary as UnaryTerm, Binary}
+use Rattle.expr_lang.specs.declared.tree.UnaryOp.TheVariants.{Not, Negate}
 use Rattle.expr_lang.specs.declared.tree.BinaryOp.{BinaryOp}
-use Rattle.expr_lang.specs.declared.tree.BinaryOp.TheVariants.{Multiply}
-use Rattle.phrases.specs.Phrases.{Nothing, Seq, OneOf}
-use Rattle.phrases.specs.Reading.{is, none, or}
+use Rattle.expr_lang.specs.declared.tree.BinaryOp.TheVariants.{Or, And, Add, Multiply}
+use Rattle.phrases.specs.Phrases.{Nothing, Seq, OneOf, Either}
+use Rattle.phrases.specs.Reading.{Read, and_then, done, starts, is, none, or}
 use Rattle.phrases.specs.Reads.{Reads}
-use Rattle.phrases.specs.Chains.{Part, Within, chain, opens}
-use Rattle.phrases.proofs.Readers.{either-reads, respell, begins_one, begins_first, known}
+use Rattle.phrases.specs.Chains.{Part, Item, Within, Chain, chain, opens}
+use Rattle.phrases.specs.Levels.{Prefix, prefix_at, Minuses, Unary, unary_at, Grouped, grouped_at}
+use Rattle.phrases.proofs.Readers.{either-reads, respell, begins_one, begins_token, begins_first, known}
 use Rattle.phrases.proofs.Lists.{made-reads}
-use Rattle.phrases.proofs.Chains.{chain-reads, part, part_is, opens-append}
-use Rattle.bidel_expr.specs.Lexemes.{Lexeme, word, number, reference, «text», symbol, name_of}
-use Rattle.bidel_expr.specs.Literals.{Literal, literal_at, name_at}
-use Rattle.bidel_expr.specs.Expressions.{Tree, cost, weight, product_of, Operand, Product, Expression, most_operators, most_parentheses, operand_at, item_at, expression_at}
-use Rattle.bidel_expr.proofs.WordLemmas.{when_some, same_bytes, keyword_is, sign_is, name_is, negative_is, positive_is}
-use Rattle.bidel_expr.proofs.LiteralLaws.{by_positive, literal-reads, literal_starts, name-reads}
+use Rattle.phrases.proofs.Chains.{chain-reads, chain_first, part, part_is, opens-append}
+use Rattle.phrases.proofs.Prefixes.{prefix-reads}
+use Rattle.phrases.proofs.Signs.{unary-reads}
+use Rattle.phrases.proofs.Groups.{grouped-reads}
+use Rattle.phrases.proofs.Bounded.{chain_bounded, prefix_bounded, unary_bounded, grouped_bounded}
+use Rattle.bidel_expr.specs.Lexemes.{Lexeme, word, number, symbol, name_of, negative_of, unsigned_of}
+use Rattle.bidel_expr.specs.Literals.{open_of, close_of, minus_of}
+use Rattle.bidel_expr.specs.Operators.{or_of, and_of, not_of, is_of, compare_of, sum_of, product_of}
+use Rattle.bidel_expr.specs.Expressions.{Tree, Spells, cost, weight, Atom, Primary, Signed, Product, Sum, Comp, Neg, Conj, Expr, Levels, PrimaryIn, IsExpr, Expression, most_operators, most_parentheses, expression_goes, atom_at, atom_item, signed_item, product_item, sum_item, comp_item, neg_item, conj_item, expr_item, primary_item, expression_at}
+use Rattle.bidel_expr.proofs.WordLemmas.{by_keyword, by_sign, keyword_is, sign_is, name_is, name_not, by_unsigned, by_negative}
+use Rattle.bidel_expr.proofs.OperatorLemmas.{by_or, by_and, by_compare, by_sum, by_product}
+use Rattle.bidel_expr.proofs.LiteralLaws.{name-reads, unsigned-reads}
+use Rattle.bidel_expr.proofs.Comparisons.{halves, one_free, comp-reads, comp_bounded}
 
-null_starts : is name_of (word (codes "null")) ≡ false
+-- ---- one token: a literal or a name
+
+-- a name is none of the words of expressions
+name_test : (g : Lexeme → Bool) (t : Lexeme) (w : List ℕ) → name_of t ≡ Some w → g (word w) ≡ false → g t ≡ false
+name_test g t w h k = ap g (name_is t w h).0 ∙ k
+
+name_weight : (t : Lexeme) (w : List ℕ) → name_of t ≡ Some w → weight t ≡ 0
+name_weight t w h = ap weight (name_is t w h).0 ∙ refl
+
+unsigned_weight : (t : Lexeme) (v : Value) → unsigned_of t ≡ Some v → weight t ≡ 0
+unsigned_weight = by_unsigned weight 0 refl (λ n. refl) (λ b. refl) (λ n. refl)
+
+null_no_name : is name_of (word (codes "null")) ≡ false
 unfolding is_name is_reserved
-null_starts = refl
+null_no_name = refl
 
-operand-reads : Reads none Operand operand_at
-operand-reads = either-reads none (is name_of) (Seq (OneOf name_of) λ name. Nothing (Column name)) (Seq Literal λ v. Nothing (LiteralTerm v)) _ _
-    (made-reads none (OneOf name_of) name_at (λ name. Column name) name-reads)
-    (made-reads none Literal literal_at (λ v. LiteralTerm v) literal-reads)
+unsigned_no_name : (t : Lexeme) (v : Value) → unsigned_of t ≡ Some v → is name_of t ≡ false
+unsigned_no_name = by_unsigned (is name_of) false null_no_name (λ n. refl) (λ b. refl) (λ n. refl)
+
+abbrev NamePhrase : List Lexeme → Tree → Type 0
+NamePhrase = Seq (OneOf name_of) λ name. Nothing (Column name)
+
+abbrev LiteralPhrase : List Lexeme → Tree → Type 0
+LiteralPhrase = Seq (OneOf unsigned_of) λ v. Nothing (LiteralTerm v)
+
+atom-reads : Reads none Atom atom_at
+atom-reads = respell none none (Either NamePhrase LiteralPhrase) Atom _
+    (either-reads none (is name_of) NamePhrase LiteralPhrase _ _
+    (made-reads none (OneOf name_of) _ (λ name. Column name) name-reads)
+    (made-reads none (OneOf unsigned_of) _ (λ v. LiteralTerm v) unsigned-reads)
     (begins_one (is name_of) name_of true _ (known name_of))
-    (λ front us e h clear. begins_first (is name_of) false Literal _ (literal_starts (is name_of) false null_starts refl (by_positive (is name_of) false (λ n. refl))) front us e h)
+    (λ front us e h clear. begins_one (is name_of) unsigned_of false _ unsigned_no_name front us e h))
+    (λ front e h. elim h [ inl n ↦ inr n | inr l ↦ inl l ])
+    (λ front e h. elim h [ inl l ↦ inr l | inr n ↦ inl n ])
+    (λ t h. h)
 
--- no parenthesis opens among the tokens of an operand
-one_opens : (t : Lexeme) (ts : List Lexeme) → ts ≡ t ∷ [] → weight t ≡ 0 → opens weight ts ≡ 0
-one_opens t ts h k = ap (opens weight) h ∙ omega (arith, k)
+-- an atom is one token, and costs nothing
+atom_free : (ts : List Lexeme) (e : Tree) → Atom ts e → (cost e ≡ 0) × (opens weight ts ≡ 0)
+atom_free ts e (inl h) = (ap cost (sym h.second.1), omega (arith, halves ts h.left h.right h.whole, one_free h.first.0 h.left h.first.1 (unsigned_weight h.first.0 h.value h.first.2), ap (opens weight) h.second.0))
+atom_free ts e (inr h) = (ap cost (sym h.second.1), omega (arith, halves ts h.left h.right h.whole, one_free h.first.0 h.left h.first.1 (name_weight h.first.0 h.value h.first.2), ap (opens weight) h.second.0))
 
-two_opens : (t u : Lexeme) (left right ts : List Lexeme) → ts ≡ left ++ right → left ≡ t ∷ [] → right ≡ u ∷ [] → weight t ≡ 0 → weight u ≡ 0 → opens weight ts ≡ 0
-two_opens t u left right ts w h k a b =
-    let sum : opens weight ts ≡ opens weight left + opens weight right = ap (opens weight) w ∙ opens-append weight left right in
-    omega (arith, sum, one_opens t left h a, one_opens u right k b)
-
-ends_opens : (left right ts : List Lexeme) → ts ≡ left ++ right → right ≡ [] → opens weight left ≡ 0 → opens weight ts ≡ 0
-ends_opens left right ts w k a =
-    let sum : opens weight ts ≡ opens weight left + opens weight right = ap (opens weight) w ∙ opens-append weight left right in
-    omega (arith, sum, a, ap (opens weight) k)
-
-weight_at : (t u : Lexeme) → t ≡ u → weight u ≡ 0 → weight t ≡ 0
-weight_at t u e h = ap weight e ∙ h
-
-literal_opens : (ts : List Lexeme) (v : Value) → Literal ts v → opens weight ts ≡ 0
-literal_opens ts v (inl h) = ends_opens h.left h.right ts h.whole h.second.0 (one_opens h.first.0 h.left h.first.1 (weight_at h.first.0 (word (codes "null")) (keyword_is (codes "null") h.first.0 h.value h.first.2) refl))
-literal_opens ts v (inr (inl h)) =
-    let n = negative_is h.second.0 v h.second.2 in
-    two_opens h.first.0 h.second.0 h.left h.right ts h.whole h.first.1 h.second.1 (weight_at h.first.0 (symbol (codes "-")) (sign_is (codes "-") h.first.0 h.value h.first.2) refl)
-    (weight_at h.second.0 (number n.0) n.1 refl)
-literal_opens ts v (inr (inr h)) = let n = positive_is h.0 v h.2 in one_opens h.0 ts h.1 (weight_at h.0 (number n.0) n.1 refl)
-
-operand_free : (ts : List Lexeme) (e : Tree) → Operand ts e → (cost e ≡ 0) × (opens weight ts ≡ 0)
-operand_free ts e (inl h) =
-    let n = name_is h.first.0 h.value h.first.2 in
-    (ap cost (sym h.second.1), ends_opens h.left h.right ts h.whole h.second.0 (one_opens h.first.0 h.left h.first.1 (weight_at h.first.0 (word h.value) n.0 refl)))
-operand_free ts e (inr h) = (ap cost (sym h.second.1), ends_opens h.left h.right ts h.whole h.second.0 (literal_opens h.left h.value h.first))
-
--- an operand within limits
-item-reads : (ops parens : ℕ) → Reads none (Within cost weight Operand ops parens) (item_at ops parens)
-item-reads ops parens = respell none none (Seq Operand λ e. Nothing (part e ops parens)) (Within cost weight Operand ops parens) _
-    (made-reads none Operand operand_at (λ e. part e ops parens) operand-reads) to from (λ t h. h)
+-- an atom within limits
+atom_item-reads : (ops parens : ℕ) → Reads none (Within cost weight Atom ops parens) (atom_item ops parens)
+atom_item-reads ops parens = respell none none (Seq Atom λ e. Nothing (part e ops parens)) (Within cost weight Atom ops parens) _
+    (made-reads none Atom atom_at (λ e. part e ops parens) atom-reads) to from (λ t h. h)
   where
-    to : (front : List Lexeme) (x : Part Tree) → Seq Operand (λ e. Nothing (part e ops parens)) front x → Within cost weight Operand ops parens front x
+    to : (front : List Lexeme) (x : Part Tree) → Seq Atom (λ e. Nothing (part e ops parens)) front x → Within cost weight Atom ops parens front x
     to front x h =
         let same : front ≡ h.left = h.whole ∙ ap (λ (l : List Lexeme). h.left ++ l) h.second.0 ∙ append-nil h.left in
-        let free = operand_free h.left h.value h.first in
+        let free = atom_free h.left h.value h.first in
         let whole = h.second.1 in
         let ops_left : ops ≡ x.1 = ap (λ (p : Part Tree). p.1) whole in
         let parens_left : parens ≡ x.2 = ap (λ (p : Part Tree). p.2) whole in
         let tree : h.value ≡ x.0 = ap (λ (p : Part Tree). p.0) whole in
         let none_open : opens weight front ≡ 0 = ap (opens weight) same ∙ free.1 in
         let none_cost : cost x.0 ≡ 0 = sym (ap cost tree) ∙ free.0 in
-        (subst (λ (l : List Lexeme). Operand l x.0) (sym same) (subst (λ (e : Tree). Operand h.left e) tree h.first), omega arith, omega arith)
+        (subst (λ (l : List Lexeme). Atom l x.0) (sym same) (subst (λ (e : Tree). Atom h.left e) tree h.first), omega arith, omega arith)
 
-    from : (front : List Lexeme) (x : Part Tree) → Within cost weight Operand ops parens front x → Seq Operand (λ e. Nothing (part e ops parens)) front x
+    from : (front : List Lexeme) (x : Part Tree) → Within cost weight Atom ops parens front x → Seq Atom (λ e. Nothing (part e ops parens)) front x
     from front x h =
-        let free = operand_free front x.0 h.0 in
+        let free = atom_free front x.0 h.0 in
         let ops_left : x.1 + cost x.0 ≡ ops = h.1 in
         let parens_left : x.2 + opens weight front ≡ parens = h.2 in
         let none_cost : cost x.0 ≡ 0 = free.0 in
         let none_open : opens weight front ≡ 0 = free.1 in
         record { value = x.0; left = front; right = []; whole = sym (append-nil front); first = h.0; second = (refl, part_is x.0 ops parens x refl (omega arith) (omega arith)) }
 
-product_weight : (t : Lexeme) (o : BinaryOp) → product_of t ≡ Some o → weight t ≡ 0
-product_weight (symbol s) o h = ap (λ (b : List ℕ). weight (symbol b)) (sym (same_bytes (codes "*") s (when_some (bytes_eq (codes "*") s) Multiply o h).0)) ∙ refl
-product_weight (word w) o h = cc
-product_weight (number n) o h = cc
-product_weight (reference n) o h = cc
-product_weight («text» b) o h = cc
+-- how an atom begins, by a test that knows its ways
+atom_first : (g : Lexeme → Bool) (b : Bool) → ((t : Lexeme) (v : Value) → unsigned_of t ≡ Some v → g t ≡ b) → ((t : Lexeme) (w : List ℕ) → name_of t ≡ Some w → g t ≡ b)
+    → (ts us : List Lexeme) (e : Tree) → Atom ts e → starts g (ts ++ us) ≡ b
+atom_first g b literals names ts us e (inl h) = begins_one g unsigned_of b _ literals ts us e h
+atom_first g b literals names ts us e (inr h) = begins_one g name_of b _ names ts us e h
 
--- what may continue an expression
-abbrev pub expression_goes : Lexeme → Bool
-expression_goes = or (is product_of) none
+atom_long : (ts : List Lexeme) (e : Tree) → Atom ts e → 0 < length ts
+atom_long ts e (inl h) = omega (arith, ap length h.whole, length-append h.left h.right, ap length h.first.1)
+atom_long ts e (inr h) = omega (arith, ap length h.whole, length-append h.left h.right, ap length h.first.1)
 
-product-reads : (ops parens : ℕ) → Reads expression_goes (Within cost weight Product ops parens) (chain Binary product_of item_at ops parens)
-product-reads = chain-reads Binary cost weight (λ o a b. refl) none product_of Operand item_at item-reads (symbol (codes "*")) Multiply refl (λ t o h. refl) product_weight
+open_weight : (t : Lexeme) (u : Unit {0}) → open_of t ≡ Some u → weight t ≡ 1
+open_weight t u h = ap weight (sign_is (codes "(") t u h) ∙ refl
+
+close_weight : (t : Lexeme) (u : Unit {0}) → close_of t ≡ Some u → weight t ≡ 0
+close_weight t u h = ap weight (sign_is (codes ")") t u h) ∙ refl
+
+minus_weight : (t : Lexeme) (u : Unit {0}) → minus_of t ≡ Some u → weight t ≡ 0
+minus_weight t u h = ap weight (sign_is (codes "-") t u h) ∙ refl
+
+not_weight : (t : Lexeme) (u : Unit {0}) → not_of t ≡ Some u → weight t ≡ 0
+not_weight t u h = ap weight (keyword_is (codes "not") t u h) ∙ refl
+
+negative_weight : (t : Lexeme) (v : Value) → negative_of t ≡ Some v → weight t ≡ 0
+negative_weight = by_negative weight 0 (λ n. refl)
+
+-- how a primary begins
+primary_first : (E : Spells) (g : Lexeme → Bool) (b : Bool) → g (symbol (codes "(")) ≡ b → ((t : Lexeme) (v : Value) → unsigned_of t ≡ Some v → g t ≡ b) → ((t : Lexeme) (w : List ℕ) → name_of t ≡ Some w → g t ≡ b)
+    → (ts us : List Lexeme) (e : Tree) → Primary E ts e → starts g (ts ++ us) ≡ b
+primary_first E g b opened literals names ts us e (inl a) = atom_first g b literals names ts us e a
+primary_first E g b opened literals names ts us e (inr p) = begins_one g open_of b _ (by_sign g b (codes "(") opened) ts us e p
+
+primary_long : (E : Spells) (ts : List Lexeme) (e : Tree) → Primary E ts e → 0 < length ts
+primary_long E ts e (inl a) = atom_long ts e a
+primary_long E ts e (inr h) = omega (arith, ap length h.whole, length-append h.left h.right, ap length h.first.1)
+
+-- ---- the levels above a primary
+
+-- the tokens that may continue a product, a sum, a comparison, a conjunction
+abbrev product_goes : Lexeme → Bool
+product_goes = or (is product_of) none
+
+abbrev sum_goes : Lexeme → Bool
+sum_goes = or (is sum_of) product_goes
+
+abbrev comp_goes : Lexeme → Bool
+comp_goes = or (is compare_of) (or (is is_of) sum_goes)
+
+abbrev conj_goes : Lexeme → Bool
+conj_goes = or (is and_of) comp_goes
+
+module _ (P : Spells) (prim : Item Lexeme Tree) (prims : (ops parens : ℕ) → Reads none (Within cost weight P ops parens) (prim ops parens))
+    (no_minus : (ts us : List Lexeme) (e : Tree) → P ts e → starts (is minus_of) (ts ++ us) ≡ false)
+    (no_not : (ts us : List Lexeme) (e : Tree) → P ts e → starts (is not_of) (ts ++ us) ≡ false)
+    (long : (ts : List Lexeme) (e : Tree) → P ts e → 0 < length ts) where
+  signed-reads : (ops parens : ℕ) → Reads none (Within cost weight (Signed P) ops parens) (signed_item prim ops parens)
+  unfolding signed_item
+  signed-reads = unary-reads (UnaryTerm Negate) (λ v. LiteralTerm v) cost weight (λ a. refl) (λ v. refl) minus_of (symbol (codes "-")) tt refl minus_weight
+      negative_of (number 0) (Int (neg_ℤ (pos 0))) refl negative_weight none P prim prims no_minus long
+
+  signed_no_not : (ts us : List Lexeme) (e : Tree) → Signed P ts e → starts (is not_of) (ts ++ us) ≡ false
+  signed_no_not ts us e h = by h.minuses h.spelled
+    where
+      by : (k : ℕ) → Minuses (UnaryTerm Negate) (λ v. LiteralTerm v) minus_of negative_of P k ts e → starts (is not_of) (ts ++ us) ≡ false
+      by zero (inl s) = begins_one (is not_of) minus_of false _ (by_sign (is not_of) false (codes "-") refl) ts us e s
+      by zero (inr p) = no_not ts us e p
+      by (suc k) n = ap (λ (l : List Lexeme). starts (is not_of) (l ++ us)) n.5 ∙ by_sign (is not_of) false (codes "-") refl n.0 n.1 n.4
+
+  product-reads : (ops parens : ℕ) → Reads product_goes (Within cost weight (Product (Signed P)) ops parens) (product_item prim ops parens)
+  unfolding product_item
+  product-reads = chain-reads Binary cost weight (λ o a b. refl) none product_of (Signed P) (signed_item prim) signed-reads (symbol (codes "*")) Multiply refl (λ t o h. refl)
+      (by_product weight 0 (refl, (refl, (refl, tt))))
+
+  product_no_not : (ts us : List Lexeme) (e : Tree) → Product (Signed P) ts e → starts (is not_of) (ts ++ us) ≡ false
+  product_no_not = chain_first Binary cost weight (λ o a b. refl) none product_of (Signed P) (signed_item prim) signed-reads (symbol (codes "*")) Multiply refl (λ t o h. refl)
+      (by_product weight 0 (refl, (refl, (refl, tt)))) (is not_of) false signed_no_not
+
+  sum-reads : (ops parens : ℕ) → Reads sum_goes (Within cost weight (Sum (Product (Signed P))) ops parens) (sum_item prim ops parens)
+  unfolding sum_item
+  sum-reads = chain-reads Binary cost weight (λ o a b. refl) product_goes sum_of (Product (Signed P)) (product_item prim) product-reads (symbol (codes "+")) Add refl
+      (by_sum product_goes false (refl, (refl, (refl, tt)))) (by_sum weight 0 (refl, (refl, (refl, tt))))
+
+  sum_no_not : (ts us : List Lexeme) (e : Tree) → Sum (Product (Signed P)) ts e → starts (is not_of) (ts ++ us) ≡ false
+  sum_no_not = chain_first Binary cost weight (λ o a b. refl) product_goes sum_of (Product (Signed P)) (product_item prim) product-reads (symbol (codes "+")) Add refl
+      (by_sum product_goes false (refl, (refl, (refl, tt)))) (by_sum weight 0 (refl, (refl, (refl, tt)))) (is not_of) false product_no_not
+
+  comparison-reads : (ops parens : ℕ) → Reads comp_goes (Within cost weight (Comp (Sum (Product (Signed P)))) ops parens) (comp_item prim ops parens)
+  unfolding comp_item
+  comparison-reads = comp-reads sum_goes (Sum (Product (Signed P))) (sum_item prim) sum-reads
+      (by_compare sum_goes false (refl, (refl, (refl, (refl, (refl, (refl, tt))))))) (by_keyword sum_goes false (codes "is") refl)
+
+  comparison_no_not : (ts us : List Lexeme) (e : Tree) → Comp (Sum (Product (Signed P))) ts e → starts (is not_of) (ts ++ us) ≡ false
+  comparison_no_not ts us e h = begins_first (is not_of) false (Sum (Product (Signed P))) _ (λ front us a s. sum_no_not front us a s) ts us e h
+
+  neg-reads : (ops parens : ℕ) → Reads comp_goes (Within cost weight (Neg (Comp (Sum (Product (Signed P))))) ops parens) (neg_item prim ops parens)
+  unfolding neg_item
+  neg-reads = prefix-reads (UnaryTerm Not) cost weight (λ a. refl) not_of (word (codes "not")) tt refl not_weight comp_goes (Comp (Sum (Product (Signed P)))) (comp_item prim) comparison-reads comparison_no_not
+
+  conj-reads : (ops parens : ℕ) → Reads conj_goes (Within cost weight (Conj (Neg (Comp (Sum (Product (Signed P)))))) ops parens) (conj_item prim ops parens)
+  unfolding conj_item
+  conj-reads = chain-reads Binary cost weight (λ o a b. refl) comp_goes and_of (Neg (Comp (Sum (Product (Signed P))))) (neg_item prim) neg-reads (word (codes "and")) And refl
+      (by_and comp_goes false refl) (by_and weight 0 refl)
+
+  levels-reads : (ops parens : ℕ) → Reads expression_goes (Within cost weight (Levels P) ops parens) (expr_item prim ops parens)
+  unfolding expr_item
+  levels-reads = chain-reads Binary cost weight (λ o a b. refl) conj_goes or_of (Conj (Neg (Comp (Sum (Product (Signed P)))))) (conj_item prim) conj-reads (word (codes "or")) Or refl
+      (by_or conj_goes false refl) (by_or weight 0 refl)
+
+-- ---- a primary, and parentheses that nest
+
+in_first : (depth : ℕ) (g : Lexeme → Bool) (b : Bool) → g (symbol (codes "(")) ≡ b → ((t : Lexeme) (v : Value) → unsigned_of t ≡ Some v → g t ≡ b) → ((t : Lexeme) (w : List ℕ) → name_of t ≡ Some w → g t ≡ b)
+    → (ts us : List Lexeme) (e : Tree) → PrimaryIn depth ts e → starts g (ts ++ us) ≡ b
+in_first zero g b opened literals names ts us e h = atom_first g b literals names ts us e h
+in_first (suc depth) g b opened literals names ts us e h = primary_first (Levels (PrimaryIn depth)) g b opened literals names ts us e h
+
+in_no_minus : (depth : ℕ) (ts us : List Lexeme) (e : Tree) → PrimaryIn depth ts e → starts (is minus_of) (ts ++ us) ≡ false
+in_no_minus depth = in_first depth (is minus_of) false refl (by_unsigned (is minus_of) false refl (λ n. refl) (λ b. refl) (λ n. refl)) (λ t w h. name_test (is minus_of) t w h refl)
+
+not_reserved : is_name (codes "not") ≡ false
+unfolding is_name is_reserved
+not_reserved = refl
+
+in_no_not : (depth : ℕ) (ts us : List Lexeme) (e : Tree) → PrimaryIn depth ts e → starts (is not_of) (ts ++ us) ≡ false
+in_no_not depth = in_first depth (is not_of) false refl (by_unsigned (is not_of) false refl (λ n. refl) (λ b. refl) (λ n. refl)) (λ t w h. name_not (codes "not") not_reserved t w h)
+
+in_long : (depth : ℕ) (ts : List Lexeme) (e : Tree) → PrimaryIn depth ts e → 0 < length ts
+in_long zero ts e h = atom_long ts e h
+in_long (suc depth) ts e h = primary_long (Levels (PrimaryIn depth)) ts e h
+
+atom_no_open : (ts us : List Lexeme) (e : Tree) → Atom ts e → starts (is open_of) (ts ++ us) ≡ false
+atom_no_open = atom_first (is open_of) false (by_unsigned (is open_of) false refl (λ n. refl) (λ b. refl) (λ n. refl)) (λ t w h. name_test (is open_of) t w h refl)
+
+primary-reads : (depth ops parens : ℕ) → Reads none (Within cost weight (PrimaryIn depth) ops parens) (primary_item depth ops parens)
+unfolding primary_item
+primary-reads zero = atom_item-reads
+primary-reads (suc depth) = grouped-reads cost weight open_of (symbol (codes "(")) tt refl open_weight close_of (symbol (codes ")")) tt refl close_weight
+    Atom atom_item atom_item-reads atom_no_open expression_goes (Levels (PrimaryIn depth)) (expr_item (primary_item depth))
+    (levels-reads (PrimaryIn depth) (primary_item depth) (primary-reads depth) (in_no_minus depth) (in_no_not depth) (in_long depth))
+    (by_sign expression_goes false (codes ")") refl)
+
+-- ---- as many parentheses as open can nest, and no more
+
+levels_bounded : (n : ℕ) (I J : Spells) → ((ts : List Lexeme) (e : Tree) → I ts e → opens weight ts ≤ n → J ts e) → (ts : List Lexeme) (e : Tree) → Levels I ts e → opens weight ts ≤ n → Levels J ts e
+levels_bounded n I J f =
+    chain_bounded weight n _ _ (chain_bounded weight n _ _ (prefix_bounded weight n _ _ (comp_bounded n _ _ (chain_bounded weight n _ _ (chain_bounded weight n _ _
+    (unary_bounded weight n I J f (UnaryTerm Negate) (λ v. LiteralTerm v) minus_of negative_of) Binary product_of) Binary sum_of)) (UnaryTerm Not) not_of) Binary and_of) Binary or_of
+
+primary_bounded : (depth n : ℕ) (ts : List Lexeme) (e : Tree) → PrimaryIn depth ts e → opens weight ts ≤ n → PrimaryIn n ts e
+primary_bounded zero zero ts e h few = h
+primary_bounded zero (suc n) ts e h few = inl h
+primary_bounded (suc depth) zero ts e (inl a) few = a
+primary_bounded (suc depth) zero ts e (inr g) few =
+    absurd (omega (arith, halves ts g.left g.right g.whole, ap (opens weight) g.first.1, open_weight g.first.0 g.value g.first.2))
+primary_bounded (suc depth) (suc n) ts e h few =
+    grouped_bounded weight n (Levels (PrimaryIn depth)) (Levels (PrimaryIn n)) (levels_bounded n (PrimaryIn depth) (PrimaryIn n) (primary_bounded depth n)) open_of open_weight close_of Atom ts e h few
+
+-- ---- an expression within its limits
+
+expr_to : (l p : ℕ) (front : List Lexeme) (e : Tree) → Seq (Within cost weight (Levels (PrimaryIn p)) l p) (λ x. Nothing x.0) front e → IsExpr l p front e
+expr_to l p front e h =
+    let w = h.first in
+    let spent : h.value.1 + cost h.value.0 ≡ l = w.1 in
+    let left : h.value.2 + opens weight h.left ≡ p = w.2 in
+    let all : front ≡ h.left = h.whole ∙ ap (λ (r : List Lexeme). h.left ++ r) h.second.0 ∙ append-nil h.left in
+    record {
+      depth = p;
+      spelled = subst (λ (r : List Lexeme). Levels (PrimaryIn p) r e) (sym all) (subst (λ (t : Tree). Levels (PrimaryIn p) h.left t) h.second.1 w.0);
+      few = omega (arith, ap cost h.second.1);
+      open' = omega (arith, ap (opens weight) all);
+    }
+
+expr_from : (l p : ℕ) (front : List Lexeme) (e : Tree) → IsExpr l p front e → Seq (Within cost weight (Levels (PrimaryIn p)) l p) (λ x. Nothing x.0) front e
+expr_from l p front e h = record {
+  value = part e (l - cost e) (p - opens weight front);
+  left = front;
+  right = [];
+  whole = sym (append-nil front);
+  first = (levels_bounded p (PrimaryIn h.depth) (PrimaryIn p) (primary_bounded h.depth p) front e h.spelled h.open', omega (arith, h.few), omega (arith, h.open'));
+  second = (refl, refl);
+}
+
+abbrev expr_within : ℕ → ℕ → List Lexeme → Read Lexeme Tree
+expr_within l p = and_then (expr_item (primary_item p) l p) λ x. done x.0
+
+expr-reads : (l p : ℕ) → Reads expression_goes (IsExpr l p) (expr_within l p)
+expr-reads l p = respell expression_goes expression_goes _ _ _
+    (made-reads expression_goes (Within cost weight (Levels (PrimaryIn p)) l p) (expr_item (primary_item p) l p) (λ x. x.0)
+    (levels-reads (PrimaryIn p) (primary_item p) (primary-reads p) (in_no_minus p) (in_no_not p) (in_long p) l p))
+    (expr_to l p) (expr_from l p) (λ t h. h)
 
 pub expression-reads : Reads expression_goes Expression expression_at
-expression-reads = respell expression_goes expression_goes (Seq (Within cost weight Product most_operators most_parentheses) λ x. Nothing x.0) Expression _
-    (made-reads expression_goes (Within cost weight Product most_operators most_parentheses) (chain Binary product_of item_at most_operators most_parentheses) (λ x. x.0) (product-reads most_operators most_parentheses))
-    to from (λ t h. h)
-  where
-    to : (front : List Lexeme) (e : Tree) → Seq (Within cost weight Product most_operators most_parentheses) (λ x. Nothing x.0) front e → Expression front e
-    to front e h =
-        let same : front ≡ h.left = h.whole ∙ ap (λ (l : List Lexeme). h.left ++ l) h.second.0 ∙ append-nil h.left in
-        let w = h.first in
-        let spent : h.value.1 + cost h.value.0 ≡ most_operators = w.1 in
-        let opened : h.value.2 + opens weight h.left ≡ most_parentheses = w.2 in
-        subst (λ (t : Tree). Expression front t) h.second.1
-        (subst (λ (l : List Lexeme). Expression l h.value.0) (sym same) (record { spelled = w.0; few = omega arith; open' = omega arith }))
+expression-reads = expr-reads most_operators most_parentheses
 
-    from : (front : List Lexeme) (e : Tree) → Expression front e → Seq (Within cost weight Product most_operators most_parentheses) (λ x. Nothing x.0) front e
-    from front e h =
-        let few : cost e ≤ most_operators = h.few in
-        let open' : opens weight front ≤ most_parentheses = h.open' in
-        record {
-          value = part e (most_operators - cost e) (most_parentheses - opens weight front);
-          left = front;
-          right = [];
-          whole = sym (append-nil front);
-          first = (h.spelled, omega arith, omega arith);
-          second = (refl, refl);
-        }

@@ -1,7 +1,10 @@
 pub mod DigitLemmas
 pub mod Cursors
 pub mod TokensWithin
-pub mod ProductSteps
+pub mod TextLemmas
 pub mod WordLemmas
 pub mod LiteralLaws
+pub mod OperatorLemmas
+pub mod Comparisons
 pub mod ExpressionLaws
+pub mod ExpressionSteps

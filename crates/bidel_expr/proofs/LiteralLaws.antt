@@ -1,56 +1,32 @@
 -- Names, literals and lists of them are read as their grammar says.
-use Rattle.std.proofs.Common.{◌≡◌, ◌++◌, ℕ, List, Bool, true, false, refl, ap, ◌∙◌, inl, inr}
-use Rattle.std.specs.Prelude.{Some, ◌||◌, codes, pos, neg_ℤ}
+use Rattle.std.proofs.Common.{◌≡◌, ◌++◌, ℕ, List, Bool, true, false, refl, inl, inr}
+use Rattle.std.specs.Prelude.{Some, codes, pos, neg_ℤ}
 use Rattle.par_base.specs.Names.{is_name, is_reserved}
 use Rattle.par_base.specs.declared.value.Value.{Value}
 use Rattle.par_base.specs.declared.value.Value.TheVariants.{Null, Int}
-use Rattle.phrases.specs.Phrases.{Either, OneOf}
+use Rattle.phrases.specs.Phrases.{OneOf, Behind}
 use Rattle.phrases.specs.Reading.{starts, is, none, or, one_at, behind_at}
 use Rattle.phrases.specs.Reads.{Reads}
-use Rattle.phrases.proofs.Readers.{done-reads, either-reads, one-reads, word as then_word, begins_one, begins_token, known}
+use Rattle.phrases.proofs.Readers.{either-reads, one-reads, word as then_word, begins_one, begins_token, known}
 use Rattle.phrases.proofs.Lists.{enclosed-reads}
-use Rattle.bidel_expr.specs.Lexemes.{Lexeme, word, number, symbol, name_of, positive_of, negative_of}
-use Rattle.bidel_expr.specs.Literals.{comma_of, open_of, close_of, minus_of, null_of, Names, NullLiteral, SignedLiteral, Literal, Tuple, name_at, names_at, null_at, literal_at, begins_literal, tuple_at}
-use Rattle.bidel_expr.proofs.WordLemmas.{by_keyword, by_sign, positive_is}
+use Rattle.bidel_expr.specs.Lexemes.{Lexeme, word, number, symbol, name_of, negative_of, unsigned_of, text_of}
+use Rattle.bidel_expr.specs.Literals.{comma_of, open_of, close_of, minus_of, Names, Literal, Tuple, name_at, names_at, literal_at, begins_literal, tuple_at}
+use Rattle.bidel_expr.proofs.WordLemmas.{by_sign, by_unsigned}
 
--- what every number says of a test
-pub by_positive : (g : Lexeme → Bool) (b : Bool) → ((n : ℕ) → g (number n) ≡ b) → (t : Lexeme) (v : Value) → positive_of t ≡ Some v → g t ≡ b
-by_positive g b k t v h = let p = positive_is t v h in ap g p.1 ∙ k p.0
-
-null-reads : Reads none NullLiteral null_at
-null-reads = then_word none null_of (word (codes "null")) tt refl _ _ (λ _. done-reads none Null)
-
-signed-reads : Reads none SignedLiteral (behind_at minus_of (one_at negative_of))
+signed-reads : Reads none (Behind minus_of (OneOf negative_of)) (behind_at minus_of (one_at negative_of))
 signed-reads = then_word none minus_of (symbol (codes "-")) tt refl (λ _. OneOf negative_of) (λ _. one_at negative_of) (λ _. one-reads none negative_of (number 0) (Int (neg_ℤ (pos 0))) refl)
 
-positive-reads : Reads none (OneOf positive_of) (one_at positive_of)
-positive-reads = one-reads none positive_of (number 0) (Int (pos 0)) refl
+pub unsigned-reads : Reads none (OneOf unsigned_of) (one_at unsigned_of)
+unsigned-reads = one-reads none unsigned_of (word (codes "null")) Null refl
 
 pub literal-reads : Reads none Literal literal_at
-literal-reads = either-reads none (is null_of) NullLiteral (Either SignedLiteral (OneOf positive_of)) null_at _ null-reads
-    (either-reads none (is minus_of) SignedLiteral (OneOf positive_of) _ _ signed-reads positive-reads
+literal-reads = either-reads none (is minus_of) (Behind minus_of (OneOf negative_of)) (OneOf unsigned_of) _ _ signed-reads unsigned-reads
     (begins_one (is minus_of) minus_of true _ (known minus_of))
-    (λ front us v h clear. begins_token (is minus_of) positive_of false (by_positive (is minus_of) false (λ n. refl)) front us v h))
-    (begins_one (is null_of) null_of true _ (known null_of))
-    (λ front us v h clear. elim h [
-      | inl s ↦ begins_one (is null_of) minus_of false _ (by_sign (is null_of) false (codes "-") refl) front us v s
-      | inr p ↦ begins_token (is null_of) positive_of false (by_positive (is null_of) false (λ n. refl)) front us v p
-    ])
-
--- how a literal begins, by a test that knows its three ways
-pub literal_starts : (g : Lexeme → Bool) (b : Bool) → g (word (codes "null")) ≡ b → g (symbol (codes "-")) ≡ b → ((t : Lexeme) (v : Value) → positive_of t ≡ Some v → g t ≡ b)
-    → (front us : List Lexeme) (v : Value) → Literal front v → starts g (front ++ us) ≡ b
-literal_starts g b null minus positive front us v (inl h) = begins_one g null_of b _ (by_keyword g b (codes "null") null) front us v h
-literal_starts g b null minus positive front us v (inr (inl h)) = begins_one g minus_of b _ (by_sign g b (codes "-") minus) front us v h
-literal_starts g b null minus positive front us v (inr (inr h)) = begins_token g positive_of b positive front us v h
-
-or_right_true : (a b c : Bool) → c ≡ true → (a || (b || c)) ≡ true
-or_right_true true b c h = refl
-or_right_true false true c h = refl
-or_right_true false false c h = h
+    (λ front us v h clear. begins_token (is minus_of) unsigned_of false (by_unsigned (is minus_of) false refl (λ n. refl) (λ b. refl) (λ n. refl)) front us v h)
 
 begins-literal : (front us : List Lexeme) (v : Value) → Literal front v → starts begins_literal (front ++ us) ≡ true
-begins-literal = literal_starts begins_literal true refl refl (λ t v h. or_right_true (is null_of t) (is minus_of t) (is positive_of t) (known positive_of t v h))
+begins-literal front us v (inl h) = begins_one begins_literal minus_of true _ (by_sign begins_literal true (codes "-") refl) front us v h
+begins-literal front us v (inr h) = begins_token begins_literal unsigned_of true (by_unsigned begins_literal true refl (λ n. refl) (λ b. refl) (λ n. refl)) front us v h
 
 -- one name of many
 pub name_x : name_of (word (codes "x")) ≡ Some (codes "x")

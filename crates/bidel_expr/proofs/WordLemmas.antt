@@ -1,11 +1,13 @@
 -- Which token a kind of tokens has.
-use Rattle.std.proofs.Common.{◌≡◌, ℕ, List, Bool, true, false, refl, ap, ◌∙◌, sym, cond}
+use Rattle.std.proofs.Common.{◌≡◌, ℕ, List, Bool, true, false, refl, ap, ◌∙◌, sym, cond, nat_le, ◌^◌}
 use Rattle.std.specs.Prelude.{Some, None, bytes_eq, codes}
 use Rattle.std.proofs.lemmas.Slice.Eq.{bytes_eq-Decides}
 use Rattle.par_base.specs.Names.{is_name, is_reserved}
+use Rattle.std.specs.Str.{is_utf8}
 use Rattle.par_base.specs.declared.value.Value.{Value}
+use Rattle.par_base.specs.declared.value.Value.TheVariants.{Null}
 use Rattle.phrases.specs.Reading.{is, is_some}
-use Rattle.bidel_expr.specs.Lexemes.{Lexeme, word, number, reference, «text», symbol, keyword, sign, name_of, positive_of, negative_of}
+use Rattle.bidel_expr.specs.Lexemes.{Lexeme, word, number, reference, «text», symbol, keyword, sign, name_of, negative_of, unsigned_of, text_of, number_of}
 
 pub when_some : {A : Type 0} (b : Bool) (x y : A) → cond b (Some x) None ≡ Some y → (b ≡ true) × (x ≡ y)
 when_some true x y h = (refl, cc)
@@ -73,12 +75,12 @@ unfolding is_name is_reserved
 null_no_name = refl
 
 -- a number is no word and no symbol
-pub positive_is : (t : Lexeme) (v : Value) → positive_of t ≡ Some v → (n : ℕ) × (t ≡ number n)
-positive_is (number n) v h = (n, refl)
-positive_is (word w) v h = cc
-positive_is (reference n) v h = cc
-positive_is («text» b) v h = cc
-positive_is (symbol s) v h = cc
+pub number_is : (t : Lexeme) (n : ℕ) → number_of t ≡ Some n → t ≡ number n
+number_is (number m) n h = ap number (when_some (nat_le m (2 ^ 63)) m n h).1
+number_is (word w) n h = cc
+number_is (reference m) n h = cc
+number_is («text» b) n h = cc
+number_is (symbol s) n h = cc
 
 pub negative_is : (t : Lexeme) (v : Value) → negative_of t ≡ Some v → (n : ℕ) × (t ≡ number n)
 negative_is (number n) v h = (n, refl)
@@ -86,3 +88,24 @@ negative_is (word w) v h = cc
 negative_is (reference n) v h = cc
 negative_is («text» b) v h = cc
 negative_is (symbol s) v h = cc
+
+-- a token that is a text
+pub text_is : (t : Lexeme) (b : List ℕ) → text_of t ≡ Some b → t ≡ «text» b
+text_is («text» a) b h = ap «text» (when_some (is_utf8 a) a b h).1
+text_is (word w) b h = cc
+text_is (number n) b h = cc
+text_is (reference n) b h = cc
+text_is (symbol s) b h = cc
+
+-- what holds of NULL, and of each number, text and reference, holds of a literal without a sign
+pub by_unsigned : {X : Type 0} (g : Lexeme → X) (x : X) → g (word (codes "null")) ≡ x → ((n : ℕ) → g (number n) ≡ x) → ((b : List ℕ) → g («text» b) ≡ x) → ((n : ℕ) → g (reference n) ≡ x)
+    → (t : Lexeme) (v : Value) → unsigned_of t ≡ Some v → g t ≡ x
+by_unsigned g x a b c d (word w) v h = ap (λ (u : List ℕ). g (word u)) (sym (same_bytes (codes "null") w (when_some (bytes_eq (codes "null") w) Null v h).0)) ∙ a
+by_unsigned g x a b c d (number n) v h = b n
+by_unsigned g x a b c d («text» t) v h = c t
+by_unsigned g x a b c d (reference n) v h = d n
+by_unsigned g x a b c d (symbol s) v h = cc
+
+-- what holds of each number holds of an integer behind a minus sign
+pub by_negative : {X : Type 0} (g : Lexeme → X) (x : X) → ((n : ℕ) → g (number n) ≡ x) → (t : Lexeme) (v : Value) → negative_of t ≡ Some v → g t ≡ x
+by_negative g x b t v h = let n = negative_is t v h in ap g n.1 ∙ b n.0

@@ -1,10 +1,9 @@
 -- Names, literals and lists of them, and reading them.
-use Rattle.std.specs.Prelude.{◌||◌, ◌∷◌, [], ℕ, List, Bool, Option, codes}
+use Rattle.std.specs.Prelude.{◌∷◌, [], ℕ, List, Bool, true, Option, codes, bytes_eq}
 use Rattle.par_base.specs.declared.value.Value.{Value}
-use Rattle.par_base.specs.declared.value.Value.TheVariants.{Null}
-use Rattle.phrases.specs.Phrases.{Nothing, Seq, OneOf, Either, Enclosed}
+use Rattle.phrases.specs.Phrases.{OneOf, Either, Behind, Enclosed}
 use Rattle.phrases.specs.Reading.{Read, and_then, one_at, done, either, is, behind_at, rest_at, separated_at, enclosed_at, with_front}
-use Rattle.bidel_expr.specs.Lexemes.{Lexeme, keyword, sign, name_of, positive_of, negative_of}
+use Rattle.bidel_expr.specs.Lexemes.{Lexeme, word, number, reference, «text», symbol, keyword, sign, name_of, negative_of, unsigned_of}
 
 -- ---- the signs
 
@@ -38,15 +37,9 @@ null_of = keyword (codes "null")
 abbrev pub Names : List Lexeme → List (List ℕ) → Type 0
 Names = Enclosed open_of comma_of close_of (OneOf name_of)
 
--- literal = NULL | "-" number | number
-abbrev pub NullLiteral : List Lexeme → Value → Type 0
-NullLiteral = Seq (OneOf null_of) λ _. Nothing Null
-
-abbrev pub SignedLiteral : List Lexeme → Value → Type 0
-SignedLiteral = Seq (OneOf minus_of) λ _. OneOf negative_of
-
+-- literal = NULL | [ "-" ] number | text | reference
 abbrev pub Literal : List Lexeme → Value → Type 0
-Literal = Either NullLiteral (Either SignedLiteral (OneOf positive_of))
+Literal = Either (Behind minus_of (OneOf negative_of)) (OneOf unsigned_of)
 
 -- tuple = "(" [ literal { "," literal } ] ")"
 abbrev pub Tuple : List Lexeme → List Value → Type 0
@@ -60,15 +53,16 @@ name_at = one_at name_of
 abbrev pub names_at : List Lexeme → Read Lexeme (List (List ℕ))
 names_at = enclosed_at (is name_of) open_of comma_of close_of name_at
 
-abbrev pub null_at : List Lexeme → Read Lexeme Value
-null_at = and_then (one_at null_of) λ _. done Null
-
 abbrev pub literal_at : List Lexeme → Read Lexeme Value
-literal_at = either (is null_of) null_at (either (is minus_of) (behind_at minus_of (one_at negative_of)) (one_at positive_of))
+literal_at = either (is minus_of) (behind_at minus_of (one_at negative_of)) (one_at unsigned_of)
 
--- whether a literal begins so
+-- whether a literal may begin so
 abbrev pub begins_literal : Lexeme → Bool
-begins_literal t = is null_of t || (is minus_of t || is positive_of t)
+begins_literal (word w) = bytes_eq (codes "null") w
+begins_literal (number n) = true
+begins_literal (reference n) = true
+begins_literal («text» bytes) = true
+begins_literal (symbol s) = bytes_eq (codes "-") s
 
 abbrev pub tuple_at : List Lexeme → Read Lexeme (List Value)
 tuple_at = enclosed_at begins_literal open_of comma_of close_of literal_at

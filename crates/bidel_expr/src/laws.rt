@@ -1,6 +1,6 @@
 //! Laws of what tokens say, each the contract of a function that does nothing.
 
-ghost use Rattle.bidel_expr.specs.Laws.{DigitsHaveValue, LexemesStay, RestIsTokens};
+ghost use Rattle.bidel_expr.specs.Laws.{DigitsHaveValue, ExpressionsAreRead, LexemesStay, LiteralsAreRead, NamesAreRead, RestIsTokens, TuplesAreRead};
 
 /// What tokens say stays as bytes come.
 pub fn lexemes_stay()
@@ -15,4 +15,24 @@ pub fn rest_is_tokens()
 /// The value of decimal digits is what they write.
 pub fn digits_have_value()
     ensures { DigitsHaveValue }
+{}
+
+/// What names in parentheses are.
+pub fn names_are_read()
+    ensures { NamesAreRead }
+{}
+
+/// What a literal is.
+pub fn literals_are_read()
+    ensures { LiteralsAreRead }
+{}
+
+/// What literals in parentheses are.
+pub fn tuples_are_read()
+    ensures { TuplesAreRead }
+{}
+
+/// What an expression is.
+pub fn expressions_are_read()
+    ensures { ExpressionsAreRead }
 {}

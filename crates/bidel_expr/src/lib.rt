@@ -1,7 +1,5 @@
-//! What tokens of BiDEL say, and the parts of its statements: names, literals, lists and expressions.
 //!
 //! A grammar says which tokens spell which value: `specs/Lexemes.antt` has the kinds of one token, `specs/Literals.antt` names,
-//! literals and lists, and `specs/Expressions.antt` expressions, each rule a definition with the reading of it beside it. The
 //! readers in `src/` answer exactly what those readings give (`specs/Answers.antt`); that reading is what the grammar says follows
 //! from the laws of the crate `phrases`, rule by rule.
 //!
@@ -12,6 +10,7 @@
 mod cursor;
 mod expressions;
 mod laws;
+mod levels;
 mod lists;
 mod literals;
 mod numbers;
@@ -22,9 +21,9 @@ pub use cursor::{Cursor, Next};
 pub use expressions::take_expression;
 pub use laws::{digits_have_value, lexemes_stay, rest_is_tokens};
 pub use lists::{Item, Literals, Names, Tuples, take_names, take_separated, take_tuple};
-pub use literals::{is_literal_next, take_literal};
+pub use literals::{is_literal_next, next_unsigned, take_literal, take_negative, take_text};
 pub use read_error::ReadError;
 pub use terminals::{
-    are_keywords_next, is_keyword_next, next_keyword, next_name, next_negative, next_positive,
+    are_keywords_next, is_keyword_next, next_keyword, next_name, next_negative, next_number,
     next_sign, next_token, take_keyword, take_name, take_sign,
 };

@@ -1,5 +1,5 @@
 //! Lists with commas, in parentheses and without.
-ghost use Rattle.std.specs.Prelude.{◌≡◌, ◌∷◌, []};
+ghost use Rattle.std.specs.Prelude.{◌≡◌, ◌∷◌, [], map};
 ghost use Rattle.phrases.specs.Reading.{starts, is, either, done, rest_at, behind_at, separated_at, enclosed_at, with_front};
 ghost use Rattle.bidel_expr.specs.Lexemes.{name_of};
 ghost use Rattle.bidel_expr.specs.Literals.{comma_of, further_at, listed_at, name_at, names_at, literal_at, tuple_at, begins_literal};
@@ -20,12 +20,17 @@ pub trait Item {
 
     type Value: Drop;
 
+    // what contracts see of an item, and how
+    ghost Seen: { Type 0 };
+
+    ghost view: { Self.Value → Seen };
+
     // how an item is read
-    ghost item_at: { List Lexeme → Read Lexeme Self.Value };
+    ghost item_at: { List Lexeme → Read Lexeme Seen };
 
     /// An item.
     fn take<'a>(alloc: Global, cursor: Cursor<'a>) -> Result<(Self::Value, Cursor<'a>), ReadError>
-        ensures { Gives (λ x. x) item_at cursor.entry result };
+        ensures { Gives view item_at cursor.entry result };
 }
 
 /// The names of a list.
@@ -38,7 +43,13 @@ pub struct Literals;
 pub struct Tuples;
 
 impl Item for Names {
+    ghost use Rattle.std.specs.Prelude.{List, ℕ};
+
     type Value = Name;
+
+    ghost Seen = { List ℕ };
+
+    ghost view = { λ name. name };
 
     ghost item_at = { name_at };
 
@@ -48,12 +59,18 @@ impl Item for Names {
 }
 
 impl Item for Literals {
+    ghost use Rattle.par_base.specs.declared.value.Value.{Value};
+
     type Value = Value;
+
+    ghost Seen = { Value };
+
+    ghost view = { λ value. value };
 
     ghost item_at = { literal_at };
 
-    fn take<'a>(_alloc: Global, cursor: Cursor<'a>) -> Result<(Value, Cursor<'a>), ReadError> {
-        take_literal(cursor)
+    fn take<'a>(alloc: Global, cursor: Cursor<'a>) -> Result<(Value, Cursor<'a>), ReadError> {
+        take_literal(alloc, cursor)
     }
 }
 
@@ -63,7 +80,7 @@ fn further_items<'a, I: Item>(
     first: I::Value,
     cursor: Cursor<'a>,
 ) -> Result<(List<I::Value>, Cursor<'a>), ReadError>
-    ensures { Gives (λ x. x) (further_at first I.item_at) cursor.entry result }
+    ensures { Gives (map I.view) (further_at (I.view first) I.item_at) cursor.entry result }
 {
     let mut items = List::new(alloc);
     items.push(first)?;
@@ -85,7 +102,7 @@ pub fn take_separated<'a, I: Item>(
     alloc: Global,
     cursor: Cursor<'a>,
 ) -> Result<(List<I::Value>, Cursor<'a>), ReadError>
-    ensures { Gives (λ x. x) (separated_at comma_of I.item_at) cursor.entry result }
+    ensures { Gives (map I.view) (separated_at comma_of I.item_at) cursor.entry result }
 {
     let (first, rest) = I::take(alloc, cursor)?;
     further_items::<I>(alloc, first, rest)
@@ -139,7 +156,14 @@ pub fn take_tuple<'a>(alloc: Global, cursor: Cursor<'a>) -> Result<(Row, Cursor<
 }
 
 impl Item for Tuples {
+    ghost use Rattle.std.specs.Prelude.{List};
+    ghost use Rattle.par_base.specs.declared.value.Value.{Value};
+
     type Value = Row;
+
+    ghost Seen = { List Value };
+
+    ghost view = { λ tuple. tuple };
 
     ghost item_at = { tuple_at };
 

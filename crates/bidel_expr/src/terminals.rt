@@ -2,11 +2,11 @@
 ghost use Rattle.std.specs.Prelude.{◌≡◌, ◌∷◌, [], map, false, bytes_eq, MatchOption, MatchResult};
 ghost use Rattle.par_base.specs.Names.{folded};
 ghost use Rattle.phrases.specs.Reading.{one_at, starts, is};
-ghost use Rattle.bidel_expr.specs.Lexemes.{lexeme_of, keyword, starts_both, sign, name_of, number_of, positive_of, negative_of};
+ghost use Rattle.bidel_expr.specs.Lexemes.{lexeme_of, keyword, starts_both, sign, name_of, number_of, negative_of};
 ghost use Rattle.bidel_expr.specs.Answers.{ahead, IsFirst, IsNext, IsThere, Gives, Passes};
 
 use crate::cursor::{Cursor, Next};
-use crate::numbers::{negated, number_value};
+use crate::numbers::{GREATEST_NUMBER, negated, number_value};
 use crate::read_error::ReadError;
 use bidel_lex::TokenKind;
 use par_base::{Name, Value, read_name};
@@ -39,8 +39,8 @@ fn fold(byte: u8) -> u8
     }
 }
 
-// Whether the bytes are the word, whichever case they are written in.
-fn is_word(written: &[u8], word: &[u8]) -> bool
+/// Whether the bytes are the word, whichever case they are written in.
+pub fn is_word(written: &[u8], word: &[u8]) -> bool
     ensures { result ≡ bytes_eq word.now (map folded written.now) }
 {
     match (written, word) {
@@ -109,25 +109,14 @@ pub fn next_name<'a>(
     }
 }
 
-// The value of a number and what comes after it, where a number comes next.
-fn next_number(cursor: Cursor<'_>) -> Option<(u64, Cursor<'_>)>
+/// The value of a number, of at most 2^63, and what comes after it, where a number comes next.
+pub fn next_number(cursor: Cursor<'_>) -> Option<(u64, Cursor<'_>)>
     ensures { IsNext number_of cursor.entry result }
 {
     let next = next_token(cursor)?;
     match next.kind {
-        TokenKind::Number => Some((number_value(next.written)?, next.rest)),
+        TokenKind::Number => Some((number_value(next.written, GREATEST_NUMBER)?, next.rest)),
         _ => None,
-    }
-}
-
-/// An integer without a sign, where one comes next.
-pub fn next_positive(cursor: Cursor<'_>) -> Option<(Value, Cursor<'_>)>
-    ensures { IsNext positive_of cursor.entry result }
-{
-    let (value, rest) = next_number(cursor)?;
-    match i64::try_from(value) {
-        Ok(value) => Some((Value::Int(value), rest)),
-        Err(_) => None,
     }
 }
 

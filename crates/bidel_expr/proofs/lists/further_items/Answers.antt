@@ -1,4 +1,5 @@
-use Rattle.std.proofs.Common.{◌≡◌, ◌+◌, ◌-◌, ◌∷◌, ◌++◌, [], List, ℕ, arith, sym, ap, ◌∙◌, length}
+use Rattle.std.proofs.Common.{◌≡◌, ◌+◌, ◌-◌, ◌∷◌, ◌++◌, [], List, ℕ, arith, sym, ap, ◌∙◌, length, map}
+use Rattle.std.proofs.lemmas.List.{map-append}
 use Rattle.std.proofs.lemmas.Result.{err_from_is_err_and}
 use Rattle.phrases.specs.Reading.{with_front}
 use Rattle.phrases.proofs.Steps.{rest_turns, rest_full, rest_ends, rest_goes, rest_stops}
@@ -13,8 +14,8 @@ loop-turn-init g c =
     let turns : length (ahead c.args.cursor) + 1 - 0 ≡ length (ahead c.args.cursor) + 1 = omega arith in
     let items : c.push.new.self ≡ c.args.first ∷ [] = c.in_ok-push.ensures.ok ∙ ap (λ (l : List _). l ++ c.args.first ∷ []) c.new-items.ensures in
     record {
-      same = ap (λ (n : ℕ). with_front c.push.new.self (rest_turns comma_of g.I.Item.item_at n (ahead c.args.cursor))) turns
-          ∙ ap (λ (l : List _). with_front l (rest_turns comma_of g.I.Item.item_at (length (ahead c.args.cursor) + 1) (ahead c.args.cursor))) items;
+      same = ap (λ (n : ℕ). with_front (map g.I.Item.view c.push.new.self) (rest_turns comma_of g.I.Item.item_at n (ahead c.args.cursor))) turns
+          ∙ ap (λ (l : List _). with_front (map g.I.Item.view l) (rest_turns comma_of g.I.Item.item_at (length (ahead c.args.cursor) + 1) (ahead c.args.cursor))) items;
     }
 
 pub returns-in-None : goal.returns-in-None
@@ -29,8 +30,10 @@ returns-in_err-item g c =
 
 pub loop-turn-preserved : goal.loop-turn-preserved
 loop-turn-preserved g c = record {
-  same = ap (λ (l : List _). with_front l (rest_turns comma_of g.I.Item.item_at (length (ahead c.args.cursor) + 1 - (c.loop-turn._turn + 1)) (ahead c.in_ok-item.after))) c.in_ok-push-2.ensures.ok
-      ∙ rest_goes comma_of g.I.Item.item_at (length (ahead c.args.cursor) + 1 - c.loop-turn._turn) (length (ahead c.args.cursor) + 1 - (c.loop-turn._turn + 1)) c.loop-turn.items c.in_ok-item.item
+  same = ap (λ (l : List _). with_front l (rest_turns comma_of g.I.Item.item_at (length (ahead c.args.cursor) + 1 - (c.loop-turn._turn + 1)) (ahead c.in_ok-item.after)))
+      (ap (map g.I.Item.view) c.in_ok-push-2.ensures.ok ∙ map-append g.I.Item.view c.loop-turn.items (c.in_ok-item.item ∷ []))
+      ∙ rest_goes comma_of g.I.Item.item_at (length (ahead c.args.cursor) + 1 - c.loop-turn._turn) (length (ahead c.args.cursor) + 1 - (c.loop-turn._turn + 1))
+      (map g.I.Item.view c.loop-turn.items) (g.I.Item.view c.in_ok-item.item)
       (ahead c.loop-turn.rest) (ahead c.in-Some.after) (ahead c.in_ok-item.after) tt (omega (arith, ahead_length c.args.cursor)) c.in-Some.ensures c.in_ok-item.ensures
       ∙ c.loop-turn.invariant.same;
 }
@@ -39,9 +42,11 @@ pub returns : goal.returns
 returns g c = elim c.loop-turn-test.branch [
   | else-loop-turn-test w ↦ absurd (omega arith)
   | then-loop-turn-test+in-Some+in_ok-item+in_ok-push-2+else-turn-turn-end w ↦ rw (w.items-is, w.rest-is) (
-      sym (ap (λ (l : List _). with_front l (rest_turns comma_of g.I.Item.item_at (length (ahead c.args.cursor) + 1 - (c.loop-turn._turn + 1)) (ahead w.in_ok-item.after))) w.in_ok-push-2.ensures.ok
-      ∙ rest_goes comma_of g.I.Item.item_at (length (ahead c.args.cursor) + 1 - c.loop-turn._turn) (length (ahead c.args.cursor) + 1 - (c.loop-turn._turn + 1)) c.loop-turn.items w.in_ok-item.item
+      sym (ap (λ (l : List _). with_front l (rest_turns comma_of g.I.Item.item_at (length (ahead c.args.cursor) + 1 - (c.loop-turn._turn + 1)) (ahead w.in_ok-item.after)))
+      (ap (map g.I.Item.view) w.in_ok-push-2.ensures.ok ∙ map-append g.I.Item.view c.loop-turn.items (w.in_ok-item.item ∷ []))
+      ∙ rest_goes comma_of g.I.Item.item_at (length (ahead c.args.cursor) + 1 - c.loop-turn._turn) (length (ahead c.args.cursor) + 1 - (c.loop-turn._turn + 1))
+      (map g.I.Item.view c.loop-turn.items) (g.I.Item.view w.in_ok-item.item)
       (ahead c.loop-turn.rest) (ahead w.in-Some.after) (ahead w.in_ok-item.after) tt (omega (arith, ahead_length c.args.cursor)) w.in-Some.ensures w.in_ok-item.ensures
       ∙ c.loop-turn.invariant.same)
-      ∙ rest_full comma_of g.I.Item.item_at (length (ahead c.args.cursor) + 1 - (c.loop-turn._turn + 1)) w.push-in-loop-turn.new.self (ahead w.in_ok-item.after) (omega (arith, ahead_length c.args.cursor)))
+      ∙ rest_full comma_of g.I.Item.item_at (length (ahead c.args.cursor) + 1 - (c.loop-turn._turn + 1)) (map g.I.Item.view w.push-in-loop-turn.new.self) (ahead w.in_ok-item.after) (omega (arith, ahead_length c.args.cursor)))
 ]
