@@ -1,6 +1,6 @@
 -- Words that tell phrases apart, and parts that may be left out.
 use Rattle.std.proofs.Common.{◌≡◌, ◌++◌, ◌∷◌, [], ℕ, List, Bool, true, false, Ok, refl, ap, append_assoc, append-nil, ◌∙◌, sym, subst, cond, inl, inr}
-use Rattle.std.specs.Prelude.{Option, Some, None, ◌×◌, Unit}
+use Rattle.std.specs.Prelude.{Option, Some, None}
 use Rattle.phrases.specs.Phrases.{Nothing, Seq, Either, OneOf, Begins}
 use Rattle.phrases.specs.Reading.{Read, next, starts, taken, one_at, is, is_some, none, or}
 use Rattle.phrases.specs.Reads.{Reads}
@@ -18,14 +18,19 @@ abbrev pub Every : {K : Type 0} → (Lexeme → K → Type 0) → List (List ℕ
 Every P [] = Unit {0}
 Every P (c ∷ cs) = P (word c.0) c.1 × Every P cs
 
+infixr 4 ◌&◌
+-- one, and the others
+pub ◌&◌ : {A B : Type 0} → A → B → A × B
+a & b = (a, b)
+
 -- and so it holds of each token that is one of them
 pub by_choice : {K : Type 0} (P : Lexeme → K → Type 0) (cs : List (List ℕ × K)) → Every P cs → (t : Lexeme) (k : K) → choice_of cs t ≡ Some k → P t k
 by_choice P [] all t k h = cc
-by_choice P (c ∷ cs) all t k h = split (is (keyword c.0) t) refl h
+by_choice P (c ∷ cs) all t k h = split (is (keyword c.0) t) refl (by_choice P cs all.1 t k) h
   where
-    split : (b : Bool) → is (keyword c.0) t ≡ b → cond b (Some c.1) (choice_of cs t) ≡ Some k → P t k
-    split true e s = let same : c.1 ≡ k = cc in subst (P t) same (subst (λ (t : Lexeme). P t c.1) (sym (is_keyword c.0 t e)) all.0)
-    split false e s = by_choice P cs all.1 t k s
+    split : (b : Bool) → is (keyword c.0) t ≡ b → (choice_of cs t ≡ Some k → P t k) → cond b (Some c.1) (choice_of cs t) ≡ Some k → P t k
+    split true e among s = let same : c.1 ≡ k = cc in subst (P t) same (subst (λ (t : Lexeme). P t c.1) (sym (is_keyword c.0 t e)) all.0)
+    split false e among s = among s
 
 -- what a word stands for that is one of them
 pub chosen_of : {A : Type 0} (o : Option A) → is_some o ≡ true → (a : A) × (o ≡ Some a)

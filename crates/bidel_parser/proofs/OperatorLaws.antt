@@ -8,14 +8,14 @@ use Rattle.phrases.proofs.Readers.{then-reads, done-reads, respell, word as then
 use Rattle.phrases.proofs.Lists.{made-reads, optional-reads}
 use Rattle.bidel_expr.specs.Lexemes.{Lexeme, word}
 use Rattle.bidel_expr.specs.Literals.{comma_of, Names, name_at, names_at}
-use Rattle.bidel_expr.specs.Expressions.{Expression, expression_at}
+use Rattle.bidel_expr.specs.Expressions.{Expression, expression_goes, expression_at}
 use Rattle.bidel_expr.proofs.LiteralLaws.{names-reads}
-use Rattle.bidel_expr.proofs.ExpressionLaws.{expression_goes, expression-reads}
+use Rattle.bidel_expr.proofs.ExpressionLaws.{expression-reads}
 use Rattle.bidel_parser.specs.declared.first_words.OperatorWord.{OperatorWord}
 use Rattle.bidel_parser.specs.declared.first_words.OperatorWord.TheVariants as first
 use Rattle.bidel_parser.specs.declared.first_words.Kind.{Kind}
 use Rattle.bidel_parser.specs.declared.first_words.Kind.TheVariants as kind
-use Rattle.bidel_parser.specs.Words.{Name, choice_of}
+use Rattle.bidel_parser.specs.Words.{Sign, Name, choice_of, sign_at}
 use Rattle.bidel_parser.specs.Views.{OpView, CreateTable, DropTable, RenameTable, RenameColumn, AddColumn, DropColumn, Join, Split, Merge}
 use Rattle.bidel_parser.specs.Operators.{operator_words, kinds, Key, key_at, CreateRest, DropRest, RenameRest, AddRest, decomposed, part_of, Part, SecondPart, DecomposeRest, JoinRest, branch_of, SplitBranch, SplitRest, MergeBranch, MergeRest, OperatorRest, Operator, ClosedOperator, create_rest_at, drop_rest_at, rename_rest_at, add_rest_at, second_part_at, optional_part_at, decompose_rest_at, join_rest_at, split_branch_at, second_branch_at, split_rest_at, merge_branch_at, merge_rest_at, operator_rest_at, operator_at, closed_operator_at}
 use Rattle.bidel_parser.proofs.WordLaws.{then_keyword, then_sign, then_name, keyword_begins, sign_begins}
@@ -158,7 +158,7 @@ operator-rest-reads first.Merge = merge-rest-reads
 operator-reads : Reads operator_goes Operator operator_at
 operator-reads = then_word operator_goes (choice_of operator_words) (word (codes "create")) first.Create refl OperatorRest operator_rest_at operator-rest-reads
 
-pub semicolon-reads : (o : OpView) → Reads none _ _
+pub semicolon-reads : (o : OpView) → Reads none (Seq (Sign ";") λ _. Nothing o) (and_then (sign_at ";") λ _. done o)
 semicolon-reads o = then_sign none ";" _ _ (done-reads none o)
 
 pub closed-operator-reads : Reads none ClosedOperator closed_operator_at

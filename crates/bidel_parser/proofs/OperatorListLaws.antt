@@ -14,7 +14,7 @@ use Rattle.bidel_parser.specs.declared.first_words.OperatorWord.TheVariants as f
 use Rattle.bidel_parser.specs.Words.{choice_of, is_word}
 use Rattle.bidel_parser.specs.Views.{OpView}
 use Rattle.bidel_parser.specs.Operators.{operator_words, kinds, lone_words, shared_words, goes_on_with, DropRest, OperatorRest, Operator, ClosedOperator, ListedOperators, begins_operator, closed_operator_at, operators_at, listed_operators_at}
-use Rattle.bidel_parser.proofs.ChoiceLaws.{by_choice, chosen_of, begins_then, begins_behind, goes_first, goes_second}
+use Rattle.bidel_parser.proofs.ChoiceLaws.{◌&◌, by_choice, chosen_of, begins_then, begins_behind, goes_first, goes_second}
 use Rattle.bidel_parser.proofs.OperatorLaws.{create-table-reads, drop-rest-reads, operator-rest-reads, semicolon-reads, closed-operator-reads}
 
 abbrev pub lone : Lexeme → Bool
@@ -39,7 +39,7 @@ operator_word first.Split = codes "split"
 operator_word first.Merge = codes "merge"
 
 word_is : (t : Lexeme) (k : OperatorWord) → choice_of operator_words t ≡ Some k → t ≡ word (operator_word k)
-word_is = by_choice (λ t k. t ≡ word (operator_word k)) operator_words (refl, refl, refl, refl, refl, refl, refl, refl, refl, tt)
+word_is = by_choice (λ t k. t ≡ word (operator_word k)) operator_words (refl & refl & refl & refl & refl & refl & refl & refl & refl & tt)
 
 begun_at : (k : OperatorWord) (ts us : List Lexeme) (o : OpView) → OperatorRest k ts o → Begun lone shared both (word (operator_word k) ∷ (ts ++ us))
 begun_at first.Create ts us o h =
@@ -80,9 +80,9 @@ either_one false b h = inr h
 first_goes : (t : Lexeme) → (lone t || shared t) ≡ true → GoesOn closed_operator_at [] t
 first_goes t h = elim (either_one (lone t) (shared t) h) [
   | inl a ↦ (let c = chosen_of (choice_of lone_words t) a in
-      begins_operator_with t c.0 (by_choice (λ t k. choice_of operator_words t ≡ Some k) lone_words (refl, refl, refl, refl, refl, refl, refl, tt) t c.0 c.1))
+      begins_operator_with t c.0 (by_choice (λ t k. choice_of operator_words t ≡ Some k) lone_words (refl & refl & refl & refl & refl & refl & refl & tt) t c.0 c.1))
   | inr b ↦ (let c = chosen_of (choice_of shared_words t) b in
-      begins_operator_with t c.0 (by_choice (λ t k. choice_of operator_words t ≡ Some k) shared_words (refl, refl, tt) t c.0 c.1))
+      begins_operator_with t c.0 (by_choice (λ t k. choice_of operator_words t ≡ Some k) shared_words (refl & refl & tt) t c.0 c.1))
 ]
 
 created : (u : Lexeme) → is_word "table" u ≡ true → GoesOn closed_operator_at (word (codes "create") ∷ []) u
@@ -102,7 +102,7 @@ dropped u h =
 second_goes : (t u : Lexeme) → shared t ≡ true → both t u ≡ true → GoesOn closed_operator_at (t ∷ []) u
 second_goes t u h k =
     let c = chosen_of (choice_of shared_words t) h in
-    by_choice (λ t k. goes_on_with (Some k) u ≡ true → GoesOn closed_operator_at (t ∷ []) u) shared_words (created u, dropped u, tt) t c.0 c.1
+    by_choice (λ t k. goes_on_with (Some k) u ≡ true → GoesOn closed_operator_at (t ∷ []) u) shared_words (created u & dropped u & tt) t c.0 c.1
     (ap (λ (o : _). goes_on_with o u) (sym c.1) ∙ k)
 
 further-last : ReadsLast (λ _. begins_operator) (Many ClosedOperator) operators_at

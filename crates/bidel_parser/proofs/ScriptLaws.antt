@@ -14,7 +14,7 @@ use Rattle.bidel_parser.specs.Views.{StatementView, CreateVersion, DropVersion, 
 use Rattle.bidel_parser.specs.Operators.{shared_words, begins_operator}
 use Rattle.bidel_parser.specs.Statements.{statement_words, StatementRest, IsStatement, Script, stays_open, statement_at}
 use Rattle.bidel_parser.specs.Laws.{OneFront, FrontStays, FrontLeads, FrontPrecedes, NoScript, EmptyScript, FaultStays, FaultFollows}
-use Rattle.bidel_parser.proofs.ChoiceLaws.{by_choice, chosen_of, begins_behind}
+use Rattle.bidel_parser.proofs.ChoiceLaws.{◌&◌, by_choice, chosen_of, begins_behind}
 use Rattle.bidel_parser.proofs.OperatorListLaws.{lone, shared, both}
 use Rattle.bidel_parser.proofs.StatementLaws.{rest-last, statement-last, script_over, statement_long}
 
@@ -36,7 +36,7 @@ shown ended (Advise name) us more h = refl
 
 -- a script begins with each word that begins operators too
 begins_script : (t : Lexeme) (k : OperatorWord) → choice_of shared_words t ≡ Some k → Begins Script (t ∷ [])
-begins_script = by_choice (λ t _. Begins Script (t ∷ [])) shared_words (with_word (word (codes "create")) first.Create refl, with_word (word (codes "drop")) first.Drop refl, tt)
+begins_script = by_choice (λ t _. Begins Script (t ∷ [])) shared_words (with_word (word (codes "create")) first.Create refl & with_word (word (codes "drop")) first.Drop refl & tt)
   where
     with_word : (t : Lexeme) (k : StatementWord) → choice_of statement_words t ≡ Some k → Begins Script (t ∷ [])
     with_word t k h =

@@ -1,30 +1,31 @@
 -- Statements are read as their grammar says, and where a script begins no statement stays open.
 use Rattle.std.proofs.Common.{◌≡◌, ◌++◌, ◌∷◌, [], ◌<◌, ℕ, List, Bool, true, false, refl, ap, append_assoc, ◌∙◌, sym, subst, length, length-append, arith}
-use Rattle.std.specs.Prelude.{Option, Some, None, codes, Unit}
+use Rattle.std.specs.Prelude.{Option, Some, None, codes, cond}
+use Rattle.std.proofs.lemmas.Str.{IsUtf8-nil, is_utf8-from_IsUtf8}
 use Rattle.phrases.specs.Phrases.{Nothing, Seq, OneOf, Optional, Separated}
-use Rattle.phrases.specs.Reading.{Read, starts, is, none, and_then, separated_at}
+use Rattle.phrases.specs.Reading.{Read, starts, is, none, done, and_then, separated_at}
 use Rattle.phrases.specs.Reads.{Reads, ReadsLast}
 use Rattle.phrases.specs.Fronts.{IsOver}
 use Rattle.phrases.proofs.Readers.{then-reads, done-reads, word as then_one, headed}
 use Rattle.phrases.proofs.Lasts.{closed-last, then-last, made-last, word-last}
 use Rattle.phrases.proofs.Lookahead.{not_begun, not_begun_both}
-use Rattle.bidel_expr.specs.Lexemes.{Lexeme, word, number, «text», keyword, text_of}
+use Rattle.bidel_expr.specs.Lexemes.{Lexeme, word, number, symbol, «text», keyword, text_of}
 use Rattle.bidel_expr.specs.Literals.{comma_of, Tuple, tuple_at}
 use Rattle.bidel_expr.proofs.WordLemmas.{keyword_is}
-use Rattle.bidel_expr.proofs.ExpressionLaws.{expression_goes}
+use Rattle.bidel_expr.specs.Expressions.{expression_goes}
 use Rattle.bidel_parser.specs.declared.first_words.StatementWord.{StatementWord}
 use Rattle.bidel_parser.specs.declared.first_words.StatementWord.TheVariants as first
-use Rattle.bidel_parser.specs.Words.{Word, Sign, Name, Flag, choice_of, session_of}
+use Rattle.bidel_parser.specs.Words.{Word, Sign, Name, Flag, choice_of, session_of, sign_at}
 use Rattle.bidel_parser.specs.Views.{StatementView, CreateVersion, DropVersion, Insert, Import, Update, Delete, Select, Materialize, Step, ShowLayout, Use, Session, Advise}
 use Rattle.bidel_parser.specs.Operators.{ListedOperators, begins_operator, listed_operators_at}
 use Rattle.bidel_parser.specs.Statements.{statement_words, TableOf, TargetOf, AssignmentOf, Filter, Items, CreateVersionRest, DropVersionRest, InsertRest, ImportRest, UpdateRest, DeleteRest, SelectRest, MaterializeRest, ShowRest, SessionRest, StatementRest, IsStatement, stays_open, table_at, target_at, assignment_at, filter_at, items_at, origin_at, csv_at, in_steps_at, create_version_rest_at, drop_version_rest_at, insert_rest_at, import_rest_at, update_rest_at, delete_rest_at, select_rest_at, materialize_rest_at, step_rest_at, show_rest_at, use_rest_at, session_rest_at, advise_rest_at, statement_rest_at, statement_at}
 use Rattle.bidel_parser.proofs.WordLaws.{then_keyword, then_sign, then_name, keyword_last, name_last, keyword_begins, sign_begins}
-use Rattle.bidel_parser.proofs.ChoiceLaws.{by_choice, maybe_begins}
+use Rattle.bidel_parser.proofs.ChoiceLaws.{◌&◌, by_choice, maybe_begins}
 use Rattle.bidel_parser.proofs.TableLaws.{table_goes, names_go, targets_go, assignments_go, filter_goes, origin_goes, csv_goes, in_steps_goes, table-reads, rows-reads, targets-reads, assignments-reads, items-reads, filter-reads, origin-reads, csv-reads, in-steps-reads}
 use Rattle.bidel_parser.proofs.OperatorListLaws.{lone, shared, both, listed-last}
 
 -- a semicolon, and a statement
-ended-reads : (s : StatementView) → Reads none _ _
+ended-reads : (s : StatementView) → Reads none (Seq (Sign ";") λ _. Nothing s) (and_then (sign_at ";") λ _. done s)
 ended-reads s = then_sign none ";" _ _ (done-reads none s)
 
 create-last : ReadsLast stays_open CreateVersionRest create_version_rest_at
@@ -52,12 +53,16 @@ insert-reads =
     (λ rows right us s h clear. sign_begins names_go false ";" refl _ right us s h)))
     (λ table right us s h clear. keyword_begins table_goes false "values" refl _ right us s h))
 
+-- one text of many
+empty_text : text_of («text» []) ≡ Some []
+empty_text = ap (λ (b : Bool). cond b (Some []) None) (is_utf8-from_IsUtf8 [] IsUtf8-nil)
+
 import-reads : Reads none ImportRest import_rest_at
 import-reads =
     then_keyword none "into" _ _ (
     then-reads none table_goes TableOf _ table_at _ table-reads (λ table.
     then_keyword none "csv" _ _ (
-    then_one none text_of («text» []) [] refl _ _ (λ bytes. ended-reads (Import table bytes))))
+    then_one none text_of («text» []) [] empty_text _ _ (λ bytes. ended-reads (Import table bytes))))
     (λ table right us s h clear. keyword_begins table_goes false "csv" refl _ right us s h))
 
 update-reads : Reads none UpdateRest update_rest_at
@@ -112,7 +117,7 @@ materialize-reads =
     (λ in_steps front s f. sign_begins targets_go false ";" refl _ front us s f) right s h)
 
 session-reads : Reads none SessionRest session_rest_at
-session-reads = then_one none session_of (number 0) 0 refl _ _ (λ number. ended-reads (Session number))
+session-reads = then_one none session_of (number 0) 0 refl _ _ (λ n. ended-reads (Session n))
 
 -- ---- statements
 
@@ -171,7 +176,7 @@ statement_word first.Session = codes "session"
 statement_word first.Advise = codes "advise"
 
 word_is : (t : Lexeme) (k : StatementWord) → choice_of statement_words t ≡ Some k → t ≡ word (statement_word k)
-word_is = by_choice (λ t k. t ≡ word (statement_word k)) statement_words (refl, refl, refl, refl, refl, refl, refl, refl, refl, refl, refl, refl, refl, tt)
+word_is = by_choice (λ t k. t ≡ word (statement_word k)) statement_words (refl & refl & refl & refl & refl & refl & refl & refl & refl & refl & refl & refl & refl & tt)
 
 schema_next : {B : Type 0} (T : List Lexeme → B → Type 0) (ts : List Lexeme) (b : B) (h : Seq (Word "schema") (λ _. T) ts b) → ts ≡ word (codes "schema") ∷ h.right
 schema_next T ts b h = headed (keyword (codes "schema")) (word (codes "schema")) (λ _. T) (keyword_is (codes "schema")) ts b h
@@ -214,7 +219,7 @@ over_at (Materialize named in_steps) ts g = refl
 over_at Step ts g = refl
 over_at ShowLayout ts g = refl
 over_at (Use name) ts g = refl
-over_at (Session number) ts g = refl
+over_at (Session n) ts g = refl
 over_at (Advise name) ts g = refl
 
 pub script_over : IsOver stays_open IsStatement

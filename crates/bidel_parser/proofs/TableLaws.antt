@@ -9,10 +9,10 @@ use Rattle.phrases.proofs.Readers.{done-reads, either-reads, one-reads, word as 
 use Rattle.phrases.proofs.Lists.{made-reads, optional-reads, separated-reads}
 use Rattle.bidel_expr.specs.Lexemes.{Lexeme, word, number, symbol, name_of}
 use Rattle.bidel_expr.specs.Literals.{comma_of, dot_of, star_of, Tuple, name_at, tuple_at}
-use Rattle.bidel_expr.specs.Expressions.{Tree, Expression, expression_at}
+use Rattle.bidel_expr.specs.Expressions.{Tree, Expression, expression_goes, expression_at}
 use Rattle.bidel_expr.proofs.WordLemmas.{is_sign, name_is}
 use Rattle.bidel_expr.proofs.LiteralLaws.{name-reads, tuple-reads}
-use Rattle.bidel_expr.proofs.ExpressionLaws.{expression_goes, expression-reads}
+use Rattle.bidel_expr.proofs.ExpressionLaws.{expression-reads}
 use Rattle.bidel_parser.specs.declared.statement.TableName.{TableName}
 use Rattle.bidel_parser.specs.Words.{Word, Sign, Name, Flag, is_word, session_of}
 use Rattle.bidel_parser.specs.Views.{AssignmentView}

@@ -1,6 +1,6 @@
 -- One reserved word, one sign or one name, and then a phrase.
 use Rattle.std.proofs.Common.{◌≡◌, ◌++◌, ℕ, List, Bool, false, refl, ap, ◌∙◌}
-use Rattle.std.specs.Prelude.{Some, codes, Unit}
+use Rattle.std.specs.Prelude.{Some, None, codes, cond}
 use Rattle.std.proofs.lemmas.Slice.Eq.{bytes_eq-Decides}
 use Prim.Native.String.{String}
 use Rattle.phrases.specs.Phrases.{Seq}
@@ -15,10 +15,10 @@ use Rattle.bidel_expr.proofs.LiteralLaws.{name_x}
 use Rattle.bidel_parser.specs.Words.{Word, Sign, Name, word_at, sign_at}
 
 keyword_known : (w : List ℕ) → keyword w (word w) ≡ Some tt
-keyword_known w = ap (λ (b : Bool). if b then Some tt else None) ((bytes_eq-Decides w w).1 refl)
+keyword_known w = ap (λ (b : Bool). cond b (Some tt) None) ((bytes_eq-Decides w w).1 refl)
 
 sign_known : (w : List ℕ) → sign w (symbol w) ≡ Some tt
-sign_known w = ap (λ (b : Bool). if b then Some tt else None) ((bytes_eq-Decides w w).1 refl)
+sign_known w = ap (λ (b : Bool). cond b (Some tt) None) ((bytes_eq-Decides w w).1 refl)
 
 -- one reserved word
 pub keyword_reads : (c : Lexeme → Bool) (w : String) → Reads c (Word w) (word_at w)
