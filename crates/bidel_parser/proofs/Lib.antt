@@ -5,5 +5,6 @@ pub mod OperatorLaws
 pub mod OperatorListLaws
 pub mod TableLaws
 pub mod StatementLaws
+pub mod ReadSteps
 pub mod ParsingLaws
 pub mod ScriptLaws

@@ -72,14 +72,15 @@ add-rest-reads =
 
 second-part-reads : Reads expression_goes SecondPart second_part_at
 second-part-reads =
-    then_sign expression_goes "," _ _ (
     then_name expression_goes _ _ (λ table.
     closed expression_goes Names _ names_at _ names-reads (λ columns.
     then_keyword expression_goes "on" _ _ (
-    made-reads expression_goes Key key_at (λ key. part_of table columns key) key-reads))))
+    made-reads expression_goes Key key_at (λ key. part_of table columns key) key-reads)))
 
-optional-part-reads : Reads operator_goes (Optional SecondPart) optional_part_at
-optional-part-reads = optional-reads expression_goes (is comma_of) SecondPart second_part_at second-part-reads (λ front us part h. sign_begins (is comma_of) true "," refl _ front us part h)
+optional-part-reads : Reads operator_goes (Optional (Behind comma_of SecondPart)) optional_part_at
+optional-part-reads = optional-reads expression_goes (is comma_of) (Behind comma_of SecondPart) (behind_at comma_of second_part_at)
+    (then_sign expression_goes "," SecondPart second_part_at second-part-reads)
+    (λ front us part h. sign_begins (is comma_of) true "," refl SecondPart front us part h)
 
 decompose-rest-reads : Reads operator_goes DecomposeRest decompose_rest_at
 decompose-rest-reads =
@@ -88,7 +89,7 @@ decompose-rest-reads =
     then_keyword operator_goes "into" _ _ (
     then_name operator_goes _ _ (λ target.
     closed operator_goes Names _ names_at _ names-reads (λ columns.
-    made-reads operator_goes (Optional SecondPart) optional_part_at (λ second. decomposed table target columns second) optional-part-reads)))))
+    made-reads operator_goes (Optional (Behind comma_of SecondPart)) optional_part_at (λ second. decomposed table target columns second) optional-part-reads)))))
 
 join-rest-reads : (outer : Bool) → Reads operator_goes (JoinRest outer) (join_rest_at outer)
 join-rest-reads outer =

@@ -85,14 +85,14 @@ abbrev pub optional_view : Option Second → Option Part
 optional_view None = None
 optional_view (Some second) = Some (part_view second)
 
--- "," name names ON key
+-- name names ON key
 abbrev pub SecondPart : List Lexeme → Part → Type 0
-SecondPart = Seq (Sign ",") λ _. Seq Name λ table. Seq Names λ columns. Seq (Word "on") λ _. Seq Key λ key. Nothing (part_of table columns key)
+SecondPart = Seq Name λ table. Seq Names λ columns. Seq (Word "on") λ _. Seq Key λ key. Nothing (part_of table columns key)
 
 -- DECOMPOSE TABLE name INTO name names [ "," name names ON key ]
 abbrev pub DecomposeRest : List Lexeme → OpView → Type 0
 DecomposeRest = Seq (Word "table") λ _. Seq Name λ table. Seq (Word "into") λ _. Seq Name λ target. Seq Names λ columns.
-    Seq (Optional SecondPart) λ second. Nothing (decomposed table target columns second)
+    Seq (Optional (Behind comma_of SecondPart)) λ second. Nothing (decomposed table target columns second)
 
 -- [ OUTER ] JOIN TABLE name "," name INTO name ON key, behind JOIN
 abbrev pub JoinRest : Bool → List Lexeme → OpView → Type 0
@@ -196,10 +196,10 @@ add_rest_at = and_then (word_at "column") λ _. and_then name_at λ column. and_
     and_then (word_at "into") λ _. and_then name_at λ table. done (AddColumn column value table)
 
 abbrev pub second_part_at : List Lexeme → Read Lexeme Part
-second_part_at = and_then (sign_at ",") λ _. and_then name_at λ table. and_then names_at λ columns. and_then (word_at "on") λ _. and_then key_at λ key. done (part_of table columns key)
+second_part_at = and_then name_at λ table. and_then names_at λ columns. and_then (word_at "on") λ _. and_then key_at λ key. done (part_of table columns key)
 
 abbrev pub optional_part_at : List Lexeme → Read Lexeme (Option Part)
-optional_part_at = optional_at (is comma_of) second_part_at
+optional_part_at = optional_at (is comma_of) (behind_at comma_of second_part_at)
 
 abbrev pub decompose_rest_at : List Lexeme → Read Lexeme OpView
 decompose_rest_at = and_then (word_at "table") λ _. and_then name_at λ table. and_then (word_at "into") λ _. and_then name_at λ target. and_then names_at λ columns.

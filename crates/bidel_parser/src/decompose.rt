@@ -18,8 +18,26 @@ pub struct Second {
     pub key: KeyText,
 }
 
+// name names ON key
+fn second_part<'a>(alloc: Global, cursor: Cursor<'a>) -> Result<(Second, Cursor<'a>), ReadError>
+    ensures { Gives part_view second_part_at cursor.entry result }
+{
+    let (table, rest) = take_name(alloc, cursor)?;
+    let (columns, rest) = take_names(alloc, rest)?;
+    let rest = take_keyword(rest, "on")?;
+    let (key, rest) = take_key(alloc, rest)?;
+    Ok((
+        Second {
+            table,
+            columns,
+            key,
+        },
+        rest,
+    ))
+}
+
 // [ "," name names ON key ]
-fn second_part<'a>(
+fn optional_part<'a>(
     alloc: Global,
     cursor: Cursor<'a>,
 ) -> Result<(Option<Second>, Cursor<'a>), ReadError>
@@ -27,18 +45,8 @@ fn second_part<'a>(
 {
     match next_sign(cursor, ",") {
         Some(rest) => {
-            let (table, rest) = take_name(alloc, rest)?;
-            let (columns, rest) = take_names(alloc, rest)?;
-            let rest = take_keyword(rest, "on")?;
-            let (key, rest) = take_key(alloc, rest)?;
-            Ok((
-                Some(Second {
-                    table,
-                    columns,
-                    key,
-                }),
-                rest,
-            ))
+            let (part, rest) = second_part(alloc, rest)?;
+            Ok((Some(part), rest))
         }
         None => Ok((None, cursor)),
     }
@@ -56,7 +64,7 @@ pub fn decompose_rest<'a>(
     let rest = take_keyword(rest, "into")?;
     let (target, rest) = take_name(alloc, rest)?;
     let (columns, rest) = take_names(alloc, rest)?;
-    let (second, rest) = second_part(alloc, rest)?;
+    let (second, rest) = optional_part(alloc, rest)?;
     let operator = match second {
         None => OpText::DecomposeSingle {
             table,

@@ -5,7 +5,7 @@ ghost use Rattle.bidel_parser.specs.Views.{key_view};
 ghost use Rattle.bidel_parser.specs.Operators.{key_rest_at, key_at};
 ghost use Rattle.bidel_expr.specs.Answers.{ahead, Gives};
 
-use crate::choices::{KEY_WORDS, next_choice};
+use crate::choices::next_key_word;
 use crate::first_words::KeyWord;
 use crate::statement::KeyText;
 use bidel_expr::{Cursor, ReadError, take_expression, take_keyword, take_name};
@@ -41,7 +41,7 @@ fn key_rest<'a>(
 pub fn take_key<'a>(alloc: Global, cursor: Cursor<'a>) -> Result<(KeyText, Cursor<'a>), ReadError>
     ensures { Gives key_view key_at cursor.entry result }
 {
-    match next_choice(cursor, KEY_WORDS.as_slice()) {
+    match next_key_word(cursor) {
         Some((word, rest)) => key_rest(alloc, word, rest),
         None => {
             let (condition, rest) = take_expression(alloc, cursor)?;

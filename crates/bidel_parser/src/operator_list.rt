@@ -5,7 +5,7 @@ ghost use Rattle.bidel_parser.specs.Views.{op_view};
 ghost use Rattle.bidel_parser.specs.Operators.{further_operators_at, closed_operator_at, operators_at, listed_operators_at, begins_operator, shows_operator};
 ghost use Rattle.bidel_expr.specs.Answers.{ahead, Gives};
 
-use crate::choices::{KINDS, LONE_WORDS, SHARED_WORDS, is_choice_next, next_choice};
+use crate::choices::{is_kind_next, is_lone_word_next, is_shared_word_next, next_shared_word};
 use crate::first_words::OperatorWord;
 use crate::operators::take_operator;
 use crate::statement::OpText;
@@ -26,9 +26,9 @@ fn closed_operator<'a>(alloc: Global, cursor: Cursor<'a>) -> Result<(OpText, Cur
 fn is_shown(cursor: Cursor<'_>) -> bool
     ensures { result ≡ shows_operator (ahead cursor.entry) }
 {
-    match next_choice(cursor, SHARED_WORDS.as_slice()) {
+    match next_shared_word(cursor) {
         Some((OperatorWord::Create, rest)) => is_keyword_next(rest, "table"),
-        Some((OperatorWord::Drop, rest)) => is_choice_next(rest, KINDS.as_slice()),
+        Some((OperatorWord::Drop, rest)) => is_kind_next(rest),
         _ => false,
     }
 }
@@ -39,9 +39,8 @@ fn operator_begins(cursor: Cursor<'_>, ended: bool) -> bool
 {
     match cursor.tokens {
         [] => !ended,
-        [_] => is_choice_next(cursor, LONE_WORDS.as_slice())
-            || (is_choice_next(cursor, SHARED_WORDS.as_slice()) && !ended),
-        _ => is_choice_next(cursor, LONE_WORDS.as_slice()) || is_shown(cursor),
+        [_] => is_lone_word_next(cursor) || (is_shared_word_next(cursor) && !ended),
+        _ => is_lone_word_next(cursor) || is_shown(cursor),
     }
 }
 

@@ -4,7 +4,7 @@ ghost use Rattle.bidel_parser.specs.Views.{op_view, branch_view, second_view};
 ghost use Rattle.bidel_parser.specs.Operators.{create_rest_at, drop_rest_at, rename_rest_at, add_rest_at, join_rest_at, split_branch_at, second_branch_at, split_rest_at, merge_branch_at, merge_rest_at, operator_rest_at, operator_at};
 ghost use Rattle.bidel_expr.specs.Answers.{ahead, Gives};
 
-use crate::choices::{KINDS, OPERATOR_WORDS, take_choice};
+use crate::choices::{take_kind, take_operator_word};
 use crate::decompose::decompose_rest;
 use crate::first_words::{Kind, OperatorWord};
 use crate::keys::take_key;
@@ -225,11 +225,11 @@ fn operator_rest<'a>(
     match word {
         OperatorWord::Create => create_rest(alloc, cursor),
         OperatorWord::Drop => {
-            let (kind, rest) = take_choice(cursor, KINDS.as_slice())?;
+            let (kind, rest) = take_kind(cursor)?;
             drop_rest(alloc, kind, rest)
         }
         OperatorWord::Rename => {
-            let (kind, rest) = take_choice(cursor, KINDS.as_slice())?;
+            let (kind, rest) = take_kind(cursor)?;
             rename_rest(alloc, kind, rest)
         }
         OperatorWord::Add => add_rest(alloc, cursor),
@@ -251,6 +251,6 @@ pub fn take_operator<'a>(
 ) -> Result<(OpText, Cursor<'a>), ReadError>
     ensures { Gives op_view operator_at cursor.entry result }
 {
-    let (word, rest) = take_choice(cursor, OPERATOR_WORDS.as_slice())?;
+    let (word, rest) = take_operator_word(cursor)?;
     operator_rest(alloc, word, rest)
 }

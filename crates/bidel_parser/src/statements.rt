@@ -4,7 +4,7 @@ ghost use Rattle.bidel_parser.specs.Statements.{create_version_rest_at, drop_ver
 ghost use Rattle.bidel_parser.specs.Views.{statement_view};
 ghost use Rattle.bidel_expr.specs.Answers.{ahead, Gives};
 
-use crate::choices::{STATEMENT_WORDS, take_choice};
+use crate::choices::take_statement_word;
 use crate::first_words::StatementWord;
 use crate::operator_list::take_operators;
 use crate::statement::Statement;
@@ -226,6 +226,6 @@ pub fn take_statement<'a>(
 ) -> Result<(Statement, Cursor<'a>), ReadError>
     ensures { Gives statement_view (statement_at ended) cursor.entry result }
 {
-    let (word, rest) = take_choice(cursor, STATEMENT_WORDS.as_slice())?;
+    let (word, rest) = take_statement_word(cursor)?;
     statement_rest(alloc, word, rest, ended)
 }
