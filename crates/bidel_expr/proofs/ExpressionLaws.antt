@@ -1,6 +1,6 @@
 -- Expressions are read as their grammar says.
-use Rattle.std.proofs.Common.{◌≡◌, ◌++◌, ◌∷◌, [], ℕ, zero, suc, ◌+◌, ◌-◌, ◌≤◌, ◌<◌, List, Bool, true, false, refl, ap, append_assoc, append-nil, ◌∙◌, sym, subst, inl, inr, arith, length, length-append}
-use Rattle.std.specs.Prelude.{Some, codes, pos, neg_ℤ, bytes_eq}
+use Rattle.std.proofs.Common.{◌≡◌, ◌++◌, ◌∷◌, [], ℕ, zero, suc, ◌+◌, ◌-◌, ◌≤◌, ◌<◌, List, Bool, true, false, refl, ap, append_assoc, append-nil, ◌∙◌, sym, subst, cond, inl, inr, arith, length, length-append}
+use Rattle.std.specs.Prelude.{Some, None, codes, pos, neg_ℤ, bytes_eq, ◌||◌}
 use Rattle.par_base.specs.Names.{is_name, is_reserved}
 use Rattle.par_base.specs.declared.value.Value.{Value}
 use Rattle.par_base.specs.declared.value.Value.TheVariants.{Int}
@@ -9,7 +9,7 @@ use Rattle.expr_lang.specs.declared.tree.UnaryOp.TheVariants.{Not, Negate}
 use Rattle.expr_lang.specs.declared.tree.BinaryOp.{BinaryOp}
 use Rattle.expr_lang.specs.declared.tree.BinaryOp.TheVariants.{Or, And, Add, Multiply}
 use Rattle.phrases.specs.Phrases.{Nothing, Seq, OneOf, Either}
-use Rattle.phrases.specs.Reading.{Read, and_then, done, starts, is, none, or}
+use Rattle.phrases.specs.Reading.{Read, and_then, done, starts, is, is_some, none, or}
 use Rattle.phrases.specs.Reads.{Reads}
 use Rattle.phrases.specs.Chains.{Part, Item, Within, Chain, chain, opens}
 use Rattle.phrases.specs.Levels.{Prefix, prefix_at, Minuses, Unary, unary_at, Grouped, grouped_at}
@@ -24,7 +24,7 @@ use Rattle.bidel_expr.specs.Lexemes.{Lexeme, word, number, symbol, name_of, nega
 use Rattle.bidel_expr.specs.Literals.{open_of, close_of, minus_of}
 use Rattle.bidel_expr.specs.Operators.{or_of, and_of, not_of, is_of, compare_of, sum_of, product_of}
 use Rattle.bidel_expr.specs.Expressions.{Tree, Spells, cost, weight, Atom, Primary, Signed, Product, Sum, Comp, Neg, Conj, Expr, Levels, PrimaryIn, IsExpr, Expression, most_operators, most_parentheses, expression_goes, atom_at, atom_item, signed_item, product_item, sum_item, comp_item, neg_item, conj_item, expr_item, primary_item, expression_at}
-use Rattle.bidel_expr.proofs.WordLemmas.{by_keyword, by_sign, keyword_is, sign_is, name_is, name_not, by_unsigned, by_negative}
+use Rattle.bidel_expr.proofs.WordLemmas.{by_keyword, by_sign, keyword_is, sign_is, name_is, name_not, name_differs, by_unsigned, by_negative}
 use Rattle.bidel_expr.proofs.OperatorLemmas.{by_or, by_and, by_compare, by_sum, by_product}
 use Rattle.bidel_expr.proofs.LiteralLaws.{name-reads, unsigned-reads}
 use Rattle.bidel_expr.proofs.Comparisons.{halves, one_free, comp-reads, comp_bounded}
@@ -288,3 +288,23 @@ expr-reads l p = respell expression_goes expression_goes _ _ _
 pub expression-reads : Reads expression_goes Expression expression_at
 expression-reads = expr-reads most_operators most_parentheses
 
+-- a name continues no expression
+or_reserved : is_name (codes "or") ≡ false
+unfolding is_name is_reserved
+or_reserved = refl
+
+and_reserved : is_name (codes "and") ≡ false
+unfolding is_name is_reserved
+and_reserved = refl
+
+is_is_reserved : is_name (codes "is") ≡ false
+unfolding is_name is_reserved
+is_is_reserved = refl
+
+no_word : (w : List ℕ) → bytes_eq (codes "or") w ≡ false → bytes_eq (codes "and") w ≡ false → bytes_eq (codes "is") w ≡ false → expression_goes (word w) ≡ false
+no_word w a b c = rw (a, b, c) refl
+
+pub name_ends_expression : (t : Lexeme) (w : List ℕ) → name_of t ≡ Some w → expression_goes t ≡ false
+name_ends_expression t w h =
+    let p = name_is t w h in
+    ap expression_goes p.0 ∙ no_word w (name_differs (codes "or") w or_reserved p.1) (name_differs (codes "and") w and_reserved p.1) (name_differs (codes "is") w is_is_reserved p.1)

@@ -19,7 +19,10 @@ mod terminals;
 
 pub use cursor::{Cursor, Next};
 pub use expressions::take_expression;
-pub use laws::{digits_have_value, lexemes_stay, rest_is_tokens};
+pub use laws::{
+    digits_have_value, expressions_are_read, lexemes_stay, literals_are_read, names_are_read,
+    numbers_have_value, references_have_value, rest_is_tokens, texts_have_value, tuples_are_read,
+};
 pub use lists::{Item, Literals, Names, Tuples, take_names, take_separated, take_tuple};
 pub use literals::{is_literal_next, next_unsigned, take_literal, take_negative, take_text};
 pub use read_error::ReadError;
