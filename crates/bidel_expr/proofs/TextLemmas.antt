@@ -1,6 +1,6 @@
 -- What texts say.
-use Rattle.std.proofs.Common.{◌≡◌, ◌++◌, ◌∷◌, [], ℕ, ◌+◌, ◌-◌, ◌≤◌, List, Bool, true, false, length, take, drop, flat_map, refl, ap, ◌∙◌, sym, cond, arith, length-append}
-use Rattle.std.specs.Prelude.{Option, Some, None, IsUtf8, ◌==◌}
+use Rattle.std.proofs.Common.{◌≡◌, ◌++◌, ◌∷◌, [], ℕ, ◌-◌, List, Bool, true, false, length, take, flat_map, refl, ap, ◌∙◌, sym, cond, arith, length-append}
+use Rattle.std.specs.Prelude.{Some, None, IsUtf8, ◌==◌}
 use Rattle.std.specs.Str.{is_utf8}
 use Rattle.std.proofs.lemmas.Str.{IsUtf8-from_is_utf8, is_utf8-from_IsUtf8}
 use Rattle.std.proofs.lemmas.List.{take-append-le, take_all}

@@ -9,7 +9,7 @@ ghost use Rattle.phrases.specs.Reading.{starts, is};
 ghost use Rattle.phrases.specs.Chains.{Item, joined};
 ghost use Rattle.bidel_expr.specs.Lexemes.{Lexeme};
 ghost use Rattle.bidel_expr.specs.Operators.{compare_of, op_of};
-ghost use Rattle.bidel_expr.specs.Expressions.{Tree, null_test_at, comp_tail, comp_item, neg_item, signed_item, sum_item, primary_item, atom_item, operand_item, level_item, expression_at};
+ghost use Rattle.bidel_expr.specs.Expressions.{Tree, null_test_at, comp_tail, comp_item, neg_item, unary_item, sum_item, primary_item, atom_item, operand_item, level_item, expression_at};
 ghost use Rattle.bidel_expr.specs.Answers.{ahead, Gives, Makes};
 ghost use Rattle.bidel_expr.specs.Parts.{part_of};
 
@@ -69,10 +69,22 @@ fn atom<'a>(
     ensures { Gives part_of (atom_item limits.operators limits.parentheses) cursor.entry result }
 {
     if let Some((name, rest)) = next_name(alloc, cursor)? {
-        return Ok((Part { tree: ExprText::Column(name), limits }, rest));
+        return Ok((
+            Part {
+                tree: ExprText::Column(name),
+                limits,
+            },
+            rest,
+        ));
     }
     match next_unsigned(alloc, cursor)? {
-        Some((value, rest)) => Ok((Part { tree: ExprText::Literal(value), limits }, rest)),
+        Some((value, rest)) => Ok((
+            Part {
+                tree: ExprText::Literal(value),
+                limits,
+            },
+            rest,
+        )),
         None => Err(ReadError::Left(cursor.tokens.len())),
     }
 }
@@ -150,7 +162,7 @@ fn operand<'a>(
         Level::Disjunction => chained(alloc, Level::Conjunction, cursor, limits, depth),
         Level::Conjunction => negation(alloc, cursor, limits, depth),
         Level::Sum => chained(alloc, Level::Product, cursor, limits, depth),
-        Level::Product => signed(alloc, cursor, limits, depth),
+        Level::Product => unary(alloc, cursor, limits, depth),
     }
 }
 
@@ -175,7 +187,13 @@ fn negation<'a>(
     };
     let (inner, rest) = negation(alloc, rest, fewer, depth)?;
     let tree = prefixed(alloc, UnaryOp::Not, inner.tree)?;
-    Ok((Part { tree, limits: inner.limits }, rest))
+    Ok((
+        Part {
+            tree,
+            limits: inner.limits,
+        },
+        rest,
+    ))
 }
 
 #[cycle(expression)]
@@ -213,7 +231,13 @@ fn compared<'a>(
     };
     let (right, rest) = chained(alloc, Level::Sum, rest, fewer, depth)?;
     let tree = joined_by(alloc, op, first.tree, right.tree)?;
-    Ok((Part { tree, limits: right.limits }, rest))
+    Ok((
+        Part {
+            tree,
+            limits: right.limits,
+        },
+        rest,
+    ))
 }
 
 // A sum with IS NULL, with IS NOT NULL, or alone.
@@ -241,19 +265,25 @@ fn tested<'a>(
 }
 
 #[cycle(expression)]
-fn signed<'a>(
+fn unary<'a>(
     alloc: Global,
     cursor: Cursor<'a>,
     limits: Limits,
     depth: u32,
 ) -> Result<(Part, Cursor<'a>), ReadError>
-    ensures gives { Gives part_of (signed_item (primary_item depth) limits.operators limits.parentheses) cursor.entry result }
+    ensures gives { Gives part_of (unary_item (primary_item depth) limits.operators limits.parentheses) cursor.entry result }
 {
     let Some(rest) = next_sign(cursor, "-") else {
         return primary(alloc, cursor, limits, depth);
     };
     if let Some((value, rest)) = next_negative(rest) {
-        return Ok((Part { tree: ExprText::Literal(value), limits }, rest));
+        return Ok((
+            Part {
+                tree: ExprText::Literal(value),
+                limits,
+            },
+            rest,
+        ));
     }
     if limits.operators == 0 {
         return Err(ReadError::Left(rest.tokens.len()));
@@ -262,9 +292,15 @@ fn signed<'a>(
         operators: limits.operators - 1,
         parentheses: limits.parentheses,
     };
-    let (inner, rest) = signed(alloc, rest, fewer, depth)?;
+    let (inner, rest) = unary(alloc, rest, fewer, depth)?;
     let tree = prefixed(alloc, UnaryOp::Negate, inner.tree)?;
-    Ok((Part { tree, limits: inner.limits }, rest))
+    Ok((
+        Part {
+            tree,
+            limits: inner.limits,
+        },
+        rest,
+    ))
 }
 
 #[cycle(expression)]

@@ -112,10 +112,7 @@ pub fn next_unsigned<'a>(
 }
 
 // A text and what comes after it, where one comes next.
-fn next_text<'a>(
-    alloc: Global,
-    cursor: Cursor<'a>,
-) -> Result<Option<(Text, Cursor<'a>)>, ReadError>
+fn next_text<'a>(alloc: Global, cursor: Cursor<'a>) -> Result<Option<(Text, Cursor<'a>)>, ReadError>
     ensures { MatchResult result (IsNext text_of cursor.entry) (λ e. e ≡ ReadError.Memory) }
 {
     let Some(next) = next_token(cursor) else {
@@ -140,8 +137,8 @@ pub fn take_text<'a>(alloc: Global, cursor: Cursor<'a>) -> Result<(Text, Cursor<
     }
 }
 
-/// The integer of a number behind a minus sign.
-pub fn take_negative(cursor: Cursor<'_>) -> Result<(Value, Cursor<'_>), ReadError>
+// The integer of a number behind a minus sign.
+fn take_negative(cursor: Cursor<'_>) -> Result<(Value, Cursor<'_>), ReadError>
     ensures { Gives (λ x. x) (one_at negative_of) cursor.entry result }
 {
     match next_negative(cursor) {
@@ -150,10 +147,7 @@ pub fn take_negative(cursor: Cursor<'_>) -> Result<(Value, Cursor<'_>), ReadErro
     }
 }
 
-fn take_unsigned<'a>(
-    alloc: Global,
-    cursor: Cursor<'a>,
-) -> Result<(Value, Cursor<'a>), ReadError>
+fn take_unsigned<'a>(alloc: Global, cursor: Cursor<'a>) -> Result<(Value, Cursor<'a>), ReadError>
     ensures { Gives (λ x. x) (one_at unsigned_of) cursor.entry result }
 {
     match next_unsigned(alloc, cursor)? {
@@ -163,10 +157,7 @@ fn take_unsigned<'a>(
 }
 
 /// NULL, a number with or without a minus sign, a text or a reference.
-pub fn take_literal<'a>(
-    alloc: Global,
-    cursor: Cursor<'a>,
-) -> Result<(Value, Cursor<'a>), ReadError>
+pub fn take_literal<'a>(alloc: Global, cursor: Cursor<'a>) -> Result<(Value, Cursor<'a>), ReadError>
     ensures { Gives (λ x. x) literal_at cursor.entry result }
 {
     match next_sign(cursor, "-") {
