@@ -9,3 +9,4 @@ pub mod Comparisons
 pub mod ExpressionLaws
 pub mod ExpressionSteps
 pub mod TokenValues
+pub mod WorkedExpressions

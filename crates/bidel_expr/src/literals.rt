@@ -4,7 +4,7 @@ ghost use Rattle.phrases.specs.Reading.{starts, one_at};
 ghost use Rattle.par_base.specs.Literals.{undoubled};
 ghost use Rattle.bidel_expr.specs.Lexemes.{lexeme_of, between, text_of, unsigned_of, negative_of};
 ghost use Rattle.bidel_expr.specs.Literals.{literal_at, begins_literal};
-ghost use Rattle.bidel_expr.specs.Answers.{ahead, IsNext, Gives};
+ghost use Rattle.bidel_expr.specs.Answers.{ahead, IsNext, Finds, Gives};
 
 use crate::cursor::{Cursor, Next};
 use crate::numbers::number_value;
@@ -70,7 +70,7 @@ fn without_quotes(written: &[u8]) -> &[u8]
 
 // What a text says, where that is UTF-8.
 fn text_value(alloc: Global, written: &[u8]) -> Result<Option<Text>, ReadError>
-    ensures { MatchResult result (λ text. text ≡ text_of (lexeme_of TokenKind.Text written.now)) (λ e. e ≡ ReadError.Memory) }
+    ensures { Finds (text_of (lexeme_of TokenKind.Text written.now)) result }
 {
     let bytes = without_doubling(alloc, without_quotes(written))?;
     match String::from_utf8(bytes) {
@@ -81,7 +81,7 @@ fn text_value(alloc: Global, written: &[u8]) -> Result<Option<Text>, ReadError>
 
 // The value of a token that is a literal without a sign.
 fn unsigned_value(alloc: Global, next: Next<'_>) -> Result<Option<Value>, ReadError>
-    ensures { MatchResult result (λ value. value ≡ unsigned_of (lexeme_of next.entry.kind next.entry.written.now)) (λ e. e ≡ ReadError.Memory) }
+    ensures { Finds (unsigned_of (lexeme_of next.entry.kind next.entry.written.now)) result }
 {
     match next.kind {
         TokenKind::Word if is_word(next.written, b"null") => Ok(Some(Value::Null)),
