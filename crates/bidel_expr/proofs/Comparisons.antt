@@ -1,5 +1,5 @@
 -- A sum, and what may compare or test it, within limits.
-use Rattle.std.proofs.Common.{◌≡◌, ◌++◌, ◌∷◌, [], ℕ, zero, suc, ◌+◌, ◌-◌, ◌≤◌, List, Bool, true, false, refl, ap, append_assoc, append-nil, ◌∙◌, sym, subst, inl, inr, arith}
+use Rattle.std.proofs.Common.{◌≡◌, ◌++◌, ◌∷◌, [], ℕ, zero, suc, ◌+◌, ◌-◌, ◌≤◌, List, Bool, true, false, refl, ap, ◌∙◌, subst, inl, inr, arith}
 use Rattle.std.specs.Prelude.{Some, codes}
 use Rattle.expr_lang.specs.Terms.{Unary as UnaryTerm, Binary}
 use Rattle.expr_lang.specs.declared.tree.UnaryOp.{UnaryOp}
@@ -10,13 +10,13 @@ use Rattle.phrases.specs.Phrases.{Nothing, Seq, Either, OneOf}
 use Rattle.phrases.specs.Reading.{starts, and_then, one_at, done, is, none, or}
 use Rattle.phrases.specs.Reads.{Reads}
 use Rattle.phrases.specs.Chains.{Part, Item, Within, opens}
-use Rattle.phrases.proofs.Readers.{then-reads, done-reads, unless-reads, either-reads, respell, word as then_word, closed, begins_one, begins_first, known, starts_left, starts_right, or_left, or_right}
+use Rattle.phrases.proofs.Readers.{then-reads, done-reads, unless-reads, either-reads, respell, word as then_word, closed, begins_one, known, starts_left, starts_right, or_right}
 use Rattle.phrases.proofs.Lists.{made-reads}
 use Rattle.phrases.proofs.Chains.{part, part_is, opens-append}
 use Rattle.bidel_expr.specs.Lexemes.{Lexeme, word, symbol}
 use Rattle.bidel_expr.specs.Literals.{null_of}
 use Rattle.bidel_expr.specs.Operators.{not_of, is_of, compare_of}
-use Rattle.bidel_expr.specs.Expressions.{Tree, Spells, cost, weight, NullTest, CompTail, Comp, null_test_at, comp_tail}
+use Rattle.bidel_expr.specs.Expressions.{Tree, Spelling, cost, weight, NullTest, CompTail, CompRule, null_test_at, comp_tail}
 use Rattle.bidel_expr.proofs.WordLemmas.{by_keyword, keyword_is}
 use Rattle.bidel_expr.proofs.OperatorLemmas.{by_compare}
 
@@ -43,8 +43,14 @@ compare_weight = by_compare weight 0 (refl, (refl, (refl, (refl, (refl, (refl, t
 test_free : (ts : List Lexeme) (op : UnaryOp) → NullTest ts op → opens weight ts ≡ 0
 test_free ts op (inl h) =
     let s = h.second in
-    omega (arith, halves ts h.left h.right h.whole, halves h.right s.left s.right s.whole, one_free h.first.0 h.left h.first.1 (not_weight h.first.0 h.value h.first.2),
-    one_free s.first.0 s.left s.first.1 (null_weight s.first.0 s.value s.first.2), ap (opens weight) s.second.0)
+    omega (
+      arith,
+      halves ts h.left h.right h.whole,
+      halves h.right s.left s.right s.whole,
+      one_free h.first.0 h.left h.first.1 (not_weight h.first.0 h.value h.first.2),
+      one_free s.first.0 s.left s.first.1 (null_weight s.first.0 s.value s.first.2),
+      ap (opens weight) s.second.0,
+    )
 test_free ts op (inr h) =
     omega (arith, halves ts h.left h.right h.whole, one_free h.first.0 h.left h.first.1 (null_weight h.first.0 h.value h.first.2), ap (opens weight) h.second.0)
 
@@ -59,7 +65,7 @@ test-reads = either-reads none (is not_of) (Seq (OneOf not_of) λ _. Seq (OneOf 
     (begins_one (is not_of) not_of true _ (known not_of))
     (λ front us op h clear. begins_one (is not_of) null_of false _ (by_keyword (is not_of) false (codes "null") refl) front us op h)
 
-module _ (cs : Lexeme → Bool) (S : Spells) (sum : Item Lexeme Tree) (sums : (ops parens : ℕ) → Reads cs (Within cost weight S ops parens) (sum ops parens))
+module _ (cs : Lexeme → Bool) (S : Spelling) (sum : Item Lexeme Tree) (sums : (ops parens : ℕ) → Reads cs (Within cost weight S ops parens) (sum ops parens))
     (compare_fresh : (t : Lexeme) (o : BinaryOp) → compare_of t ≡ Some o → cs t ≡ false) (is_fresh : (t : Lexeme) (u : Unit {0}) → is_of t ≡ Some u → cs t ≡ false) where
   abbrev pub comp_goes : Lexeme → Bool
   comp_goes = or (is compare_of) (or (is is_of) cs)
@@ -238,7 +244,7 @@ module _ (cs : Lexeme → Bool) (S : Spells) (sum : Item Lexeme Tree) (sums : (o
   tail_cost a ts e (inr (inl h)) = omega (arith, ap cost h.second.second.1)
   tail_cost a ts e (inr (inr h)) = omega (arith, ap cost h.1)
 
-  comp_to : (ops parens : ℕ) (front : List Lexeme) (y : Part Tree) → Parts ops parens front y → Within cost weight (Comp S) ops parens front y
+  comp_to : (ops parens : ℕ) (front : List Lexeme) (y : Part Tree) → Parts ops parens front y → Within cost weight (CompRule S) ops parens front y
   comp_to ops parens front y s =
       let w = s.first in
       let j = s.second in
@@ -249,7 +255,7 @@ module _ (cs : Lexeme → Bool) (S : Spells) (sum : Item Lexeme Tree) (sums : (o
       let parts : opens weight front ≡ opens weight s.left + opens weight s.right = halves front s.left s.right s.whole in
       (record { value = s.value.0; left = s.left; right = s.right; whole = s.whole; first = w.0; second = j.0 }, omega arith, omega arith)
 
-  comp_from : (ops parens : ℕ) (front : List Lexeme) (y : Part Tree) → Within cost weight (Comp S) ops parens front y → Parts ops parens front y
+  comp_from : (ops parens : ℕ) (front : List Lexeme) (y : Part Tree) → Within cost weight (CompRule S) ops parens front y → Parts ops parens front y
   comp_from ops parens front y w =
       let h = w.0 in
       let spent : y.1 + cost y.0 ≡ ops = w.1 in
@@ -265,13 +271,13 @@ module _ (cs : Lexeme → Bool) (S : Spells) (sum : Item Lexeme Tree) (sums : (o
         second = (h.second, omega arith, omega arith);
       }
 
-  pub comp-reads : (ops parens : ℕ) → Reads comp_goes (Within cost weight (Comp S) ops parens) (and_then (sum ops parens) λ x. comp_tail sum x.0 x.1 x.2)
+  pub comp-reads : (ops parens : ℕ) → Reads comp_goes (Within cost weight (CompRule S) ops parens) (and_then (sum ops parens) λ x. comp_tail sum x.0 x.1 x.2)
   comp-reads ops parens = respell comp_goes comp_goes _ _ _
       (then-reads comp_goes cs (Within cost weight S ops parens) (λ x. TailIn x.0 x.1 x.2) _ _ (sums ops parens) (λ x. tail-reads x.0 x.1 x.2) (λ x right us y h clear. apart x.0 x.1 x.2 right us y h clear))
       (comp_to ops parens) (comp_from ops parens) (λ t h. h)
 
 -- a comparison of other sums, where few parentheses open
-pub comp_bounded : (n : ℕ) (I J : Spells) → ((ts : List Lexeme) (e : Tree) → I ts e → opens weight ts ≤ n → J ts e) → (ts : List Lexeme) (e : Tree) → Comp I ts e → opens weight ts ≤ n → Comp J ts e
+pub comp_bounded : (n : ℕ) (I J : Spelling) → ((ts : List Lexeme) (e : Tree) → I ts e → opens weight ts ≤ n → J ts e) → (ts : List Lexeme) (e : Tree) → CompRule I ts e → opens weight ts ≤ n → CompRule J ts e
 comp_bounded n I J f ts e h few =
     let parts : opens weight ts ≡ opens weight h.left + opens weight h.right = halves ts h.left h.right h.whole in
     record { value = h.value; left = h.left; right = h.right; whole = h.whole; first = f h.left h.value h.first (omega arith); second = at h.second }

@@ -1,21 +1,20 @@
 -- Expressions are read as their grammar says.
-use Rattle.std.proofs.Common.{◌≡◌, ◌++◌, ◌∷◌, [], ℕ, zero, suc, ◌+◌, ◌-◌, ◌≤◌, ◌<◌, List, Bool, true, false, refl, ap, append_assoc, append-nil, ◌∙◌, sym, subst, inl, inr, arith, length, length-append}
+use Rattle.std.proofs.Common.{◌≡◌, ◌++◌, [], ℕ, zero, suc, ◌+◌, ◌-◌, ◌≤◌, ◌<◌, List, Bool, true, false, refl, ap, append-nil, ◌∙◌, sym, subst, inl, inr, arith, length, length-append}
 use Rattle.std.specs.Prelude.{Some, codes, pos, neg_ℤ, bytes_eq}
 use Rattle.par_base.specs.Names.{is_name, is_reserved}
 use Rattle.par_base.specs.declared.value.Value.{Value}
 use Rattle.par_base.specs.declared.value.Value.TheVariants.{Int}
 use Rattle.expr_lang.specs.Terms.{Literal as LiteralTerm, Column, Unary as UnaryTerm, Binary}
 use Rattle.expr_lang.specs.declared.tree.UnaryOp.TheVariants.{Not, Negate}
-use Rattle.expr_lang.specs.declared.tree.BinaryOp.{BinaryOp}
 use Rattle.expr_lang.specs.declared.tree.BinaryOp.TheVariants.{Or, And, Add, Multiply}
 use Rattle.phrases.specs.Phrases.{Nothing, Seq, OneOf, Either}
 use Rattle.phrases.specs.Reading.{Read, and_then, done, starts, is, none, or}
 use Rattle.phrases.specs.Reads.{Reads}
-use Rattle.phrases.specs.Chains.{Part, Item, Within, Chain, chain, opens}
-use Rattle.phrases.specs.Levels.{Prefix, prefix_at, Minuses, Unary, unary_at, Grouped, grouped_at}
-use Rattle.phrases.proofs.Readers.{either-reads, respell, begins_one, begins_token, begins_first, known}
+use Rattle.phrases.specs.Chains.{Part, Item, Within, opens}
+use Rattle.phrases.specs.Levels.{Minuses}
+use Rattle.phrases.proofs.Readers.{either-reads, respell, begins_one, begins_first, known}
 use Rattle.phrases.proofs.Lists.{made-reads}
-use Rattle.phrases.proofs.Chains.{chain-reads, chain_first, part, part_is, opens-append}
+use Rattle.phrases.proofs.Chains.{chain-reads, chain_first, part, part_is}
 use Rattle.phrases.proofs.Prefixes.{prefix-reads}
 use Rattle.phrases.proofs.Signs.{unary-reads}
 use Rattle.phrases.proofs.Groups.{grouped-reads}
@@ -23,8 +22,9 @@ use Rattle.phrases.proofs.Bounded.{chain_bounded, prefix_bounded, unary_bounded,
 use Rattle.bidel_expr.specs.Lexemes.{Lexeme, word, number, symbol, name_of, negative_of, unsigned_of}
 use Rattle.bidel_expr.specs.Literals.{open_of, close_of, minus_of}
 use Rattle.bidel_expr.specs.Operators.{or_of, and_of, not_of, is_of, compare_of, sum_of, product_of}
-use Rattle.bidel_expr.specs.Expressions.{Tree, Spells, cost, weight, Atom, Primary, Signed, Product, Sum, Comp, Neg, Conj, Expr, Levels, PrimaryIn, IsExpr, Expression, most_operators, most_parentheses, expression_goes, atom_at, atom_item, signed_item, product_item, sum_item, comp_item, neg_item, conj_item, expr_item, primary_item, expression_at}
-use Rattle.bidel_expr.proofs.WordLemmas.{by_keyword, by_sign, keyword_is, sign_is, name_is, name_not, by_unsigned, by_negative}
+pub use Rattle.bidel_expr.specs.Expressions.{expression_goes}
+use Rattle.bidel_expr.specs.Expressions.{Tree, Spelling, cost, weight, Atom, PrimaryRule, UnaryRule, ProductRule, SumRule, CompRule, NegRule, ConjRule, Levels, PrimaryIn, IsExpr, Expression, most_operators, most_parentheses, atom_at, atom_item, unary_item, product_item, sum_item, comp_item, neg_item, conj_item, expr_item, primary_item, expression_at}
+use Rattle.bidel_expr.proofs.WordLemmas.{by_keyword, by_sign, keyword_is, sign_is, name_is, name_not, name_differs, by_unsigned, by_negative}
 use Rattle.bidel_expr.proofs.OperatorLemmas.{by_or, by_and, by_compare, by_sum, by_product}
 use Rattle.bidel_expr.proofs.LiteralLaws.{name-reads, unsigned-reads}
 use Rattle.bidel_expr.proofs.Comparisons.{halves, one_free, comp-reads, comp_bounded}
@@ -122,12 +122,12 @@ negative_weight : (t : Lexeme) (v : Value) → negative_of t ≡ Some v → weig
 negative_weight = by_negative weight 0 (λ n. refl)
 
 -- how a primary begins
-primary_first : (E : Spells) (g : Lexeme → Bool) (b : Bool) → g (symbol (codes "(")) ≡ b → ((t : Lexeme) (v : Value) → unsigned_of t ≡ Some v → g t ≡ b) → ((t : Lexeme) (w : List ℕ) → name_of t ≡ Some w → g t ≡ b)
-    → (ts us : List Lexeme) (e : Tree) → Primary E ts e → starts g (ts ++ us) ≡ b
+primary_first : (E : Spelling) (g : Lexeme → Bool) (b : Bool) → g (symbol (codes "(")) ≡ b → ((t : Lexeme) (v : Value) → unsigned_of t ≡ Some v → g t ≡ b) → ((t : Lexeme) (w : List ℕ) → name_of t ≡ Some w → g t ≡ b)
+    → (ts us : List Lexeme) (e : Tree) → PrimaryRule E ts e → starts g (ts ++ us) ≡ b
 primary_first E g b opened literals names ts us e (inl a) = atom_first g b literals names ts us e a
 primary_first E g b opened literals names ts us e (inr p) = begins_one g open_of b _ (by_sign g b (codes "(") opened) ts us e p
 
-primary_long : (E : Spells) (ts : List Lexeme) (e : Tree) → Primary E ts e → 0 < length ts
+primary_long : (E : Spelling) (ts : List Lexeme) (e : Tree) → PrimaryRule E ts e → 0 < length ts
 primary_long E ts e (inl a) = atom_long ts e a
 primary_long E ts e (inr h) = omega (arith, ap length h.whole, length-append h.left h.right, ap length h.first.1)
 
@@ -146,61 +146,61 @@ comp_goes = or (is compare_of) (or (is is_of) sum_goes)
 abbrev conj_goes : Lexeme → Bool
 conj_goes = or (is and_of) comp_goes
 
-module _ (P : Spells) (prim : Item Lexeme Tree) (prims : (ops parens : ℕ) → Reads none (Within cost weight P ops parens) (prim ops parens))
+module _ (P : Spelling) (prim : Item Lexeme Tree) (prims : (ops parens : ℕ) → Reads none (Within cost weight P ops parens) (prim ops parens))
     (no_minus : (ts us : List Lexeme) (e : Tree) → P ts e → starts (is minus_of) (ts ++ us) ≡ false)
     (no_not : (ts us : List Lexeme) (e : Tree) → P ts e → starts (is not_of) (ts ++ us) ≡ false)
     (long : (ts : List Lexeme) (e : Tree) → P ts e → 0 < length ts) where
-  signed-reads : (ops parens : ℕ) → Reads none (Within cost weight (Signed P) ops parens) (signed_item prim ops parens)
-  unfolding signed_item
+  signed-reads : (ops parens : ℕ) → Reads none (Within cost weight (UnaryRule P) ops parens) (unary_item prim ops parens)
+  unfolding unary_item
   signed-reads = unary-reads (UnaryTerm Negate) (λ v. LiteralTerm v) cost weight (λ a. refl) (λ v. refl) minus_of (symbol (codes "-")) tt refl minus_weight
       negative_of (number 0) (Int (neg_ℤ (pos 0))) refl negative_weight none P prim prims no_minus long
 
-  signed_no_not : (ts us : List Lexeme) (e : Tree) → Signed P ts e → starts (is not_of) (ts ++ us) ≡ false
-  signed_no_not ts us e h = by h.minuses h.spelled
+  unary_no_not : (ts us : List Lexeme) (e : Tree) → UnaryRule P ts e → starts (is not_of) (ts ++ us) ≡ false
+  unary_no_not ts us e h = by h.minuses h.spelled
     where
       by : (k : ℕ) → Minuses (UnaryTerm Negate) (λ v. LiteralTerm v) minus_of negative_of P k ts e → starts (is not_of) (ts ++ us) ≡ false
       by zero (inl s) = begins_one (is not_of) minus_of false _ (by_sign (is not_of) false (codes "-") refl) ts us e s
       by zero (inr p) = no_not ts us e p
       by (suc k) n = ap (λ (l : List Lexeme). starts (is not_of) (l ++ us)) n.5 ∙ by_sign (is not_of) false (codes "-") refl n.0 n.1 n.4
 
-  product-reads : (ops parens : ℕ) → Reads product_goes (Within cost weight (Product (Signed P)) ops parens) (product_item prim ops parens)
+  product-reads : (ops parens : ℕ) → Reads product_goes (Within cost weight (ProductRule (UnaryRule P)) ops parens) (product_item prim ops parens)
   unfolding product_item
-  product-reads = chain-reads Binary cost weight (λ o a b. refl) none product_of (Signed P) (signed_item prim) signed-reads (symbol (codes "*")) Multiply refl (λ t o h. refl)
+  product-reads = chain-reads Binary cost weight (λ o a b. refl) none product_of (UnaryRule P) (unary_item prim) signed-reads (symbol (codes "*")) Multiply refl (λ t o h. refl)
       (by_product weight 0 (refl, (refl, (refl, tt))))
 
-  product_no_not : (ts us : List Lexeme) (e : Tree) → Product (Signed P) ts e → starts (is not_of) (ts ++ us) ≡ false
-  product_no_not = chain_first Binary cost weight (λ o a b. refl) none product_of (Signed P) (signed_item prim) signed-reads (symbol (codes "*")) Multiply refl (λ t o h. refl)
-      (by_product weight 0 (refl, (refl, (refl, tt)))) (is not_of) false signed_no_not
+  product_no_not : (ts us : List Lexeme) (e : Tree) → ProductRule (UnaryRule P) ts e → starts (is not_of) (ts ++ us) ≡ false
+  product_no_not = chain_first Binary cost weight (λ o a b. refl) none product_of (UnaryRule P) (unary_item prim) signed-reads (symbol (codes "*")) Multiply refl (λ t o h. refl)
+      (by_product weight 0 (refl, (refl, (refl, tt)))) (is not_of) false unary_no_not
 
-  sum-reads : (ops parens : ℕ) → Reads sum_goes (Within cost weight (Sum (Product (Signed P))) ops parens) (sum_item prim ops parens)
+  sum-reads : (ops parens : ℕ) → Reads sum_goes (Within cost weight (SumRule (ProductRule (UnaryRule P))) ops parens) (sum_item prim ops parens)
   unfolding sum_item
-  sum-reads = chain-reads Binary cost weight (λ o a b. refl) product_goes sum_of (Product (Signed P)) (product_item prim) product-reads (symbol (codes "+")) Add refl
+  sum-reads = chain-reads Binary cost weight (λ o a b. refl) product_goes sum_of (ProductRule (UnaryRule P)) (product_item prim) product-reads (symbol (codes "+")) Add refl
       (by_sum product_goes false (refl, (refl, (refl, tt)))) (by_sum weight 0 (refl, (refl, (refl, tt))))
 
-  sum_no_not : (ts us : List Lexeme) (e : Tree) → Sum (Product (Signed P)) ts e → starts (is not_of) (ts ++ us) ≡ false
-  sum_no_not = chain_first Binary cost weight (λ o a b. refl) product_goes sum_of (Product (Signed P)) (product_item prim) product-reads (symbol (codes "+")) Add refl
+  sum_no_not : (ts us : List Lexeme) (e : Tree) → SumRule (ProductRule (UnaryRule P)) ts e → starts (is not_of) (ts ++ us) ≡ false
+  sum_no_not = chain_first Binary cost weight (λ o a b. refl) product_goes sum_of (ProductRule (UnaryRule P)) (product_item prim) product-reads (symbol (codes "+")) Add refl
       (by_sum product_goes false (refl, (refl, (refl, tt)))) (by_sum weight 0 (refl, (refl, (refl, tt)))) (is not_of) false product_no_not
 
-  comparison-reads : (ops parens : ℕ) → Reads comp_goes (Within cost weight (Comp (Sum (Product (Signed P)))) ops parens) (comp_item prim ops parens)
+  comparison-reads : (ops parens : ℕ) → Reads comp_goes (Within cost weight (CompRule (SumRule (ProductRule (UnaryRule P)))) ops parens) (comp_item prim ops parens)
   unfolding comp_item
-  comparison-reads = comp-reads sum_goes (Sum (Product (Signed P))) (sum_item prim) sum-reads
+  comparison-reads = comp-reads sum_goes (SumRule (ProductRule (UnaryRule P))) (sum_item prim) sum-reads
       (by_compare sum_goes false (refl, (refl, (refl, (refl, (refl, (refl, tt))))))) (by_keyword sum_goes false (codes "is") refl)
 
-  comparison_no_not : (ts us : List Lexeme) (e : Tree) → Comp (Sum (Product (Signed P))) ts e → starts (is not_of) (ts ++ us) ≡ false
-  comparison_no_not ts us e h = begins_first (is not_of) false (Sum (Product (Signed P))) _ (λ front us a s. sum_no_not front us a s) ts us e h
+  comparison_no_not : (ts us : List Lexeme) (e : Tree) → CompRule (SumRule (ProductRule (UnaryRule P))) ts e → starts (is not_of) (ts ++ us) ≡ false
+  comparison_no_not ts us e h = begins_first (is not_of) false (SumRule (ProductRule (UnaryRule P))) _ (λ front us a s. sum_no_not front us a s) ts us e h
 
-  neg-reads : (ops parens : ℕ) → Reads comp_goes (Within cost weight (Neg (Comp (Sum (Product (Signed P))))) ops parens) (neg_item prim ops parens)
+  neg-reads : (ops parens : ℕ) → Reads comp_goes (Within cost weight (NegRule (CompRule (SumRule (ProductRule (UnaryRule P))))) ops parens) (neg_item prim ops parens)
   unfolding neg_item
-  neg-reads = prefix-reads (UnaryTerm Not) cost weight (λ a. refl) not_of (word (codes "not")) tt refl not_weight comp_goes (Comp (Sum (Product (Signed P)))) (comp_item prim) comparison-reads comparison_no_not
+  neg-reads = prefix-reads (UnaryTerm Not) cost weight (λ a. refl) not_of (word (codes "not")) tt refl not_weight comp_goes (CompRule (SumRule (ProductRule (UnaryRule P)))) (comp_item prim) comparison-reads comparison_no_not
 
-  conj-reads : (ops parens : ℕ) → Reads conj_goes (Within cost weight (Conj (Neg (Comp (Sum (Product (Signed P)))))) ops parens) (conj_item prim ops parens)
+  conj-reads : (ops parens : ℕ) → Reads conj_goes (Within cost weight (ConjRule (NegRule (CompRule (SumRule (ProductRule (UnaryRule P)))))) ops parens) (conj_item prim ops parens)
   unfolding conj_item
-  conj-reads = chain-reads Binary cost weight (λ o a b. refl) comp_goes and_of (Neg (Comp (Sum (Product (Signed P))))) (neg_item prim) neg-reads (word (codes "and")) And refl
+  conj-reads = chain-reads Binary cost weight (λ o a b. refl) comp_goes and_of (NegRule (CompRule (SumRule (ProductRule (UnaryRule P))))) (neg_item prim) neg-reads (word (codes "and")) And refl
       (by_and comp_goes false refl) (by_and weight 0 refl)
 
   levels-reads : (ops parens : ℕ) → Reads expression_goes (Within cost weight (Levels P) ops parens) (expr_item prim ops parens)
   unfolding expr_item
-  levels-reads = chain-reads Binary cost weight (λ o a b. refl) conj_goes or_of (Conj (Neg (Comp (Sum (Product (Signed P)))))) (conj_item prim) conj-reads (word (codes "or")) Or refl
+  levels-reads = chain-reads Binary cost weight (λ o a b. refl) conj_goes or_of (ConjRule (NegRule (CompRule (SumRule (ProductRule (UnaryRule P)))))) (conj_item prim) conj-reads (word (codes "or")) Or refl
       (by_or conj_goes false refl) (by_or weight 0 refl)
 
 -- ---- a primary, and parentheses that nest
@@ -237,7 +237,7 @@ primary-reads (suc depth) = grouped-reads cost weight open_of (symbol (codes "("
 
 -- ---- as many parentheses as open can nest, and no more
 
-levels_bounded : (n : ℕ) (I J : Spells) → ((ts : List Lexeme) (e : Tree) → I ts e → opens weight ts ≤ n → J ts e) → (ts : List Lexeme) (e : Tree) → Levels I ts e → opens weight ts ≤ n → Levels J ts e
+levels_bounded : (n : ℕ) (I J : Spelling) → ((ts : List Lexeme) (e : Tree) → I ts e → opens weight ts ≤ n → J ts e) → (ts : List Lexeme) (e : Tree) → Levels I ts e → opens weight ts ≤ n → Levels J ts e
 levels_bounded n I J f =
     chain_bounded weight n _ _ (chain_bounded weight n _ _ (prefix_bounded weight n _ _ (comp_bounded n _ _ (chain_bounded weight n _ _ (chain_bounded weight n _ _
     (unary_bounded weight n I J f (UnaryTerm Negate) (λ v. LiteralTerm v) minus_of negative_of) Binary product_of) Binary sum_of)) (UnaryTerm Not) not_of) Binary and_of) Binary or_of
@@ -288,3 +288,23 @@ expr-reads l p = respell expression_goes expression_goes _ _ _
 pub expression-reads : Reads expression_goes Expression expression_at
 expression-reads = expr-reads most_operators most_parentheses
 
+-- a name continues no expression
+or_reserved : is_name (codes "or") ≡ false
+unfolding is_name is_reserved
+or_reserved = refl
+
+and_reserved : is_name (codes "and") ≡ false
+unfolding is_name is_reserved
+and_reserved = refl
+
+is_is_reserved : is_name (codes "is") ≡ false
+unfolding is_name is_reserved
+is_is_reserved = refl
+
+no_word : (w : List ℕ) → bytes_eq (codes "or") w ≡ false → bytes_eq (codes "and") w ≡ false → bytes_eq (codes "is") w ≡ false → expression_goes (word w) ≡ false
+no_word w a b c = rw (a, b, c) refl
+
+pub name_ends_expression : (t : Lexeme) (w : List ℕ) → name_of t ≡ Some w → expression_goes t ≡ false
+name_ends_expression t w h =
+    let p = name_is t w h in
+    ap expression_goes p.0 ∙ no_word w (name_differs (codes "or") w or_reserved p.1) (name_differs (codes "and") w and_reserved p.1) (name_differs (codes "is") w is_is_reserved p.1)

@@ -1,20 +1,20 @@
 -- Steps of the readers of expressions: the definitions by cases, as equations on any number.
-use Rattle.std.proofs.Common.{◌≡◌, ◌≢◌, ◌∷◌, [], ℕ, zero, suc, ◌-◌, ◌⊎◌, inl, inr, List, Bool, true, false, Ok, Err, refl, ap, ◌∙◌, sym, cond, sub-one}
+use Rattle.std.proofs.Common.{◌≡◌, ◌≢◌, ◌∷◌, [], ℕ, zero, suc, ◌-◌, ◌⊎◌, inl, inr, List, Bool, true, false, Ok, Err, refl, ap, ◌∙◌, cond, sub-one}
 use Rattle.std.specs.Prelude.{Option, Some, None, codes, ◌||◌}
 use Rattle.par_base.specs.declared.value.Value.{Value}
 use Rattle.expr_lang.specs.Terms.{Literal as LiteralTerm, Unary as UnaryTerm, Binary}
 use Rattle.expr_lang.specs.declared.tree.UnaryOp.{UnaryOp}
 use Rattle.expr_lang.specs.declared.tree.UnaryOp.TheVariants.{Not, Negate}
 use Rattle.expr_lang.specs.declared.tree.BinaryOp.{BinaryOp}
-use Rattle.phrases.specs.Reading.{Read, ◌>>=◌, and_then, next, test, starts, taken, one_at, done, done_unless, either, is, is_some, or}
-use Rattle.phrases.specs.Chains.{Part, Item, joined, chain}
-use Rattle.phrases.specs.Levels.{prefix_at, signed_at, unary_at, grouped_at}
+use Rattle.phrases.specs.Reading.{Read, ◌>>=◌, and_then, starts, taken, one_at, done, either, is, is_some, or}
+use Rattle.phrases.specs.Chains.{Part, Item, joined}
+use Rattle.phrases.specs.Levels.{prefix_at, signed_at, unary_at}
 use Rattle.phrases.proofs.Readers.{same_answer}
 use Rattle.phrases.proofs.Steps.{one_starts}
 use Rattle.bidel_expr.specs.Lexemes.{Lexeme, symbol, negative_of}
 use Rattle.bidel_expr.specs.Literals.{open_of, close_of, minus_of}
 use Rattle.bidel_expr.specs.Operators.{not_of, is_of, compare_of, op_of}
-use Rattle.bidel_expr.specs.Expressions.{Tree, atom_item, signed_item, product_item, sum_item, null_test_at, comp_tail, comp_item, neg_item, conj_item, expr_item, primary_item, operand_item, level_item}
+use Rattle.bidel_expr.specs.Expressions.{Tree, atom_item, unary_item, product_item, sum_item, null_test_at, comp_tail, comp_item, neg_item, conj_item, expr_item, primary_item, operand_item, level_item}
 use Rattle.bidel_expr.specs.declared.levels.Level.{Level}
 use Rattle.bidel_expr.specs.declared.levels.Level.TheVariants.{Disjunction, Conjunction, Sum, Product}
 use Rattle.bidel_expr.proofs.WordLemmas.{sign_is}
@@ -158,36 +158,36 @@ module _ (prim : Item Lexeme Tree) where
   abbrev some_left : ℕ → ℕ → List Lexeme → Read Lexeme (Part Tree)
   some_left ops parens = and_then (one_at minus_of) λ _. either (is negative_of) (number_at (suc ops) parens) (minus_at ops parens)
 
-  pub signed_other : (ops parens : ℕ) (ts : List Lexeme) → starts (is minus_of) ts ≡ false → signed_item prim ops parens ts ≡ prim ops parens ts
-  unfolding signed_item unary_at
-  signed_other zero parens ts h = ap (λ (b : Bool). cond b (none_left parens ts) (prim 0 parens ts)) h
-  signed_other (suc ops) parens ts h = ap (λ (b : Bool). cond b (some_left ops parens ts) (prim (suc ops) parens ts)) h
+  pub unary_other : (ops parens : ℕ) (ts : List Lexeme) → starts (is minus_of) ts ≡ false → unary_item prim ops parens ts ≡ prim ops parens ts
+  unfolding unary_item unary_at
+  unary_other zero parens ts h = ap (λ (b : Bool). cond b (none_left parens ts) (prim 0 parens ts)) h
+  unary_other (suc ops) parens ts h = ap (λ (b : Bool). cond b (some_left ops parens ts) (prim (suc ops) parens ts)) h
 
   -- behind a minus
-  behind_none : (parens : ℕ) (ts us : List Lexeme) → one_at minus_of ts ≡ Ok (tt, us) → signed_item prim 0 parens ts ≡ number_at 0 parens us
-  unfolding signed_item unary_at
+  behind_none : (parens : ℕ) (ts us : List Lexeme) → one_at minus_of ts ≡ Ok (tt, us) → unary_item prim 0 parens ts ≡ number_at 0 parens us
+  unfolding unary_item unary_at
   behind_none parens ts us h = ap (λ (b : Bool). cond b (none_left parens ts) (prim 0 parens ts)) (one_starts minus_of ts (tt, us) h) ∙ ap (λ (r : Read Lexeme (Unit {0})). r >>= λ o. number_at 0 parens o.1) h
 
-  behind_some : (ops parens : ℕ) (ts us : List Lexeme) → one_at minus_of ts ≡ Ok (tt, us) → signed_item prim (suc ops) parens ts ≡ either (is negative_of) (number_at (suc ops) parens) (minus_at ops parens) us
-  unfolding signed_item unary_at
+  behind_some : (ops parens : ℕ) (ts us : List Lexeme) → one_at minus_of ts ≡ Ok (tt, us) → unary_item prim (suc ops) parens ts ≡ either (is negative_of) (number_at (suc ops) parens) (minus_at ops parens) us
+  unfolding unary_item unary_at
   behind_some ops parens ts us h = ap (λ (b : Bool). cond b (some_left ops parens ts) (prim (suc ops) parens ts)) (one_starts minus_of ts (tt, us) h)
       ∙ ap (λ (r : Read Lexeme (Unit {0})). r >>= λ o. either (is negative_of) (number_at (suc ops) parens) (minus_at ops parens) o.1) h
 
-  pub signed_number : (ops parens : ℕ) (ts us vs : List Lexeme) (v : Value) → one_at minus_of ts ≡ Ok (tt, us) → one_at negative_of us ≡ Ok (v, vs)
-      → signed_item prim ops parens ts ≡ Ok ((LiteralTerm v, ops, parens), vs)
-  signed_number zero parens ts us vs v h k = behind_none parens ts us h ∙ ap (λ (r : Read Lexeme Value). r >>= λ o. Ok ((LiteralTerm o.0, 0, parens), o.1)) k
-  signed_number (suc ops) parens ts us vs v h k = behind_some ops parens ts us h
+  pub unary_number : (ops parens : ℕ) (ts us vs : List Lexeme) (v : Value) → one_at minus_of ts ≡ Ok (tt, us) → one_at negative_of us ≡ Ok (v, vs)
+      → unary_item prim ops parens ts ≡ Ok ((LiteralTerm v, ops, parens), vs)
+  unary_number zero parens ts us vs v h k = behind_none parens ts us h ∙ ap (λ (r : Read Lexeme Value). r >>= λ o. Ok ((LiteralTerm o.0, 0, parens), o.1)) k
+  unary_number (suc ops) parens ts us vs v h k = behind_some ops parens ts us h
       ∙ ap (λ (b : Bool). cond b (number_at (suc ops) parens us) (minus_at ops parens us)) (one_starts negative_of us (v, vs) k)
       ∙ ap (λ (r : Read Lexeme Value). r >>= λ o. Ok ((LiteralTerm o.0, suc ops, parens), o.1)) k
 
-  pub signed_spent : (ops parens : ℕ) (ts us : List Lexeme) → ops ≡ 0 → one_at minus_of ts ≡ Ok (tt, us) → starts (is negative_of) us ≡ false → signed_item prim ops parens ts ≡ Err us
-  signed_spent ops parens ts us z h k = rw z (behind_none parens ts us h ∙ ap (λ (r : Read Lexeme Value). r >>= λ o. Ok ((LiteralTerm o.0, 0, parens), o.1)) (one_stops negative_of us k))
+  pub unary_spent : (ops parens : ℕ) (ts us : List Lexeme) → ops ≡ 0 → one_at minus_of ts ≡ Ok (tt, us) → starts (is negative_of) us ≡ false → unary_item prim ops parens ts ≡ Err us
+  unary_spent ops parens ts us z h k = rw z (behind_none parens ts us h ∙ ap (λ (r : Read Lexeme Value). r >>= λ o. Ok ((LiteralTerm o.0, 0, parens), o.1)) (one_stops negative_of us k))
 
-  pub signed_minus : (ops parens : ℕ) (ts us : List Lexeme) → ops ≢ 0 → one_at minus_of ts ≡ Ok (tt, us) → starts (is negative_of) us ≡ false
-      → signed_item prim ops parens ts ≡ made (UnaryTerm Negate) (signed_item prim (ops - 1) parens us)
-  unfolding signed_item
-  signed_minus zero parens ts us z h k = absurd (z refl)
-  signed_minus (suc ops) parens ts us z h k =
+  pub unary_minus : (ops parens : ℕ) (ts us : List Lexeme) → ops ≢ 0 → one_at minus_of ts ≡ Ok (tt, us) → starts (is negative_of) us ≡ false
+      → unary_item prim ops parens ts ≡ made (UnaryTerm Negate) (unary_item prim (ops - 1) parens us)
+  unfolding unary_item
+  unary_minus zero parens ts us z h k = absurd (z refl)
+  unary_minus (suc ops) parens ts us z h k =
       rw sub-one (behind_some ops parens ts us h ∙ ap (λ (b : Bool). cond b (number_at (suc ops) parens us) (minus_at ops parens us)) k)
 
 -- ---- parentheses

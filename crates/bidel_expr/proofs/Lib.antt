@@ -8,3 +8,5 @@ pub mod OperatorLemmas
 pub mod Comparisons
 pub mod ExpressionLaws
 pub mod ExpressionSteps
+pub mod TokenValues
+pub mod WorkedExpressions

@@ -1,5 +1,5 @@
 -- Names, literals and lists of them are read as their grammar says.
-use Rattle.std.proofs.Common.{◌≡◌, ◌++◌, ℕ, List, Bool, true, false, refl, inl, inr}
+use Rattle.std.proofs.Common.{◌≡◌, ◌++◌, List, true, false, refl, inl, inr}
 use Rattle.std.specs.Prelude.{Some, codes, pos, neg_ℤ}
 use Rattle.par_base.specs.Names.{is_name, is_reserved}
 use Rattle.par_base.specs.declared.value.Value.{Value}
@@ -9,7 +9,7 @@ use Rattle.phrases.specs.Reading.{starts, is, none, or, one_at, behind_at}
 use Rattle.phrases.specs.Reads.{Reads}
 use Rattle.phrases.proofs.Readers.{either-reads, one-reads, word as then_word, begins_one, begins_token, known}
 use Rattle.phrases.proofs.Lists.{enclosed-reads}
-use Rattle.bidel_expr.specs.Lexemes.{Lexeme, word, number, symbol, name_of, negative_of, unsigned_of, text_of}
+use Rattle.bidel_expr.specs.Lexemes.{Lexeme, word, number, symbol, name_of, negative_of, unsigned_of}
 use Rattle.bidel_expr.specs.Literals.{comma_of, open_of, close_of, minus_of, Names, Literal, Tuple, name_at, names_at, literal_at, begins_literal, tuple_at}
 use Rattle.bidel_expr.proofs.WordLemmas.{by_sign, by_unsigned}
 

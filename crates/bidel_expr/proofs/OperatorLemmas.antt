@@ -1,6 +1,6 @@
 -- Which tokens say operators.
 use Rattle.std.proofs.Common.{◌≡◌, ℕ, List, [], ◌∷◌, Bool, true, false, refl, ap, ◌∙◌, sym, cond}
-use Rattle.std.specs.Prelude.{Option, Some, None, codes, bytes_eq}
+use Rattle.std.specs.Prelude.{Some, codes, bytes_eq}
 use Rattle.expr_lang.specs.declared.tree.BinaryOp.{BinaryOp}
 use Rattle.expr_lang.specs.declared.tree.BinaryOp.TheVariants.{Or, And}
 use Rattle.bidel_expr.specs.Lexemes.{Lexeme, word, number, reference, «text», symbol}

@@ -1,12 +1,11 @@
 -- What texts say.
-use Rattle.std.proofs.Common.{◌≡◌, ◌++◌, ◌∷◌, [], ℕ, ◌+◌, ◌-◌, ◌≤◌, List, Bool, true, false, length, take, drop, flat_map, refl, ap, ◌∙◌, sym, cond, arith, length-append}
-use Rattle.std.specs.Prelude.{Option, Some, None, IsUtf8, ◌==◌}
+use Rattle.std.proofs.Common.{◌≡◌, ◌++◌, ◌∷◌, [], ℕ, ◌-◌, List, Bool, true, false, length, take, flat_map, refl, ap, ◌∙◌, sym, cond, arith, length-append}
+use Rattle.std.specs.Prelude.{Some, None, IsUtf8, ◌==◌}
 use Rattle.std.specs.Str.{is_utf8}
 use Rattle.std.proofs.lemmas.Str.{IsUtf8-from_is_utf8, is_utf8-from_IsUtf8}
 use Rattle.std.proofs.lemmas.List.{take-append-le, take_all}
 use Rattle.par_base.specs.Literals.{undoubled, quoted, doubled}
 use Rattle.par_base.proofs.LiteralLemmas.{undoubled_kept, undoubled_left, undoubled_all, undoubled-doubled}
-use Rattle.bidel_lex.specs.declared.tokens.Token.{Token}
 use Rattle.bidel_lex.specs.declared.tokens.TokenKind.TheVariants as kind
 use Rattle.bidel_lex.specs.Spelled.{IsText, doubled as doubled_bytes}
 use Rattle.bidel_expr.specs.Lexemes.{lexeme_of, between, text_of}
@@ -43,7 +42,7 @@ between_quotes : (body : List ℕ) → between (39 ∷ (body ++ 39 ∷ [])) ≡ 
 between_quotes body = let long : length (39 ∷ (body ++ 39 ∷ [])) - 2 ≡ length body = omega (arith, length-append body (39 ∷ [])) in
     ap (λ (n : ℕ). take n (body ++ 39 ∷ [])) long ∙ take-append-le (length body) body (39 ∷ []) (omega arith) ∙ take_all (length body) body (omega arith)
 
--- a text token has the value whose literal text it is
+-- a text has the value whose literal text it is
 pub text_has_value : (written : List ℕ) → IsText written → (body : List ℕ) × IsUtf8 body × (written ≡ quoted body) × (text_of (lexeme_of kind.Text written) ≡ Some body)
 text_has_value written h =
     let same : written ≡ quoted h.body = h.quoted ∙ ap (λ (l : List ℕ). 39 ∷ (l ++ 39 ∷ [])) (one_doubling h.body) in

@@ -1,13 +1,10 @@
 -- The tokens of the bytes lie within them.
-use Rattle.std.proofs.Common.{◌≡◌, ◌≤◌, ◌-◌, ◌++◌, ℕ, zero, suc, List, [], ◌∷◌, Bool, true, false, refl, ap, ◌∙◌, sym, length, take, drop, length-drop, arith, inl, inr, nat_le}
+use Rattle.std.proofs.Common.{◌≡◌, ◌≤◌, ◌-◌, ◌++◌, ℕ, zero, suc, List, [], ◌∷◌, Bool, true, false, refl, ap, ◌∙◌, length, take, drop, length-drop, arith, nat_le}
 use Rattle.std.specs.Prelude.{◌&&◌, slice_range}
 use Rattle.std.proofs.lemmas.List.{take-append-le, drop-append-le}
 use Rattle.std.proofs.lemmas.Bool.{le-leb}
-use Rattle.std.proofs.lemmas.Bool.Decides.{leb_tells}
-use Rattle.std.proofs.Math.ListN.{drop_of_length-le}
 use Rattle.bidel_lex.specs.declared.tokens.Token.{Token}
 use Rattle.bidel_lex.specs.declared.tokens.Lexed.TheVariants as lexed
-use Rattle.bidel_lex.specs.Next.{lexed_at, next_of}
 use Rattle.bidel_lex.specs.Tokens.{AreTokens}
 use Rattle.bidel_lex.proofs.Within.{within_along}
 use Rattle.bidel_expr.specs.Within.{are_within}

@@ -62,12 +62,15 @@ name_is («text» b) w h = cc
 name_is (symbol s) w h = cc
 
 -- a name is no reserved word
-pub name_not : (k : List ℕ) → is_name k ≡ false → (t : Lexeme) (w : List ℕ) → name_of t ≡ Some w → is (keyword k) t ≡ false
-name_not k n t w h = let p = name_is t w h in ap (is (keyword k)) p.0 ∙ when_not (bytes_eq k w) tt (apart (bytes_eq k w) (λ e. same_bytes k w e))
+pub name_differs : (k w : List ℕ) → is_name k ≡ false → is_name w ≡ true → bytes_eq k w ≡ false
+name_differs k w n h = apart (bytes_eq k w) (λ e. same_bytes k w e)
   where
     apart : (b : Bool) → (b ≡ true → k ≡ w) → b ≡ false
-    apart true e = let same = e refl in let clash = sym n ∙ ap is_name same ∙ (name_is t w h).1 in cc
+    apart true e = let same = e refl in let clash = sym n ∙ ap is_name same ∙ h in cc
     apart false e = refl
+
+pub name_not : (k : List ℕ) → is_name k ≡ false → (t : Lexeme) (w : List ℕ) → name_of t ≡ Some w → is (keyword k) t ≡ false
+name_not k n t w h = let p = name_is t w h in ap (is (keyword k)) p.0 ∙ when_not (bytes_eq k w) tt (name_differs k w n p.1)
 
 -- the word null is no name
 pub null_no_name : is_name (codes "null") ≡ false

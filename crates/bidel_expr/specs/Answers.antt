@@ -43,6 +43,10 @@ abbrev pub IsThere : (Lexeme → Option (Unit {0})) → Cursor → Option Cursor
 IsThere f cursor None = starts (is f) (ahead cursor) ≡ false
 IsThere f cursor (Some rest) = one_at f (ahead cursor) ≡ Ok (tt, ahead rest)
 
+-- this value, where memory is found
+abbrev pub Finds : {X : Type 0} → X → Result X ReadError → Type 0
+Finds value result = MatchResult result (λ found. found ≡ value) (λ e. e ≡ Memory)
+
 -- an expression with this tree, where memory is found
 abbrev pub Makes : Term (List ℕ) → Result ExprText ReadError → Type 0
 Makes tree result = MatchResult result (λ made. text_term made ≡ tree) (λ e. e ≡ Memory)

@@ -1,26 +1,25 @@
 -- Expressions: which tokens spell which tree, and reading them.
 use Rattle.std.specs.Prelude.{◌≤◌, ◌+◌, ℕ, zero, suc, List, Bool, if◌then◌else◌}
-use Rattle.par_base.specs.declared.value.Value.{Value}
 use Rattle.expr_lang.specs.Terms.{Term, Literal as LiteralTerm, Column, Unary as UnaryTerm, Binary}
 use Rattle.expr_lang.specs.declared.tree.UnaryOp.{UnaryOp}
 use Rattle.expr_lang.specs.declared.tree.UnaryOp.TheVariants.{Not, Negate, IsNull, IsNotNull}
-use Rattle.phrases.specs.Phrases.{Nothing, Seq, OneOf, Either, Behind}
-use Rattle.phrases.specs.Reading.{Read, and_then, one_at, done, done_unless, either, is, or, none, behind_at}
-use Rattle.phrases.specs.Chains.{Item, Chain, chain, opens}
+use Rattle.phrases.specs.Phrases.{Nothing, Seq, OneOf, Either}
+use Rattle.phrases.specs.Reading.{Read, and_then, one_at, done, done_unless, either, is, or, none}
+use Rattle.phrases.specs.Chains.{Item, Chain, chain, joined, opens}
 use Rattle.phrases.specs.Levels.{Prefix, prefix_at, Unary, unary_at, Grouped, grouped_at}
 use Rattle.bidel_expr.specs.Lexemes.{Lexeme, name_of, negative_of, unsigned_of}
 use Rattle.bidel_expr.specs.Literals.{open_of, close_of, minus_of, null_of}
-use Rattle.bidel_expr.specs.Operators.{or_of, and_of, not_of, is_of, compare_of, sum_of, product_of}
+use Rattle.bidel_expr.specs.Operators.{or_of, and_of, not_of, is_of, compare_of, sum_of, product_of, op_of}
 use Rattle.bidel_expr.specs.declared.levels.Level.{Level}
-use Rattle.bidel_expr.specs.declared.levels.Level.TheVariants.{Disjunction, Conjunction, Sum as SumLevel, Product as ProductLevel}
+use Rattle.bidel_expr.specs.declared.levels.Level.TheVariants.{Disjunction, Conjunction, Sum, Product}
 
 -- an expression as it was written
 abbrev pub Tree : Type 0
 Tree = Term (List ℕ)
 
 -- which tokens spell which expression
-abbrev pub Spells : Type 1
-Spells = List Lexeme → Tree → Type 0
+abbrev pub Spelling : Type 1
+Spelling = List Lexeme → Tree → Type 0
 
 -- how many operators an expression has
 abbrev pub cost : Tree → ℕ
@@ -36,54 +35,57 @@ weight t = if is open_of t then 1 else 0
 -- ---- the grammar, each rule by the phrase of the next one
 
 -- expr = conj { OR conj }
-abbrev pub Expr : Spells → Spells
-Expr C = Chain Binary or_of C
+abbrev pub ExprRule : Spelling → Spelling
+ExprRule C = Chain Binary or_of C
 
 -- conj = neg { AND neg }
-abbrev pub Conj : Spells → Spells
-Conj N = Chain Binary and_of N
+abbrev pub ConjRule : Spelling → Spelling
+ConjRule N = Chain Binary and_of N
 
 -- neg = NOT neg | comp
-abbrev pub Neg : Spells → Spells
-Neg C = Prefix (UnaryTerm Not) not_of C
+abbrev pub NegRule : Spelling → Spelling
+NegRule C = Prefix (UnaryTerm Not) not_of C
 
--- comp = sum [ ( "=" | "<>" | "<" | "<=" | ">" | ">=" ) sum | IS [ NOT ] NULL ]
+-- [ NOT ] NULL
 abbrev pub NullTest : List Lexeme → UnaryOp → Type 0
 NullTest = Either (Seq (OneOf not_of) λ _. Seq (OneOf null_of) λ _. Nothing IsNotNull) (Seq (OneOf null_of) λ _. Nothing IsNull)
 
-abbrev pub CompTail : Spells → Tree → Spells
+-- a comparison of the sum a with another, a test of it for null, or the sum alone
+abbrev pub CompTail : Spelling → Tree → Spelling
 CompTail S a = Either (Seq (OneOf compare_of) λ op. Seq S λ b. Nothing (Binary op a b)) (Either (Seq (OneOf is_of) λ _. Seq NullTest λ op. Nothing (UnaryTerm op a)) (Nothing a))
 
-abbrev pub Comp : Spells → Spells
-Comp S = Seq S (CompTail S)
+-- comp = sum [ ( "=" | "<>" | "<" | "<=" | ">" | ">=" ) sum | IS [ NOT ] NULL ]
+abbrev pub CompRule : Spelling → Spelling
+CompRule S = Seq S (CompTail S)
 
 -- sum = product { ( "+" | "-" | "||" ) product }
-abbrev pub Sum : Spells → Spells
-Sum P = Chain Binary sum_of P
+abbrev pub SumRule : Spelling → Spelling
+SumRule P = Chain Binary sum_of P
 
 -- product = unary { ( "*" | "/" | "%" ) unary }
-abbrev pub Product : Spells → Spells
-Product U = Chain Binary product_of U
+abbrev pub ProductRule : Spelling → Spelling
+ProductRule U = Chain Binary product_of U
 
 -- unary = "-" unary | primary, and a "-" before a number is the sign of a literal
-abbrev pub Signed : Spells → Spells
-Signed P = Unary (UnaryTerm Negate) LiteralTerm minus_of negative_of P
+abbrev pub UnaryRule : Spelling → Spelling
+UnaryRule P = Unary (UnaryTerm Negate) LiteralTerm minus_of negative_of P
 
--- primary = literal | name | "(" expr ")", where the literal's sign belongs to the unary
-abbrev pub Atom : Spells
+-- literal | name, where the sign of a literal belongs to the unary
+abbrev pub Atom : Spelling
 Atom = Either (Seq (OneOf unsigned_of) λ v. Nothing (LiteralTerm v)) (Seq (OneOf name_of) λ name. Nothing (Column name))
 
-abbrev pub Primary : Spells → Spells
-Primary E = Grouped open_of close_of Atom E
+-- primary = literal | name | "(" expr ")"
+abbrev pub PrimaryRule : Spelling → Spelling
+PrimaryRule E = Grouped open_of close_of Atom E
 
 -- all levels above a primary
-abbrev pub Levels : Spells → Spells
-Levels P = Expr (Conj (Neg (Comp (Sum (Product (Signed P))))))
+abbrev pub Levels : Spelling → Spelling
+Levels P = ExprRule (ConjRule (NegRule (CompRule (SumRule (ProductRule (UnaryRule P))))))
 
 -- a primary in which parentheses nest at most so deep
-abbrev pub PrimaryIn : ℕ → Spells
+abbrev pub PrimaryIn : ℕ → Spelling
 PrimaryIn zero = Atom
-PrimaryIn (suc depth) = Primary (Levels (PrimaryIn depth))
+PrimaryIn (suc depth) = PrimaryRule (Levels (PrimaryIn depth))
 
 -- an expression with so many operators and opening parentheses at most, however deep they nest
 pub record IsExpr (operators parentheses : ℕ) (ts : List Lexeme) (e : Tree) : Type 0 where
@@ -99,28 +101,32 @@ most_operators = 128
 abbrev pub most_parentheses : ℕ
 most_parentheses = 256
 
-abbrev pub Expression : Spells
+abbrev pub Expression : Spelling
 Expression = IsExpr most_operators most_parentheses
 
 -- the tokens that may continue an expression
 abbrev pub expression_goes : Lexeme → Bool
 expression_goes = or (is or_of) (or (is and_of) (or (is compare_of) (or (is is_of) (or (is sum_of) (or (is product_of) none)))))
 
--- ---- reading, each rule by the reading of a primary
+-- ---- reading, from the atom up, each rule by the reading of a primary
 
--- an atom leaves the limits as they are
+-- a name or a literal without a sign
 abbrev pub atom_at : List Lexeme → Read Lexeme Tree
 atom_at = either (is name_of) (and_then (one_at name_of) λ name. done (Column name)) (and_then (one_at unsigned_of) λ v. done (LiteralTerm v))
 
+-- it leaves the limits as they are
 abbrev pub atom_item : Item Lexeme Tree
 atom_item ops parens = and_then atom_at λ e. done (e, ops, parens)
 
-unfoldable pub signed_item : Item Lexeme Tree → Item Lexeme Tree
-signed_item prim = unary_at (UnaryTerm Negate) LiteralTerm minus_of negative_of prim
+-- a "-" is a sign where a number follows it
+unfoldable pub unary_item : Item Lexeme Tree → Item Lexeme Tree
+unary_item prim = unary_at (UnaryTerm Negate) LiteralTerm minus_of negative_of prim
 
+-- unaries and the operators between them
 unfoldable pub product_item : Item Lexeme Tree → Item Lexeme Tree
-product_item prim = chain Binary product_of (signed_item prim)
+product_item prim = chain Binary product_of (unary_item prim)
 
+-- products and the operators between them
 unfoldable pub sum_item : Item Lexeme Tree → Item Lexeme Tree
 sum_item prim = chain Binary sum_of (product_item prim)
 
@@ -136,15 +142,19 @@ comp_tail sum a (suc ops) parens =
     (either (is is_of) (and_then (one_at is_of) λ _. and_then null_test_at λ op. done (UnaryTerm op a, ops, parens))
     (done (a, suc ops, parens)))
 
+-- a sum and what follows it
 unfoldable pub comp_item : Item Lexeme Tree → Item Lexeme Tree
 comp_item prim ops parens = and_then (sum_item prim ops parens) λ x. comp_tail (sum_item prim) x.0 x.1 x.2
 
+-- NOT, as long as operators may come
 unfoldable pub neg_item : Item Lexeme Tree → Item Lexeme Tree
 neg_item prim = prefix_at (UnaryTerm Not) not_of (comp_item prim)
 
+-- AND between them
 unfoldable pub conj_item : Item Lexeme Tree → Item Lexeme Tree
 conj_item prim = chain Binary and_of (neg_item prim)
 
+-- OR between them
 unfoldable pub expr_item : Item Lexeme Tree → Item Lexeme Tree
 expr_item prim = chain Binary or_of (conj_item prim)
 
@@ -157,15 +167,20 @@ primary_item (suc depth) = grouped_at open_of close_of atom_item (expr_item (pri
 abbrev pub expression_at : List Lexeme → Read Lexeme Tree
 expression_at = and_then (expr_item (primary_item most_parentheses) most_operators most_parentheses) λ x. done x.0
 
--- what stands between the operators of a level, and the level
+-- what stands between the operators of a level
 abbrev pub operand_item : Level → Item Lexeme Tree → Item Lexeme Tree
 operand_item Disjunction = conj_item
 operand_item Conjunction = neg_item
-operand_item SumLevel = product_item
-operand_item ProductLevel = signed_item
+operand_item Sum = product_item
+operand_item Product = unary_item
 
+-- a level
 abbrev pub level_item : Level → Item Lexeme Tree → Item Lexeme Tree
 level_item Disjunction = expr_item
 level_item Conjunction = conj_item
-level_item SumLevel = sum_item
-level_item ProductLevel = product_item
+level_item Sum = sum_item
+level_item Product = product_item
+
+-- the operands of a level behind the first one
+abbrev pub further_item : Level → Tree → Item Lexeme Tree → Item Lexeme Tree
+further_item level first prim ops parens = joined Binary (op_of level) (operand_item level prim) ops first ops parens

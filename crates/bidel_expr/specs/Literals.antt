@@ -2,7 +2,7 @@
 use Rattle.std.specs.Prelude.{◌∷◌, [], ℕ, List, Bool, true, Option, codes, bytes_eq}
 use Rattle.par_base.specs.declared.value.Value.{Value}
 use Rattle.phrases.specs.Phrases.{OneOf, Either, Behind, Enclosed}
-use Rattle.phrases.specs.Reading.{Read, and_then, one_at, done, either, is, behind_at, rest_at, separated_at, enclosed_at, with_front}
+use Rattle.phrases.specs.Reading.{Read, one_at, done, either, is, behind_at, rest_at, separated_at, enclosed_at, with_front}
 use Rattle.bidel_expr.specs.Lexemes.{Lexeme, word, number, reference, «text», symbol, keyword, sign, name_of, negative_of, unsigned_of}
 
 -- ---- the signs

@@ -6,12 +6,12 @@
 ghost use Rattle.std.specs.Prelude.{◌≡◌, false, MatchResult};
 ghost use Rattle.expr_lang.specs.Terms.{text_term, Unary, Binary};
 ghost use Rattle.phrases.specs.Reading.{starts, is};
-ghost use Rattle.phrases.specs.Chains.{Item, joined};
+ghost use Rattle.phrases.specs.Chains.{Item};
 ghost use Rattle.bidel_expr.specs.Lexemes.{Lexeme};
-ghost use Rattle.bidel_expr.specs.Operators.{compare_of, op_of};
-ghost use Rattle.bidel_expr.specs.Expressions.{Tree, null_test_at, comp_tail, comp_item, neg_item, signed_item, sum_item, primary_item, atom_item, operand_item, level_item, expression_at};
+ghost use Rattle.bidel_expr.specs.Operators.{compare_of};
+ghost use Rattle.bidel_expr.specs.Expressions.{Tree, null_test_at, comp_tail, comp_item, neg_item, unary_item, sum_item, primary_item, atom_item, operand_item, level_item, further_item, expression_at};
 ghost use Rattle.bidel_expr.specs.Answers.{ahead, Gives, Makes};
-ghost use Rattle.bidel_expr.specs.Parts.{part_of};
+ghost use Rattle.bidel_expr.specs.Parts.{GivesPart};
 
 use crate::cursor::Cursor;
 use crate::levels::{Level, next_comparison, next_operator};
@@ -66,13 +66,25 @@ fn atom<'a>(
     cursor: Cursor<'a>,
     limits: Limits,
 ) -> Result<(Part, Cursor<'a>), ReadError>
-    ensures { Gives part_of (atom_item limits.operators limits.parentheses) cursor.entry result }
+    ensures { GivesPart atom_item limits cursor.entry result }
 {
     if let Some((name, rest)) = next_name(alloc, cursor)? {
-        return Ok((Part { tree: ExprText::Column(name), limits }, rest));
+        return Ok((
+            Part {
+                tree: ExprText::Column(name),
+                limits,
+            },
+            rest,
+        ));
     }
     match next_unsigned(alloc, cursor)? {
-        Some((value, rest)) => Ok((Part { tree: ExprText::Literal(value), limits }, rest)),
+        Some((value, rest)) => Ok((
+            Part {
+                tree: ExprText::Literal(value),
+                limits,
+            },
+            rest,
+        )),
         None => Err(ReadError::Left(cursor.tokens.len())),
     }
 }
@@ -96,7 +108,7 @@ fn chained<'a>(
     limits: Limits,
     depth: u32,
 ) -> Result<(Part, Cursor<'a>), ReadError>
-    ensures gives { Gives part_of (level_item level (primary_item depth) limits.operators limits.parentheses) cursor.entry result }
+    ensures gives { GivesPart (level_item level (primary_item depth)) limits cursor.entry result }
 {
     let (first, rest) = operand(alloc, level, cursor, limits, depth)?;
     further(alloc, level, first, rest, depth)
@@ -111,7 +123,7 @@ fn further<'a>(
     cursor: Cursor<'a>,
     depth: u32,
 ) -> Result<(Part, Cursor<'a>), ReadError>
-    ensures gives { Gives part_of (joined Binary (op_of level) (operand_item level (primary_item depth)) first.limits.operators (text_term first.tree) first.limits.operators first.limits.parentheses) cursor.entry result }
+    ensures gives { GivesPart (further_item level (text_term first.tree) (primary_item depth)) first.limits cursor.entry result }
 {
     let mut tree = first.tree;
     let mut limits = first.limits;
@@ -144,13 +156,13 @@ fn operand<'a>(
     limits: Limits,
     depth: u32,
 ) -> Result<(Part, Cursor<'a>), ReadError>
-    ensures gives { Gives part_of (operand_item level (primary_item depth) limits.operators limits.parentheses) cursor.entry result }
+    ensures gives { GivesPart (operand_item level (primary_item depth)) limits cursor.entry result }
 {
     match level {
         Level::Disjunction => chained(alloc, Level::Conjunction, cursor, limits, depth),
         Level::Conjunction => negation(alloc, cursor, limits, depth),
         Level::Sum => chained(alloc, Level::Product, cursor, limits, depth),
-        Level::Product => signed(alloc, cursor, limits, depth),
+        Level::Product => unary(alloc, cursor, limits, depth),
     }
 }
 
@@ -161,7 +173,7 @@ fn negation<'a>(
     limits: Limits,
     depth: u32,
 ) -> Result<(Part, Cursor<'a>), ReadError>
-    ensures gives { Gives part_of (neg_item (primary_item depth) limits.operators limits.parentheses) cursor.entry result }
+    ensures gives { GivesPart (neg_item (primary_item depth)) limits cursor.entry result }
 {
     if limits.operators == 0 {
         return comparison(alloc, cursor, limits, depth);
@@ -175,7 +187,13 @@ fn negation<'a>(
     };
     let (inner, rest) = negation(alloc, rest, fewer, depth)?;
     let tree = prefixed(alloc, UnaryOp::Not, inner.tree)?;
-    Ok((Part { tree, limits: inner.limits }, rest))
+    Ok((
+        Part {
+            tree,
+            limits: inner.limits,
+        },
+        rest,
+    ))
 }
 
 #[cycle(expression)]
@@ -185,7 +203,7 @@ fn comparison<'a>(
     limits: Limits,
     depth: u32,
 ) -> Result<(Part, Cursor<'a>), ReadError>
-    ensures gives { Gives part_of (comp_item (primary_item depth) limits.operators limits.parentheses) cursor.entry result }
+    ensures gives { GivesPart (comp_item (primary_item depth)) limits cursor.entry result }
 {
     let (first, rest) = chained(alloc, Level::Sum, cursor, limits, depth)?;
     compared(alloc, first, rest, depth)
@@ -199,7 +217,7 @@ fn compared<'a>(
     cursor: Cursor<'a>,
     depth: u32,
 ) -> Result<(Part, Cursor<'a>), ReadError>
-    ensures gives { Gives part_of (comp_tail (sum_item (primary_item depth)) (text_term first.tree) first.limits.operators first.limits.parentheses) cursor.entry result }
+    ensures gives { GivesPart (comp_tail (sum_item (primary_item depth)) (text_term first.tree)) first.limits cursor.entry result }
 {
     let Some((op, rest)) = next_comparison(cursor) else {
         return tested(alloc, first, cursor);
@@ -213,7 +231,13 @@ fn compared<'a>(
     };
     let (right, rest) = chained(alloc, Level::Sum, rest, fewer, depth)?;
     let tree = joined_by(alloc, op, first.tree, right.tree)?;
-    Ok((Part { tree, limits: right.limits }, rest))
+    Ok((
+        Part {
+            tree,
+            limits: right.limits,
+        },
+        rest,
+    ))
 }
 
 // A sum with IS NULL, with IS NOT NULL, or alone.
@@ -223,7 +247,7 @@ fn tested<'a>(
     cursor: Cursor<'a>,
 ) -> Result<(Part, Cursor<'a>), ReadError>
     requires { starts (is compare_of) (ahead cursor) ≡ false }
-    ensures { (sum : Item Lexeme Tree) → Gives part_of (comp_tail sum (text_term first.tree) first.limits.operators first.limits.parentheses) cursor.entry result }
+    ensures { (sum : Item Lexeme Tree) → GivesPart (comp_tail sum (text_term first.tree)) first.limits cursor.entry result }
 {
     let Some(rest) = next_keyword(cursor, "is") else {
         return Ok((first, cursor));
@@ -241,19 +265,25 @@ fn tested<'a>(
 }
 
 #[cycle(expression)]
-fn signed<'a>(
+fn unary<'a>(
     alloc: Global,
     cursor: Cursor<'a>,
     limits: Limits,
     depth: u32,
 ) -> Result<(Part, Cursor<'a>), ReadError>
-    ensures gives { Gives part_of (signed_item (primary_item depth) limits.operators limits.parentheses) cursor.entry result }
+    ensures gives { GivesPart (unary_item (primary_item depth)) limits cursor.entry result }
 {
     let Some(rest) = next_sign(cursor, "-") else {
         return primary(alloc, cursor, limits, depth);
     };
     if let Some((value, rest)) = next_negative(rest) {
-        return Ok((Part { tree: ExprText::Literal(value), limits }, rest));
+        return Ok((
+            Part {
+                tree: ExprText::Literal(value),
+                limits,
+            },
+            rest,
+        ));
     }
     if limits.operators == 0 {
         return Err(ReadError::Left(rest.tokens.len()));
@@ -262,9 +292,15 @@ fn signed<'a>(
         operators: limits.operators - 1,
         parentheses: limits.parentheses,
     };
-    let (inner, rest) = signed(alloc, rest, fewer, depth)?;
+    let (inner, rest) = unary(alloc, rest, fewer, depth)?;
     let tree = prefixed(alloc, UnaryOp::Negate, inner.tree)?;
-    Ok((Part { tree, limits: inner.limits }, rest))
+    Ok((
+        Part {
+            tree,
+            limits: inner.limits,
+        },
+        rest,
+    ))
 }
 
 #[cycle(expression)]
@@ -274,7 +310,7 @@ fn primary<'a>(
     limits: Limits,
     depth: u32,
 ) -> Result<(Part, Cursor<'a>), ReadError>
-    ensures gives { Gives part_of (primary_item depth limits.operators limits.parentheses) cursor.entry result }
+    ensures gives { GivesPart (primary_item depth) limits cursor.entry result }
 {
     let Some(rest) = next_sign(cursor, "(") else {
         return atom(alloc, cursor, limits);

@@ -4,7 +4,7 @@ ghost use Rattle.phrases.specs.Reading.{starts, one_at};
 ghost use Rattle.par_base.specs.Literals.{undoubled};
 ghost use Rattle.bidel_expr.specs.Lexemes.{lexeme_of, between, text_of, unsigned_of, negative_of};
 ghost use Rattle.bidel_expr.specs.Literals.{literal_at, begins_literal};
-ghost use Rattle.bidel_expr.specs.Answers.{ahead, IsNext, Gives};
+ghost use Rattle.bidel_expr.specs.Answers.{ahead, IsNext, Finds, Gives};
 
 use crate::cursor::{Cursor, Next};
 use crate::numbers::number_value;
@@ -70,7 +70,7 @@ fn without_quotes(written: &[u8]) -> &[u8]
 
 // What a text says, where that is UTF-8.
 fn text_value(alloc: Global, written: &[u8]) -> Result<Option<Text>, ReadError>
-    ensures { MatchResult result (λ text. text ≡ text_of (lexeme_of TokenKind.Text written.now)) (λ e. e ≡ ReadError.Memory) }
+    ensures { Finds (text_of (lexeme_of TokenKind.Text written.now)) result }
 {
     let bytes = without_doubling(alloc, without_quotes(written))?;
     match String::from_utf8(bytes) {
@@ -81,7 +81,7 @@ fn text_value(alloc: Global, written: &[u8]) -> Result<Option<Text>, ReadError>
 
 // The value of a token that is a literal without a sign.
 fn unsigned_value(alloc: Global, next: Next<'_>) -> Result<Option<Value>, ReadError>
-    ensures { MatchResult result (λ value. value ≡ unsigned_of (lexeme_of next.entry.kind next.entry.written.now)) (λ e. e ≡ ReadError.Memory) }
+    ensures { Finds (unsigned_of (lexeme_of next.entry.kind next.entry.written.now)) result }
 {
     match next.kind {
         TokenKind::Word if is_word(next.written, b"null") => Ok(Some(Value::Null)),
@@ -112,10 +112,7 @@ pub fn next_unsigned<'a>(
 }
 
 // A text and what comes after it, where one comes next.
-fn next_text<'a>(
-    alloc: Global,
-    cursor: Cursor<'a>,
-) -> Result<Option<(Text, Cursor<'a>)>, ReadError>
+fn next_text<'a>(alloc: Global, cursor: Cursor<'a>) -> Result<Option<(Text, Cursor<'a>)>, ReadError>
     ensures { MatchResult result (IsNext text_of cursor.entry) (λ e. e ≡ ReadError.Memory) }
 {
     let Some(next) = next_token(cursor) else {
@@ -140,8 +137,8 @@ pub fn take_text<'a>(alloc: Global, cursor: Cursor<'a>) -> Result<(Text, Cursor<
     }
 }
 
-/// The integer of a number behind a minus sign.
-pub fn take_negative(cursor: Cursor<'_>) -> Result<(Value, Cursor<'_>), ReadError>
+// The integer of a number behind a minus sign.
+fn take_negative(cursor: Cursor<'_>) -> Result<(Value, Cursor<'_>), ReadError>
     ensures { Gives (λ x. x) (one_at negative_of) cursor.entry result }
 {
     match next_negative(cursor) {
@@ -150,10 +147,7 @@ pub fn take_negative(cursor: Cursor<'_>) -> Result<(Value, Cursor<'_>), ReadErro
     }
 }
 
-fn take_unsigned<'a>(
-    alloc: Global,
-    cursor: Cursor<'a>,
-) -> Result<(Value, Cursor<'a>), ReadError>
+fn take_unsigned<'a>(alloc: Global, cursor: Cursor<'a>) -> Result<(Value, Cursor<'a>), ReadError>
     ensures { Gives (λ x. x) (one_at unsigned_of) cursor.entry result }
 {
     match next_unsigned(alloc, cursor)? {
@@ -163,10 +157,7 @@ fn take_unsigned<'a>(
 }
 
 /// NULL, a number with or without a minus sign, a text or a reference.
-pub fn take_literal<'a>(
-    alloc: Global,
-    cursor: Cursor<'a>,
-) -> Result<(Value, Cursor<'a>), ReadError>
+pub fn take_literal<'a>(alloc: Global, cursor: Cursor<'a>) -> Result<(Value, Cursor<'a>), ReadError>
     ensures { Gives (λ x. x) literal_at cursor.entry result }
 {
     match next_sign(cursor, "-") {

@@ -1,4 +1,4 @@
-use Rattle.std.proofs.Common.{◌≡◌, ◌∙◌, ◌+◌, ◌-◌, ap, sym, arith, inl, inr}
+use Rattle.std.proofs.Common.{◌∙◌, ◌+◌, ◌-◌, ap, sym, arith, inl, inr}
 use Rattle.std.proofs.lemmas.Result.{err_from_is_err_and}
 use Rattle.expr_lang.specs.Terms.{text_term, Unary, Binary}
 use Rattle.expr_lang.specs.declared.tree.UnaryOp.TheVariants.{Not, Negate}
@@ -7,11 +7,11 @@ use Rattle.phrases.specs.Chains.{joined}
 use Rattle.phrases.proofs.Steps.{chain_ends, chain_full, chain_spent, chain_goes, chain_stops}
 use Rattle.bidel_expr.specs.Literals.{close_of}
 use Rattle.bidel_expr.specs.Operators.{op_of}
-use Rattle.bidel_expr.specs.Expressions.{comp_item, comp_tail, expr_item, level_item, neg_item, signed_item, sum_item, primary_item, atom_item, operand_item}
+use Rattle.bidel_expr.specs.Expressions.{comp_item, comp_tail, expr_item, level_item, neg_item, unary_item, sum_item, primary_item, atom_item, operand_item}
 use Rattle.bidel_expr.specs.Answers.{ahead}
 use Rattle.bidel_expr.specs.Parts.{part_of}
 use Rattle.bidel_expr.proofs.Cursors.{ahead_length, fails_through, gives_through}
-use Rattle.bidel_expr.proofs.ExpressionSteps.{made, further_of, tail_of, level_is, neg_zero, neg_other, neg_goes, comp_is, tail_compares, compare_spent, signed_other, signed_number, signed_spent, signed_minus, closing, closed_by, primary_atom, primary_spent, primary_open}
+use Rattle.bidel_expr.proofs.ExpressionSteps.{made, further_of, tail_of, level_is, neg_zero, neg_other, neg_goes, comp_is, tail_compares, compare_spent, unary_other, unary_number, unary_spent, unary_minus, closing, closed_by, primary_atom, primary_spent, primary_open}
 use Rattle.bidel_expr.proofs.expressions.+expression.Goals as goal
 
 pub chained-returns-in_err-first : goal.chained-returns-in_err-first
@@ -83,8 +83,8 @@ further-returns-then-limits-eq0 t c = record {
   gives = (
     ahead c.loop-turn.rest,
     sym c.loop-turn.invariant.same
-    ∙ chain_spent Binary (op_of c.args.level) (operand_item c.args.level (primary_item c.args.depth)) _ (c.args.first.limits.operators - (c.loop-turn._turn + 1)) _ _ _ _ (c.in-Some.op, ahead c.in-Some.after)
-    (omega (arith, c.loop-turn-test.true)) c.if-limits-eq0.true c.in-Some.ensures,
+        ∙ chain_spent Binary (op_of c.args.level) (operand_item c.args.level (primary_item c.args.depth)) _ (c.args.first.limits.operators - (c.loop-turn._turn + 1)) _ _ _ _ (c.in-Some.op, ahead c.in-Some.after)
+        (omega (arith, c.loop-turn-test.true)) c.if-limits-eq0.true c.in-Some.ensures,
     sym (ahead_length c.loop-turn.rest),
   );
 }
@@ -172,35 +172,35 @@ primary-returns t c = record {
       ∙ ap (closed_by (part_of c.in_ok-inner.inner)) c.in_ok-rest.ensures;
 }
 
-pub signed-returns-in_default : goal.signed-returns-in_default
-signed-returns-in_default t c = record {
-  gives = gives_through part_of (signed_item (primary_item c.args.depth) c.args.limits.operators c.args.limits.parentheses) (primary_item c.args.depth c.args.limits.operators c.args.limits.parentheses) c.args.cursor c.args.cursor c.primary.result
-      (signed_other (primary_item c.args.depth) _ _ (ahead c.args.cursor) c.in_default.ensures) c.primary.ensures.gives;
+pub unary-returns-in_default : goal.unary-returns-in_default
+unary-returns-in_default t c = record {
+  gives = gives_through part_of (unary_item (primary_item c.args.depth) c.args.limits.operators c.args.limits.parentheses) (primary_item c.args.depth c.args.limits.operators c.args.limits.parentheses) c.args.cursor c.args.cursor c.primary.result
+      (unary_other (primary_item c.args.depth) _ _ (ahead c.args.cursor) c.in_default.ensures) c.primary.ensures.gives;
 }
 
-pub signed-returns-in-Some-next_negative : goal.signed-returns-in-Some-next_negative
-signed-returns-in-Some-next_negative t c = record {
-  gives = signed_number (primary_item c.args.depth) _ _ _ (ahead c.in-Some.rest) _ _ c.in-Some.ensures c.in-Some-next_negative.ensures;
+pub unary-returns-in-Some-next_negative : goal.unary-returns-in-Some-next_negative
+unary-returns-in-Some-next_negative t c = record {
+  gives = unary_number (primary_item c.args.depth) _ _ _ (ahead c.in-Some.rest) _ _ c.in-Some.ensures c.in-Some-next_negative.ensures;
 }
 
-pub signed-returns-then-limits-eq0 : goal.signed-returns-then-limits-eq0
-signed-returns-then-limits-eq0 t c = record {
+pub unary-returns-then-limits-eq0 : goal.unary-returns-then-limits-eq0
+unary-returns-then-limits-eq0 t c = record {
   gives = (
     ahead c.in-Some.rest,
-    signed_spent (primary_item c.args.depth) _ _ _ (ahead c.in-Some.rest) c.if-limits-eq0.true c.in-Some.ensures c.in_default-next_negative.ensures,
+    unary_spent (primary_item c.args.depth) _ _ _ (ahead c.in-Some.rest) c.if-limits-eq0.true c.in-Some.ensures c.in_default-next_negative.ensures,
     sym (ahead_length c.in-Some.rest),
   );
 }
 
-pub signed-returns-in_err-inner : goal.signed-returns-in_err-inner
-signed-returns-in_err-inner t c = record {
+pub unary-returns-in_err-inner : goal.unary-returns-in_err-inner
+unary-returns-in_err-inner t c = record {
   gives = let p = err_from_is_err_and c.from_residual.result c.from_residual.ensures.1 in
-      rw (p.1, p.2) (fails_through _ (signed_item (primary_item c.args.depth) (c.args.limits.operators - 1) c.args.limits.parentheses (ahead c.in-Some.rest)) _ c.in_err-inner.ensures.gives
-      (λ e h. signed_minus (primary_item c.args.depth) _ _ _ (ahead c.in-Some.rest) c.if-limits-eq0.false c.in-Some.ensures c.in_default-next_negative.ensures ∙ ap (made (Unary Negate)) h));
+      rw (p.1, p.2) (fails_through _ (unary_item (primary_item c.args.depth) (c.args.limits.operators - 1) c.args.limits.parentheses (ahead c.in-Some.rest)) _ c.in_err-inner.ensures.gives
+      (λ e h. unary_minus (primary_item c.args.depth) _ _ _ (ahead c.in-Some.rest) c.if-limits-eq0.false c.in-Some.ensures c.in_default-next_negative.ensures ∙ ap (made (Unary Negate)) h));
 }
 
-pub signed-returns : goal.signed-returns
-signed-returns t c = record {
+pub unary-returns : goal.unary-returns
+unary-returns t c = record {
   gives = rw c.in_ok-tree.ensures
-      (signed_minus (primary_item c.args.depth) _ _ _ (ahead c.in-Some.rest) c.if-limits-eq0.false c.in-Some.ensures c.in_default-next_negative.ensures ∙ ap (made (Unary Negate)) c.in_ok-inner.ensures.gives);
+      (unary_minus (primary_item c.args.depth) _ _ _ (ahead c.in-Some.rest) c.if-limits-eq0.false c.in-Some.ensures c.in_default-next_negative.ensures ∙ ap (made (Unary Negate)) c.in_ok-inner.ensures.gives);
 }

@@ -37,8 +37,8 @@ decreases-comparison l = measure l.depth 17 0
 abbrev pub decreases-compared : goal.decreases-compared
 decreases-compared l = measure l.depth 16 0
 
-abbrev pub decreases-signed : goal.decreases-signed
-decreases-signed l = measure l.depth 4 l.limits.operators
+abbrev pub decreases-unary : goal.decreases-unary
+decreases-unary l = measure l.depth 4 l.limits.operators
 
 abbrev pub decreases-primary : goal.decreases-primary
 decreases-primary l = measure l.depth 2 0
