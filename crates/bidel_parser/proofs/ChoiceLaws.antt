@@ -1,15 +1,15 @@
 -- Words that tell phrases apart, and parts that may be left out.
-use Rattle.std.proofs.Common.{◌≡◌, ◌++◌, ◌∷◌, [], ℕ, List, Bool, true, false, Ok, refl, ap, append_assoc, append-nil, ◌∙◌, sym, subst, cond, inl, inr}
+use Rattle.std.proofs.Common.{◌≡◌, ◌++◌, ◌∷◌, [], ℕ, List, Bool, true, false, refl, ap, append_assoc, ◌∙◌, sym, subst, cond, inl, inr}
 use Rattle.std.specs.Prelude.{Option, Some, None}
 use Rattle.phrases.specs.Phrases.{Nothing, Seq, Either, OneOf, Begins}
-use Rattle.phrases.specs.Reading.{Read, next, starts, taken, one_at, is, is_some, none, or}
+use Rattle.phrases.specs.Reading.{Read, starts, is, is_some, none, or}
 use Rattle.phrases.specs.Reads.{Reads}
 use Rattle.phrases.proofs.Readers.{done-reads, either-reads, respell, or_right, starts_left}
 use Rattle.phrases.proofs.Lists.{made-reads}
 use Rattle.phrases.proofs.Lookahead.{GoesOn}
 use Rattle.bidel_expr.specs.Lexemes.{Lexeme, word, keyword}
 use Rattle.bidel_expr.proofs.WordLemmas.{is_keyword}
-use Rattle.bidel_parser.specs.Words.{choice_of, Choice, choice_at, Flag, flag_at}
+use Rattle.bidel_parser.specs.Words.{choice_of, Flag, flag_at}
 
 -- ---- words and what they stand for
 

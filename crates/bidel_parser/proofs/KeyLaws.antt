@@ -1,21 +1,20 @@
 -- Keys are read as their grammar says.
-use Rattle.std.proofs.Common.{◌≡◌, ◌++◌, ◌∷◌, [], List, Bool, true, false, Ok, Err, refl, ap, append-nil, ◌∙◌, sym, subst}
-use Rattle.std.specs.Prelude.{Some, codes, cond}
+use Rattle.std.proofs.Common.{◌≡◌, ◌++◌, ◌∷◌, [], List, Bool, true, false, Ok, Err, refl, ◌∙◌, sym}
+use Rattle.std.specs.Prelude.{Some, codes}
 use Rattle.par_base.specs.Names.{is_name, is_reserved}
-use Rattle.phrases.specs.Phrases.{Nothing, Seq, OneOf}
-use Rattle.phrases.specs.Reading.{Read, starts, is, is_some, or, either}
+use Rattle.phrases.specs.Phrases.{Nothing, Seq}
+use Rattle.phrases.specs.Reading.{starts, is}
 use Rattle.phrases.specs.Reads.{Reads}
 use Rattle.phrases.specs.Levels.{prefix_at, unary_at}
-use Rattle.phrases.proofs.Readers.{done-reads, either-reads, one-reads, word as then_word, begins_one, begins_first, known}
+use Rattle.phrases.proofs.Readers.{done-reads, either-reads, word as then_word, begins_one, begins_first, known}
 use Rattle.phrases.proofs.Lists.{made-reads}
-use Rattle.bidel_expr.specs.Lexemes.{Lexeme, word, name_of}
-use Rattle.bidel_expr.specs.Expressions.{Tree, Expression, expression_goes, expression_at, expr_item, conj_item, neg_item, comp_item, sum_item, product_item, signed_item, primary_item}
-use Rattle.bidel_expr.proofs.LiteralLaws.{name_x}
+use Rattle.bidel_expr.specs.Lexemes.{Lexeme, word}
+use Rattle.bidel_expr.specs.Expressions.{Tree, Expression, expression_goes, expression_at, expr_item, conj_item, neg_item, comp_item, sum_item, product_item, unary_item, primary_item}
 use Rattle.bidel_expr.proofs.ExpressionLaws.{expression-reads}
 use Rattle.bidel_parser.specs.declared.first_words.KeyWord.{KeyWord}
 use Rattle.bidel_parser.specs.declared.first_words.KeyWord.TheVariants as by
-use Rattle.bidel_parser.specs.Words.{choice_of, Choice, choice_at, word_at}
-use Rattle.bidel_parser.specs.Views.{KeyView, Primary, Foreign, Condition}
+use Rattle.bidel_parser.specs.Words.{choice_of, Choice}
+use Rattle.bidel_parser.specs.Views.{Primary, Foreign, Condition}
 use Rattle.bidel_parser.specs.Operators.{key_words, KeyRest, Key, key_rest_at, key_at}
 use Rattle.bidel_parser.proofs.ChoiceLaws.{◌&◌, by_choice, chosen_of}
 use Rattle.bidel_parser.proofs.WordLaws.{then_keyword, then_name}
@@ -32,11 +31,11 @@ refused : (us : List Lexeme) → expression_at us ≡ Err us → (e : Tree) → 
 refused us h e k = let clash = sym h ∙ k in cc
 
 refuses_key : (t : Lexeme) (k : KeyWord) → choice_of key_words t ≡ Some k → (us : List Lexeme) → expression_at (t ∷ us) ≡ Err (t ∷ us)
-unfolding is_name is_reserved expr_item conj_item neg_item prefix_at comp_item sum_item product_item signed_item unary_at primary_item
+unfolding is_name is_reserved expr_item conj_item neg_item prefix_at comp_item sum_item product_item unary_item unary_at primary_item
 refuses_key = by_choice (λ t _. (us : List Lexeme) → expression_at (t ∷ us) ≡ Err (t ∷ us)) key_words ((λ us. refl) & (λ us. refl) & (λ us. refl) & (λ us. refl) & tt)
 
 refuses_none : expression_at [] ≡ Err []
-unfolding expr_item conj_item neg_item prefix_at comp_item sum_item product_item signed_item unary_at primary_item
+unfolding expr_item conj_item neg_item prefix_at comp_item sum_item product_item unary_item unary_at primary_item
 refuses_none = refl
 
 no_key : (front us : List Lexeme) (e : Tree) → Expression front e → starts (is (choice_of key_words)) (front ++ us) ≡ false

@@ -1,7 +1,7 @@
 -- Where the operators of a statement end: operators are known by their first words.
 use Rattle.std.proofs.Common.{◌≡◌, ◌++◌, ◌∷◌, [], ℕ, List, Bool, true, false, refl, ap, ◌∙◌, sym, subst, inl, inr, ◌⊎◌}
 use Rattle.std.specs.Prelude.{Some, ◌||◌, codes}
-use Rattle.phrases.specs.Phrases.{Nothing, Seq, Many, Begins}
+use Rattle.phrases.specs.Phrases.{Many, Begins}
 use Rattle.phrases.specs.Reading.{is}
 use Rattle.phrases.specs.Reads.{ReadsLast}
 use Rattle.phrases.proofs.Readers.{known, headed}
@@ -61,7 +61,7 @@ begun front o h =
     let c = h.first in
     let head : c.left ≡ word (operator_word c.value) ∷ [] = c.first.1 ∙ ap (λ (t : Lexeme). t ∷ []) (word_is c.first.0 c.value c.first.2) in
     let whole : front ≡ word (operator_word c.value) ∷ (c.right ++ h.right) =
-        h.whole ∙ ap (λ (l : List Lexeme). l ++ h.right) (c.whole ∙ ap (λ (l : List Lexeme). l ++ c.right) head) in
+    h.whole ∙ ap (λ (l : List Lexeme). l ++ h.right) (c.whole ∙ ap (λ (l : List Lexeme). l ++ c.right) head) in
     subst (Begun lone shared both) (sym whole) (begun_at c.value c.right h.right h.value c.second)
 
 -- ---- with each word that begins an operator some operator goes on

@@ -1,8 +1,7 @@
 -- What the readers of the code answer, step by step.
-use Rattle.std.proofs.Common.{◌≡◌, ◌∷◌, [], ◌≤◌, ℕ, List, Bool, true, false, Result, Ok, Err, refl, ap, ◌∙◌, sym, arith, length}
+use Rattle.std.proofs.Common.{◌≡◌, ◌∷◌, [], ◌≤◌, List, Bool, true, false, Result, Ok, Err, refl, ap, ◌∙◌, arith, length}
 use Rattle.std.specs.Prelude.{Option, Some, None, not, ◌||◌, ◌&&◌}
-use Rattle.phrases.specs.Reading.{Read, ◌>>=◌, and_then, starts, taken, one_at, is, is_some, either, done, with_front}
-use Rattle.phrases.proofs.Readers.{same_answer}
+use Rattle.phrases.specs.Reading.{Read, ◌>>=◌, and_then, starts, one_at, is, is_some, either, done, with_front}
 use Rattle.phrases.proofs.Steps.{one_starts, either_left}
 use Rattle.bidel_expr.specs.Lexemes.{Lexeme}
 use Rattle.bidel_expr.specs.declared.cursor.Cursor.{Cursor}

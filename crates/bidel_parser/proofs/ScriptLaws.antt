@@ -1,5 +1,5 @@
 -- Statements and scripts, by the laws of fronts.
-use Rattle.std.proofs.Common.{◌≡◌, ◌++◌, ◌∷◌, [], ◌+◌, ◌<◌, ℕ, List, Bool, true, false, refl, ap, sym, subst, append-nil, arith, length, take}
+use Rattle.std.proofs.Common.{◌≡◌, ◌++◌, ◌∷◌, [], ◌+◌, ◌<◌, ℕ, List, Bool, true, false, refl, sym, subst, append-nil, arith, length, take}
 use Rattle.std.specs.Prelude.{Some, codes}
 use Rattle.phrases.specs.Phrases.{Begins}
 use Rattle.phrases.specs.Fronts.{ShowsEnd}

@@ -1,9 +1,9 @@
 -- Statements are read as their grammar says, and where a script begins no statement stays open.
-use Rattle.std.proofs.Common.{◌≡◌, ◌++◌, ◌∷◌, [], ◌<◌, ℕ, List, Bool, true, false, refl, ap, append_assoc, ◌∙◌, sym, subst, length, length-append, arith}
+use Rattle.std.proofs.Common.{◌≡◌, ◌++◌, ◌∷◌, [], ◌<◌, ℕ, List, Bool, true, false, refl, ap, ◌∙◌, sym, subst, length, length-append, arith}
 use Rattle.std.specs.Prelude.{Option, Some, None, codes, cond}
 use Rattle.std.proofs.lemmas.Str.{IsUtf8-nil, is_utf8-from_IsUtf8}
-use Rattle.phrases.specs.Phrases.{Nothing, Seq, OneOf, Optional, Separated}
-use Rattle.phrases.specs.Reading.{Read, starts, is, none, done, and_then, separated_at}
+use Rattle.phrases.specs.Phrases.{Nothing, Seq, Optional, Separated}
+use Rattle.phrases.specs.Reading.{Read, starts, none, done, and_then, separated_at}
 use Rattle.phrases.specs.Reads.{Reads, ReadsLast}
 use Rattle.phrases.specs.Fronts.{IsOver}
 use Rattle.phrases.proofs.Readers.{then-reads, done-reads, word as then_one, headed}
@@ -12,13 +12,12 @@ use Rattle.phrases.proofs.Lookahead.{not_begun, not_begun_both}
 use Rattle.bidel_expr.specs.Lexemes.{Lexeme, word, number, symbol, «text», keyword, text_of}
 use Rattle.bidel_expr.specs.Literals.{comma_of, Tuple, tuple_at}
 use Rattle.bidel_expr.proofs.WordLemmas.{keyword_is}
-use Rattle.bidel_expr.specs.Expressions.{expression_goes}
 use Rattle.bidel_parser.specs.declared.first_words.StatementWord.{StatementWord}
 use Rattle.bidel_parser.specs.declared.first_words.StatementWord.TheVariants as first
 use Rattle.bidel_parser.specs.Words.{Word, Sign, Name, Flag, choice_of, session_of, sign_at}
 use Rattle.bidel_parser.specs.Views.{StatementView, CreateVersion, DropVersion, Insert, Import, Update, Delete, Select, Materialize, Step, ShowLayout, Use, Session, Advise}
 use Rattle.bidel_parser.specs.Operators.{ListedOperators, begins_operator, listed_operators_at}
-use Rattle.bidel_parser.specs.Statements.{statement_words, TableOf, TargetOf, AssignmentOf, Filter, Items, CreateVersionRest, DropVersionRest, InsertRest, ImportRest, UpdateRest, DeleteRest, SelectRest, MaterializeRest, ShowRest, SessionRest, StatementRest, IsStatement, stays_open, table_at, target_at, assignment_at, filter_at, items_at, origin_at, csv_at, in_steps_at, create_version_rest_at, drop_version_rest_at, insert_rest_at, import_rest_at, update_rest_at, delete_rest_at, select_rest_at, materialize_rest_at, step_rest_at, show_rest_at, use_rest_at, session_rest_at, advise_rest_at, statement_rest_at, statement_at}
+use Rattle.bidel_parser.specs.Statements.{statement_words, TableOf, TargetOf, AssignmentOf, Filter, Items, CreateVersionRest, DropVersionRest, InsertRest, ImportRest, UpdateRest, DeleteRest, SelectRest, MaterializeRest, SessionRest, StatementRest, IsStatement, stays_open, table_at, target_at, assignment_at, filter_at, items_at, origin_at, csv_at, in_steps_at, create_version_rest_at, drop_version_rest_at, insert_rest_at, import_rest_at, update_rest_at, delete_rest_at, select_rest_at, materialize_rest_at, session_rest_at, statement_rest_at, statement_at}
 use Rattle.bidel_parser.proofs.WordLaws.{then_keyword, then_sign, then_name, keyword_last, name_last, keyword_begins, sign_begins}
 use Rattle.bidel_parser.proofs.ChoiceLaws.{◌&◌, by_choice, maybe_begins}
 use Rattle.bidel_parser.proofs.TableLaws.{table_goes, names_go, targets_go, assignments_go, filter_goes, origin_goes, csv_goes, in_steps_goes, table-reads, rows-reads, targets-reads, assignments-reads, items-reads, filter-reads, origin-reads, csv-reads, in-steps-reads}

@@ -1,21 +1,18 @@
 -- What statements name is read as its grammar says.
-use Rattle.std.proofs.Common.{◌≡◌, ◌++◌, ℕ, List, Bool, true, false, refl, ap, ◌∙◌}
-use Rattle.std.specs.Prelude.{Option, Some, None, codes}
-use Rattle.par_base.specs.declared.limits.Target.{Target}
-use Rattle.phrases.specs.Phrases.{Nothing, Seq, OneOf, Behind, Optional, Separated}
-use Rattle.phrases.specs.Reading.{starts, is, none, or, done, and_then, separated_at}
+use Rattle.std.proofs.Common.{◌≡◌, ℕ, List, Bool, true, false, refl, ap, ◌∙◌}
+use Rattle.std.specs.Prelude.{Some, None, codes}
+use Rattle.phrases.specs.Phrases.{Nothing, Seq, Behind, Optional, Separated}
+use Rattle.phrases.specs.Reading.{is, none, or, separated_at}
 use Rattle.phrases.specs.Reads.{Reads}
-use Rattle.phrases.proofs.Readers.{done-reads, either-reads, one-reads, word as then_one, begins_first, begins_token, known}
+use Rattle.phrases.proofs.Readers.{done-reads, either-reads, begins_first, begins_token}
 use Rattle.phrases.proofs.Lists.{made-reads, optional-reads, separated-reads}
-use Rattle.bidel_expr.specs.Lexemes.{Lexeme, word, number, symbol, name_of}
+use Rattle.bidel_expr.specs.Lexemes.{Lexeme, symbol, name_of}
 use Rattle.bidel_expr.specs.Literals.{comma_of, dot_of, star_of, Tuple, name_at, tuple_at}
-use Rattle.bidel_expr.specs.Expressions.{Tree, Expression, expression_goes, expression_at}
+use Rattle.bidel_expr.specs.Expressions.{Expression, expression_goes, expression_at}
 use Rattle.bidel_expr.proofs.WordLemmas.{is_sign, name_is}
 use Rattle.bidel_expr.proofs.LiteralLaws.{name-reads, tuple-reads}
 use Rattle.bidel_expr.proofs.ExpressionLaws.{expression-reads}
-use Rattle.bidel_parser.specs.declared.statement.TableName.{TableName}
-use Rattle.bidel_parser.specs.Words.{Word, Sign, Name, Flag, is_word, session_of}
-use Rattle.bidel_parser.specs.Views.{AssignmentView}
+use Rattle.bidel_parser.specs.Words.{Word, Sign, Name, Flag, is_word}
 use Rattle.bidel_parser.specs.Statements.{table_named, TableOf, target_named, TargetOf, assigned, AssignmentOf, Filter, Items, second_name_at, table_at, target_at, assignment_at, filter_at, items_at, origin_at, csv_at, in_steps_at}
 use Rattle.bidel_parser.proofs.WordLaws.{then_keyword, then_sign, then_name, keyword_reads, keyword_begins, sign_begins}
 use Rattle.bidel_parser.proofs.ChoiceLaws.{flag-reads}

@@ -1,10 +1,10 @@
 -- One reserved word, one sign or one name, and then a phrase.
-use Rattle.std.proofs.Common.{◌≡◌, ◌++◌, ℕ, List, Bool, false, refl, ap, ◌∙◌}
+use Rattle.std.proofs.Common.{◌≡◌, ◌++◌, ℕ, List, Bool, refl, ap}
 use Rattle.std.specs.Prelude.{Some, None, codes, cond}
 use Rattle.std.proofs.lemmas.Slice.Eq.{bytes_eq-Decides}
 use Prim.Native.String.{String}
 use Rattle.phrases.specs.Phrases.{Seq}
-use Rattle.phrases.specs.Reading.{Read, starts, and_then, none}
+use Rattle.phrases.specs.Reading.{Read, starts, and_then}
 use Rattle.phrases.specs.Reads.{Reads, ReadsLast}
 use Rattle.phrases.proofs.Readers.{one-reads, word as then_one, begins_one}
 use Rattle.phrases.proofs.Lasts.{word-last}

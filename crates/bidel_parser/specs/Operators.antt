@@ -1,9 +1,9 @@
 -- Operators: which tokens spell which, and reading them.
-use Rattle.std.specs.Prelude.{◌≡◌, ◌+◌, ◌∷◌, [], ℕ, List, Bool, true, false, Option, Some, None, length, codes}
-use Rattle.phrases.specs.Phrases.{Nothing, Seq, OneOf, Either, Many, Behind, Optional}
-use Rattle.phrases.specs.Reading.{Read, and_then, one_at, done, either, is, begins_item, many_at, behind_at, optional_at, with_front, starts}
+use Rattle.std.specs.Prelude.{◌+◌, ◌∷◌, [], ℕ, List, Bool, true, false, Option, Some, None, length, codes}
+use Rattle.phrases.specs.Phrases.{Nothing, Seq, Either, Many, Behind, Optional}
+use Rattle.phrases.specs.Reading.{Read, and_then, done, either, is, begins_item, many_at, behind_at, optional_at, with_front, starts}
 use Rattle.bidel_expr.specs.Lexemes.{Lexeme}
-use Rattle.bidel_expr.specs.Literals.{comma_of, semicolon_of, Names, name_at, names_at}
+use Rattle.bidel_expr.specs.Literals.{comma_of, Names, name_at, names_at}
 use Rattle.bidel_expr.specs.Expressions.{Expression, expression_at}
 use Rattle.bidel_parser.specs.declared.first_words.OperatorWord.{OperatorWord}
 use Rattle.bidel_parser.specs.declared.first_words.OperatorWord.TheVariants as first
@@ -71,16 +71,20 @@ pub record Part : Type 0 where
   pub columns : List (List ℕ)
   pub key : KeyView
 
+-- a DECOMPOSE, with or without a second table
 abbrev pub decomposed : List ℕ → List ℕ → List (List ℕ) → Option Part → OpView
 decomposed table target columns None = DecomposeSingle table target columns
 decomposed table target columns (Some part) = Decompose table target columns part.table part.columns part.key
 
+-- a second table of these parts
 abbrev pub part_of : List ℕ → List (List ℕ) → KeyView → Part
 part_of table columns key = record { table = table; columns = columns; key = key }
 
+-- the second table that was read
 abbrev pub part_view : Second → Part
 part_view second = part_of second.table second.columns (key_view second.key)
 
+-- the same, where there is one
 abbrev pub optional_view : Option Second → Option Part
 optional_view None = None
 optional_view (Some second) = Some (part_view second)
@@ -99,6 +103,7 @@ abbrev pub JoinRest : Bool → List Lexeme → OpView → Type 0
 JoinRest outer = Seq (Word "table") λ _. Seq Name λ first. Seq (Sign ",") λ _. Seq Name λ second. Seq (Word "into") λ _. Seq Name λ target.
     Seq (Word "on") λ _. Seq Key λ key. Nothing (Join outer first second target key)
 
+-- a table with the condition of its rows
 abbrev pub branch_of : List ℕ → Tree → BranchView
 branch_of table condition = record { table = table; condition = condition }
 
@@ -130,6 +135,7 @@ OperatorRest first.Join = JoinRest false
 OperatorRest first.Split = SplitRest
 OperatorRest first.Merge = MergeRest
 
+-- an operator, by its first word
 abbrev pub Operator : List Lexeme → OpView → Type 0
 Operator = Choice operator_words OperatorRest
 
@@ -167,7 +173,7 @@ shows_operator (t ∷ ts) = starts (goes_on_with (choice_of shared_words t)) ts
 abbrev pub begins_operator : Bool → List Lexeme → Bool
 begins_operator = begins_item (is (choice_of lone_words)) (is (choice_of shared_words)) (λ t. goes_on_with (choice_of shared_words t))
 
--- ---- reading
+-- ---- reading, rule by rule
 
 abbrev pub key_rest_at : KeyWord → List Lexeme → Read Lexeme KeyView
 key_rest_at by.Pk = done Primary
@@ -198,6 +204,7 @@ add_rest_at = and_then (word_at "column") λ _. and_then name_at λ column. and_
 abbrev pub second_part_at : List Lexeme → Read Lexeme Part
 second_part_at = and_then name_at λ table. and_then names_at λ columns. and_then (word_at "on") λ _. and_then key_at λ key. done (part_of table columns key)
 
+-- the part behind a comma, where one comes
 abbrev pub optional_part_at : List Lexeme → Read Lexeme (Option Part)
 optional_part_at = optional_at (is comma_of) (behind_at comma_of second_part_at)
 
@@ -212,6 +219,7 @@ join_rest_at outer = and_then (word_at "table") λ _. and_then name_at λ first.
 abbrev pub split_branch_at : List Lexeme → Read Lexeme BranchView
 split_branch_at = and_then name_at λ table. and_then (word_at "with") λ _. and_then expression_at λ condition. done (branch_of table condition)
 
+-- the branch behind a comma, where one comes
 abbrev pub second_branch_at : List Lexeme → Read Lexeme (Option BranchView)
 second_branch_at = optional_at (is comma_of) (behind_at comma_of split_branch_at)
 

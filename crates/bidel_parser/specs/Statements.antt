@@ -3,7 +3,7 @@ use Rattle.std.specs.Prelude.{◌∷◌, [], ℕ, List, Bool, false, Option, Som
 use Rattle.par_base.specs.declared.limits.Target.{Target}
 use Rattle.phrases.specs.Phrases.{Nothing, Seq, OneOf, Either, Many, Behind, Optional, Separated}
 use Rattle.phrases.specs.Reading.{Read, and_then, one_at, done, either, is, behind_at, optional_at, separated_at}
-use Rattle.bidel_expr.specs.Lexemes.{Lexeme, keyword, text_of}
+use Rattle.bidel_expr.specs.Lexemes.{Lexeme, text_of}
 use Rattle.bidel_expr.specs.Literals.{comma_of, dot_of, star_of, Tuple, name_at, tuple_at}
 use Rattle.bidel_expr.specs.Expressions.{Expression, expression_at}
 use Rattle.bidel_parser.specs.declared.statement.TableName.{TableName}
@@ -39,6 +39,7 @@ target_named version table = record { version = version; table = table }
 abbrev pub TargetOf : List Lexeme → Target → Type 0
 TargetOf = Seq Name λ version. Seq (Optional (Behind dot_of Name)) λ table. Nothing (target_named version table)
 
+-- an assignment of these parts
 abbrev pub assigned : List ℕ → Tree → AssignmentView
 assigned column value = record { column = column; value = value }
 
@@ -115,6 +116,7 @@ StatementRest first.Use = Seq Name λ name. Seq (Sign ";") λ _. Nothing (Use na
 StatementRest first.Session = SessionRest
 StatementRest first.Advise = Seq Name λ name. Seq (Sign ";") λ _. Nothing (Advise name)
 
+-- a statement, by its first word
 abbrev pub IsStatement : List Lexeme → StatementView → Type 0
 IsStatement = Choice statement_words StatementRest
 
@@ -127,8 +129,9 @@ abbrev pub stays_open : StatementView → Bool → List Lexeme → Bool
 stays_open (CreateVersion name origin operators) ended ts = begins_operator ended ts
 stays_open _ ended ts = false
 
--- ---- reading
+-- ---- reading, rule by rule
 
+-- the name behind a dot, where one comes
 abbrev pub second_name_at : List Lexeme → Read Lexeme (Option (List ℕ))
 second_name_at = optional_at (is dot_of) (behind_at dot_of name_at)
 
@@ -192,6 +195,7 @@ step_rest_at = and_then (sign_at ";") λ _. done Step
 abbrev pub show_rest_at : List Lexeme → Read Lexeme StatementView
 show_rest_at = and_then (word_at "layout") λ _. and_then (sign_at ";") λ _. done ShowLayout
 
+-- a name and its semicolon
 abbrev pub closed_name_at : List Lexeme → Read Lexeme (List ℕ)
 closed_name_at = and_then name_at λ name. and_then (sign_at ";") λ _. done name
 

@@ -68,10 +68,7 @@ const KEY_WORDS: [(&str, KeyWord); 4] = [
 ];
 
 // What the next word stands for among these, and what comes after it, where it is one of them.
-fn next_choice<'a, K: Copy>(
-    cursor: Cursor<'a>,
-    choices: &[(&str, K)],
-) -> Option<(K, Cursor<'a>)>
+fn next_choice<'a, K: Copy>(cursor: Cursor<'a>, choices: &[(&str, K)]) -> Option<(K, Cursor<'a>)>
     ensures { IsNext (choice_of (map (λ choice. (choice.0.now, choice.1)) choices.now)) cursor.entry result }
 {
     match choices {

@@ -3,9 +3,9 @@ ghost use Rattle.std.specs.Prelude.{◌≡◌, drop, length};
 ghost use Rattle.bidel_lex.specs.Tokens.{AreTokens};
 ghost use Rattle.bidel_parser.specs.Parsing.{Parses, start_of};
 
-use bidel_expr::{Cursor, ReadError};
 use crate::statement::{Parsed, Syntax};
 use crate::statements::take_statement;
+use bidel_expr::{Cursor, ReadError};
 use bidel_lex::Token;
 use par_base::Fault;
 use std::alloc::Global;

@@ -57,10 +57,7 @@ fn drop_version_rest<'a>(
 }
 
 // INSERT INTO tab VALUES tuple { "," tuple } ";"
-fn insert_rest<'a>(
-    alloc: Global,
-    cursor: Cursor<'a>,
-) -> Result<(Statement, Cursor<'a>), ReadError>
+fn insert_rest<'a>(alloc: Global, cursor: Cursor<'a>) -> Result<(Statement, Cursor<'a>), ReadError>
     ensures { Gives statement_view insert_rest_at cursor.entry result }
 {
     let rest = take_keyword(cursor, "into")?;
@@ -72,10 +69,7 @@ fn insert_rest<'a>(
 }
 
 // IMPORT INTO tab CSV text ";"
-fn import_rest<'a>(
-    alloc: Global,
-    cursor: Cursor<'a>,
-) -> Result<(Statement, Cursor<'a>), ReadError>
+fn import_rest<'a>(alloc: Global, cursor: Cursor<'a>) -> Result<(Statement, Cursor<'a>), ReadError>
     ensures { Gives statement_view import_rest_at cursor.entry result }
 {
     let rest = take_keyword(cursor, "into")?;
@@ -87,10 +81,7 @@ fn import_rest<'a>(
 }
 
 // UPDATE tab SET name "=" expr { "," name "=" expr } [ WHERE expr ] ";"
-fn update_rest<'a>(
-    alloc: Global,
-    cursor: Cursor<'a>,
-) -> Result<(Statement, Cursor<'a>), ReadError>
+fn update_rest<'a>(alloc: Global, cursor: Cursor<'a>) -> Result<(Statement, Cursor<'a>), ReadError>
     ensures { Gives statement_view update_rest_at cursor.entry result }
 {
     let (table, rest) = take_table(alloc, cursor)?;
@@ -109,10 +100,7 @@ fn update_rest<'a>(
 }
 
 // DELETE FROM tab [ WHERE expr ] ";"
-fn delete_rest<'a>(
-    alloc: Global,
-    cursor: Cursor<'a>,
-) -> Result<(Statement, Cursor<'a>), ReadError>
+fn delete_rest<'a>(alloc: Global, cursor: Cursor<'a>) -> Result<(Statement, Cursor<'a>), ReadError>
     ensures { Gives statement_view delete_rest_at cursor.entry result }
 {
     let rest = take_keyword(cursor, "from")?;
@@ -123,10 +111,7 @@ fn delete_rest<'a>(
 }
 
 // SELECT ( "*" | name { "," name } ) FROM tab [ WHERE expr ] [ AS CSV ] ";"
-fn select_rest<'a>(
-    alloc: Global,
-    cursor: Cursor<'a>,
-) -> Result<(Statement, Cursor<'a>), ReadError>
+fn select_rest<'a>(alloc: Global, cursor: Cursor<'a>) -> Result<(Statement, Cursor<'a>), ReadError>
     ensures { Gives statement_view select_rest_at cursor.entry result }
 {
     let (items, rest) = take_items(alloc, cursor)?;
