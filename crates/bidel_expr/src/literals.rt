@@ -11,7 +11,7 @@ use crate::numbers::number_value;
 use crate::read_error::ReadError;
 use crate::terminals::{is_word, next_negative, next_sign, next_token};
 use bidel_lex::TokenKind;
-use par_base::{Text, Value, read_literal};
+use par_base::{Text, Value};
 use std::alloc::Global;
 
 /// The greatest integer without a sign.
