@@ -1,6 +1,7 @@
 -- Reserved words, signs, choices between words, and parts that may be left out.
-use Rattle.std.specs.Prelude.{ℕ, List, [], ◌∷◌, Bool, true, false, Option, Some, None, codes, nat_le, if◌then◌else◌}
+use Rattle.std.specs.Prelude.{ℕ, List, [], ◌∷◌, Bool, true, false, Option, Some, None, codes, map, nat_le, if◌then◌else◌}
 use Prim.Native.String.{String}
+use Rattle.std.specs.Borrow.{Bor}
 use Rattle.phrases.specs.Phrases.{Nothing, Seq, OneOf, Either}
 use Rattle.phrases.specs.Reading.{Read, and_then, one_at, done, either, is}
 use Rattle.bidel_expr.specs.Lexemes.{Lexeme, number, keyword, sign, name_of}
@@ -23,6 +24,10 @@ Name = OneOf name_of
 abbrev pub choice_of : {K : Type 0} → List (List ℕ × K) → Lexeme → Option K
 choice_of [] t = None
 choice_of (c ∷ cs) t = if is (keyword c.0) t then Some c.1 else choice_of cs t
+
+-- a table of the code, by the bytes of its words
+abbrev pub words_of : {K : Type 0} → List (Bor (List ℕ) × K) → List (List ℕ × K)
+words_of choices = map (λ choice. (choice.0.now, choice.1)) choices
 
 -- one of these reserved words, and what may stand behind it
 abbrev pub Choice : {K A : Type 0} → List (List ℕ × K) → (K → List Lexeme → A → Type 0) → List Lexeme → A → Type 0

@@ -1,7 +1,7 @@
 //! The words by which statements, operators and keys are told apart, and the readers of them.
-ghost use Rattle.std.specs.Prelude.{◌≡◌, map};
+ghost use Rattle.std.specs.Prelude.{◌≡◌};
 ghost use Rattle.phrases.specs.Reading.{one_at, starts, is};
-ghost use Rattle.bidel_parser.specs.Words.{choice_of};
+ghost use Rattle.bidel_parser.specs.Words.{choice_of, words_of};
 ghost use Rattle.bidel_parser.specs.Operators.{operator_words, lone_words, shared_words, kinds, key_words};
 ghost use Rattle.bidel_parser.specs.Statements.{statement_words};
 ghost use Rattle.bidel_expr.specs.Answers.{ahead, IsNext, Gives};
@@ -69,7 +69,7 @@ const KEY_WORDS: [(&str, KeyWord); 4] = [
 
 // What the next word stands for among these, and what comes after it, where it is one of them.
 fn next_choice<'a, K: Copy>(cursor: Cursor<'a>, choices: &[(&str, K)]) -> Option<(K, Cursor<'a>)>
-    ensures { IsNext (choice_of (map (λ choice. (choice.0.now, choice.1)) choices.now)) cursor.entry result }
+    ensures { IsNext (choice_of (words_of choices.now)) cursor.entry result }
 {
     match choices {
         [(word, meaning), others @ ..] => match next_keyword(cursor, word) {
@@ -82,7 +82,7 @@ fn next_choice<'a, K: Copy>(cursor: Cursor<'a>, choices: &[(&str, K)]) -> Option
 
 // Whether one of these words comes next.
 fn is_choice_next<K: Copy>(cursor: Cursor<'_>, choices: &[(&str, K)]) -> bool
-    ensures { result ≡ starts (is (choice_of (map (λ choice. (choice.0.now, choice.1)) choices.now))) (ahead cursor.entry) }
+    ensures { result ≡ starts (is (choice_of (words_of choices.now))) (ahead cursor.entry) }
 {
     next_choice(cursor, choices).is_some()
 }
@@ -92,7 +92,7 @@ fn take_choice<'a, K: Copy>(
     cursor: Cursor<'a>,
     choices: &[(&str, K)],
 ) -> Result<(K, Cursor<'a>), ReadError>
-    ensures { Gives (λ x. x) (one_at (choice_of (map (λ choice. (choice.0.now, choice.1)) choices.now))) cursor.entry result }
+    ensures { Gives (λ x. x) (one_at (choice_of (words_of choices.now))) cursor.entry result }
 {
     match next_choice(cursor, choices) {
         Some(read) => Ok(read),
