@@ -61,6 +61,7 @@ begins_behind f T t a front h b = record {
 pub goes_first : {A : Type 0} (S : List Lexeme → A → Type 0) (p : List Lexeme → Read Lexeme A) → Reads none S p → (t : Lexeme) → Begins S (t ∷ []) → GoesOn p [] t
 goes_first S p r t b = record { more = (t ∷ b.more) ++ []; answer = (b.value, []); starts' = refl; whole = r.reads (t ∷ b.more) [] b.value b.spelled refl }
 
+-- the same behind one token
 pub goes_second : {A : Type 0} (S : List Lexeme → A → Type 0) (p : List Lexeme → Read Lexeme A) → Reads none S p → (t u : Lexeme) → Begins S (t ∷ u ∷ []) → GoesOn p (t ∷ []) u
 goes_second S p r t u b = record { more = (u ∷ b.more) ++ []; answer = (b.value, []); starts' = refl; whole = r.reads (t ∷ u ∷ b.more) [] b.value b.spelled refl }
 
@@ -80,6 +81,7 @@ maybe_begins {A} {B} {C} g v S N x T us first second front c h = ap (λ (l : Lis
 -- whether S stands there
 module _ {A : Type 0} (c g : Lexeme → Bool) (S : List Lexeme → A → Type 0) (p : List Lexeme → Read Lexeme A) (r : Reads c S p)
     (begins : (front us : List Lexeme) (a : A) → S front a → starts g (front ++ us) ≡ true) where
+  -- where S stands, a token of g comes
   flagged : (front us : List Lexeme) (b : Bool) → Seq S (λ _. Nothing true) front b → starts g (front ++ us) ≡ true
   flagged front us b h = ap (λ (l : List Lexeme). starts g l) (ap (λ (l : List Lexeme). l ++ us) h.whole ∙ append_assoc h.left h.right us) ∙ begins h.left (h.right ++ us) h.value h.first
 

@@ -25,19 +25,23 @@ key-rest-reads by.Primary = then_keyword expression_goes "key" _ _ (done-reads e
 key-rest-reads by.Fk = then_name expression_goes _ _ (λ column. done-reads expression_goes (Foreign column))
 key-rest-reads by.Foreign = then_keyword expression_goes "key" _ _ (then_name expression_goes _ _ (λ column. done-reads expression_goes (Foreign column)))
 
--- ---- an expression begins with none of the first words of keys
+-- ---- an expression begins with none of the first words of keys: its reader stops at each
 
+-- what is refused isn't read
 refused : (us : List Lexeme) → expression_at us ≡ Err us → (e : Tree) → expression_at us ≡ Ok (e, []) → ⊥
 refused us h e k = let clash = sym h ∙ k in cc
 
+-- no such word is read as an expression
 refuses_key : (t : Lexeme) (k : KeyWord) → choice_of key_words t ≡ Some k → (us : List Lexeme) → expression_at (t ∷ us) ≡ Err (t ∷ us)
 unfolding is_name is_reserved expr_item conj_item neg_item prefix_at comp_item sum_item product_item unary_item unary_at primary_item
 refuses_key = by_choice (λ t _. (us : List Lexeme) → expression_at (t ∷ us) ≡ Err (t ∷ us)) key_words ((λ us. refl) & (λ us. refl) & (λ us. refl) & (λ us. refl) & tt)
 
+-- nor are no tokens
 refuses_none : expression_at [] ≡ Err []
 unfolding expr_item conj_item neg_item prefix_at comp_item sum_item product_item unary_item unary_at primary_item
 refuses_none = refl
 
+-- so no expression begins with one
 no_key : (front us : List Lexeme) (e : Tree) → Expression front e → starts (is (choice_of key_words)) (front ++ us) ≡ false
 no_key [] us e h = absurd (refused [] refuses_none e (expression-reads.reads [] [] e h refl))
 no_key (t ∷ front) us e h = by (is (choice_of key_words) t) refl

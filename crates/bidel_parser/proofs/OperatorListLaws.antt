@@ -17,6 +17,7 @@ use Rattle.bidel_parser.specs.Operators.{operator_words, kinds, lone_words, shar
 use Rattle.bidel_parser.proofs.ChoiceLaws.{◌&◌, by_choice, chosen_of, begins_then, begins_behind, goes_first, goes_second}
 use Rattle.bidel_parser.proofs.OperatorLaws.{create-table-reads, drop-rest-reads, operator-rest-reads, semicolon-reads, closed-operator-reads}
 
+-- a token that alone shows an operator, one that begins statements too, and what shows it behind that
 abbrev pub lone : Lexeme → Bool
 lone = is (choice_of lone_words)
 
@@ -38,9 +39,11 @@ operator_word first.Join = codes "join"
 operator_word first.Split = codes "split"
 operator_word first.Merge = codes "merge"
 
+-- a word that stands for the beginning of an operator is its first word
 word_is : (t : Lexeme) (k : OperatorWord) → choice_of operator_words t ≡ Some k → t ≡ word (operator_word k)
 word_is = by_choice (λ t k. t ≡ word (operator_word k)) operator_words (refl & refl & refl & refl & refl & refl & refl & refl & refl & tt)
 
+-- how what stands behind the first word shows it
 begun_at : (k : OperatorWord) (ts us : List Lexeme) (o : OpView) → OperatorRest k ts o → Begun lone shared both (word (operator_word k) ∷ (ts ++ us))
 begun_at first.Create ts us o h =
     by_two (word (codes "create")) (word (codes "table")) (h.right ++ us)
@@ -56,6 +59,7 @@ begun_at first.Join ts us o h = by_one (word (codes "join")) (ts ++ us) refl ref
 begun_at first.Split ts us o h = by_one (word (codes "split")) (ts ++ us) refl refl
 begun_at first.Merge ts us o h = by_one (word (codes "merge")) (ts ++ us) refl refl
 
+-- how an operator begins
 begun : (front : List Lexeme) (o : OpView) → ClosedOperator front o → Begun lone shared both front
 begun front o h =
     let c = h.first in
@@ -66,9 +70,11 @@ begun front o h =
 
 -- ---- with each word that begins an operator some operator goes on
 
+-- an operator that goes on can be closed
 closes : (front : List Lexeme) → Begins Operator front → Begins ClosedOperator front
 closes front b = begins_then Operator _ front b (λ o. (semicolon-reads o).some)
 
+-- an operator goes on with its first word
 begins_operator_with : (t : Lexeme) (k : OperatorWord) → choice_of operator_words t ≡ Some k → GoesOn closed_operator_at [] t
 begins_operator_with t k h = goes_first ClosedOperator closed_operator_at closed-operator-reads t
     (closes (t ∷ []) (begins_behind (choice_of operator_words) OperatorRest t k [] h (operator-rest-reads k).some))
@@ -77,6 +83,7 @@ either_one : (a b : Bool) → (a || b) ≡ true → (a ≡ true) ⊎ (b ≡ true
 either_one true b h = inl refl
 either_one false b h = inr h
 
+-- and so with each word that shows one
 first_goes : (t : Lexeme) → (lone t || shared t) ≡ true → GoesOn closed_operator_at [] t
 first_goes t h = elim (either_one (lone t) (shared t) h) [
   | inl a ↦ (let c = chosen_of (choice_of lone_words t) a in
@@ -85,6 +92,7 @@ first_goes t h = elim (either_one (lone t) (shared t) h) [
       begins_operator_with t c.0 (by_choice (λ t k. choice_of operator_words t ≡ Some k) shared_words (refl & refl & tt) t c.0 c.1))
 ]
 
+-- CREATE goes on with TABLE
 created : (u : Lexeme) → is_word "table" u ≡ true → GoesOn closed_operator_at (word (codes "create") ∷ []) u
 created u h =
     let c = chosen_of (keyword (codes "table") u) h in
@@ -92,6 +100,7 @@ created u h =
     (closes (word (codes "create") ∷ u ∷ []) (begins_behind (choice_of operator_words) OperatorRest (word (codes "create")) first.Create (u ∷ []) refl
     (begins_behind (keyword (codes "table")) _ u c.0 [] c.1 create-table-reads.some)))
 
+-- DROP goes on with TABLE and with COLUMN
 dropped : (u : Lexeme) → is (choice_of kinds) u ≡ true → GoesOn closed_operator_at (word (codes "drop") ∷ []) u
 dropped u h =
     let c = chosen_of (choice_of kinds u) h in
@@ -99,6 +108,7 @@ dropped u h =
     (closes (word (codes "drop") ∷ u ∷ []) (begins_behind (choice_of operator_words) OperatorRest (word (codes "drop")) first.Drop (u ∷ []) refl
     (begins_behind (choice_of kinds) DropRest u c.0 [] c.1 (drop-rest-reads c.0).some)))
 
+-- and so with the word behind one that begins statements too
 second_goes : (t u : Lexeme) → shared t ≡ true → both t u ≡ true → GoesOn closed_operator_at (t ∷ []) u
 second_goes t u h k =
     let c = chosen_of (choice_of shared_words t) h in

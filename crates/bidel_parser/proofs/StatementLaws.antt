@@ -129,6 +129,7 @@ closed S p r over = closed-last stays_open S p r (λ ended front us s h. over fr
 is_over : (x s : StatementView) → x ≡ s → ((ended : Bool) (us : List Lexeme) → stays_open x ended us ≡ false) → (ended : Bool) (us : List Lexeme) → stays_open s ended us ≡ false
 is_over x s e h = subst (λ (s : StatementView). (ended : Bool) (us : List Lexeme) → stays_open s ended us ≡ false) e h
 
+-- what stands behind each first word
 pub rest-last : (k : StatementWord) → ReadsLast stays_open (StatementRest k) (λ ended. statement_rest_at ended k)
 rest-last first.Create = create-last
 rest-last first.Drop = closed DropVersionRest _ drop-reads (λ front s h. is_over _ s h.second.second.second.second.1 (λ ended us. refl))
@@ -174,12 +175,15 @@ statement_word first.Use = codes "use"
 statement_word first.Session = codes "session"
 statement_word first.Advise = codes "advise"
 
+-- a word that stands for the beginning of a statement is its first word
 word_is : (t : Lexeme) (k : StatementWord) → choice_of statement_words t ≡ Some k → t ≡ word (statement_word k)
 word_is = by_choice (λ t k. t ≡ word (statement_word k)) statement_words (refl & refl & refl & refl & refl & refl & refl & refl & refl & refl & refl & refl & refl & tt)
 
+-- SCHEMA comes
 schema_next : {B : Type 0} (T : List Lexeme → B → Type 0) (ts : List Lexeme) (b : B) (h : Seq (Word "schema") (λ _. T) ts b) → ts ≡ word (codes "schema") ∷ h.right
 schema_next T ts b h = headed (keyword (codes "schema")) (word (codes "schema")) (λ _. T) (keyword_is (codes "schema")) ts b h
 
+-- how a statement begins, by its first word
 begun_at : (k : StatementWord) (ts : List Lexeme) (s : StatementView) → StatementRest k ts s → Begun (word (statement_word k) ∷ ts)
 begun_at first.Create ts s h = by_schema (word (codes "create")) h.right (ap (λ (l : List Lexeme). word (codes "create") ∷ l) (schema_next _ ts s h)) refl refl
 begun_at first.Drop ts s h = by_schema (word (codes "drop")) h.right (ap (λ (l : List Lexeme). word (codes "drop") ∷ l) (schema_next _ ts s h)) refl refl
@@ -195,6 +199,7 @@ begun_at first.Use ts s h = by_word (word (codes "use")) ts refl refl refl
 begun_at first.Session ts s h = by_word (word (codes "session")) ts refl refl refl
 begun_at first.Advise ts s h = by_word (word (codes "advise")) ts refl refl refl
 
+-- how a statement begins
 begun : (front : List Lexeme) (s : StatementView) → IsStatement front s → Begun front
 begun front s h =
     let head : h.left ≡ word (statement_word h.value) ∷ [] = h.first.1 ∙ ap (λ (t : Lexeme). t ∷ []) (word_is h.first.0 h.value h.first.2) in
@@ -206,6 +211,7 @@ begins_none : (front us : List Lexeme) → Begun front → begins_operator true 
 begins_none front us (by_word t vs e h k) = ap (λ (l : List Lexeme). begins_operator true (l ++ us)) e ∙ not_begun lone shared both true t (vs ++ us) h k
 begins_none front us (by_schema t vs e h k) = ap (λ (l : List Lexeme). begins_operator true (l ++ us)) e ∙ not_begun_both lone shared both true t (word (codes "schema")) (vs ++ us) h k
 
+-- where no operator begins, every statement is over
 over_at : (s : StatementView) (ts : List Lexeme) → begins_operator true ts ≡ false → stays_open s true ts ≡ false
 over_at (CreateVersion name origin operators) ts g = g
 over_at (DropVersion name) ts g = refl

@@ -49,6 +49,7 @@ assignment-reads =
 
 -- ---- lists
 
+-- what doesn't hold of a comma holds of no comma
 comma_not : (g : Lexeme → Bool) → g (symbol (codes ",")) ≡ false → (t : Lexeme) → is comma_of t ≡ true → g t ≡ false
 comma_not g h t k = ap g (is_sign (codes ",") t k) ∙ h
 

@@ -14,9 +14,11 @@ use Rattle.bidel_expr.proofs.WordLemmas.{by_keyword, by_sign}
 use Rattle.bidel_expr.proofs.LiteralLaws.{name_x}
 use Rattle.bidel_parser.specs.Words.{Word, Sign, Name, word_at, sign_at}
 
+-- a word is itself
 keyword_known : (w : List ℕ) → keyword w (word w) ≡ Some tt
 keyword_known w = ap (λ (b : Bool). cond b (Some tt) None) ((bytes_eq-Decides w w).1 refl)
 
+-- a sign is itself
 sign_known : (w : List ℕ) → sign w (symbol w) ≡ Some tt
 sign_known w = ap (λ (b : Bool). cond b (Some tt) None) ((bytes_eq-Decides w w).1 refl)
 
