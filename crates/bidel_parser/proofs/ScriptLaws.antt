@@ -7,7 +7,7 @@ use Rattle.phrases.specs.Fronts.{ShowsEnd}
 use Rattle.phrases.proofs.Fronts as fronts
 use Rattle.phrases.proofs.Lookahead.{stays_shown, front_shown}
 use Rattle.bidel_expr.specs.Lexemes.{Lexeme, word}
-use Rattle.bidel_parser.specs.Views.{StatementView, CreateVersion, Insert, Select}
+use Rattle.bidel_parser.specs.Views.{StatementView, CreateVersion}
 use Rattle.bidel_parser.specs.Operators.{create_of, table_of, add_of}
 use Rattle.bidel_parser.specs.Statements.{IsStatement, Script, stays_open, statement_at}
 use Rattle.bidel_parser.specs.Laws.{OneFront, FrontStays, FrontLeads, FrontPrecedes, NoScript, EmptyScript, FaultStays, FaultFollows}
@@ -17,8 +17,7 @@ use Rattle.bidel_parser.proofs.StatementLaws.{statement-last, script_over, state
 -- what shows the end still does as tokens come
 shown : (ended : Bool) (s : StatementView) (us more : List Lexeme) → stays_open s false us ≡ false → stays_open s ended (us ++ more) ≡ false
 shown ended (CreateVersion name origin operators) us more h = stays_shown (is add_of) (is create_of) (λ _ t. is table_of t) ended us more h
-shown ended (Insert table rows) us more h = refl
-shown ended (Select table items filter csv) us more h = refl
+shown ended _ us more h = refl
 
 -- CREATE begins a script
 create_begins : Begins Script (word (codes "create") ∷ [])
@@ -38,8 +37,7 @@ shows_end (CreateVersion name origin operators) ts more at lt h none =
     alone : (t : Lexeme) → take (at + 1) ts ≡ t ∷ [] → (b : Bool) → is create_of t ≡ b → b ≡ false
     alone t e true k = absurd (none (subst (Begins Script) (sym (e ∙ ap (λ (t : Lexeme). t ∷ []) (is_keyword (codes "create") t k))) create_begins))
     alone t e false k = refl
-shows_end (Insert table rows) ts more at lt h none = refl
-shows_end (Select table items filter csv) ts more at lt h none = refl
+shows_end _ ts more at lt h none = refl
 
 pub one_front : OneFront
 one_front = fronts.one_front stays_open IsStatement statement_at statement-last

@@ -125,8 +125,7 @@ begins_none front us (by_select vs e) = ap (λ (l : List Lexeme). begins_operato
 
 over_at : (s : StatementView) (ts : List Lexeme) → begins_operator true ts ≡ false → stays_open s true ts ≡ false
 over_at (CreateVersion name origin operators) ts g = g
-over_at (Insert table rows) ts g = refl
-over_at (Select table items filter csv) ts g = refl
+over_at _ ts g = refl
 
 pub script_over : IsOver stays_open IsStatement
 script_over s [] ts h = over_at s ts (ap (begins_operator true) h)

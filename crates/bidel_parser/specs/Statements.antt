@@ -67,8 +67,7 @@ Script = Many IsStatement
 -- whether the statement isn't known to end before these tokens: a CREATE SCHEMA VERSION ends where no operator begins
 abbrev pub stays_open : StatementView → Bool → List Lexeme → Bool
 stays_open (CreateVersion name origin operators) ended ts = begins_operator ended ts
-stays_open (Insert table rows) ended ts = false
-stays_open (Select table items filter csv) ended ts = false
+stays_open _ ended ts = false
 
 -- ---- reading
 

@@ -21,4 +21,4 @@ pub use laws::{
     front_stays, no_front_is_no_script, no_tokens_are_no_statements,
 };
 pub use parse::parse_statement;
-pub use statement::{OpText, Parsed, Statement, Syntax, TableName};
+pub use statement::{Assignment, Branch, KeyText, OpText, Parsed, Statement, Syntax, TableName};
