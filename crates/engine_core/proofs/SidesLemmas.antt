@@ -12,7 +12,7 @@ use Rattle.engine_core.specs.Checks.{Checked, ◌then◌}
 use Rattle.engine_core.specs.State.{State, Made, Origin, IsSound, AreReady, table_at, no_table}
 use Rattle.engine_core.specs.Walk.{origin_at, with_rows, numbered, inserted}
 use Rattle.engine_core.specs.Evolve.{Growth, Planned, planned, grown_by, with_operator, with_operators, evolved, evolved_to, start_of, unused_version, version_named, known_table, place_named, is_named, columns_at}
-use Rattle.engine_core.specs.Act.{Found, found, version_of, act, acted, acted_insert, acted_select, right_counts, enough_ids, is_built}
+use Rattle.engine_core.specs.Act.{Found, found, version_of, act, acted, acted_built, acted_insert, acted_select, right_counts, enough_ids, is_built}
 use Rattle.engine_core.specs.Kept.{empty_state}
 use Rattle.engine_core.specs.Own.{IsOneOf, tree_at, VersionsOwn}
 use Rattle.engine_core.specs.Agree.{left_by, after, SidesAgree, SidesAlwaysAgree}
@@ -25,7 +25,7 @@ use Rattle.engine_core.proofs.InsertLemmas.{counted_ok}
 use Rattle.engine_core.proofs.SoundLemmas.{found_table, written-same, evolved_sound, acted_insert_sound}
 use Rattle.engine_core.proofs.MappingLemmas.{source_comes_back}
 use Rattle.engine_core.proofs.OwnLemmas.{get_front, falls_below, find_one, named_owns}
-use Rattle.engine_core.proofs.StayLemmas.{IsApart, older_origin, planned_apart, Owns, operator_owns, start_owns, evolved_own, told_ok}
+use Rattle.engine_core.proofs.StayLemmas.{IsApart, older_origin, planned_apart, Owns, operator_owns, start_owns, evolved_own, when_built, told_ok}
 use Rattle.engine_core.proofs.AgreeLemmas.{AllWide, wide_forward, all_wide_set, TreesAgree, AgreesAt, agrees_still, origin_there, either_way, Runs, walk_agrees}
 
 -- what every event leaves
@@ -207,19 +207,20 @@ evolved_holds s next name origin os holds e =
 
 -- ---- any events
 
-acted_holds : (s : State) (statement : StatementView) (done : Reply × State) → Holds s → acted s statement ≡ Ok done → Holds done.1
-acted_holds s (CreateVersion name origin os) done holds e =
+built_holds : (s : State) (statement : StatementView) (done : Reply × State) → Holds s → acted_built s statement ≡ Ok done → Holds done.1
+built_holds s (CreateVersion name origin os) done holds e =
     let made = then_ok (evolved s name origin os) _ done e in
     let same : made.0 ≡ done.1 = ap (λ (x : Reply × State). x.1) (ok_is _ done made.2) in
     evolved_holds s done.1 name origin os holds (made.1 ∙ ap (λ (x : State). Ok x) same)
-acted_holds s (Insert t rows) done holds e = insert_holds s t rows done holds e
-acted_holds s (Select t items condition csv) done holds e = shown (is_built items condition csv) e where
-  shown : (b : Bool) → (let no : Checked (Reply × State) = Err NotBuilt in if b then acted_select s t else no) ≡ Ok done → Holds done.1
-  shown false e = cc
-  shown true e =
-      let f = then_ok (found s t) _ done e in
-      let same : s ≡ done.1 = ap (λ (x : Reply × State). x.1) (ok_is _ done f.2) in
-      subst Holds same holds
+built_holds s (Insert t rows) done holds e = insert_holds s t rows done holds e
+built_holds s (Select t items condition csv) done holds e =
+    let f = then_ok (found s t) _ done e in
+    let same : s ≡ done.1 = ap (λ (x : Reply × State). x.1) (ok_is _ done f.2) in
+    subst Holds same holds
+built_holds s _ done holds e = cc
+
+acted_holds : (s : State) (statement : StatementView) (done : Reply × State) → Holds s → acted s statement ≡ Ok done → Holds done.1
+acted_holds s statement done holds e = built_holds s statement done holds (when_built (is_built statement) (acted_built s statement) done e)
 
 left_holds : (s : State) (statement : StatementView) (r : Checked (Reply × State)) → Holds s → act s statement ≡ r → Holds (left_by s r)
 left_holds s statement (Ok done) holds e = acted_holds s statement done holds (told_ok (acted s statement) done e)

@@ -176,6 +176,7 @@ planned_below n g (AddColumn column value name) p all e =
     let few = then_ok (few_columns name (columns_at g.operators source.0 ++ column ∷ [])) _ p new.2 in
     subst (λ (x : Planned). AreBelow n x.table.rows) (ok_is (column_plan g.operators g.tables g.at name column source.0 known.0) p few.2)
     (below_map n _ (table_at g.tables source.0).rows (below_at n g.tables source.0 all))
+planned_below n g _ p all e = cc
 
 below_push : (n : ℕ) (tables : List Contents) (x : Contents) → AllBelow n tables → AreBelow n x.rows → AllBelow n (tables ++ x ∷ [])
 below_push n tables x all new at t e = elim (slice_get-push tables at x t e) [ inl h ↦ all at t h | inr h ↦ subst (λ (c : Contents). AreBelow n c.rows) h.1 new ]

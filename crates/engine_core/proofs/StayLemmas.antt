@@ -12,7 +12,7 @@ use Rattle.engine_core.specs.Checks.{Checked, ◌then◌}
 use Rattle.engine_core.specs.State.{State, Made, Origin, table_at, no_table}
 use Rattle.engine_core.specs.Walk.{origin_at, inserted}
 use Rattle.engine_core.specs.Evolve.{Growth, Planned, planned, planned_table, planned_column, column_plan, grown_by, with_operator, with_operators, evolved, evolved_to, start_of, standing_of, unused_version, version_named, room_for_operator, unused_name, known_table, place_named, is_named, columns_at, new_columns, repeated, row_name, few_columns, known_columns}
-use Rattle.engine_core.specs.Act.{found, acted, as_told, acted_select, right_counts, enough_ids, is_built}
+use Rattle.engine_core.specs.Act.{found, acted, acted_built, as_told, acted_select, right_counts, enough_ids, is_built}
 use Rattle.engine_core.specs.Own.{IsOneOf, FallFrom, tree_at, OwnsTables, OwnTables, VersionsOwn, VersionsStayOwners}
 use Rattle.engine_core.specs.declared.state.Version.{Version}
 use Rattle.engine_core.specs.declared.state.Standing.{Standing}
@@ -155,6 +155,7 @@ column_apart g column value name p e =
 pub planned_apart : (g : Growth) (o : OpView) (p : Planned) → planned g o ≡ Ok p → IsApart g.tables g.at p
 planned_apart g (CreateTable name columns) p e = table_apart g.operators g.tables g.at name columns p e
 planned_apart g (AddColumn column value name) p e = column_apart g column value name p e
+planned_apart g _ p e = cc
 
 -- ---- an evolution
 
@@ -203,28 +204,34 @@ evolved_own s next name origin os own e =
 
 -- ---- one event
 
+-- what is carried out is built
+pub when_built : {A : Type 0} (b : Bool) (r : Checked A) (x : A) → (if b then r else Err NotBuilt) ≡ Ok x → r ≡ Ok x
+when_built true r x e = e
+when_built false r x e = cc
+
 pub told_ok : {A : Type 0} (r : Checked A) (x : A) → as_told r ≡ Ok x → r ≡ Ok x
 told_ok (Ok y) x e = e
 told_ok (Err r) x e = cc
 
-acted_own : (s next : State) (statement : StatementView) (reply : Reply) → VersionsOwn s → acted s statement ≡ Ok (reply, next) → VersionsOwn next
-acted_own s next (CreateVersion name origin os) reply own e =
+built_own : (s next : State) (statement : StatementView) (reply : Reply) → VersionsOwn s → acted_built s statement ≡ Ok (reply, next) → VersionsOwn next
+built_own s next (CreateVersion name origin os) reply own e =
     let made = then_ok (evolved s name origin os) _ (reply, next) e in
     let same : made.0 ≡ next = ap (λ (x : Reply × State). x.1) (ok_is _ (reply, next) made.2) in
     evolved_own s next name origin os own (made.1 ∙ ap (λ (x : State). Ok x) same)
-acted_own s next (Insert t rows) reply own e =
+built_own s next (Insert t rows) reply own e =
     let f = then_ok (found s t) _ (reply, next) e in
     let counts = then_ok (right_counts (length (columns_at s.operators f.0.place)) rows) _ (reply, next) f.2 in
     let ids = then_ok (enough_ids s.next s.limit (length rows)) _ (reply, next) counts.2 in
     let same : inserted s f.0.version f.0.place rows ≡ next = ap (λ (x : Reply × State). x.1) (ok_is _ (reply, next) ids.2) in
     subst VersionsOwn same own
-acted_own s next (Select t items condition csv) reply own e = shown (is_built items condition csv) e where
-  shown : (b : Bool) → (let no : Checked (Reply × State) = Err NotBuilt in if b then acted_select s t else no) ≡ Ok (reply, next) → VersionsOwn next
-  shown false e = cc
-  shown true e =
-      let f = then_ok (found s t) _ (reply, next) e in
-      let same : s ≡ next = ap (λ (x : Reply × State). x.1) (ok_is _ (reply, next) f.2) in
-      subst VersionsOwn same own
+built_own s next (Select t items condition csv) reply own e =
+    let f = then_ok (found s t) _ (reply, next) e in
+    let same : s ≡ next = ap (λ (x : Reply × State). x.1) (ok_is _ (reply, next) f.2) in
+    subst VersionsOwn same own
+built_own s next _ reply own e = cc
+
+acted_own : (s next : State) (statement : StatementView) (reply : Reply) → VersionsOwn s → acted s statement ≡ Ok (reply, next) → VersionsOwn next
+acted_own s next statement reply own e = built_own s next statement reply own (when_built (is_built statement) (acted_built s statement) (reply, next) e)
 
 pub versions_stay_owners : VersionsStayOwners
 versions_stay_owners = record {

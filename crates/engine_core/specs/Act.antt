@@ -1,12 +1,13 @@
 -- One event: the reply or refusal of a statement, and the next state.
-use Rattle.std.specs.Prelude.{ℕ, ◌+◌, max, Bool, true, false, ◌&&◌, ◌==◌, nat_lt, List, [], ◌∷◌, map, length, Option, Some, None, Ok, Err, if◌then◌else◌}
+use Rattle.std.specs.Prelude.{ℕ, ◌+◌, max, Bool, true, false, ◌&&◌, not, ◌==◌, nat_lt, List, [], ◌∷◌, map, length, Option, Some, None, is_some, Ok, Err, if◌then◌else◌}
+use Rattle.std.specs.List.{list_all, list_any}
 use Rattle.par_base.specs.declared.value.Value.{Value}
 use Rattle.par_base.specs.declared.value.Value.TheVariants.{Reference}
 use Rattle.par_base.specs.declared.refusal.Refusal.{Refusal}
 use Rattle.par_base.specs.declared.refusal.Refusal.TheVariants.{NotBuilt, NoVersionInUse, UnknownVersion, UnknownTable, WrongCount, IdsSpent}
-use Rattle.expr_lang.specs.Terms.{Term}
+use Rattle.expr_lang.specs.Resolved.{first_unknown_id}
 use Rattle.bidel_parser.specs.declared.statement.TableName.{TableName}
-use Rattle.bidel_parser.specs.Views.{OpView, StatementView, CreateVersion, Insert, Select}
+use Rattle.bidel_parser.specs.Views.{OpView, CreateTable, AddColumn, StatementView, CreateVersion, Insert, Select}
 use Rattle.engine_core.specs.Tables.{Rows}
 use Rattle.engine_core.specs.Checks.{Checked, ◌then◌}
 use Rattle.engine_core.specs.State.{State, table_at}
@@ -70,15 +71,42 @@ acted_select s t =
 abbrev pub acted_evolve : State → List ℕ → Option (List ℕ) → List OpView → Checked (Reply × State)
 acted_evolve s name from operations = evolved s name from operations then λ next. Ok (Done, next)
 
--- SELECT is carried out for all columns, without condition and not as CSV
-abbrev pub is_built : Option (List (List ℕ)) → Option (Term (List ℕ)) → Bool → Bool
-is_built None None false = true
-is_built _ _ _ = false
+-- an operator is carried out that makes a table or adds a column; an expression that names a row by its reference isn't yet
+abbrev pub is_built_operator : OpView → Bool
+is_built_operator (CreateTable name columns) = true
+is_built_operator (AddColumn column value name) = not (is_some (first_unknown_id 1 value))
+is_built_operator _ = false
 
+abbrev pub is_reference : Value → Bool
+is_reference (Reference id) = true
+is_reference _ = false
+
+-- a row without references
+abbrev pub is_plain : List Value → Bool
+is_plain row = not (list_any is_reference row)
+
+-- the statements that are carried out: CREATE SCHEMA VERSION with such operators alone, INSERT of such rows, and SELECT of all
+-- columns, without condition and not as CSV
+abbrev pub is_built : StatementView → Bool
+is_built (CreateVersion name from operators) = list_all is_built_operator operators
+is_built (Insert t rows) = list_all is_plain rows
+is_built (Select t None None false) = true
+is_built _ = false
+
+-- a statement that changes nothing
+abbrev pub acted_read : State → StatementView → Checked (Reply × State)
+acted_read s (Select t items filter csv) = acted_select s t
+acted_read s _ = Err NotBuilt
+
+-- a statement that is carried out
+abbrev pub acted_built : State → StatementView → Checked (Reply × State)
+acted_built s (CreateVersion name from operations) = acted_evolve s name from operations
+acted_built s (Insert t rows) = acted_insert s t rows
+acted_built s statement = acted_read s statement
+
+-- every other form is refused before all other checks of its statement
 abbrev pub acted : State → StatementView → Checked (Reply × State)
-acted s (CreateVersion name from operations) = acted_evolve s name from operations
-acted s (Insert t rows) = acted_insert s t rows
-acted s (Select t items filter csv) = if is_built items filter csv then acted_select s t else Err NotBuilt
+acted s statement = if is_built statement then acted_built s statement else Err NotBuilt
 
 -- refusals that aren't told apart yet are answered as not built
 abbrev pub told : Refusal → Refusal

@@ -3,7 +3,7 @@ use Rattle.std.specs.Prelude.{ℕ, Bool, false, not, ◌==◌, nat_le, nat_lt, L
 use Rattle.std.specs.List.{find, list_any}
 use Rattle.std.specs.Str.{bytes_eq}
 use Rattle.std.specs.Option.{option_map_or}
-use Rattle.par_base.specs.declared.refusal.Refusal.TheVariants.{UnknownVersion, VersionExists, UnknownTable, TableExists, UnknownColumn, ColumnExists, TooManyOperators, TooManyColumns}
+use Rattle.par_base.specs.declared.refusal.Refusal.TheVariants.{NotBuilt, UnknownVersion, VersionExists, UnknownTable, TableExists, UnknownColumn, ColumnExists, TooManyOperators, TooManyColumns}
 use Rattle.expr_lang.specs.Terms.{Term}
 use Rattle.expr_lang.specs.Resolved.{resolved}
 use Rattle.bidel_parser.specs.Views.{OpView, CreateTable, AddColumn}
@@ -124,6 +124,7 @@ planned_column operators tables at column value name =
 abbrev pub planned : Growth → OpView → Checked Planned
 planned g (CreateTable name columns) = planned_table g.operators g.at name columns
 planned g (AddColumn column value name) = planned_column g.operators g.tables g.at column value name
+planned g _ = Err NotBuilt
 
 -- one more operator with its table, and the working set below it
 abbrev pub grown_by : Growth → Planned → Growth

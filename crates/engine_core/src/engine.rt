@@ -1,9 +1,10 @@
 //! The engine: one event after the other.
 ghost use Rattle.std.specs.Prelude.{◌≡◌, [], map, OnErr, IfOk};
 ghost use Rattle.bidel_parser.specs.Views.{statement_view, op_view};
-ghost use Rattle.engine_core.specs.Act.{act, acted, acted_evolve, acted_insert, acted_select, told};
+ghost use Rattle.engine_core.specs.Act.{act, acted, acted_evolve, acted_insert, acted_read, acted_select, told};
 ghost use Rattle.engine_core.specs.Kept.{Answers, state_of, seen_state, empty_state};
 
+use crate::built::is_built;
 use crate::evolution::{Evolution, evolve};
 use crate::insert::insert_rows;
 use crate::reply::Reply;
@@ -88,7 +89,7 @@ impl Engine {
         ensures reply { IfOk result IsReply }
     {
         let _session = session;
-        match self.act(alloc, statement, steps) {
+        match self.act(alloc, &statement, steps) {
             Ok(reply) => Ok(reply),
             Err(Fault::Refused(refusal)) => Err(Fault::Refused(told_refusal(refusal))),
             Err(Fault::Memory) => Err(Fault::Memory),
@@ -98,14 +99,17 @@ impl Engine {
     fn act<L: Ledger>(
         &mut self,
         alloc: Global,
-        statement: Statement,
+        statement: &Statement,
         steps: &mut Steps<L>,
     ) -> Result<Reply, Fault<Refusal>>
-        ensures answers { Answers (acted (state_of self.old) (statement_view statement)) result
+        ensures answers { Answers (acted (state_of self.old) (statement_view statement.now)) result
             (state_of self.new) }
         ensures same { OnErr result (state_of self.new ≡ state_of self.old) }
         ensures reply { IfOk result IsReply }
     {
+        if !is_built(statement) {
+            return Err(Fault::Refused(Refusal::NotBuilt));
+        }
         match statement {
             Statement::CreateVersion {
                 name,
@@ -113,20 +117,26 @@ impl Engine {
                 operators,
             } => {
                 let evolution = Evolution {
-                    name: &name,
-                    from: &from,
+                    name,
+                    from,
                     texts: operators.as_slice(),
                 };
                 self.create_version(alloc, evolution, steps)
             }
-            Statement::Insert { table, rows } => self.insert(alloc, &table, rows.as_slice(), steps),
-            Statement::Select {
-                table,
-                items: None,
-                filter: None,
-                csv: false,
-            } => self.select(alloc, &table),
-            Statement::Select { .. } => Err(Fault::Refused(Refusal::NotBuilt)),
+            Statement::Insert { table, rows } => self.insert(alloc, table, rows.as_slice(), steps),
+            _ => self.read(alloc, statement),
+        }
+    }
+
+    // Carries out a statement that changes nothing.
+    fn read(&self, alloc: Global, statement: &Statement) -> Result<Reply, Fault<Refusal>>
+        ensures answers { Answers (acted_read (state_of self.now) (statement_view statement.now)) result
+            (state_of self.now) }
+        ensures reply { IfOk result IsReply }
+    {
+        match statement {
+            Statement::Select { table, .. } => self.select(alloc, table),
+            _ => Err(Fault::Refused(Refusal::NotBuilt)),
         }
     }
 

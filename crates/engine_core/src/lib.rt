@@ -10,6 +10,7 @@
 //! bytes come from and where the lines go.
 #![tactic(auto)]
 
+mod built;
 mod engine;
 mod evolution;
 mod insert;

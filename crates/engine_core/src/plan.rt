@@ -278,5 +278,6 @@ pub fn plan_operator<L: Ledger>(
             };
             plan_column(alloc, operators, tables, at, addition, steps)
         }
+        _ => Err(Fault::Refused(Refusal::NotBuilt)),
     }
 }

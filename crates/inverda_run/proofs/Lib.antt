@@ -1,9 +1,8 @@
 pub mod TokenLemmas
 pub mod ScriptLemmas
+pub mod UniqueLemmas
+pub mod LengthLemmas
 pub mod OutputLemmas
 pub mod PlaceLemmas
-pub mod RunLemmas
-pub mod EndLemmas
-pub mod FaultLemmas
 pub mod FrontLemmas
-pub mod TextLemmas
+pub mod RunLemmas

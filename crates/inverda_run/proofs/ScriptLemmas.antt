@@ -1,82 +1,145 @@
 -- Statements at the front of a script, and scripts.
-use Rattle.std.proofs.Common.{◌≡◌, ◌+◌, ◌≤◌, ◌<◌, ℕ, zero, suc, List, [], ◌∷◌, ◌++◌, true, Option, refl, sym, ap, subst, ◌∙◌, drop, take, length, arith, length-drop, length-append, append-nil}
-use Rattle.std.proofs.lemmas.List.{take_at, drop_at, drop-drop, length-map}
-use Rattle.std.proofs.Math.ListN.{drop_of_length-le}
+use Rattle.std.proofs.Common.{◌≡◌, ◌+◌, ◌≤◌, ◌<◌, ℕ, zero, suc, List, [], ◌∷◌, ◌++◌, Bool, true, false, refl, sym, ap, subst, ◌∙◌, drop, take, length, arith, length-drop, length-append, append-nil}
+use Rattle.std.proofs.lemmas.List.{take_at, drop_at, drop-drop, drop-append-le, length-map}
+use Rattle.phrases.specs.Phrases.{Begins}
 use Rattle.bidel_lex.specs.declared.tokens.Token.{Token}
-use Rattle.bidel_lex.specs.declared.tokens.Lexed.TheVariants.{End, BadToken}
+use Rattle.bidel_lex.specs.declared.tokens.Lexed.{Lexed}
+use Rattle.bidel_lex.specs.declared.tokens.Lexed.TheVariants.{End}
 use Rattle.bidel_lex.specs.Tokens.{HasTokens}
 use Rattle.bidel_expr.specs.Lexemes.{Lexeme, lexeme, lexemes}
 use Rattle.bidel_parser.specs.Views.{StatementView}
 use Rattle.bidel_parser.specs.Statements.{Script, IsStatement, stays_open}
-use Rattle.bidel_parser.specs.Parsing.{IsFront, NoFront, FirstFault}
+use Rattle.bidel_parser.specs.Parsing.{IsFront, FirstFault}
 use Rattle.bidel_parser.proofs.StatementLaws.{script_over, statement_long}
-use Rattle.bidel_parser.proofs.ScriptLaws.{front_leads, front_precedes, no_script, empty_script, fault_follows}
-use Rattle.inverda_run.specs.Script.{IsScript, Leads, last_of, OneScript}
-use Rattle.inverda_run.proofs.TokenLemmas.{tokens_are_one}
+use Rattle.bidel_parser.proofs.ScriptLaws.{front_stays, front_leads, front_precedes, empty_script, fault_follows}
+use Rattle.inverda_run.specs.declared.tokens.Tail.{Tail}
+use Rattle.inverda_run.specs.Tails.{is_over}
+use Rattle.inverda_run.specs.Lengths.{IsLong}
+use Rattle.inverda_run.specs.Script.{IsScript, Leads, Comes, Over, OneScript, OverIsScript}
+use Rattle.inverda_run.proofs.TokenLemmas.{tokens_are_one, lexemes-drop}
 
 -- a statement has tokens
-pub front_some : (ts : List Lexeme) (statement : StatementView) (used : ℕ) → IsFront true ts statement used → 0 < used
-front_some ts statement zero f = absurd (omega (arith, statement_long [] statement f.spelled))
-front_some ts statement (suc used) f = omega arith
+pub front_some : (over : Bool) (ts : List Lexeme) (statement : StatementView) (used : ℕ) → IsFront over ts statement used → 0 < used
+front_some over ts statement zero f = absurd (omega (arith, statement_long [] statement f.spelled))
+front_some over ts statement (suc used) f = omega arith
 
--- what lies behind so many tokens, and then so many
-drop_both : (ts : List Lexeme) (used m n : ℕ) → used ≡ m + n → drop used ts ≡ drop n (drop m ts)
-drop_both ts used m n h = ap (λ (k : ℕ). drop k ts) h ∙ sym (drop-drop n m ts)
+-- a statement whose end is fixed is a front of all that comes
+pub front_at_end : (over : Bool) (ts : List Lexeme) (statement : StatementView) (used : ℕ) → IsFront over ts statement used → IsFront true ts statement used
+front_at_end true ts statement used f = f
+front_at_end false ts statement used f = subst (λ (l : List Lexeme). IsFront true l statement used) (append-nil ts) (front_stays ts [] true statement used f)
 
-pub leads_within : (ts : List Lexeme) (sts : List StatementView) (used : ℕ) → Leads ts sts used → used ≤ length ts
-leads_within ts [] used h = omega (arith, h)
-leads_within ts (st ∷ sts) used h =
-    omega (arith, h.2, h.3.within, leads_within (drop h.0 ts) sts h.1 h.4, length-drop h.0 ts)
+pub front_within : (bytes : List ℕ) (over : Bool) (tokens : List Token) (statement : StatementView) (used : ℕ) → IsFront over (lexemes bytes tokens) statement used → used ≤ length tokens
+front_within bytes over tokens statement used f = omega (arith, f.within, length-map tokens (lexeme bytes))
 
--- one statement more
-pub leads_more : (ts : List Lexeme) (sts : List StatementView) (used : ℕ) (st : StatementView) (n : ℕ)
-    → Leads ts sts used → IsFront true (drop used ts) st n → Leads ts (sts ++ st ∷ []) (used + n)
-leads_more ts [] used st n h f =
-    (n, 0, omega (arith, h), subst (λ (k : ℕ). IsFront true (drop k ts) st n) h f, refl)
-leads_more ts (s ∷ sts) used st n h f = (
-  h.0,
-  h.1 + n,
-  omega (arith, h.2),
-  h.3,
-  leads_more (drop h.0 ts) sts h.1 st n h.4 (subst (λ (l : List Lexeme). IsFront true l st n) (drop_both ts used h.0 h.1 h.2) f),
-)
+module _ (bytes : List ℕ) (tail : Tail) where
+  -- what lies behind so many tokens, and then so many
+  pub drop_both : (tokens : List Token) (used m n : ℕ) → used ≡ m + n → drop used tokens ≡ drop n (drop m tokens)
+  drop_both tokens used m n h = ap (λ (k : ℕ). drop k tokens) h ∙ sym (drop-drop n m tokens)
 
--- the statements and a script behind them are a script
-pub leads_script : (ts : List Lexeme) (sts : List StatementView) (used : ℕ) → Leads ts sts used
-    → (rest : List StatementView) → Script (drop used ts) rest → Script ts (sts ++ rest)
-leads_script ts [] used h rest s = subst (λ (k : ℕ). Script (drop k ts) rest) h s
-leads_script ts (st ∷ sts) used h rest s =
-    front_precedes ts h.0 st h.3 (sts ++ rest)
-    (leads_script (drop h.0 ts) sts h.1 h.4 rest (subst (λ (l : List Lexeme). Script l rest) (drop_both ts used h.0 h.1 h.2) s))
+  says_both : (tokens : List Token) (used m n : ℕ) → used ≡ m + n → lexemes bytes (drop used tokens) ≡ lexemes bytes (drop n (drop m tokens))
+  says_both tokens used m n h = ap (lexemes bytes) (drop_both tokens used m n h)
 
--- every script begins with the statements, and its rest stands behind them
-pub script_behind : (ts : List Lexeme) (sts : List StatementView) (used : ℕ) → Leads ts sts used
-    → (all : List StatementView) → Script ts all → (rest : List StatementView) × (all ≡ sts ++ rest) × Script (drop used ts) rest
-script_behind ts [] used h all s = (all, refl, subst (λ (k : ℕ). Script (drop k ts) all) (sym h) s)
-script_behind ts (st ∷ sts) used h all s =
-    let tail = front_leads ts h.0 st h.3 all s in
-    let inner = script_behind (drop h.0 ts) sts h.1 h.4 tail.0 tail.2 in (
-      inner.0,
-      tail.1 ∙ ap (λ (l : List StatementView). st ∷ l) inner.1,
-      subst (λ (l : List Lexeme). Script l inner.0) (sym (drop_both ts used h.0 h.1 h.2)) inner.2,
-    )
+  pub leads_within : (tokens : List Token) (sts : List StatementView) (used : ℕ) → Leads bytes tail tokens sts used → used ≤ length tokens
+  leads_within tokens [] used h = omega (arith, h)
+  leads_within tokens (st ∷ sts) used h =
+      omega (arith, h.2, front_within bytes (is_over tail.last) tokens st h.0 h.3, leads_within (drop h.0 tokens) sts h.1 h.5, length-drop h.0 tokens)
 
--- the first fault behind the statements is the first fault of all
-pub leads_fault : (ts : List Lexeme) (sts : List StatementView) (used : ℕ) → Leads ts sts used
-    → (token : ℕ) → token ≤ length (drop used ts) → FirstFault (drop used ts) token → FirstFault ts (used + token)
-leads_fault ts [] used h token le f =
-    let same : token ≡ used + token = omega (arith, h) in
-    subst (λ (k : ℕ). FirstFault ts k) same (subst (λ (k : ℕ). FirstFault (drop k ts) token) h f)
-leads_fault ts (st ∷ sts) used h token le f =
-    let same = drop_both ts used h.0 h.1 h.2 in
-    let within = leads_within (drop h.0 ts) sts h.1 h.4 in
-    let inner = leads_fault (drop h.0 ts) sts h.1 h.4 token (subst (λ (l : List Lexeme). token ≤ length l) same le)
-    (subst (λ (l : List Lexeme). FirstFault l token) same f) in
-    let short : h.1 + token ≤ length (drop h.0 ts) = omega (arith, le, ap length same, length-drop h.1 (drop h.0 ts), within) in
-    let sum : h.0 + (h.1 + token) ≡ used + token = omega (arith, h.2) in
-    subst (λ (k : ℕ). FirstFault ts k) sum (fault_follows ts h.0 (h.1 + token) st h.3 short inner)
+  -- one statement more
+  pub leads_more : (tokens : List Token) (sts : List StatementView) (used : ℕ) (st : StatementView) (n : ℕ)
+      → Leads bytes tail tokens sts used → IsFront (is_over tail.last) (lexemes bytes (drop used tokens)) st n → ¬ IsLong bytes tail (drop used tokens)
+      → Leads bytes tail tokens (sts ++ st ∷ []) (used + n)
+  leads_more tokens [] used st n h f short = (
+    n,
+    0,
+    omega (arith, h),
+    subst (λ (k : ℕ). IsFront (is_over tail.last) (lexemes bytes (drop k tokens)) st n) h f,
+    subst (λ (k : ℕ). ¬ IsLong bytes tail (drop k tokens)) h short,
+    refl,
+  )
+  leads_more tokens (s ∷ sts) used st n h f short = (
+    h.0,
+    h.1 + n,
+    omega (arith, h.2),
+    h.3,
+    h.4,
+    leads_more (drop h.0 tokens) sts h.1 st n h.5
+        (subst (λ (l : List Token). IsFront (is_over tail.last) (lexemes bytes l) st n) (drop_both tokens used h.0 h.1 h.2) f)
+        (subst (λ (l : List Token). ¬ IsLong bytes tail l) (drop_both tokens used h.0 h.1 h.2) short),
+  )
+
+  -- the statements and a script behind them are a script
+  pub leads_script : (tokens : List Token) (sts : List StatementView) (used : ℕ) → Leads bytes tail tokens sts used
+      → (rest : List StatementView) → Script (lexemes bytes (drop used tokens)) rest → Script (lexemes bytes tokens) (sts ++ rest)
+  leads_script tokens [] used h rest s = subst (λ (k : ℕ). Script (lexemes bytes (drop k tokens)) rest) h s
+  leads_script tokens (st ∷ sts) used h rest s =
+      front_precedes (lexemes bytes tokens) h.0 st (front_at_end (is_over tail.last) (lexemes bytes tokens) st h.0 h.3) (sts ++ rest)
+      (subst (λ (l : List Lexeme). Script l (sts ++ rest)) (lexemes-drop bytes h.0 tokens)
+      (leads_script (drop h.0 tokens) sts h.1 h.5 rest (subst (λ (l : List Lexeme). Script l rest) (says_both tokens used h.0 h.1 h.2) s)))
+
+  -- every script begins with the statements, and its rest stands behind them
+  pub script_behind : (tokens : List Token) (sts : List StatementView) (used : ℕ) → Leads bytes tail tokens sts used
+      → (all : List StatementView) → Script (lexemes bytes tokens) all → (rest : List StatementView) × (all ≡ sts ++ rest) × Script (lexemes bytes (drop used tokens)) rest
+  script_behind tokens [] used h all s = (all, refl, subst (λ (k : ℕ). Script (lexemes bytes (drop k tokens)) all) (sym h) s)
+  script_behind tokens (st ∷ sts) used h all s =
+      let after = front_leads (lexemes bytes tokens) h.0 st (front_at_end (is_over tail.last) (lexemes bytes tokens) st h.0 h.3) all s in
+      let inner = script_behind (drop h.0 tokens) sts h.1 h.5 after.0 (subst (λ (l : List Lexeme). Script l after.0) (sym (lexemes-drop bytes h.0 tokens)) after.2) in (
+        inner.0,
+        after.1 ∙ ap (λ (l : List StatementView). st ∷ l) inner.1,
+        subst (λ (l : List Lexeme). Script l inner.0) (sym (says_both tokens used h.0 h.1 h.2)) inner.2,
+      )
+
+  -- the first fault behind the statements is the first fault of all
+  pub leads_fault : (tokens : List Token) (sts : List StatementView) (used : ℕ) → Leads bytes tail tokens sts used
+      → (token : ℕ) → token ≤ length (drop used tokens) → FirstFault (lexemes bytes (drop used tokens)) token → FirstFault (lexemes bytes tokens) (used + token)
+  leads_fault tokens [] used h token le f =
+      let same : token ≡ used + token = omega (arith, h) in
+      subst (λ (k : ℕ). FirstFault (lexemes bytes tokens) k) same (subst (λ (k : ℕ). FirstFault (lexemes bytes (drop k tokens)) token) h f)
+  leads_fault tokens (st ∷ sts) used h token le f =
+      let both = drop_both tokens used h.0 h.1 h.2 in
+      let within = leads_within (drop h.0 tokens) sts h.1 h.5 in
+      let inner = leads_fault (drop h.0 tokens) sts h.1 h.5 token (subst (λ (l : List Token). token ≤ length l) both le)
+      (subst (λ (l : List Token). FirstFault (lexemes bytes l) token) both f) in
+      let behind = subst (λ (l : List Lexeme). FirstFault l (h.1 + token)) (lexemes-drop bytes h.0 tokens) inner in
+      let short : h.1 + token ≤ length (drop h.0 (lexemes bytes tokens)) =
+      omega (arith, le, ap length both, length-drop h.1 (drop h.0 tokens), within, ap length (lexemes-drop bytes h.0 tokens), length-map (drop h.0 tokens) (lexeme bytes)) in
+      let sum : h.0 + (h.1 + token) ≡ used + token = omega (arith, h.2) in
+      subst (λ (k : ℕ). FirstFault (lexemes bytes tokens) k) sum
+      (fault_follows (lexemes bytes tokens) h.0 (h.1 + token) st (front_at_end (is_over tail.last) (lexemes bytes tokens) st h.0 h.3) short behind)
+
+  -- where more tokens come, the statements and a script that goes on behind them are one
+  leads_on : (more : List Lexeme) → is_over tail.last ≡ false → (tokens : List Token) (sts : List StatementView) (used : ℕ) → Leads bytes tail tokens sts used
+      → (rest : List StatementView) → Script (lexemes bytes (drop used tokens) ++ more) rest → Script (lexemes bytes tokens ++ more) (sts ++ rest)
+  leads_on more open' tokens [] used h rest s = subst (λ (k : ℕ). Script (lexemes bytes (drop k tokens) ++ more) rest) h s
+  leads_on more open' tokens (st ∷ sts) used h rest s =
+      let ts : List Lexeme = lexemes bytes tokens in
+      let front = subst (λ (b : Bool). IsFront b ts st h.0) open' h.3 in
+      let inner = leads_on more open' (drop h.0 tokens) sts h.1 h.5 rest (subst (λ (l : List Lexeme). Script (l ++ more) rest) (says_both tokens used h.0 h.1 h.2) s) in
+      front_precedes (ts ++ more) h.0 st (front_stays ts more true st h.0 front) (sts ++ rest)
+      (subst (λ (l : List Lexeme). Script l (sts ++ rest)) (ap (λ (l : List Lexeme). l ++ more) (lexemes-drop bytes h.0 tokens) ∙ sym (drop-append-le h.0 ts more front.within)) inner)
+
+  -- where more tokens come, and a script may go on behind the statements, it may go on from all
+  pub leads_begins : is_over tail.last ≡ false → (tokens : List Token) (sts : List StatementView) (used : ℕ) → Leads bytes tail tokens sts used
+      → Begins Script (lexemes bytes (drop used tokens)) → Begins Script (lexemes bytes tokens)
+  leads_begins open' tokens sts used h b = record { more = b.more; value = sts ++ b.value; spelled = leads_on b.more open' tokens sts used h b.value b.spelled }
 
 -- ---- scripts
+
+-- no tokens say nothing
+pub says_none : (bytes : List ℕ) (tokens : List Token) → tokens ≡ [] → lexemes bytes tokens ≡ []
+says_none bytes tokens e = ap (lexemes bytes) e
+
+pub over_script : (bytes : List ℕ) (tail : Tail) (tokens : List Token) (sts : List StatementView) (used : ℕ) → Leads bytes tail tokens sts used → drop used tokens ≡ []
+    → Script (lexemes bytes tokens) sts
+over_script bytes tail tokens sts used l none =
+    subst (λ (k : List StatementView). Script (lexemes bytes tokens) k) (append-nil sts)
+    (leads_script bytes tail tokens sts used l [] (subst (λ (l : List Lexeme). Script l []) (sym (says_none bytes (drop used tokens) none)) empty_script.0))
+
+pub over_is_script : OverIsScript
+over_is_script bytes sts c = record {
+  tokens = c.tokens;
+  found = subst (λ (x : Lexed). HasTokens true bytes 0 c.tokens x) c.behind.1 c.all.found;
+  spelled = over_script bytes c.tail c.tokens sts c.used c.leads c.behind.0;
+}
 
 -- the tokens are the script of one list of statements
 spelled_once : (ts : List Lexeme) (one other : List StatementView) → Script ts one → Script ts other → one ≡ other
@@ -89,40 +152,12 @@ spelled_once ts (st ∷ sts) other h k =
       spelled = subst (λ (l : List Lexeme). IsStatement l st) (sym (ap (take (length us)) h.2 ∙ take_at us vs (length us) refl)) h.3;
       over = ap (stays_open st true) (ap (drop (length us)) h.2 ∙ drop_at us vs (length us) refl) ∙ script_over st sts vs h.4;
     } in
-    let tail = front_leads ts (length us) st front other k in
-    let same = spelled_once vs sts tail.0 h.4 (subst (λ (l : List Lexeme). Script l tail.0) (ap (drop (length us)) h.2 ∙ drop_at us vs (length us) refl) tail.2) in
-    ap (λ (l : List StatementView). st ∷ l) same ∙ sym tail.1
+    let after = front_leads ts (length us) st front other k in
+    let same = spelled_once vs sts after.0 h.4 (subst (λ (l : List Lexeme). Script l after.0) (ap (drop (length us)) h.2 ∙ drop_at us vs (length us) refl) after.2) in
+    ap (λ (l : List StatementView). st ∷ l) same ∙ sym after.1
 
 pub one_script : OneScript
 one_script bytes one other h k =
-    let same = tokens_are_one bytes 0 h.tokens k.tokens End End h.found k.found in
+    let same = tokens_are_one true bytes 0 h.tokens k.tokens End End h.found k.found in
     spelled_once (lexemes bytes h.tokens) one other h.spelled
     (subst (λ (l : List Token). Script (lexemes bytes l) other) (sym same.0) k.spelled)
-
--- where all tokens are the statements, and none is bad, the bytes are their script
-pub all_script : (bytes : List ℕ) (tokens : List Token) (sts : List StatementView)
-    → HasTokens true bytes 0 tokens End → Leads (lexemes bytes tokens) sts (length tokens) → IsScript bytes sts
-all_script bytes tokens sts h l = record {
-  tokens = tokens;
-  found = h;
-  spelled = subst (λ (k : List StatementView). Script (lexemes bytes tokens) k) (append-nil sts)
-      (leads_script (lexemes bytes tokens) sts (length tokens) l []
-      (subst (λ (l : List Lexeme). Script l []) (sym (drop_of_length-le (lexemes bytes tokens) (omega (arith, length-map tokens (lexeme bytes))))) empty_script.0));
-}
-
--- bytes with a byte that continues no token are no script
-pub bad_none : (bytes : List ℕ) (tokens : List Token) (at : ℕ) → HasTokens true bytes 0 tokens (BadToken at)
-    → (sts : List StatementView) → IsScript bytes sts → ⊥
-bad_none bytes tokens at h sts k = let same = (tokens_are_one bytes 0 tokens k.tokens (BadToken at) End h k.found).1 in cc
-
--- bytes with tokens behind the statements, where no other statement stands, are no script
-pub stopped_none : (bytes : List ℕ) (tokens : List Token) (bad : Option ℕ) (before : List StatementView) (used : ℕ)
-    → HasTokens true bytes 0 tokens (last_of bad) → Leads (lexemes bytes tokens) before used
-    → NoFront true (drop used (lexemes bytes tokens)) → used < length tokens
-    → (sts : List StatementView) → IsScript bytes sts → ⊥
-stopped_none bytes tokens bad before used h l none lt sts k =
-    let same = (tokens_are_one bytes 0 tokens k.tokens (last_of bad) End h k.found).0 in
-    let ts : List Lexeme = lexemes bytes tokens in
-    let behind = script_behind ts before used l sts (subst (λ (l : List Token). Script (lexemes bytes l) sts) (sym same) k.spelled) in
-    let empty : drop used ts ≡ [] = no_script (drop used ts) none behind.0 behind.2 in
-    absurd (omega (arith, ap length empty, length-drop used ts, length-map tokens (lexeme bytes), lt))

@@ -1,124 +1,153 @@
 -- What the inner calls give.
-use Rattle.std.specs.Prelude.{◌≡◌, ◌≢◌, ◌≤◌, ◌<◌, ◌++◌, ℕ, true, List, [], drop, length, Option, codes}
+use Rattle.std.specs.Prelude.{◌≡◌, ◌≢◌, ◌≤◌, ◌<◌, ◌++◌, ℕ, Bool, true, false, List, [], drop, take, length, Option, codes, ⊤}
 use Rattle.std.specs.Io.KnownBytes.{Appends}
 use Rattle.par_base.specs.Causes.{Rose}
 use Rattle.bidel_lex.specs.declared.tokens.Token.{Token}
-use Rattle.bidel_lex.specs.Tokens.{HasTokens}
 use Rattle.bidel_expr.specs.Lexemes.{lexemes}
-use Rattle.bidel_parser.specs.Views.{StatementView}
-use Rattle.bidel_parser.specs.Parsing.{IsFront, NoFront, IsFault}
+use Rattle.bidel_parser.specs.Views.{StatementView, statement_view}
+use Rattle.bidel_parser.specs.Parsing.{IsFront}
 use Rattle.engine_core.specs.State.{State}
 use Rattle.engine_core.specs.Act.{act}
 use Rattle.engine_core.specs.Texts.{line}
-use Rattle.inverda_run.specs.Script.{IsScript, HasFault, last_of, Leads}
+use Rattle.inverda_run.specs.Tails.{is_over}
+use Rattle.inverda_run.specs.Lengths.{IsLong}
+use Rattle.inverda_run.specs.Script.{Leads, Comes, Outcome, Over, Fault, Long, Open, StandsBehind}
 use Rattle.inverda_run.specs.Output.{text_of, next_state, out_of}
 use Rattle.inverda_run.specs.Places.{place_of, fault_line}
-use Rattle.inverda_run.specs.Statuses.{Done, Stopped, Passed, PutsFront, Writes, Begun}
-use Rattle.inverda_run.specs.declared.tokens.Tokens.{Tokens}
+use Rattle.inverda_run.specs.Statuses.{Done, Stopped, Unread, Passed, PutsFront, Writes, Begun, last_line, limit}
+use Rattle.inverda_run.specs.declared.tokens.Tail.{Tail}
 use Rattle.inverda_run.specs.declared.turn.Turn.{Turn}
 use Rattle.inverda_run.specs.declared.turn.Turn.TheVariants as turn
+use Rattle.inverda_run.specs.declared.front.Stop.{Stop}
+use Rattle.inverda_run.specs.declared.front.Stop.TheVariants as stop
+use Rattle.inverda_run.specs.declared.front.Found.{Found}
+use Rattle.inverda_run.specs.declared.front.Found.TheVariants as found
 use Rattle.inverda_run.specs.declared.run.Ran.{Ran}
 use Rattle.inverda_run.specs.declared.run.Ran.TheVariants as ran
+use Rattle.par_base.specs.declared.all.ReadAll.{ReadAll}
+use Rattle.par_base.specs.declared.all.ReadAll.TheVariants as read
+use Rattle.inverda_run.specs.declared.top.Counted.{Counted}
 use Rattle.inverda_run.specs.declared.end.End.{End}
 use Rattle.inverda_run.specs.declared.end.End.TheVariants as end
 
--- all tokens of the bytes, and the answer behind them
-abbrev pub AreAll : List ℕ → Tokens → Type 0
-AreAll bytes all = HasTokens true bytes 0 all.tokens.items (last_of all.bad)
+-- the outcome of which a stop tells
+abbrev pub outcome_of : Stop → Outcome
+outcome_of stop.Over = Over
+outcome_of (stop.Fault at) = Fault at
+outcome_of stop.Long = Long
+outcome_of stop.Open = Open
+
+-- what is found at the front of the tokens: a statement that is known to end and isn't too long, or what else stands there
+abbrev pub Finds : List ℕ → Tail → List Token → Found → Type 0
+Finds bytes tail tokens (found.Whole statement used) = IsFront (is_over tail.last) (lexemes bytes tokens) (statement_view statement) used × (¬ IsLong bytes tail tokens)
+Finds bytes tail tokens (found.Stops stop) = StandsBehind bytes tail tokens 0 (outcome_of stop)
 
 -- a statement at the front of the tokens was carried out, and the lines that answer it were put
-pub record RunsOne (bytes : List ℕ) (tokens : List Token) (held held' : Option (List ℕ)) (s s' : State) (used : ℕ) : Type 0 where
+pub record RunsOne (bytes : List ℕ) (tail : Tail) (tokens : List Token) (held held' : Option (List ℕ)) (s s' : State) (used : ℕ) : Type 0 where
   pub statement : StatementView
-  pub front : IsFront true (lexemes bytes tokens) statement used
-  pub some : 0 < used
-  pub within : used ≤ length tokens
+  pub front : IsFront (is_over tail.last) (lexemes bytes tokens) statement used
+  pub short : ¬ IsLong bytes tail tokens
   pub put : Appends held held' (text_of (act s statement))
   pub next : s' ≡ next_state s (act s statement)
 
 -- a statement at the front of the tokens was carried out, and a front of the lines that answer it was put
-pub record RunsPart (bytes : List ℕ) (tokens : List Token) (held held' : Option (List ℕ)) (s : State) : Type 0 where
+pub record RunsPart (bytes : List ℕ) (tail : Tail) (tokens : List Token) (held held' : Option (List ℕ)) (s : State) : Type 0 where
   pub statement : StatementView
   pub used : ℕ
-  pub front : IsFront true (lexemes bytes tokens) statement used
+  pub front : IsFront (is_over tail.last) (lexemes bytes tokens) statement used
+  pub short : ¬ IsLong bytes tail tokens
   pub put : PutsFront held held' (text_of (act s statement))
 
--- what a turn leaves: the sink's bytes and count of faults, and the engine's state, before and now
-abbrev pub Turns : List ℕ → List Token → Option (List ℕ) → Option (List ℕ) → ℕ → ℕ → State → State → Turn → Type 0
-Turns bytes tokens held held' was is s s' (turn.Ran used) = RunsOne bytes tokens held held' s s' used
-Turns bytes tokens held held' was is s s' turn.Over = (tokens ≡ []) × (held' ≡ held)
-Turns bytes tokens held held' was is s s' (turn.Fault at) = NoFront true (lexemes bytes tokens) × IsFault bytes tokens true at × (held' ≡ held)
-Turns bytes tokens held held' was is s s' turn.Memory = held' ≡ held
-Turns bytes tokens held held' was is s s' turn.Unwritten = Rose was is × RunsPart bytes tokens held held' s
+-- what a turn behind so many tokens leaves: the sink's bytes and count of faults, and the engine's state, before and now; behind no
+-- tokens at all, it finds what stands there
+abbrev pub Turns : List ℕ → Tail → List Token → Option (List ℕ) → Option (List ℕ) → ℕ → ℕ → State → State → Turn → Type 0
+Turns bytes tail tokens held held' was is s s' (turn.Ran used) = RunsOne bytes tail tokens held held' s s' used
+Turns bytes tail tokens held held' was is s s' (turn.Stops stop) = StandsBehind bytes tail tokens 0 (outcome_of stop) × (held' ≡ held)
+Turns bytes tail tokens held held' was is s s' turn.Memory = held' ≡ held
+Turns bytes tail tokens held held' was is s s' turn.Unwritten = Rose was is × RunsPart bytes tail tokens held held' s
 
--- all tokens are statements, and the lines that answer them were put
-pub record RunsAll (bytes : List ℕ) (tokens : List Token) (held held' : Option (List ℕ)) : Type 0 where
+-- statements were carried out and answered, and this stands behind them
+pub record RunsTo (bytes : List ℕ) (tail : Tail) (tokens : List Token) (held held' : Option (List ℕ)) (outcome : Outcome) : Type 0 where
   pub statements : List StatementView
-  pub leads : Leads (lexemes bytes tokens) statements (length tokens)
+  pub used : ℕ
+  pub leads : Leads bytes tail tokens statements used
+  pub behind : StandsBehind bytes tail tokens used outcome
   pub put : Appends held held' (out_of statements)
 
--- statements were carried out and answered, and the tokens behind them have a fault
-pub record RunsUpTo (bytes : List ℕ) (tokens : List Token) (held held' : Option (List ℕ)) (at : ℕ) : Type 0 where
-  pub before : List StatementView
-  pub used : ℕ
-  pub leads : Leads (lexemes bytes tokens) before used
-  pub none : NoFront true (lexemes bytes (drop used tokens))
-  pub fault : IsFault bytes (drop used tokens) true at
-  pub within : at ≤ length bytes
-  pub put : Appends held held' (out_of before)
-
 -- statements were carried out, and a front of the lines that answer them was put
-pub record RunsFront (bytes : List ℕ) (tokens : List Token) (held held' : Option (List ℕ)) : Type 0 where
+pub record RunsFront (bytes : List ℕ) (tail : Tail) (tokens : List Token) (held held' : Option (List ℕ)) : Type 0 where
   pub statements : List StatementView
   pub used : ℕ
-  pub leads : Leads (lexemes bytes tokens) statements used
+  pub leads : Leads bytes tail tokens statements used
   pub put : PutsFront held held' (out_of statements)
 
 -- what the turns leave, by the sink's bytes and count of faults before and now
-abbrev pub Runs : List ℕ → List Token → Option (List ℕ) → Option (List ℕ) → ℕ → ℕ → Ran → Type 0
-Runs bytes tokens held held' was is ran.Over = RunsAll bytes tokens held held'
-Runs bytes tokens held held' was is (ran.Fault at) = RunsUpTo bytes tokens held held' at
-Runs bytes tokens held held' was is ran.Memory = RunsFront bytes tokens held held'
-Runs bytes tokens held held' was is ran.Unwritten = Rose was is × RunsFront bytes tokens held held'
+abbrev pub Runs : List ℕ → Tail → List Token → Option (List ℕ) → Option (List ℕ) → ℕ → ℕ → Ran → Type 0
+Runs bytes tail tokens held held' was is (ran.Stops stop) = RunsTo bytes tail tokens held held' (outcome_of stop)
+Runs bytes tail tokens held held' was is ran.Memory = RunsFront bytes tail tokens held held'
+Runs bytes tail tokens held held' was is ran.Unwritten = Rose was is × RunsFront bytes tail tokens held held'
 
--- what the last line of a fault at a byte leaves
-abbrev pub Stops : List ℕ → ℕ → Option (List ℕ) → Option (List ℕ) → ℕ → ℕ → End → Type 0
-Stops bytes at held held' was is end.Syntax = Appends held held' (fault_line (place_of bytes at))
-Stops bytes at held held' was is end.Memory = held' ≡ held
-Stops bytes at held held' was is end.Unwritten = Rose was is × PutsFront held held' (fault_line (place_of bytes at))
-Stops bytes at held held' was is _ = ⊥
+-- a fault is at one of the bytes, or behind the last one
+abbrev pub AtWithin : List ℕ → Stop → Type 0
+AtWithin bytes (stop.Fault at) = at ≤ length bytes
+AtWithin bytes _ = ⊤
 
--- the bytes are a script, and the lines that answer its statements were put
-pub record RunsScript (bytes : List ℕ) (held held' : Option (List ℕ)) : Type 0 where
+-- the lines that answer the statements that the bytes fix were put, and this stands behind them
+pub record RunsBytes (bytes : List ℕ) (ended : Bool) (held held' : Option (List ℕ)) (stop : Stop) : Type 0 where
   pub statements : List StatementView
-  pub script : IsScript bytes statements
+  pub comes : Comes bytes ended statements (outcome_of stop)
+  pub within : AtWithin bytes stop
   pub put : Appends held held' (out_of statements)
 
--- the bytes are no script, and the lines that answer the statements before the fault and the line with its place were put
-pub record StopsScript (bytes : List ℕ) (held held' : Option (List ℕ)) : Type 0 where
-  pub before : List StatementView
-  pub at : ℕ
-  pub none : (statements : List StatementView) → IsScript bytes statements → ⊥
-  pub fault : HasFault bytes before at
-  pub put : Appends held held' (out_of before ++ fault_line (place_of bytes at))
-
 -- a front was put of what the run of the bytes puts where nothing fails
-abbrev pub BeginsScript : List ℕ → Option (List ℕ) → Option (List ℕ) → Type 0
-BeginsScript bytes held held' = (text : List ℕ) → Writes bytes text → PutsFront held held' text
+abbrev pub BeginsRun : List ℕ → Bool → List ℕ → Option (List ℕ) → Option (List ℕ) → Type 0
+BeginsRun bytes ended stopped held held' = (text : List ℕ) → Writes bytes ended stopped text → PutsFront held held' text
 
--- what the run of all bytes leaves
-abbrev pub EndsScript : List ℕ → Option (List ℕ) → Option (List ℕ) → ℕ → ℕ → End → Type 0
-EndsScript bytes held held' was is end.Done = RunsScript bytes held held'
-EndsScript bytes held held' was is end.Syntax = StopsScript bytes held held'
-EndsScript bytes held held' was is end.Memory = BeginsScript bytes held held'
-EndsScript bytes held held' was is end.Unwritten = Rose was is × BeginsScript bytes held held'
-EndsScript bytes held held' was is _ = ⊥
+-- what the run of the bytes leaves before its last line
+abbrev pub RunsScript : List ℕ → Bool → Option (List ℕ) → Option (List ℕ) → ℕ → ℕ → Ran → Type 0
+RunsScript bytes ended held held' was is (ran.Stops stop) = RunsBytes bytes ended held held' stop
+RunsScript bytes ended held held' was is ran.Memory = (stopped : List ℕ) → BeginsRun bytes ended stopped held held'
+RunsScript bytes ended held held' was is ran.Unwritten = Rose was is × ((stopped : List ℕ) → BeginsRun bytes ended stopped held held')
+
+-- the lines that answer the statements that the bytes fix were put, and the last line of what stands behind them
+pub record PutsAll (bytes : List ℕ) (ended : Bool) (stopped : List ℕ) (held held' : Option (List ℕ)) (outcome : Outcome) : Type 0 where
+  pub statements : List StatementView
+  pub comes : Comes bytes ended statements outcome
+  pub put : Appends held held' (out_of statements ++ last_line bytes stopped outcome)
+
+-- a line was put, or a front of it
+abbrev pub PutsLine : Stop → List ℕ → Option (List ℕ) → Option (List ℕ) → ℕ → ℕ → Ran → Type 0
+PutsLine stop text held held' was is (ran.Stops same) = (same ≡ stop) × Appends held held' text
+PutsLine stop text held held' was is ran.Memory = held' ≡ held
+PutsLine stop text held held' was is ran.Unwritten = Rose was is × PutsFront held held' text
+
+-- what the run of the bytes leaves, with its last line
+abbrev pub EndsScript : List ℕ → Bool → List ℕ → Option (List ℕ) → Option (List ℕ) → ℕ → ℕ → Ran → Type 0
+EndsScript bytes ended stopped held held' was is (ran.Stops stop) = PutsAll bytes ended stopped held held' (outcome_of stop)
+EndsScript bytes ended stopped held held' was is ran.Memory = BeginsRun bytes ended stopped held held'
+EndsScript bytes ended stopped held held' was is ran.Unwritten = Rose was is × BeginsRun bytes ended stopped held held'
+
+-- of what was read these bytes count, and this ends the run where they leave a statement open
+abbrev pub Counts : ReadAll → Counted → Type 0
+Counts (read.Whole bytes) c = (c.bytes.now ≡ bytes.items) × (c.ended ≡ true) × (c.end ≡ end.Done)
+Counts (read.TooLong bytes) c = (c.bytes.now ≡ take limit bytes.items) × (c.ended ≡ false) × (c.stopped.now ≡ line (codes "too long")) × (c.end ≡ end.TooLong)
+Counts (read.Fault bytes) c = (c.bytes.now ≡ bytes.items) × (c.ended ≡ false) × (c.stopped.now ≡ line (codes "read fault")) × (c.end ≡ end.Unread)
+
+-- how a run ends, where `stopped` ends it when a statement is still open
+abbrev pub ended_by : End → Ran → End
+ended_by stopped (ran.Stops stop.Over) = end.Done
+ended_by stopped (ran.Stops (stop.Fault at)) = end.Syntax
+ended_by stopped (ran.Stops stop.Long) = end.TooLong
+ended_by stopped (ran.Stops stop.Open) = stopped
+ended_by stopped ran.Memory = end.Memory
+ended_by stopped ran.Unwritten = end.Unwritten
 
 -- what a run leaves: of the source what is left and its count of faults, and of the sink its bytes and its count, before and now
 abbrev pub Ends : {W : Type 0} → List W → Option (List ℕ) → Option (List ℕ) → ℕ → ℕ → Option (List ℕ) → Option (List ℕ) → ℕ → ℕ → End → Type 0
 Ends words left left' read read' held held' was is end.Done = (words ≡ []) × Done left left' held held'
 Ends words left left' read read' held held' was is end.Memory = (words ≡ []) × (¬ Rose read read' → Begun left held held')
 Ends words left left' read read' held held' was is end.BadWords = (words ≢ []) × Appends held held' (line (codes "bad words"))
-Ends words left left' read read' held held' was is end.Syntax = (words ≡ []) × Stopped left left' held held'
-Ends words left left' read read' held held' was is end.Unread = (words ≡ []) × Rose read read' × Appends held held' (line (codes "read fault"))
+Ends words left left' read read' held held' was is end.Syntax = (words ≡ []) × Stopped left left' read read' held held'
+Ends words left left' read read' held held' was is end.Unread = (words ≡ []) × Unread left left' read read' held held'
 Ends words left left' read read' held held' was is end.Unwritten = Rose was is × (words ≡ [] → ¬ Rose read read' → Begun left held held')
-Ends words left left' read read' held held' was is end.TooLong = (words ≡ []) × Passed left left' held held'
+Ends words left left' read read' held held' was is end.TooLong = (words ≡ []) × Passed left left' read read' held held'

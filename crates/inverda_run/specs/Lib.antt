@@ -1,3 +1,5 @@
+pub mod Tails
+pub mod Lengths
 pub mod Script
 pub mod Output
 pub mod Places

@@ -1,9 +1,10 @@
 -- What the statuses of a run say. Source and sink tell their bytes before and now, where they know them.
-use Rattle.std.specs.Prelude.{◌≡◌, ◌++◌, ◌≤◌, ◌<◌, ◌⊎◌, ℕ, List, length, take, Option, Some, None, codes, ⊤}
+use Rattle.std.specs.Prelude.{◌≡◌, ◌++◌, ◌≤◌, ◌<◌, ◌⊎◌, ℕ, nat_le, Bool, true, false, List, [], length, take, Option, Some, None, codes, ⊤}
 use Rattle.std.specs.Io.KnownBytes.{Consumes, Appends, IsAtEnd}
+use Rattle.par_base.specs.Causes.{Rose}
 use Rattle.bidel_parser.specs.Views.{StatementView}
 use Rattle.engine_core.specs.Texts.{line}
-use Rattle.inverda_run.specs.Script.{IsScript, HasFault}
+use Rattle.inverda_run.specs.Script.{IsScript, Comes, Outcome, Over, Fault, Long, Open}
 use Rattle.inverda_run.specs.Output.{out_of}
 use Rattle.inverda_run.specs.Places.{place_of, fault_line}
 
@@ -11,18 +12,40 @@ use Rattle.inverda_run.specs.Places.{place_of, fault_line}
 abbrev pub limit : ℕ
 limit = 268435456
 
--- these bytes were taken from the source, which has no more
-pub record WasRead (left left' : Option (List ℕ)) (bytes : List ℕ) : Type 0 where
-  pub taken : Consumes left left' bytes
-  pub whole : IsAtEnd left'
-  pub within : length bytes ≤ limit
+-- ---- what was taken from the source
 
--- the source was read to its end, and the sink was given the lines that answer the script's statements
+-- the bytes that were taken and count, and whether the input ended behind them, by the source's count of faults before and now: it was
+-- read to its end, or a call failed, or the limit was passed, whose first bytes count
+pub data Taken (left left' : Option (List ℕ)) (was is : ℕ) (bytes : List ℕ) (ended : Bool) : Type 0 where
+  whole : Consumes left left' bytes → IsAtEnd left' → length bytes ≤ limit → ended ≡ true → Taken left left' was is bytes ended
+  failed : Consumes left left' bytes → length bytes ≤ limit → Rose was is → ended ≡ false → Taken left left' was is bytes ended
+  above : (taken : List ℕ) → Consumes left left' taken → limit < length taken → bytes ≡ take limit taken → ended ≡ false → Taken left left' was is bytes ended
+
+-- ---- what was put
+
+-- the last line of a run; where a statement is still open it is the line of what stopped the reading
+abbrev pub last_line : List ℕ → List ℕ → Outcome → List ℕ
+last_line bytes stopped Over = []
+last_line bytes stopped (Fault at) = fault_line (place_of bytes at)
+last_line bytes stopped Long = line (codes "too long")
+last_line bytes stopped Open = stopped
+
+-- the lines that answer the statements that these bytes fix, and the last line
+pub record Writes (bytes : List ℕ) (ended : Bool) (stopped text : List ℕ) : Type 0 where
+  pub statements : List StatementView
+  pub outcome : Outcome
+  pub comes : Comes bytes ended statements outcome
+  pub same : text ≡ out_of statements ++ last_line bytes stopped outcome
+
+-- the source was read to its end, its bytes are a script, and the sink was given the lines that answer its statements
 pub record Done (left left' held held' : Option (List ℕ)) : Type 0 where
   pub bytes : List ℕ
   pub statements : List StatementView
-  pub read : WasRead left left' bytes
+  pub taken : Consumes left left' bytes
+  pub whole : IsAtEnd left'
+  pub within : length bytes ≤ limit
   pub script : IsScript bytes statements
+  pub comes : Comes bytes true statements Over
   pub put : Appends held held' (out_of statements)
 
 -- where the source told its bytes, they are a script, and the sink was given the lines that answer its statements
@@ -30,72 +53,71 @@ abbrev pub Answers : Option (List ℕ) → Option (List ℕ) → Option (List �
 Answers None held held' = ⊤
 Answers (Some bytes) held held' = (statements : List StatementView) × IsScript bytes statements × Appends held held' (out_of statements)
 
--- the source was read to its end, its bytes are no script, and the sink was given the lines that answer the statements before
--- the fault, and the line with its place
-pub record Stopped (left left' held held' : Option (List ℕ)) : Type 0 where
+-- the bytes that were taken have a fault, and the sink was given the lines that answer the statements before it, and the line
+-- with its place
+pub record Stopped (left left' : Option (List ℕ)) (was is : ℕ) (held held' : Option (List ℕ)) : Type 0 where
   pub bytes : List ℕ
+  pub ended : Bool
   pub before : List StatementView
   pub at : ℕ
-  pub read : WasRead left left' bytes
-  pub none : (statements : List StatementView) → IsScript bytes statements → ⊥
-  pub fault : HasFault bytes before at
+  pub taken : Taken left left' was is bytes ended
+  pub fault : Comes bytes ended before (Fault at)
   pub put : Appends held held' (out_of before ++ fault_line (place_of bytes at))
 
--- the source told that it had a script within the limit
-pub record HadScript (left : Option (List ℕ)) : Type 0 where
+-- a call of the source failed, the bytes that were taken have no fault and no statement that is too long, and the sink was given the
+-- lines that answer the statements whose end they fix, and this line
+pub record Unread (left left' : Option (List ℕ)) (was is : ℕ) (held held' : Option (List ℕ)) : Type 0 where
+  pub bytes : List ℕ
+  pub before : List StatementView
+  pub taken : Consumes left left' bytes
+  pub within : length bytes ≤ limit
+  pub cause : Rose was is
+  pub rest : Comes bytes false before Open
+  pub put : Appends held held' (out_of before ++ line (codes "read fault"))
+
+-- a statement is too long, or more bytes than the limit were taken and those within it have no fault; the sink was given the lines that
+-- answer the statements before, and this line
+pub record Passed (left left' : Option (List ℕ)) (was is : ℕ) (held held' : Option (List ℕ)) : Type 0 where
+  pub bytes : List ℕ
+  pub ended : Bool
+  pub before : List StatementView
+  pub taken : Taken left left' was is bytes ended
+  pub long : Comes bytes ended before Long ⊎ (Comes bytes false before Open × (more : List ℕ) × Consumes left left' more × (limit < length more) × (bytes ≡ take limit more))
+  pub put : Appends held held' (out_of before ++ line (codes "too long"))
+
+-- ---- what a source told
+
+-- of the bytes that the source told those count that are within the limit, and it ends there where there are no more; and this comes of them
+pub record Had (left : Option (List ℕ)) (outcome : Outcome) : Type 0 where
   pub bytes : List ℕ
   pub statements : List StatementView
   pub told : left ≡ Some bytes
-  pub within : length bytes ≤ limit
-  pub script : IsScript bytes statements
+  pub comes : Comes (take limit bytes) (nat_le (length bytes) limit) statements outcome
 
--- the source told that it had bytes within the limit that are no script
-pub record HadFault (left : Option (List ℕ)) : Type 0 where
-  pub bytes : List ℕ
-  pub told : left ≡ Some bytes
-  pub within : length bytes ≤ limit
-  pub none : (statements : List StatementView) → IsScript bytes statements → ⊥
+-- a script within the limits
+abbrev pub HadScript : Option (List ℕ) → Type 0
+HadScript left = Had left Over
 
--- the source told that it had more bytes than the limit
-pub record HadMore (left : Option (List ℕ)) : Type 0 where
-  pub bytes : List ℕ
-  pub told : left ≡ Some bytes
-  pub above : limit < length bytes
+-- bytes with a first fault
+abbrev pub HadFault : Option (List ℕ) → Type 0
+HadFault left = (at : ℕ) × Had left (Fault at)
 
--- more bytes than the limit were taken from the source, and the sink was given this line
-pub record Passed (left left' held held' : Option (List ℕ)) : Type 0 where
-  pub bytes : List ℕ
-  pub taken : Consumes left left' bytes
-  pub above : limit < length bytes
-  pub put : Appends held held' (line (codes "too long"))
+-- bytes with a statement that is too long, or more than the limit and without a fault in those within it
+abbrev pub HadMore : Option (List ℕ) → Type 0
+HadMore left = Had left Long ⊎ Had left Open
+
+-- ---- fronts
 
 -- the sink was given a front of these bytes
 abbrev pub PutsFront : Option (List ℕ) → Option (List ℕ) → List ℕ → Type 0
 PutsFront held held' bytes = (n : ℕ) × Appends held held' (take n bytes)
 
--- the bytes are a script, and the text answers its statements
-pub record IsAnswer (bytes text : List ℕ) : Type 0 where
-  pub statements : List StatementView
-  pub script : IsScript bytes statements
-  pub same : text ≡ out_of statements
-
--- the bytes are no script, and the text answers the statements before the first fault and says its place
-pub record IsFaultAnswer (bytes text : List ℕ) : Type 0 where
-  pub before : List StatementView
-  pub at : ℕ
-  pub none : (statements : List StatementView) → IsScript bytes statements → ⊥
-  pub fault : HasFault bytes before at
-  pub same : text ≡ out_of before ++ fault_line (place_of bytes at)
-
--- what the run of the bytes puts where nothing fails and memory suffices
-abbrev pub Writes : List ℕ → List ℕ → Type 0
-Writes bytes text = IsAnswer bytes text ⊎ IsFaultAnswer bytes text
-
--- where the source told bytes within the limit, the sink was given a front of what their run puts where nothing fails
+-- where the source told its bytes, the sink was given a front of what their run puts where nothing fails
 abbrev pub Begun : Option (List ℕ) → Option (List ℕ) → Option (List ℕ) → Type 0
 Begun None held held' = ⊤
-Begun (Some bytes) held held' = length bytes ≤ limit → (text : List ℕ) → Writes bytes text → PutsFront held held' text
+Begun (Some bytes) held held' = (text : List ℕ) → Writes (take limit bytes) (nat_le (length bytes) limit) (line (codes "too long")) text → PutsFront held held' text
 
 -- the run of any bytes puts one text where nothing fails
 abbrev pub OneText : Type 0
-OneText = (bytes : List ℕ) → (text : List ℕ) × Writes bytes text × ((other : List ℕ) → Writes bytes other → other ≡ text)
+OneText = (bytes : List ℕ) (ended : Bool) (stopped : List ℕ) → (text : List ℕ) × Writes bytes ended stopped text
+    × ((other : List ℕ) → Writes bytes ended stopped other → other ≡ text)

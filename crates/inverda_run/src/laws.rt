@@ -1,5 +1,5 @@
 //! Laws of scripts, each the contract of a function that does nothing.
-ghost use Rattle.inverda_run.specs.Script.{OneFault, OneScript};
+ghost use Rattle.inverda_run.specs.Script.{FaultIsNoScript, OneComes, OneScript, OverIsScript};
 ghost use Rattle.inverda_run.specs.Statuses.{OneText};
 
 /// Bytes are the script of at most one list of statements.
@@ -7,12 +7,22 @@ pub fn script_is_one()
     ensures { OneScript }
 {}
 
-/// Bytes have at most one first fault, and at most one list of statements before it.
-pub fn fault_is_one()
-    ensures { OneFault }
+/// Bytes that are whole statements and nothing else are their script.
+pub fn over_is_script()
+    ensures { OverIsScript }
 {}
 
-/// Bytes are a script or have a first fault: where nothing fails, their run puts one text.
+/// Bytes with a fault are no script.
+pub fn fault_is_no_script()
+    ensures { FaultIsNoScript }
+{}
+
+/// Any bytes fix one list of statements, and one thing stands behind them.
+pub fn run_is_one()
+    ensures { OneComes }
+{}
+
+/// Where nothing fails, the run of any bytes puts one text.
 pub fn text_is_one()
     ensures { OneText }
 {}

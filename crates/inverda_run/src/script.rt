@@ -1,9 +1,10 @@
-//! All bytes of a script.
-ghost use Rattle.std.specs.Prelude.{◌≡◌, ◌≤◌, length};
-ghost use Rattle.inverda_run.specs.Script.{earlier};
-ghost use Rattle.inverda_run.specs.Calls.{EndsScript, Stops};
+//! The bytes of a script, and the last line.
+ghost use Rattle.std.specs.Prelude.{◌≡◌, ◌≤◌, ◌<◌, ◌++◌, length, codes, IfOk, IfSome};
+ghost use Rattle.engine_core.specs.Texts.{line};
+ghost use Rattle.inverda_run.specs.Statuses.{PutsFront, last_line};
+ghost use Rattle.inverda_run.specs.Calls.{EndsScript, AtWithin, PutsLine, RunsScript, outcome_of};
 
-use crate::end::End;
+use crate::front::Stop;
 use crate::lines::syntax_line;
 use crate::run::{Ran, run_tokens};
 use crate::tokens::all_tokens;
@@ -12,54 +13,77 @@ use par_base::{Failed, Memory, Sink, write_all};
 use std::alloc::Global;
 use std::sync::ledger::{Blank, Ledger};
 
-// Puts the last line of a fault at a byte.
-fn stop<K: Sink>(alloc: Global, bytes: &[u8], at: usize, out: &mut K) -> End
-    requires { at ≤ length bytes.now }
-    ensures stops { Stops bytes.now at (K.held out.old) (K.held out.new) (K.faults out.old)
-        (K.faults out.new) result }
-    ensures later { K.faults out.old ≤ K.faults out.new }
-{
-    match syntax_line(alloc, bytes, at) {
-        Ok(text) => match write_all(out, text.as_str().as_bytes()) {
-            Ok(()) => End::Syntax,
-            Err(Failed) => End::Unwritten,
-        },
-        Err(Memory) => End::Memory,
-    }
-}
-
-// The place, or that of a byte that continues no token, where that comes first.
-fn first_place(at: usize, bad: Option<usize>) -> usize
-    ensures value { result ≡ earlier at bad }
-    ensures within { result ≤ at }
-{
-    match bad {
-        Some(bad) => at.min(bad),
-        None => at,
-    }
-}
-
-/// Carries out and answers each statement of the bytes, and puts the place of their first fault.
-pub fn run_script<K: Sink, L: Ledger>(alloc: Global, bytes: &[u8], out: &mut K, blank: Blank) -> End
+/// Carries out and answers each statement that the bytes fix; `ended` says that the input ended
+/// behind them.
+pub fn run_script<K: Sink, L: Ledger>(
+    alloc: Global,
+    bytes: &[u8],
+    ended: bool,
+    out: &mut K,
+    blank: Blank,
+) -> Ran
     requires name { blank.name ≡ L.name }
     requires parts { blank.parts ≡ L.parts }
     requires one { blank.parts ≡ 1 }
-    ensures ends { EndsScript bytes.now (K.held out.old) (K.held out.new) (K.faults out.old)
+    ensures runs { RunsScript bytes.now ended (K.held out.old) (K.held out.new) (K.faults out.old)
         (K.faults out.new) result }
     ensures later { K.faults out.old ≤ K.faults out.new }
 {
     let mut steps = Steps::<L>::new(blank);
-    let all = match all_tokens(alloc, bytes) {
-        Ok(all) => all,
-        Err(Memory) => return End::Memory,
-    };
-    match run_tokens(alloc, bytes, all.tokens.as_slice(), out, &mut steps) {
-        Ran::Over => match all.bad {
-            None => End::Done,
-            Some(bad) => stop(alloc, bytes, bad, out),
+    match all_tokens(alloc, bytes, ended) {
+        Ok(all) => run_tokens(alloc, bytes, all.tail, all.tokens.as_slice(), out, &mut steps),
+        Err(Memory) => Ran::Memory,
+    }
+}
+
+// Puts a line.
+fn put_line<K: Sink>(stop: Stop, text: &[u8], out: &mut K) -> Ran
+    ensures puts { PutsLine stop text.now (K.held out.old) (K.held out.new) (K.faults out.old) (K.faults out.new) result }
+    ensures later { K.faults out.old ≤ K.faults out.new }
+{
+    match write_all(out, text) {
+        Ok(()) => Ran::Stops(stop),
+        Err(Failed) => Ran::Unwritten,
+    }
+}
+
+// Puts the last line; `stopped` is the line of what stopped the reading.
+fn put_last<K: Sink>(alloc: Global, bytes: &[u8], stopped: &[u8], stop: Stop, out: &mut K) -> Ran
+    requires { AtWithin bytes.now stop }
+    ensures puts { PutsLine stop (last_line bytes.now stopped.now (outcome_of stop)) (K.held out.old) (K.held out.new)
+        (K.faults out.old) (K.faults out.new) result }
+    ensures later { K.faults out.old ≤ K.faults out.new }
+{
+    match stop {
+        Stop::Over => Ran::Stops(stop),
+        Stop::Fault { at } => match syntax_line(alloc, bytes, at) {
+            Ok(text) => put_line(stop, text.as_str().as_bytes(), out),
+            Err(Memory) => Ran::Memory,
         },
-        Ran::Fault { at } => stop(alloc, bytes, first_place(at, all.bad), out),
-        Ran::Memory => End::Memory,
-        Ran::Unwritten => End::Unwritten,
+        Stop::Long => put_line(stop, b"too long\n", out),
+        Stop::Open => put_line(stop, stopped, out),
+    }
+}
+
+/// Carries out and answers each statement that the bytes fix, and puts the last line; `stopped` is the
+/// line where a statement is still open.
+pub fn end_script<K: Sink, L: Ledger>(
+    alloc: Global,
+    bytes: &[u8],
+    ended: bool,
+    stopped: &[u8],
+    out: &mut K,
+    blank: Blank,
+) -> Ran
+    requires name { blank.name ≡ L.name }
+    requires parts { blank.parts ≡ L.parts }
+    requires one { blank.parts ≡ 1 }
+    ensures ends { EndsScript bytes.now ended stopped.now (K.held out.old) (K.held out.new) (K.faults out.old)
+        (K.faults out.new) result }
+    ensures later { K.faults out.old ≤ K.faults out.new }
+{
+    match run_script::<K, L>(alloc, bytes, ended, out, blank) {
+        Ran::Stops(stop) => put_last(alloc, bytes, stopped, stop, out),
+        ran => ran,
     }
 }

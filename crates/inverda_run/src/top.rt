@@ -3,12 +3,14 @@ ghost use Rattle.std.specs.Prelude.{◌≡◌, ◌≢◌, ◌⊎◌, ◌≤◌, 
 ghost use Rattle.std.specs.Io.KnownBytes.{Appends};
 ghost use Rattle.par_base.specs.Causes.{Rose};
 ghost use Rattle.engine_core.specs.Texts.{line};
-ghost use Rattle.inverda_run.specs.Statuses.{Done, Answers, Begun, Stopped, Passed};
+ghost use Rattle.inverda_run.specs.Statuses.{Done, Answers, Begun, Stopped, Unread, Passed};
 ghost use Rattle.inverda_run.specs.Statuses.{HadFault, HadMore, HadScript};
-ghost use Rattle.inverda_run.specs.Calls.{Ends};
+ghost use Rattle.inverda_run.specs.Calls.{Counts, Ends, ended_by};
 
 use crate::end::End;
-use crate::script::run_script;
+use crate::front::Stop;
+use crate::run::Ran;
+use crate::script::end_script;
 use par_base::{Failed, Files, Memory, ReadAll, Sink, Source, read_all, write_all};
 use std::alloc::Global;
 use std::marker::Brand;
@@ -16,6 +18,54 @@ use std::sync::ledger::Blank;
 
 // The greatest number of bytes of a script.
 const LIMIT: u32 = 268_435_456;
+
+/// The bytes that were taken and count, and what ends the run where they leave a statement open.
+#[derive(Clone, Copy)]
+struct Counted<'a> {
+    bytes: &'a [u8],
+    ended: bool,
+    stopped: &'a [u8],
+    end: End,
+}
+
+fn what_counts(read: &ReadAll) -> Counted<'_>
+    ensures { Counts read.now result }
+{
+    match read {
+        ReadAll::Whole(bytes) => Counted {
+            bytes: bytes.as_slice(),
+            ended: true,
+            stopped: b"",
+            end: End::Done,
+        },
+        ReadAll::TooLong(bytes) => Counted {
+            bytes: &bytes.as_slice()[..(LIMIT as usize).min(bytes.len())],
+            ended: false,
+            stopped: b"too long\n",
+            end: End::TooLong,
+        },
+        ReadAll::Fault(bytes) => Counted {
+            bytes: bytes.as_slice(),
+            ended: false,
+            stopped: b"read fault\n",
+            end: End::Unread,
+        },
+    }
+}
+
+// How the run ends, where `stopped` ends it when a statement is still open.
+fn end_of(ran: Ran, stopped: End) -> End
+    ensures { result ≡ ended_by stopped ran }
+{
+    match ran {
+        Ran::Stops(Stop::Over) => End::Done,
+        Ran::Stops(Stop::Fault { .. }) => End::Syntax,
+        Ran::Stops(Stop::Long) => End::TooLong,
+        Ran::Stops(Stop::Open) => stopped,
+        Ran::Memory => End::Memory,
+        Ran::Unwritten => End::Unwritten,
+    }
+}
 
 // Reads the script to its end and runs it.
 fn run<S: Source, K: Sink>(alloc: Global, words: &[String], script: &mut S, out: &mut K) -> End
@@ -33,23 +83,20 @@ fn run<S: Source, K: Sink>(alloc: Global, words: &[String], script: &mut S, out:
             Err(Failed) => End::Unwritten,
         };
     }
-    match read_all(alloc, script, LIMIT) {
-        Ok(ReadAll::Whole(bytes)) => run_script::<K, Brand>(
-            alloc,
-            bytes.as_slice(),
-            out,
-            Blank::new(1),
-        ),
-        Ok(ReadAll::TooLong(_)) => match write_all(out, b"too long\n") {
-            Ok(()) => End::TooLong,
-            Err(Failed) => End::Unwritten,
-        },
-        Ok(ReadAll::Fault(_)) => match write_all(out, b"read fault\n") {
-            Ok(()) => End::Unread,
-            Err(Failed) => End::Unwritten,
-        },
-        Err(Memory) => End::Memory,
-    }
+    let read = match read_all(alloc, script, LIMIT) {
+        Ok(read) => read,
+        Err(Memory) => return End::Memory,
+    };
+    let taken = what_counts(&read);
+    let ran = end_script::<K, Brand>(
+        alloc,
+        taken.bytes,
+        taken.ended,
+        taken.stopped,
+        out,
+        Blank::new(1),
+    );
+    end_of(ran, taken.end)
 }
 
 /// Runs the script that the source gives, and puts the lines that answer its statements. The answer
@@ -61,7 +108,11 @@ fn run<S: Source, K: Sink>(alloc: Global, words: &[String], script: &mut S, out:
 /// - 3: the bytes are no script; the last line is `syntax` with line and column of the first fault
 /// - 5: the source failed; the last line is `read fault`
 /// - 6: the sink failed
-/// - 7: the script has more than 268,435,456 bytes; the last line is `too long`
+/// - 7: a statement has more than 65,536 bytes from its first one to its last semicolon, or the script
+///   more than 268,435,456; the last line is `too long`
+///
+/// Before the last line of 3, 5 and 7 stand the replies to the statements that were known to end.
+/// Takes memory in the number of bytes and tokens.
 pub fn inverda<S: Source, K: Sink, F: Files>(
     alloc: Global,
     words: &[String],
@@ -92,13 +143,13 @@ pub fn inverda<S: Source, K: Sink, F: Files>(
     ensures words_only { words.now ≢ [] → (result ≡ 2) ⊎ (result ≡ 6) }
     ensures untouched { words.now ≢ [] → (S.left script.new ≡ S.left script.old)
         × (S.faults script.new ≡ S.faults script.old) }
-    ensures syntax { result ≡ 3 → (words.now ≡ [])
-        × Stopped (S.left script.old) (S.left script.new) (K.held out.old) (K.held out.new) }
-    ensures read { result ≡ 5 → (words.now ≡ []) × Rose (S.faults script.old) (S.faults script.new)
-        × Appends (K.held out.old) (K.held out.new) (line (codes "read fault")) }
+    ensures syntax { result ≡ 3 → (words.now ≡ []) × Stopped (S.left script.old) (S.left script.new)
+        (S.faults script.old) (S.faults script.new) (K.held out.old) (K.held out.new) }
+    ensures read { result ≡ 5 → (words.now ≡ []) × Unread (S.left script.old) (S.left script.new)
+        (S.faults script.old) (S.faults script.new) (K.held out.old) (K.held out.new) }
     ensures write { result ≡ 6 → Rose (K.faults out.old) (K.faults out.new) }
-    ensures long { result ≡ 7 → (words.now ≡ [])
-        × Passed (S.left script.old) (S.left script.new) (K.held out.old) (K.held out.new) }
+    ensures long { result ≡ 7 → (words.now ≡ []) × Passed (S.left script.old) (S.left script.new)
+        (S.faults script.old) (S.faults script.new) (K.held out.old) (K.held out.new) }
 
     // Where memory ran out or the sink failed, a front was put of what would be otherwise.
     ensures begun { (result ≡ 1) ⊎ (result ≡ 6) → words.now ≡ []

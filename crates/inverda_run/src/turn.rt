@@ -5,10 +5,13 @@ ghost use Rattle.bidel_parser.specs.Views.{statement_view};
 ghost use Rattle.engine_core.specs.Act.{act};
 ghost use Rattle.engine_core.specs.Kept.{state_of};
 ghost use Rattle.inverda_run.specs.Output.{next_state, text_of};
+ghost use Rattle.inverda_run.specs.Tails.{Fits};
 ghost use Rattle.inverda_run.specs.Calls.{Turns};
 
+use crate::front::{Found, Stop, find_front};
+use crate::tokens::Tail;
 use bidel_lex::Token;
-use bidel_parser::{Parsed, Statement, Syntax, parse_statement};
+use bidel_parser::Statement;
 use engine_core::{Engine, refusal_text, reply_text};
 use expr_lang::Steps;
 use par_base::{Failed, Fault, Memory, Sink, Text, write_all};
@@ -23,10 +26,8 @@ const SESSION: u8 = 0;
 pub enum Turn {
     /// The statement of so many first tokens was carried out and answered.
     Ran { used: usize },
-    /// No tokens are left.
-    Over,
-    /// No statement stands there, and the first fault is at this byte.
-    Fault { at: usize },
+    /// No statement that is known to end stands there, but this.
+    Stops(Stop),
     /// Memory ran out.
     Memory,
     /// The sink failed.
@@ -58,25 +59,26 @@ pub fn take_turn<K: Sink, L: Ledger>(
     alloc: Global,
     engine: &mut Engine,
     bytes: &[u8],
+    tail: Tail,
     tokens: &[Token],
     out: &mut K,
     steps: &mut Steps<L>,
 ) -> Turn
-    requires { AreTokens bytes.now tokens.now }
-    ensures turns { Turns bytes.now tokens.now (K.held out.old) (K.held out.new) (K.faults out.old)
+    requires tokens { AreTokens bytes.now tokens.now }
+    requires fits { Fits bytes.now tail }
+    ensures turns { Turns bytes.now tail tokens.now (K.held out.old) (K.held out.new) (K.faults out.old)
         (K.faults out.new) (state_of engine.old) (state_of engine.new) result }
     ensures later { K.faults out.old ≤ K.faults out.new }
 {
-    match parse_statement(alloc, bytes, tokens, true) {
-        Ok(Parsed::Whole { statement, used }) => match answer(alloc, engine, statement, steps) {
+    match find_front(alloc, bytes, tail, tokens) {
+        Ok(Found::Whole { statement, used }) => match answer(alloc, engine, statement, steps) {
             Ok(text) => match write_all(out, text.as_str().as_bytes()) {
                 Ok(()) => Turn::Ran { used },
                 Err(Failed) => Turn::Unwritten,
             },
             Err(Memory) => Turn::Memory,
         },
-        Ok(Parsed::Nothing | Parsed::More) => Turn::Over,
-        Err(Fault::Refused(Syntax { at })) => Turn::Fault { at },
-        Err(Fault::Memory) => Turn::Memory,
+        Ok(Found::Stops(stop)) => Turn::Stops(stop),
+        Err(Memory) => Turn::Memory,
     }
 }
