@@ -1,18 +1,17 @@
 -- Every event leaves the two sides of each ADD COLUMN in agreement.
-use Rattle.std.proofs.Common.{◌≡◌, ℕ, zero, suc, ◌+◌, ◌<◌, ◌^◌, ◌⊎◌, inl, inr, List, [], ◌∷◌, ◌++◌, Bool, true, false, length, length-append, Some, None, Ok, Err, refl, ap, ◌∙◌, sym, subst, arith, eqb, eqb-true}
-use Rattle.std.specs.Prelude.{Option, slice_set, option_and_then, unwrap_or, if◌then◌else◌}
+use Rattle.std.proofs.Common.{◌≡◌, ℕ, zero, suc, ◌+◌, ◌<◌, ◌^◌, ◌⊎◌, inl, inr, List, [], ◌∷◌, ◌++◌, length, length-append, Some, None, Ok, Err, refl, ap, ◌∙◌, sym, subst, arith, eqb, eqb-true}
+use Rattle.std.specs.Prelude.{Option, slice_set, option_and_then, unwrap_or}
 use Rattle.std.specs.Option.{option_map}
 use Rattle.par_base.specs.declared.value.Value.{Value}
-use Rattle.par_base.specs.declared.refusal.Refusal.TheVariants.{NotBuilt}
 use Rattle.bidel_parser.specs.declared.statement.TableName.{TableName}
 use Rattle.bidel_parser.specs.Views.{OpView, StatementView, CreateVersion, Insert, Select}
 use Rattle.engine_core.specs.Tables.{Rows, Contents, AreWide}
 use Rattle.engine_core.specs.Mappings.{backward_of}
-use Rattle.engine_core.specs.Checks.{Checked, ◌then◌}
+use Rattle.engine_core.specs.Checks.{Checked}
 use Rattle.engine_core.specs.State.{State, Made, Origin, IsSound, AreReady, table_at, no_table}
 use Rattle.engine_core.specs.Walk.{origin_at, with_rows, numbered, inserted}
 use Rattle.engine_core.specs.Evolve.{Growth, Planned, planned, grown_by, with_operator, with_operators, evolved, evolved_to, start_of, unused_version, version_named, known_table, place_named, is_named, columns_at}
-use Rattle.engine_core.specs.Act.{Found, found, version_of, act, acted, acted_built, acted_insert, acted_select, right_counts, enough_ids, is_built}
+use Rattle.engine_core.specs.Act.{Found, found, version_of, act, acted, acted_built, acted_insert, right_counts, enough_ids, is_built}
 use Rattle.engine_core.specs.Kept.{empty_state}
 use Rattle.engine_core.specs.Own.{IsOneOf, tree_at, VersionsOwn}
 use Rattle.engine_core.specs.Agree.{left_by, after, SidesAgree, SidesAlwaysAgree}

@@ -12,7 +12,7 @@ use Rattle.engine_core.specs.Checks.{Checked, ◌then◌}
 use Rattle.engine_core.specs.State.{State, Made, Origin, table_at, no_table}
 use Rattle.engine_core.specs.Walk.{origin_at, inserted}
 use Rattle.engine_core.specs.Evolve.{Growth, Planned, planned, planned_table, planned_column, column_plan, grown_by, with_operator, with_operators, evolved, evolved_to, start_of, standing_of, unused_version, version_named, room_for_operator, unused_name, known_table, place_named, is_named, columns_at, new_columns, repeated, row_name, few_columns, known_columns}
-use Rattle.engine_core.specs.Act.{found, acted, acted_built, as_told, acted_select, right_counts, enough_ids, is_built}
+use Rattle.engine_core.specs.Act.{found, acted, acted_built, as_told, right_counts, enough_ids, is_built}
 use Rattle.engine_core.specs.Own.{IsOneOf, FallFrom, tree_at, OwnsTables, OwnTables, VersionsOwn, VersionsStayOwners}
 use Rattle.engine_core.specs.declared.state.Version.{Version}
 use Rattle.engine_core.specs.declared.state.Standing.{Standing}

@@ -1,7 +1,8 @@
 -- Fronts of the bytes that a run puts.
-use Rattle.std.proofs.Common.{◌≡◌, ◌+◌, ◌≤◌, ℕ, List, [], ◌∷◌, ◌++◌, Option, Bool, inl, inr, refl, sym, ap, subst, ◌∙◌, append_assoc, take, length, arith}
+use Rattle.std.proofs.Common.{◌≡◌, ◌+◌, ℕ, List, [], ◌++◌, Option, Bool, inl, inr, refl, sym, ap, subst, ◌∙◌, take, length, arith}
 use Rattle.std.proofs.lemmas.Bool.Decides.{leb_tells}
-use Rattle.std.proofs.lemmas.List.{take-append-le, take-append-add, take_all, take_at}
+use Rattle.std.proofs.lemmas.List.{take-append-le, take_all, take_at}
+use Rattle.std.proofs.Math.Seq.{take-append-add}
 use Rattle.std.specs.Io.KnownBytes.{Appends}
 use Rattle.std.proofs.KnownBytes.{Appends-nil, Appends-trans}
 use Rattle.bidel_lex.specs.declared.tokens.Token.{Token}
@@ -12,7 +13,7 @@ use Rattle.inverda_run.specs.declared.tokens.Tail.{Tail}
 use Rattle.inverda_run.specs.Tails.{AreAll}
 use Rattle.inverda_run.specs.Script.{Leads, StandsBehind}
 use Rattle.inverda_run.specs.Output.{out, out_of, max_id}
-use Rattle.inverda_run.specs.Statuses.{PutsFront, Writes, last_line}
+use Rattle.inverda_run.specs.Statuses.{PutsFront, last_line}
 use Rattle.inverda_run.specs.Calls.{RunsFront, BeginsRun}
 use Rattle.inverda_run.proofs.TokenLemmas.{all_are_one}
 use Rattle.inverda_run.proofs.OutputLemmas.{state_behind, out-append}

@@ -1,6 +1,6 @@
 -- Statements that are too long, and those that aren't.
-use Rattle.std.proofs.Common.{◌≡◌, ◌≢◌, ◌≤◌, ◌<◌, ◌-◌, ℕ, zero, suc, List, [], ◌∷◌, ◌++◌, Bool, true, false, Ok, Err, inl, inr, refl, sym, ap, subst, ◌∙◌, drop, length, get_or, arith}
-use Rattle.std.specs.Prelude.{Option, Some, None, slice_get, min}
+use Rattle.std.proofs.Common.{◌≡◌, ◌≢◌, ◌≤◌, ◌<◌, ◌-◌, ℕ, zero, suc, List, [], ◌∷◌, Bool, true, false, Ok, Err, inl, inr, refl, sym, ap, subst, ◌∙◌, drop, length, get_or, arith}
+use Rattle.std.specs.Prelude.{Some, None, slice_get, min}
 use Rattle.std.proofs.lemmas.List.{length-map}
 use Rattle.phrases.specs.Reading.{Read}
 use Rattle.phrases.proofs.Fronts.{whole_front, no_front, first_fault}
@@ -16,7 +16,6 @@ use Rattle.bidel_parser.specs.declared.statement.Statement.{Statement}
 use Rattle.bidel_parser.specs.Statements.{IsStatement, stays_open, statement_at}
 use Rattle.bidel_parser.specs.Parsing.{IsFront, NoFront, FirstFault, IsFault, start_of}
 use Rattle.bidel_parser.proofs.StatementLaws.{statement-last, script_over, statement_long}
-use Rattle.bidel_parser.proofs.ScriptLaws.{one_front}
 use Rattle.inverda_run.specs.declared.tokens.Tail.{Tail}
 use Rattle.inverda_run.specs.Tails.{is_over, earlier}
 use Rattle.inverda_run.specs.Calls.{Finds}

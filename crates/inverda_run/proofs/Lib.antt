@@ -1,4 +1,5 @@
 pub mod TokenLemmas
+pub mod BlankLemmas
 pub mod ScriptLemmas
 pub mod UniqueLemmas
 pub mod LengthLemmas
@@ -6,3 +7,5 @@ pub mod OutputLemmas
 pub mod PlaceLemmas
 pub mod FrontLemmas
 pub mod RunLemmas
+pub mod EndLemmas
+pub mod TextLemmas

@@ -1,5 +1,5 @@
 -- The statements that were run so far.
-use Rattle.std.proofs.Common.{◌≡◌, ◌+◌, ◌≤◌, ◌<◌, ℕ, List, [], ◌∷◌, ◌++◌, Option, Bool, true, inl, inr, refl, sym, ap, subst, ◌∙◌, drop, length, arith, length-drop}
+use Rattle.std.proofs.Common.{◌≡◌, ◌+◌, ◌≤◌, ℕ, List, [], ◌∷◌, ◌++◌, Option, inl, inr, refl, sym, ap, subst, ◌∙◌, drop, length, arith, length-drop}
 use Rattle.std.specs.Io.KnownBytes.{Appends}
 use Rattle.std.proofs.lemmas.List.{drop-drop}
 use Rattle.std.proofs.KnownBytes.{Appends-nil, Appends-trans}
@@ -59,7 +59,7 @@ ran_more bytes tail tokens held mid held' s s' done used r one =
     }
 
 -- what stands behind the tokens that are left stands behind all
-stands_up : (bytes : List ℕ) (tail : Tail) (tokens : List Token) (sts : List StatementView) (used : ℕ) (o : Outcome) → used ≤ length tokens
+pub stands_up : (bytes : List ℕ) (tail : Tail) (tokens : List Token) (sts : List StatementView) (used : ℕ) (o : Outcome) → used ≤ length tokens
     → Leads bytes tail tokens sts used → StandsBehind bytes tail (drop used tokens) 0 o → StandsBehind bytes tail tokens used o
 stands_up bytes tail tokens sts used Over within l h = h
 stands_up bytes tail tokens sts used (Fault at) within l h = record {

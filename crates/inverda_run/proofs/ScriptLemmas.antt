@@ -15,7 +15,7 @@ use Rattle.bidel_parser.proofs.ScriptLaws.{front_stays, front_leads, front_prece
 use Rattle.inverda_run.specs.declared.tokens.Tail.{Tail}
 use Rattle.inverda_run.specs.Tails.{is_over}
 use Rattle.inverda_run.specs.Lengths.{IsLong}
-use Rattle.inverda_run.specs.Script.{IsScript, Leads, Comes, Over, OneScript, OverIsScript}
+use Rattle.inverda_run.specs.Script.{Leads, OneScript, OverIsScript}
 use Rattle.inverda_run.proofs.TokenLemmas.{tokens_are_one, lexemes-drop}
 
 -- a statement has tokens

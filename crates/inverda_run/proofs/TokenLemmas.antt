@@ -1,16 +1,17 @@
 -- The tokens of some bytes.
-use Rattle.std.proofs.Common.{◌≡◌, ◌≤◌, ◌<◌, ◌-◌, ℕ, zero, suc, List, [], ◌∷◌, Bool, true, false, refl, sym, ap, ◌∙◌, subst, take, drop, length, length-drop, arith}
+use Rattle.std.proofs.Common.{◌≡◌, ◌≤◌, ◌-◌, ℕ, zero, suc, List, [], ◌∷◌, ◌++◌, Bool, true, false, refl, sym, ap, ◌∙◌, take, drop, length, length-drop, arith}
 use Rattle.std.proofs.lemmas.List.{drop-map, take_all}
 use Rattle.bidel_lex.specs.declared.tokens.Token.{Token}
 use Rattle.bidel_lex.specs.declared.tokens.Lexed.{Lexed}
 use Rattle.bidel_lex.specs.declared.tokens.Lexed.TheVariants as lexed
+use Rattle.bidel_lex.specs.Next.{next_of}
 use Rattle.bidel_lex.specs.Tokens.{AreTokens, HasTokens, is_token}
 use Rattle.bidel_lex.proofs.Within.{within_along}
 use Rattle.bidel_lex.proofs.Listed.{listed}
-use Rattle.bidel_expr.specs.Lexemes.{Lexeme, lexeme, lexemes}
+use Rattle.bidel_expr.specs.Lexemes.{lexeme, lexemes}
 use Rattle.bidel_parser.specs.Parsing.{IsFault, start_of}
 use Rattle.inverda_run.specs.declared.tokens.Tail.{Tail}
-use Rattle.inverda_run.specs.Tails.{AreAll, Fits, last_end, begun_at, is_over}
+use Rattle.inverda_run.specs.Tails.{AreAll, last_end, begun_at, first_byte, is_over}
 
 pub same_token : (a b : Token) → lexed.Token a ≡ lexed.Token b → a ≡ b
 same_token a b h = cc
@@ -90,3 +91,19 @@ over_not (lexed.BadToken at) h k = cc
 -- the tokens that are left
 pub rest_is : (tokens : List Token) (done : ℕ) → take (length tokens - done) (drop done tokens) ≡ drop done tokens
 rest_is tokens done = take_all (length tokens - done) (drop done tokens) (omega (arith, length-drop done tokens))
+
+-- the end of the last token
+pub last_end-push : (from : ℕ) (tokens : List Token) (token : Token) → last_end from (tokens ++ token ∷ []) ≡ token.end
+last_end-push from [] token = refl
+last_end-push from (t ∷ ts) token = last_end-push t.end ts token
+
+-- a byte that continues no token lies within the bytes, or behind the last one
+pub bad_within : (bytes : List ℕ) (from : ℕ) (ended : Bool) (last : Lexed) (at : ℕ) → next_of bytes from ended ≡ last → last ≡ lexed.BadToken at → at ≤ length bytes
+bad_within bytes from ended last at h e = (within_along bytes from ended (lexed.BadToken at) (h ∙ e)).1
+
+-- where what isn't the end begins
+pub begun_other : (bytes : List ℕ) (from end : ℕ) (last : Lexed) → from ≡ end → (last ≡ lexed.End → ⊥) → first_byte false from (drop from bytes) ≡ begun_at bytes end last
+begun_other bytes from end (lexed.Token t) e n = ap (λ (k : ℕ). first_byte false k (drop k bytes)) e
+begun_other bytes from end lexed.More e n = ap (λ (k : ℕ). first_byte false k (drop k bytes)) e
+begun_other bytes from end lexed.End e n = absurd (n refl)
+begun_other bytes from end (lexed.BadToken at) e n = ap (λ (k : ℕ). first_byte false k (drop k bytes)) e

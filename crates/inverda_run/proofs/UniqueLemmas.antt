@@ -1,13 +1,12 @@
 -- Bytes fix one list of statements, and one thing stands behind them.
-use Rattle.std.proofs.Common.{◌≡◌, ◌+◌, ◌≤◌, ◌<◌, ◌⊎◌, ℕ, zero, suc, List, [], ◌∷◌, ◌++◌, Bool, true, false, nat_lt, inl, inr, refl, sym, ap, subst, ◌∙◌, append_assoc, append-nil, take-append-drop, drop, take, length, arith, length-drop}
+use Rattle.std.proofs.Common.{◌≡◌, ◌+◌, ◌≤◌, ◌<◌, ℕ, List, [], ◌∷◌, ◌++◌, Bool, true, false, inl, inr, refl, sym, ap, subst, ◌∙◌, append_assoc, append-nil, take-append-drop, drop, take, length, arith, length-drop}
 use Rattle.std.proofs.lemmas.Bool.Decides.{leb_tells}
 use Rattle.std.proofs.lemmas.Bool.{ltb-true}
-use Rattle.std.proofs.lemmas.List.{drop-drop, length-map, take-take}
+use Rattle.std.proofs.lemmas.List.{length-map, take-take}
 use Rattle.phrases.specs.Phrases.{Begins}
 use Rattle.bidel_lex.specs.declared.tokens.Token.{Token}
 use Rattle.bidel_lex.specs.declared.tokens.Lexed.{Lexed}
 use Rattle.bidel_lex.specs.declared.tokens.Lexed.TheVariants.{More, End, BadToken}
-use Rattle.bidel_lex.specs.Tokens.{HasTokens}
 use Rattle.bidel_expr.specs.Lexemes.{Lexeme, lexeme, lexemes}
 use Rattle.bidel_parser.specs.Views.{StatementView}
 use Rattle.bidel_parser.specs.Statements.{Script}
@@ -18,7 +17,7 @@ use Rattle.inverda_run.specs.Tails.{AreAll, is_over, earlier, last_end, begun_at
 use Rattle.inverda_run.specs.Lengths.{IsLong, is_long, is_long_fault, whole, part}
 use Rattle.inverda_run.specs.Script.{Leads, Comes, Outcome, Over, Fault, Long, Open, IsFaulty, IsOpen, StandsBehind, FaultIsNoScript}
 use Rattle.inverda_run.proofs.TokenLemmas.{tokens_are_one, all_are_one, more_open}
-use Rattle.inverda_run.proofs.ScriptLemmas.{front_some, leads_within, script_behind, over_script, drop_both, says_none}
+use Rattle.inverda_run.proofs.ScriptLemmas.{front_some, script_behind, over_script, drop_both, says_none}
 
 -- ---- beginnings of scripts
 

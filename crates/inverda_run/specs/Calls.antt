@@ -1,5 +1,5 @@
 -- What the inner calls give.
-use Rattle.std.specs.Prelude.{◌≡◌, ◌≢◌, ◌≤◌, ◌<◌, ◌++◌, ℕ, Bool, true, false, List, [], drop, take, length, Option, codes, ⊤}
+use Rattle.std.specs.Prelude.{◌≡◌, ◌≢◌, ◌≤◌, ◌++◌, ℕ, Bool, true, false, List, [], take, length, Option, codes, ⊤}
 use Rattle.std.specs.Io.KnownBytes.{Appends}
 use Rattle.par_base.specs.Causes.{Rose}
 use Rattle.bidel_lex.specs.declared.tokens.Token.{Token}
@@ -13,7 +13,6 @@ use Rattle.inverda_run.specs.Tails.{is_over}
 use Rattle.inverda_run.specs.Lengths.{IsLong}
 use Rattle.inverda_run.specs.Script.{Leads, Comes, Outcome, Over, Fault, Long, Open, StandsBehind}
 use Rattle.inverda_run.specs.Output.{text_of, next_state, out_of}
-use Rattle.inverda_run.specs.Places.{place_of, fault_line}
 use Rattle.inverda_run.specs.Statuses.{Done, Stopped, Unread, Passed, PutsFront, Writes, Begun, last_line, limit}
 use Rattle.inverda_run.specs.declared.tokens.Tail.{Tail}
 use Rattle.inverda_run.specs.declared.turn.Turn.{Turn}

@@ -83,12 +83,7 @@ fn stop_at(bytes: &[u8], tail: Tail, tokens: &[Token], at: usize) -> Stop
 }
 
 // A script may go on from the tokens.
-fn stop_open(
-    alloc: Global,
-    bytes: &[u8],
-    tail: Tail,
-    tokens: &[Token],
-) -> Result<Stop, Memory>
+fn stop_open(alloc: Global, bytes: &[u8], tail: Tail, tokens: &[Token]) -> Result<Stop, Memory>
     requires tokens { AreTokens bytes.now tokens.now }
     requires fits { Fits bytes.now tail }
     requires more { tail.last ≡ WantsMore }

@@ -174,11 +174,7 @@ pub fn is_long_open(
 {
     match parse_statement(alloc, bytes, tokens, true) {
         Ok(Parsed::Whole { statement, used }) => Ok(is_long_whole(
-            bytes,
-            tail,
-            tokens,
-            statement,
-            used,
+            bytes, tail, tokens, statement, used,
         )),
         Ok(Parsed::Nothing) => Ok(is_long_fault(bytes, tail, tokens, bytes.len())),
         // No tokens come after these.

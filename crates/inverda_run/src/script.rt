@@ -31,7 +31,14 @@ pub fn run_script<K: Sink, L: Ledger>(
 {
     let mut steps = Steps::<L>::new(blank);
     match all_tokens(alloc, bytes, ended) {
-        Ok(all) => run_tokens(alloc, bytes, all.tail, all.tokens.as_slice(), out, &mut steps),
+        Ok(all) => run_tokens(
+            alloc,
+            bytes,
+            all.tail,
+            all.tokens.as_slice(),
+            out,
+            &mut steps,
+        ),
         Err(Memory) => Ran::Memory,
     }
 }

@@ -1,10 +1,10 @@
 //! The call that a program makes.
-ghost use Rattle.std.specs.Prelude.{◌≡◌, ◌≢◌, ◌⊎◌, ◌≤◌, ℕ, List, [], codes};
+ghost use Rattle.std.specs.Prelude.{◌≡◌, ◌≢◌, ◌⊎◌, ◌≤◌, ℕ, List, [], codes, take};
 ghost use Rattle.std.specs.Io.KnownBytes.{Appends};
 ghost use Rattle.par_base.specs.Causes.{Rose};
 ghost use Rattle.engine_core.specs.Texts.{line};
 ghost use Rattle.inverda_run.specs.Statuses.{Done, Answers, Begun, Stopped, Unread, Passed};
-ghost use Rattle.inverda_run.specs.Statuses.{HadFault, HadMore, HadScript};
+ghost use Rattle.inverda_run.specs.Statuses.{HadFault, HadMore, HadScript, limit};
 ghost use Rattle.inverda_run.specs.Calls.{Counts, Ends, ended_by};
 
 use crate::end::End;
@@ -28,6 +28,13 @@ struct Counted<'a> {
     end: End,
 }
 
+// The bytes that are within the limit.
+fn first_bytes(bytes: &[u8]) -> &[u8]
+    ensures { result.now ≡ take limit bytes.now }
+{
+    &bytes[..bytes.len().min(LIMIT as usize)]
+}
+
 fn what_counts(read: &ReadAll) -> Counted<'_>
     ensures { Counts read.now result }
 {
@@ -39,7 +46,7 @@ fn what_counts(read: &ReadAll) -> Counted<'_>
             end: End::Done,
         },
         ReadAll::TooLong(bytes) => Counted {
-            bytes: &bytes.as_slice()[..(LIMIT as usize).min(bytes.len())],
+            bytes: first_bytes(bytes.as_slice()),
             ended: false,
             stopped: b"too long\n",
             end: End::TooLong,

@@ -2,7 +2,6 @@ use Rattle.std.proofs.Common.{Bool, subst}
 use Rattle.bidel_expr.specs.Lexemes.{lexemes}
 use Rattle.bidel_parser.specs.Views.{statement_view}
 use Rattle.bidel_parser.specs.Parsing.{IsFront, NoFront}
-use Rattle.inverda_run.specs.Tails.{is_over}
 use Rattle.inverda_run.proofs.LengthLemmas.{finds_unless}
 use Rattle.inverda_run.proofs.front.find_front.Goals as goal
 

@@ -1,4 +1,4 @@
-use Rattle.std.proofs.Common.{◌∙◌, ◌≡◌, ℕ, true, drop, length, sym, ap, inr, arith, refl}
+use Rattle.std.proofs.Common.{◌∙◌, ◌≡◌, true, drop, length, sym, ap, inr, arith}
 use Rattle.bidel_expr.specs.Lexemes.{lexemes}
 use Rattle.bidel_parser.specs.Parsing.{start_of}
 use Rattle.inverda_run.specs.Tails.{is_over}

@@ -1,4 +1,3 @@
-use Rattle.std.proofs.Common.{◌∙◌, sym}
 use Rattle.inverda_run.proofs.front.stop_open.Goals as goal
 
 pub returns-then-branch : goal.returns-then-branch

@@ -1,5 +1,4 @@
-use Rattle.std.proofs.Common.{List, sym, subst}
-use Rattle.bidel_lex.specs.declared.tokens.Token.{Token}
+use Rattle.std.proofs.Common.{sym, subst}
 use Rattle.bidel_lex.specs.Tokens.{AreTokens}
 use Rattle.inverda_run.proofs.TokenLemmas.{are_tokens_drop, rest_is}
 use Rattle.inverda_run.proofs.lengths.is_long_front.Goals as goal

@@ -1,10 +1,8 @@
-use Rattle.std.proofs.Common.{◌∙◌, ◌≡◌, ◌≤◌, ◌+◌, ℕ, [], List, sym, ap, subst, inl, inr, arith, true, false, refl, length, drop}
-use Rattle.std.proofs.lemmas.List.{length-map}
-use Rattle.bidel_lex.specs.declared.tokens.Token.{Token}
-use Rattle.bidel_expr.specs.Lexemes.{lexeme, lexemes}
+use Rattle.std.proofs.Common.{◌∙◌, ◌≡◌, [], sym, ap, arith, true, length, drop}
+use Rattle.bidel_expr.specs.Lexemes.{lexemes}
 use Rattle.bidel_parser.specs.Views.{statement_view}
-use Rattle.bidel_parser.specs.Parsing.{IsFront, NoFront, IsFault, start_of}
-use Rattle.inverda_run.specs.Lengths.{IsLong, whole, part}
+use Rattle.bidel_parser.specs.Parsing.{IsFront, start_of}
+use Rattle.inverda_run.specs.Lengths.{whole, part}
 use Rattle.inverda_run.proofs.TokenLemmas.{fault_within}
 use Rattle.inverda_run.proofs.LengthLemmas.{front_short, fault_short, none_empty, first_empty, fault_token}
 use Rattle.inverda_run.proofs.lengths.is_long_open.Goals as goal

@@ -1,5 +1,4 @@
-use Rattle.std.proofs.Common.{◌∙◌, ◌≡◌, ◌≤◌, length, sym, ap, arith}
-use Rattle.std.specs.Prelude.{slice_get, Some, None}
+use Rattle.std.proofs.Common.{◌∙◌, length, sym, ap}
 use Rattle.std.proofs.lemmas.Bool.{ltb-false}
 use Rattle.inverda_run.specs.Tails.{known_of}
 use Rattle.inverda_run.proofs.LengthLemmas.{token_fits, some_at, none_at}

@@ -1,8 +1,6 @@
-use Rattle.std.proofs.Common.{◌∙◌, sym, ap, ℕ, length, drop}
+use Rattle.std.proofs.Common.{◌∙◌, sym, ap, ℕ}
 use Rattle.bidel_lex.specs.Next.{next_of}
 use Rattle.bidel_lex.specs.Tokens.{is_token}
-use Rattle.bidel_lex.specs.declared.tokens.Lexed.{Lexed}
-use Rattle.bidel_parser.specs.Parsing.{start_of}
 use Rattle.std.specs.Prelude.{true}
 use Rattle.inverda_run.specs.Tails.{known_of}
 use Rattle.inverda_run.proofs.LengthLemmas.{token_from, none_from, not_token}

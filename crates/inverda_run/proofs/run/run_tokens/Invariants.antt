@@ -5,7 +5,7 @@ use Rattle.inverda_run.proofs.run.run_tokens.Given as goal
 
 abbrev pub invariant-loop-used : goal.invariant-loop-used
 invariant-loop-used g l = record {
-  so_far : RanSoFar l.bytes l.tokens (g.K.Sink.held l.fn.out) (g.K.Sink.held l.out) (state_of l.engine) l.done;
+  so_far : RanSoFar l.bytes l.fn.tail l.tokens (g.K.Sink.held l.fn.out) (g.K.Sink.held l.out) (state_of l.engine) l.done;
   later : g.K.Sink.faults l.fn.out ≤ g.K.Sink.faults l.out;
 }
 

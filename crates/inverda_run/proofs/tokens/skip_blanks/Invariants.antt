@@ -1,4 +1,4 @@
-use Rattle.std.proofs.Common.{◌≡◌, ◌≤◌, false, drop, length}
+use Rattle.std.proofs.Common.{◌≡◌, false, drop}
 use Rattle.inverda_run.specs.Tails.{first_byte}
 use Rattle.inverda_run.proofs.tokens.skip_blanks.Given as goal
 

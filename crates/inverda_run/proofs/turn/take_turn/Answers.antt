@@ -1,36 +1,30 @@
-use Rattle.std.proofs.Common.{◌∙◌, subst, arith, true}
-use Rattle.std.proofs.lemmas.List.{length-map}
+use Rattle.std.proofs.Common.{◌∙◌, subst}
 use Rattle.std.specs.Io.KnownBytes.{Appends}
 use Rattle.bidel_parser.specs.Views.{statement_view}
-use Rattle.bidel_expr.specs.Lexemes.{lexeme, lexemes}
-use Rattle.bidel_parser.specs.Parsing.{IsFront}
 use Rattle.inverda_run.specs.Statuses.{PutsFront}
-use Rattle.inverda_run.proofs.ScriptLemmas.{front_some}
 use Rattle.inverda_run.proofs.turn.take_turn.Goals as goal
 
 pub returns-in-Ok-write_all-clause-turns : goal.returns-in-Ok-write_all-clause-turns
 returns-in-Ok-write_all-clause-turns g c =
-    let st = statement_view c.in-Ok-Whole.statement in
-    let front : IsFront true (lexemes c.args.bytes.now c.args.tokens.now) st c.in-Ok-Whole.used = rw c.in-Ok-Whole.field-0-is at c.in-Ok-Whole.ensures in
+    let found = rw c.in-Ok-Whole.field-0-is at c.in-Ok-Whole.ensures in
     record {
-      statement = st;
-      front = front;
-      some = front_some (lexemes c.args.bytes.now c.args.tokens.now) st c.in-Ok-Whole.used front;
-      within = omega (arith, front.within, length-map c.args.tokens.now (lexeme c.args.bytes.now));
+      statement = statement_view c.in-Ok-Whole.statement;
+      front = found.0;
+      short = found.1;
       put = subst (Appends (g.K.Sink.held c.args.out.now) (g.K.Sink.held c.write_all.new.sink)) (c.as_bytes.ensures.value ∙ c.as_str.ensures ∙ c.in-Ok.ensures.text) c.in-Ok-write_all.ensures.ok;
       next = c.in-Ok.ensures.next;
     }
 
 pub returns-in-Ok-clause-turns : goal.returns-in-Ok-clause-turns
 returns-in-Ok-clause-turns g c =
-    let st = statement_view c.in-Ok-Whole.statement in
-    let front : IsFront true (lexemes c.args.bytes.now c.args.tokens.now) st c.in-Ok-Whole.used = rw c.in-Ok-Whole.field-0-is at c.in-Ok-Whole.ensures in
+    let found = rw c.in-Ok-Whole.field-0-is at c.in-Ok-Whole.ensures in
     let part = c.in-Err-write_all.ensures.err in (
       c.in-Err-write_all.ensures.cause.failed,
       record {
-        statement = st;
+        statement = statement_view c.in-Ok-Whole.statement;
         used = c.in-Ok-Whole.used;
-        front = front;
+        front = found.0;
+        short = found.1;
         put = subst (PutsFront (g.K.Sink.held c.args.out.now) (g.K.Sink.held c.write_all.new.sink)) (c.as_bytes.ensures.value ∙ c.as_str.ensures ∙ c.in-Ok.ensures.text) part;
       },
     )

@@ -1,0 +1,15 @@
+use Rattle.inverda_run.proofs.EndLemmas.{ends_script, ends_early}
+use Rattle.inverda_run.proofs.script.end_script.Goals as goal
+
+pub returns-in-Stops-clause-ends : goal.returns-in-Stops-clause-ends
+returns-in-Stops-clause-ends g c =
+    ends_script c.args.bytes.now c.args.ended c.args.stopped.now (g.K.Sink.held c.args.out.now) (g.K.Sink.held c.run_script.new.out) (g.K.Sink.held c.put_last.new.out)
+    (g.K.Sink.faults c.args.out.now) (g.K.Sink.faults c.run_script.new.out) (g.K.Sink.faults c.put_last.new.out) c.in-Stops.stop c.put_last.result
+    c.in-Stops.ensures.runs c.in-Stops.ensures.later c.put_last.ensures.puts
+
+pub returns-in_default : goal.returns-in_default
+returns-in_default g c = record {
+  ends = ends_early c.args.bytes.now c.args.ended c.args.stopped.now (g.K.Sink.held c.args.out.now) (g.K.Sink.held c.run_script.new.out)
+      (g.K.Sink.faults c.args.out.now) (g.K.Sink.faults c.run_script.new.out) c.run_script.result c.in_default.not-Stops c.run_script.ensures.runs;
+  later = c.run_script.ensures.later;
+}
