@@ -1,0 +1,4 @@
+mod ChangeLemmas
+mod PassLemmas
+mod PlaceLemmas
+mod UndoLemmas

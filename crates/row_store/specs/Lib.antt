@@ -1,0 +1,5 @@
+pub mod Changes
+pub mod Passes
+pub mod Rows
+pub mod States
+pub mod Undo
