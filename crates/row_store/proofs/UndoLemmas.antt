@@ -1,6 +1,6 @@
 -- Changes that were applied, and the two passes that undo them.
-use Rattle.std.specs.Prelude.{IsSome, is_none, is_some, ◌&&◌}
-use Rattle.std.proofs.Common.{◌≡◌, ℕ, zero, suc, ◌+◌, ◌-◌, ◌<◌, ◌≤◌, ◌==◌, List, [], ◌∷◌, map, Bool, true, false, length, get_or, Option, Some, None, if◌then◌else◌, refl, sym, ap, ◌∙◌, subst, arith}
+use Rattle.std.specs.Prelude.{IsSome, is_none}
+use Rattle.std.proofs.Common.{◌≡◌, ℕ, zero, suc, ◌+◌, ◌<◌, ◌≤◌, ◌==◌, List, [], ◌∷◌, Bool, true, false, length, get_or, Option, Some, None, if◌then◌else◌, refl, sym, ap, ◌∙◌, subst, arith}
 use Rattle.std.proofs.lemmas.Bool.Decides.{nat_tests}
 use Rattle.std.proofs.lemmas.Bool.{cases_order, cases_lt}
 use mathlib.Core.Logic.{inl, inr}
@@ -9,8 +9,8 @@ use Rattle.row_store.specs.declared.change.Change.{Change}
 use Rattle.row_store.specs.declared.exchange.Which.{Which}
 use Rattle.row_store.specs.declared.exchange.Which.TheVariants.{All, Added, Others}
 use Rattle.row_store.specs.Rows.{Rows, RiseFrom, row_of}
-use Rattle.row_store.specs.Changes.{ChangesRise, AreOld, after, back_to, reverse_of, IsChanged, WasApplied}
-use Rattle.row_store.specs.Passes.{is_in, after_in, exchanged, exchanged_one, IsBound, HasRoom}
+use Rattle.row_store.specs.Changes.{ChangesRise, AreOld, after, back_to, reverse_of, WasApplied}
+use Rattle.row_store.specs.Passes.{is_in, after_in, exchanged, exchanged_one, HasRoom}
 use Rattle.row_store.proofs.PlaceLemmas.{eq_self, apart_below, apart_above, none_under}
 use Rattle.row_store.proofs.PassLemmas.{and_false, same_number}
 
@@ -27,26 +27,27 @@ ext n (r ∷ rs) [] rise_s rise_t same =
     cc
 ext n (a ∷ xs) (b ∷ ys) rise_s rise_t same =
     let apart : (p q : ℕ × List Value) (ps qs : Rows) → p.0 < q.0 → RiseFrom (q.0 + 1) qs → row_of (p ∷ ps) p.0 ≡ row_of (q ∷ qs) p.0 → ⊥ =
-      λ p q ps qs h rise e.
-        let own = eq_self p.0 in
-        let some : Some p.1 ≡ row_of (q ∷ qs) p.0 = rw own at e in
-        let none = none_under q.0 (q ∷ qs) p.0 (omega arith, rise) h in
-        cc in
+    λ p q ps qs h rise e.
+    let own = eq_self p.0 in
+    let some : Some p.1 ≡ row_of (q ∷ qs) p.0 = rw own at e in
+    let none = none_under q.0 (q ∷ qs) p.0 (omega arith, rise) h in
+    cc in
     elim (cases_order a.0 b.0) [
-      inl e ↦
-        let own_a = eq_self a.0 in
-        let own_b : (b.0 == a.0) ≡ true = grind (arith, nat_tests) in
-        let some : Some a.1 ≡ Some b.1 = rw (own_a, own_b) at (same a.0) in
-        let tail : xs ≡ ys = ext (a.0 + 1) xs ys rise_s.1 (subst (λ (k : ℕ). RiseFrom (k + 1) ys) (sym e) rise_t.1)
+      | inl e ↦
+          let own_a = eq_self a.0 in
+          let own_b : (b.0 == a.0) ≡ true = grind (arith, nat_tests) in
+          let some : Some a.1 ≡ Some b.1 = rw (own_a, own_b) at (same a.0) in
+          let tail : xs ≡ ys = ext (a.0 + 1) xs ys rise_s.1 (subst (λ (k : ℕ). RiseFrom (k + 1) ys) (sym e) rise_t.1)
           (λ id. elim (cases_lt a.0 id) [
-            inl h ↦
-              let not_a = apart_below a.0 id h in
-              let not_b = apart_below b.0 id (omega arith) in
-              rw (not_a, not_b) at (same id)
-            | inr h ↦ none_under (a.0 + 1) xs id rise_s.1 (omega arith) ∙ sym (none_under (b.0 + 1) ys id rise_t.1 (omega arith)) ]) in
-        let row : a.1 ≡ b.1 = cc in
-        let head : ◌≡◌ {A = ℕ × List Value} (a.0, a.1) (b.0, b.1) = ap (λ (k : ℕ). (k, a.1)) e ∙ ap (λ (v : List Value). (b.0, v)) row in
-        cc
+            | inl h ↦
+                let not_a = apart_below a.0 id h in
+                let not_b = apart_below b.0 id (omega arith) in
+                rw (not_a, not_b) at (same id)
+            | inr h ↦ none_under (a.0 + 1) xs id rise_s.1 (omega arith) ∙ sym (none_under (b.0 + 1) ys id rise_t.1 (omega arith))
+          ]) in
+          let row : a.1 ≡ b.1 = cc in
+          let head : ◌≡◌ {A = ℕ × List Value} (a.0, a.1) (b.0, b.1) = ap (λ (k : ℕ). (k, a.1)) e ∙ ap (λ (v : List Value). (b.0, v)) row in
+          cc
       | inr (inl h) ↦ absurd (apart a b xs ys h rise_t.1 (same a.0))
       | inr (inr h) ↦ absurd (apart b a ys xs h rise_s.1 (sym (same b.0)))
     ]
@@ -164,8 +165,8 @@ renewed before now rows n (c ∷ cs) rise was passed =
     let new : row_of now c.id ≡ c.new = rw own at (was c.id rise.0) in
     let head = renewed_one before now rows c cs c.old refl rise.1 new (passed c.id rise.0) in
     let tail = renewed before now rows (c.id + 1) cs rise.1
-      (λ id h. let other = apart_below c.id id (omega arith) in rw other at (was id (omega (arith, rise.0))))
-      (λ id h. let other = apart_below c.id id (omega arith) in rw (other, and_false (is_none c.old)) at (passed id (omega (arith, rise.0)))) in
+    (λ id h. let other = apart_below c.id id (omega arith) in rw other at (was id (omega (arith, rise.0))))
+    (λ id h. let other = apart_below c.id id (omega arith) in rw (other, and_false (is_none c.old)) at (passed id (omega (arith, rise.0)))) in
     cc
 
 -- the first pass of an undo needs no room
@@ -184,10 +185,15 @@ pub room_others : (rows now before : Rows) (cs left kept_left : List Change) (ca
 room_others rows now before cs left kept_left capacity was fits passed is =
     let all : kept_left ≡ exchanged Added now (reverse_of before cs) = is ∙ ap (exchanged Added now) was.reversed in
     subst (λ (changes : List Change). HasRoom Others rows changes capacity) (sym all)
-    (inr (before, record { rises = was.rises;
-      fits = fits;
-      has_rows = λ id some. kept before cs id was.fit (subst IsSome (passed_is rows now before cs left id was.reversed (was.changed.rows id) (passed id)) some);
-      has_new = other_new before now cs }))
+    (inr (
+      before,
+      record {
+        rises = was.rises;
+        fits = fits;
+        has_rows = λ id some. kept before cs id was.fit (subst IsSome (passed_is rows now before cs left id was.reversed (was.changed.rows id) (passed id)) some);
+        has_new = other_new before now cs;
+      },
+    ))
 
 rise_back : (before : Rows) (n : ℕ) (cs : List Change) → ChangesRise n (reverse_of before cs) → ChangesRise n cs
 rise_back before n [] rise = tt
@@ -200,10 +206,11 @@ pub undone : (last rows now before : Rows) (cs left kept_left last_left : List C
     → (last ≡ before) × (last_left ≡ cs)
 undone last rows now before cs left kept_left last_left was rise passed is rise_last passed_last is_last =
     let all : kept_left ≡ exchanged Added now (reverse_of before cs) = is ∙ ap (exchanged Added now) was.reversed in
-    let rise_cs : ChangesRise 0 cs = rise_back before 0 cs (subst (ChangesRise 0) was.reversed rise) in
-    (ext 0 last before rise_last was.rises
-      (λ id. passed_last id ∙ ap (λ (changes : List Change). after_in Others changes id (row_of rows id)) all
-        ∙ ap (after_in Others (exchanged Added now (reverse_of before cs)) id) (passed_is rows now before cs left id was.reversed (was.changed.rows id) (passed id))
-        ∙ restored before now cs id),
+    let rise_cs : ChangesRise 0 cs = rise_back before 0 cs (subst (ChangesRise 0) was.reversed rise) in (
+      ext 0 last before rise_last was.rises
+          (λ id. passed_last id ∙ ap (λ (changes : List Change). after_in Others changes id (row_of rows id)) all
+          ∙ ap (after_in Others (exchanged Added now (reverse_of before cs)) id) (passed_is rows now before cs left id was.reversed (was.changed.rows id) (passed id))
+          ∙ restored before now cs id),
       is_last ∙ ap (exchanged Others rows) all
-      ∙ renewed before now rows 0 cs rise_cs (λ id h. was.changed.rows id) (λ id h. passed id ∙ ap (λ (changes : List Change). after_in Added changes id (row_of now id)) was.reversed))
+          ∙ renewed before now rows 0 cs rise_cs (λ id h. was.changed.rows id) (λ id h. passed id ∙ ap (λ (changes : List Change). after_in Added changes id (row_of now id)) was.reversed),
+    )

@@ -1,4 +1,5 @@
 pub mod Changes
+pub mod Laws
 pub mod Passes
 pub mod Rows
 pub mod States

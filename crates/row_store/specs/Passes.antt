@@ -1,5 +1,5 @@
 -- A pass over changes, which exchanges the new rows of some of them with the table's own rows.
-use Rattle.std.specs.Prelude.{◌≡◌, ℕ, ◌+◌, ◌-◌, ◌<◌, ◌≤◌, ◌==◌, ◌&&◌, ◌⊎◌, Bool, true, List, [], ◌∷◌, ◌++◌, map, take, drop, length, slice_index_or, if◌then◌else◌, Option, Some, None, IsSome, is_some, is_none}
+use Rattle.std.specs.Prelude.{◌≡◌, ℕ, ◌+◌, ◌-◌, ◌<◌, ◌≤◌, ◌==◌, ◌&&◌, ◌⊎◌, Bool, true, List, [], ◌∷◌, ◌++◌, map, take, drop, length, slice_index_or, if◌then◌else◌, Option, None, IsSome, is_some, is_none}
 use Rattle.par_base.specs.declared.value.Value.{Value}
 use Rattle.row_store.specs.declared.change.Change.{Change}
 use Rattle.row_store.specs.declared.exchange.Which.{Which}

@@ -6,8 +6,8 @@ ghost use Rattle.row_store.specs.Rows.{RiseFrom, row_of, place_in, StandsAt};
 ghost use Rattle.row_store.specs.Changes.{ChangesRise};
 ghost use Rattle.row_store.specs.Passes.{is_in, after_in, exchanged, exchanged_one, HasRoom, FindsRoom};
 
-use crate::place::place_of;
 use crate::Change;
+use crate::place::place_of;
 use par_base::Row;
 use std::mem;
 

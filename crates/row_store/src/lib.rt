@@ -7,10 +7,12 @@
 
 mod change;
 mod exchange;
+mod laws;
 mod place;
 mod table;
 mod table_iter;
 
 pub use change::{Change, Changes};
+pub use laws::{changes_give_one_table, rows_are_the_table};
 pub use table::Table;
 pub use table_iter::TableIter;

@@ -57,10 +57,10 @@ impl Table {
 
     /// The identifiers with their rows, in order. It takes no memory.
     pub fn iter(&self) -> TableIter<'_>
-        ensures all { result.rows.now ≡ self.now.rows }
+        ensures all { result ≡ self.now.rows }
         ensures rise { RiseFrom 0 self.now.rows }
     {
-        TableIter { rows: &self.rows }
+        TableIter::new(&self.rows)
     }
 
     /// Makes room for further rows. The rows stay.

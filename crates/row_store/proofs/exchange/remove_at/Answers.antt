@@ -1,4 +1,4 @@
-use Rattle.std.proofs.Common.{◌≡◌, ◌<◌, ◌≤◌, ℕ, length, subst, sym, ap, ◌∙◌, arith, rules}
+use Rattle.std.proofs.Common.{◌<◌, ℕ, length, subst, sym, ap, ◌∙◌}
 use Rattle.std.specs.List.{remove}
 use Rattle.row_store.specs.Rows.{RiseFrom, row_of, place_in}
 use Rattle.row_store.proofs.PlaceLemmas.{rises_remove, row_of_remove}

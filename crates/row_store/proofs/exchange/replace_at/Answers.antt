@@ -1,6 +1,6 @@
-use Rattle.std.proofs.Common.{◌≡◌, ◌<◌, ◌≤◌, ℕ, List, length, set, get_or, subst, sym, ap, ◌∙◌, arith, rules}
+use Rattle.std.proofs.Common.{◌≡◌, ◌<◌, ℕ, List, length, get_or, subst, ap, ◌∙◌}
 use Rattle.par_base.specs.declared.value.Value.{Value}
-use Rattle.row_store.specs.Rows.{RiseFrom, row_of, place_in}
+use Rattle.row_store.specs.Rows.{place_in}
 use Rattle.row_store.proofs.PlaceLemmas.{rises_set, row_of_set}
 use Rattle.row_store.proofs.exchange.replace_at.Goals as goal
 

@@ -1,7 +1,6 @@
-use Rattle.std.proofs.Common.{◌≡◌, List, length, take, subst, sym, ap, ◌∙◌, rules, arith}
+use Rattle.std.proofs.Common.{◌≡◌, subst, sym, arith}
 use Rattle.std.proofs.lemmas.Grind.{common_steps}
 use Rattle.std.specs.Vec.{with_items}
-use Rattle.row_store.specs.declared.change.Change.{Change}
 use Rattle.row_store.specs.Changes.{ChangesRise}
 use Rattle.row_store.specs.Passes.{exchanged}
 use Rattle.row_store.proofs.UndoLemmas.{exchanged_rise}
