@@ -1,0 +1,5 @@
+pub mod Indexed
+pub mod Laws
+pub mod PairKeys
+pub mod Pairs
+pub mod States
