@@ -55,12 +55,12 @@ pub rises_insert : (n : ℕ) (es : Pairs) (p s t : ℕ) → n ≤ p → RiseFrom
 rises_insert n [] p s t low rise none = (low, tt)
 rises_insert n (e ∷ es) p s t low rise none =
     elim (cases_order e.0 p) [
-      inl is ↦ let same : (e.0 == p) ≡ true = grind (arith, nat_tests) in let some : pair_in e ≡ None = rw same at none in cc
+      | inl is ↦ let same : (e.0 == p) ≡ true = grind (arith, nat_tests) in let some : pair_in e ≡ None = rw same at none in cc
       | inr (inl h) ↦
-        let yes = lt_yes e.0 p h in
-        let other = apart_below e.0 p h in
-        let rest = rw other at none in
-        rw yes (rise.0, rises_insert (e.0 + 1) es p s t (omega arith) rise.1 rest)
+          let yes = lt_yes e.0 p h in
+          let other = apart_below e.0 p h in
+          let rest = rw other at none in
+          rw yes (rise.0, rises_insert (e.0 + 1) es p s t (omega arith) rise.1 rest)
       | inr (inr h) ↦ let no = lt_no e.0 p (omega arith) in rw no (low, (omega arith, rise.1))
     ]
 
@@ -74,12 +74,12 @@ pub pair_of_insert : (n : ℕ) (es : Pairs) (p s t : ℕ) → RiseFrom n es → 
 pair_of_insert n [] p s t rise none q = refl
 pair_of_insert n (e ∷ es) p s t rise none q =
     elim (cases_order e.0 p) [
-      inl is ↦ let same : (e.0 == p) ≡ true = grind (arith, nat_tests) in let some : pair_in e ≡ None = rw same at none in cc
+      | inl is ↦ let same : (e.0 == p) ≡ true = grind (arith, nat_tests) in let some : pair_in e ≡ None = rw same at none in cc
       | inr (inl h) ↦
-        let yes = lt_yes e.0 p h in
-        let other = apart_below e.0 p h in
-        let rest = rw other at none in
-        rw yes (rw (pair_of_insert (e.0 + 1) es p s t rise.1 rest q) (swap_tests (e.0 == q) (p == q) (Some (e.1, e.2)) (Some (s, t)) (pair_of es q) (λ is. grind (arith, nat_tests))))
+          let yes = lt_yes e.0 p h in
+          let other = apart_below e.0 p h in
+          let rest = rw other at none in
+          rw yes (rw (pair_of_insert (e.0 + 1) es p s t rise.1 rest q) (swap_tests (e.0 == q) (p == q) (Some (e.1, e.2)) (Some (s, t)) (pair_of es q) (λ is. grind (arith, nat_tests))))
       | inr (inr h) ↦ let no = lt_no e.0 p (omega arith) in rw no refl
     ]
 
@@ -88,16 +88,16 @@ pub place_of_pair : (n : ℕ) (es : Pairs) (p s t : ℕ) → RiseFrom n es → p
 place_of_pair n [] p s t rise is = cc
 place_of_pair n (e ∷ es) p s t rise is =
     elim (cases_order e.0 p) [
-      inl same ↦
-        let no = lt_no e.0 p (omega arith) in
-        let own : (e.0 == p) ≡ true = grind (arith, nat_tests) in
-        let pair : pair_in e ≡ some_pair s t = rw own at is in
-        rw no (omega arith, λ d. entry e p s t same pair)
+      | inl same ↦
+          let no = lt_no e.0 p (omega arith) in
+          let own : (e.0 == p) ≡ true = grind (arith, nat_tests) in
+          let pair : pair_in e ≡ some_pair s t = rw own at is in
+          rw no (omega arith, λ d. entry e p s t same pair)
       | inr (inl h) ↦
-        let yes = lt_yes e.0 p h in
-        let other = apart_below e.0 p h in
-        let rest = place_of_pair (e.0 + 1) es p s t rise.1 (rw other at is) in
-        rw yes (omega (arith, rest.0), rest.1)
+          let yes = lt_yes e.0 p h in
+          let other = apart_below e.0 p h in
+          let rest = place_of_pair (e.0 + 1) es p s t rise.1 (rw other at is) in
+          rw yes (omega (arith, rest.0), rest.1)
       | inr (inr h) ↦ let none = none_under e.0 (e ∷ es) p (omega arith, rise.1) h in cc
     ]
 
@@ -105,7 +105,7 @@ pub place_within : (es : Pairs) (p : ℕ) → place_of_id es p ≤ length es
 place_within [] p = omega arith
 place_within (e ∷ es) p =
     elim (cases_lt e.0 p) [
-      inl h ↦ let yes = lt_yes e.0 p h in rw yes (omega (arith, place_within es p))
+      | inl h ↦ let yes = lt_yes e.0 p h in rw yes (omega (arith, place_within es p))
       | inr h ↦ let no = lt_no e.0 p h in rw no (omega arith)
     ]
 
@@ -114,28 +114,28 @@ pub pair_at : (n : ℕ) (es : Pairs) (p : ℕ) (d : ℕ × ℕ × ℕ) → RiseF
 pair_at n [] p d rise within here = absurd (omega arith)
 pair_at n (e ∷ es) p d rise within here =
     elim (cases_lt e.0 p) [
-      inl h ↦
-        let yes = lt_yes e.0 p h in
-        let other = apart_below e.0 p h in
-        let within_rest = rw yes at within in
-        let here_rest = rw yes at here in
-        rw (yes, other) (pair_at (e.0 + 1) es p d rise.1 (omega (arith, within_rest)) here_rest)
+      | inl h ↦
+          let yes = lt_yes e.0 p h in
+          let other = apart_below e.0 p h in
+          let within_rest = rw yes at within in
+          let here_rest = rw yes at here in
+          rw (yes, other) (pair_at (e.0 + 1) es p d rise.1 (omega (arith, within_rest)) here_rest)
       | inr h ↦
-        let no = lt_no e.0 p h in
-        let here_now = rw no at here in
-        let same : (e.0 == p) ≡ true = grind (arith, nat_tests) in
-        rw (no, same) refl
+          let no = lt_no e.0 p h in
+          let here_now = rw no at here in
+          let same : (e.0 == p) ≡ true = grind (arith, nat_tests) in
+          rw (no, same) refl
     ]
 
 pub absent_past : (n : ℕ) (es : Pairs) (p : ℕ) → RiseFrom n es → length es ≤ place_of_id es p → pair_of es p ≡ None
 absent_past n [] p rise past = refl
 absent_past n (e ∷ es) p rise past =
     elim (cases_lt e.0 p) [
-      inl h ↦
-        let yes = lt_yes e.0 p h in
-        let other = apart_below e.0 p h in
-        let past_rest = rw yes at past in
-        rw other (absent_past (e.0 + 1) es p rise.1 (omega (arith, past_rest)))
+      | inl h ↦
+          let yes = lt_yes e.0 p h in
+          let other = apart_below e.0 p h in
+          let past_rest = rw yes at past in
+          rw other (absent_past (e.0 + 1) es p rise.1 (omega (arith, past_rest)))
       | inr h ↦ let no = lt_no e.0 p h in let past_now = rw no at past in absurd (omega (arith, past_now))
     ]
 
@@ -143,17 +143,17 @@ pub absent_at : (n : ℕ) (es : Pairs) (p : ℕ) (d : ℕ × ℕ × ℕ) → Ris
 absent_at n [] p d rise within here = refl
 absent_at n (e ∷ es) p d rise within here =
     elim (cases_lt e.0 p) [
-      inl h ↦
-        let yes = lt_yes e.0 p h in
-        let other = apart_below e.0 p h in
-        let within_rest = rw yes at within in
-        let here_rest = rw yes at here in
-        rw other (absent_at (e.0 + 1) es p d rise.1 (omega (arith, within_rest)) here_rest)
+      | inl h ↦
+          let yes = lt_yes e.0 p h in
+          let other = apart_below e.0 p h in
+          let within_rest = rw yes at within in
+          let here_rest = rw yes at here in
+          rw other (absent_at (e.0 + 1) es p d rise.1 (omega (arith, within_rest)) here_rest)
       | inr h ↦
-        let no = lt_no e.0 p h in
-        let here_now : e.0 ≡ p → ⊥ = rw no at here in
-        let other : (e.0 == p) ≡ false = apart_above e.0 p (omega (arith, here_now)) in
-        rw other (none_under (e.0 + 1) es p rise.1 (omega (arith, here_now)))
+          let no = lt_no e.0 p h in
+          let here_now : e.0 ≡ p → ⊥ = rw no at here in
+          let other : (e.0 == p) ≡ false = apart_above e.0 p (omega (arith, here_now)) in
+          rw other (none_under (e.0 + 1) es p rise.1 (omega (arith, here_now)))
     ]
 
 -- the entry at the place is taken out
@@ -161,10 +161,10 @@ pub rises_remove : (n : ℕ) (es : Pairs) (p : ℕ) → RiseFrom n es → place_
 rises_remove n [] p rise within = absurd (omega arith)
 rises_remove n (e ∷ es) p rise within =
     elim (cases_lt e.0 p) [
-      inl h ↦
-        let yes = lt_yes e.0 p h in
-        let within_rest = rw yes at within in
-        rw yes (rise.0, rises_remove (e.0 + 1) es p rise.1 (omega (arith, within_rest)))
+      | inl h ↦
+          let yes = lt_yes e.0 p h in
+          let within_rest = rw yes at within in
+          rw yes (rise.0, rises_remove (e.0 + 1) es p rise.1 (omega (arith, within_rest)))
       | inr h ↦ let no = lt_no e.0 p h in rw no (rise_more n (e.0 + 1) es (omega (arith, rise.0)) rise.1)
     ]
 
@@ -172,21 +172,21 @@ pub pair_of_remove : (n : ℕ) (es : Pairs) (p : ℕ) (d : ℕ × ℕ × ℕ) �
 pair_of_remove n [] p d rise within here q = absurd (omega arith)
 pair_of_remove n (e ∷ es) p d rise within here q =
     elim (cases_lt e.0 p) [
-      inl h ↦
-        let yes = lt_yes e.0 p h in
-        let within_rest = rw yes at within in
-        let here_rest = rw yes at here in
-        rw yes (rw (pair_of_remove (e.0 + 1) es p d rise.1 (omega (arith, within_rest)) here_rest q) (swap_tests (e.0 == q) (p == q) (Some (e.1, e.2)) None (pair_of es q) (λ is. grind (arith, nat_tests))))
+      | inl h ↦
+          let yes = lt_yes e.0 p h in
+          let within_rest = rw yes at within in
+          let here_rest = rw yes at here in
+          rw yes (rw (pair_of_remove (e.0 + 1) es p d rise.1 (omega (arith, within_rest)) here_rest q) (swap_tests (e.0 == q) (p == q) (Some (e.1, e.2)) None (pair_of es q) (λ is. grind (arith, nat_tests))))
       | inr h ↦
-        let no = lt_no e.0 p h in
-        let here_now : e.0 ≡ p = rw no at here in
-        rw (no, here_now) (elim (cases_order p q) [
-          inl same ↦
-            let yes : (p == q) ≡ true = grind (arith, nat_tests) in
-            rw yes (none_under (e.0 + 1) es q rise.1 (omega (arith, here_now)))
-          | inr (inl k) ↦ let other = apart_below p q k in rw other refl
-          | inr (inr k) ↦ let other = apart_above p q k in rw other refl
-        ])
+          let no = lt_no e.0 p h in
+          let here_now : e.0 ≡ p = rw no at here in
+          rw (no, here_now) (elim (cases_order p q) [
+            | inl same ↦
+                let yes : (p == q) ≡ true = grind (arith, nat_tests) in
+                rw yes (none_under (e.0 + 1) es q rise.1 (omega (arith, here_now)))
+            | inr (inl k) ↦ let other = apart_below p q k in rw other refl
+            | inr (inr k) ↦ let other = apart_above p q k in rw other refl
+          ])
     ]
 
 -- the place is where the identifiers stop being below this one
@@ -198,9 +198,9 @@ place_is n (e ∷ es) p zero rise within below above =
 place_is n (e ∷ es) p (suc i) rise within below above =
     let first : ltb e.0 p ≡ true = below 0 e (omega arith) (omega arith) in
     let rest : i ≡ place_of_id es p =
-      place_is (e.0 + 1) es p i rise.1 (omega arith)
-      (λ k d low h. below (suc k) d (omega arith) (omega arith))
-      (λ k d low h. above (suc k) d (omega arith) (omega arith)) in
+    place_is (e.0 + 1) es p i rise.1 (omega arith)
+    (λ k d low h. below (suc k) d (omega arith) (omega arith))
+    (λ k d low h. above (suc k) d (omega arith) (omega arith)) in
     rw (first, ← rest) refl
 
 -- an identifier further on is at least as great
@@ -229,25 +229,26 @@ ext n (e ∷ es) [] rise_s rise_t same =
     cc
 ext n (a ∷ xs) (b ∷ ys) rise_s rise_t same =
     let apart : (p q : ℕ × ℕ × ℕ) (ps qs : Pairs) → p.0 < q.0 → RiseFrom (q.0 + 1) qs → pair_of (p ∷ ps) p.0 ≡ pair_of (q ∷ qs) p.0 → ⊥ =
-      λ p q ps qs h rise e.
-        let own = eq_self p.0 in
-        let some : pair_in p ≡ pair_of (q ∷ qs) p.0 = rw own at e in
-        let none = none_under q.0 (q ∷ qs) p.0 (omega arith, rise) h in
-        cc in
+    λ p q ps qs h rise e.
+    let own = eq_self p.0 in
+    let some : pair_in p ≡ pair_of (q ∷ qs) p.0 = rw own at e in
+    let none = none_under q.0 (q ∷ qs) p.0 (omega arith, rise) h in
+    cc in
     elim (cases_order a.0 b.0) [
-      inl e ↦
-        let own_a = eq_self a.0 in
-        let own_b : (b.0 == a.0) ≡ true = grind (arith, nat_tests) in
-        let some : pair_in a ≡ some_pair b.1 b.2 = rw (own_a, own_b) at (same a.0) in
-        let tail : xs ≡ ys = ext (a.0 + 1) xs ys rise_s.1 (subst (λ (k : ℕ). RiseFrom (k + 1) ys) (sym e) rise_t.1)
+      | inl e ↦
+          let own_a = eq_self a.0 in
+          let own_b : (b.0 == a.0) ≡ true = grind (arith, nat_tests) in
+          let some : pair_in a ≡ some_pair b.1 b.2 = rw (own_a, own_b) at (same a.0) in
+          let tail : xs ≡ ys = ext (a.0 + 1) xs ys rise_s.1 (subst (λ (k : ℕ). RiseFrom (k + 1) ys) (sym e) rise_t.1)
           (λ p. elim (cases_lt a.0 p) [
-            inl h ↦
-              let not_a = apart_below a.0 p h in
-              let not_b = apart_below b.0 p (omega arith) in
-              rw (not_a, not_b) at (same p)
-            | inr h ↦ none_under (a.0 + 1) xs p rise_s.1 (omega arith) ∙ sym (none_under (b.0 + 1) ys p rise_t.1 (omega arith)) ]) in
-        let head : ◌≡◌ {A = ℕ × ℕ × ℕ} a (b.0, b.1, b.2) = entry a b.0 b.1 b.2 e some in
-        cc
+            | inl h ↦
+                let not_a = apart_below a.0 p h in
+                let not_b = apart_below b.0 p (omega arith) in
+                rw (not_a, not_b) at (same p)
+            | inr h ↦ none_under (a.0 + 1) xs p rise_s.1 (omega arith) ∙ sym (none_under (b.0 + 1) ys p rise_t.1 (omega arith))
+          ]) in
+          let head : ◌≡◌ {A = ℕ × ℕ × ℕ} a (b.0, b.1, b.2) = entry a b.0 b.1 b.2 e some in
+          cc
       | inr (inl h) ↦ absurd (apart a b xs ys h rise_t.1 (same a.0))
       | inr (inr h) ↦ absurd (apart b a ys xs h rise_s.1 (sym (same b.0)))
     ]

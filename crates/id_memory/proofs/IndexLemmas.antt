@@ -130,12 +130,14 @@ pub put_indexed : (es first second es_now first_now second_now : List (ℕ × �
     → RiseFrom 0 es_now → Adds (p, s, t) es es_now → SortedFrom 0 first_now → Adds (s, t, p) first first_now → SortedFrom 0 second_now → Adds (t, s, p) second second_now
     → IsIndexed es_now first_now second_now
 put_indexed es first second es_now first_now second_now p s t is none rise adds sorted_first adds_first sorted_second adds_second =
-    record { rises = rise;
+    record {
+      rises = rise;
       one = λ u v. one_more es es_now p s t u v (has_pair u v (p, s, t)) refl is.one (no_pair es s t none) (adds (has_pair u v));
       first_sorted = sorted_first;
       first_lists = λ test. adds_first test ∙ ap (λ (n : ℕ). n + (if test (s, t, p) then 1 else 0)) (is.first_lists test) ∙ sym (adds (λ e. test (by_pair e)));
       second_sorted = sorted_second;
-      second_lists = λ test. adds_second test ∙ ap (λ (n : ℕ). n + (if test (t, s, p) then 1 else 0)) (is.second_lists test) ∙ sym (adds (λ e. test (by_turned_pair e))) }
+      second_lists = λ test. adds_second test ∙ ap (λ (n : ℕ). n + (if test (t, s, p) then 1 else 0)) (is.second_lists test) ∙ sym (adds (λ e. test (by_turned_pair e)));
+    }
 
 less : (a b c d x : ℕ) → a + x ≡ b → c + x ≡ d → b ≡ d → a ≡ c
 less a b c d x e f g = omega arith
@@ -145,12 +147,14 @@ pub remove_indexed : (es first second es_now first_now second_now : List (ℕ ×
     → RiseFrom 0 es_now → Loses (p, s, t) es es_now → SortedFrom 0 first_now → Loses (s, t, p) first first_now → SortedFrom 0 second_now → Loses (t, s, p) second second_now
     → IsIndexed es_now first_now second_now
 remove_indexed es first second es_now first_now second_now p s t is rise loses sorted_first loses_first sorted_second loses_second =
-    record { rises = rise;
+    record {
+      rises = rise;
       one = λ u v. omega (arith, loses (has_pair u v), is.one u v);
       first_sorted = sorted_first;
       first_lists = λ test. less (count_by test first_now) (count_by test first) (count_by (λ e. test (by_pair e)) es_now) (count_by (λ e. test (by_pair e)) es) (if test (s, t, p) then 1 else 0) (loses_first test) (loses (λ e. test (by_pair e))) (is.first_lists test);
       second_sorted = sorted_second;
-      second_lists = λ test. less (count_by test second_now) (count_by test second) (count_by (λ e. test (by_turned_pair e)) es_now) (count_by (λ e. test (by_turned_pair e)) es) (if test (t, s, p) then 1 else 0) (loses_second test) (loses (λ e. test (by_turned_pair e))) (is.second_lists test) }
+      second_lists = λ test. less (count_by test second_now) (count_by test second) (count_by (λ e. test (by_turned_pair e)) es_now) (count_by (λ e. test (by_turned_pair e)) es) (if test (t, s, p) then 1 else 0) (loses_second test) (loses (λ e. test (by_turned_pair e))) (is.second_lists test);
+    }
 
 later : (n : ℕ) (e : ℕ × ℕ × ℕ) (es : Pairs) (s t p : ℕ) → RiseFrom n (e ∷ es) → pair_of es p ≡ Some (s, t) → (p < e.0 + 1) ⊎ (e.0 + 1 ≤ p) → pair_of (e ∷ es) p ≡ Some (s, t)
 later n e es s t p rise there (inl h) = let none = none_under (e.0 + 1) es p rise.1 h in cc
@@ -175,9 +179,10 @@ id_some n (e ∷ es) s t p rise is = id_some_by n e es s t p (has_pair s t e) re
 
 -- a pair has an identifier exactly where the identifier has the pair
 pub other_way : (es : Pairs) → RiseFrom 0 es → IsOneToOne es → (p s t : ℕ) → (id_of es s t ≡ Some p) ↔ (pair_of es p ≡ Some (s, t))
-other_way es rise one p s t =
-    (λ is. id_some 0 es s t p rise is,
-      λ has. id_found es s t p (one s t) (listed (λ e. is_triple s t p (by_pair e)) es p s t has (triple_passes s t p)))
+other_way es rise one p s t = (
+  λ is. id_some 0 es s t p rise is,
+  λ has. id_found es s t p (one s t) (listed (λ e. is_triple s t p (by_pair e)) es p s t has (triple_passes s t p)),
+)
 
 -- what the look-up list finds is the identifier
 pub looked_up : (es : Pairs) (first second : List (ℕ × ℕ × ℕ)) (s t : ℕ) (found : Option ℕ) → IsIndexed es first second

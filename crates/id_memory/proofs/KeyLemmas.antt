@@ -27,26 +27,26 @@ count_no p x xs e = count_cons p x xs ∙ ap (λ (b : Bool). cond b 1 0 + count_
 pub under_is : (a b : ℕ) (x : Triple) → x.1 < 18446744073709551616 → b < 18446744073709551616 → is_under a b x ≡ nat_lt (key x.0 x.1) (key a b)
 under_is a b x small_x small_b =
     elim (cases_order x.0 a) [
-      inl e ↦
-        let not_lt = lt_no x.0 a (omega arith) in
-        let same : (x.0 == a) ≡ true = grind (arith, nat_tests) in
-        elim (cases_lt x.1 b) [
-          inl h ↦ let yes = lt_yes x.1 b h in let all = lt_yes (key x.0 x.1) (key a b) (omega arith) in rw (not_lt, same, yes, all) refl
-          | inr h ↦ let no = lt_no x.1 b h in let none = lt_no (key x.0 x.1) (key a b) (omega arith) in rw (not_lt, same, no, none) refl
-        ]
+      | inl e ↦
+          let not_lt = lt_no x.0 a (omega arith) in
+          let same : (x.0 == a) ≡ true = grind (arith, nat_tests) in
+          elim (cases_lt x.1 b) [
+            | inl h ↦ let yes = lt_yes x.1 b h in let all = lt_yes (key x.0 x.1) (key a b) (omega arith) in rw (not_lt, same, yes, all) refl
+            | inr h ↦ let no = lt_no x.1 b h in let none = lt_no (key x.0 x.1) (key a b) (omega arith) in rw (not_lt, same, no, none) refl
+          ]
       | inr (inl h) ↦ let yes = lt_yes x.0 a h in let all = lt_yes (key x.0 x.1) (key a b) (omega arith) in rw (yes, all) refl
       | inr (inr h) ↦
-        let not_lt = lt_no x.0 a (omega arith) in
-        let other = apart_above x.0 a h in
-        let none = lt_no (key x.0 x.1) (key a b) (omega arith) in
-        rw (not_lt, other, none) refl
+          let not_lt = lt_no x.0 a (omega arith) in
+          let other = apart_above x.0 a h in
+          let none = lt_no (key x.0 x.1) (key a b) (omega arith) in
+          rw (not_lt, other, none) refl
     ]
 
 -- the test of the first number alone is a test of the key
 pub behind_is : (a : ℕ) (x : Triple) → x.1 < 18446744073709551616 → leb x.0 a ≡ nat_lt (key x.0 x.1) (key (a + 1) 0)
 behind_is a x small =
     elim (cases_lt a x.0) [
-      inl h ↦ let none = lt_no (key x.0 x.1) (key (a + 1) 0) (omega arith) in let no : leb x.0 a ≡ false = grind (arith, nat_tests) in rw (no, none) refl
+      | inl h ↦ let none = lt_no (key x.0 x.1) (key (a + 1) 0) (omega arith) in let no : leb x.0 a ≡ false = grind (arith, nat_tests) in rw (no, none) refl
       | inr h ↦ let all = lt_yes (key x.0 x.1) (key (a + 1) 0) (omega arith) in let yes : leb x.0 a ≡ true = grind (arith, nat_tests) in rw (yes, all) refl
     ]
 
@@ -54,7 +54,7 @@ behind_is a x small =
 pub key_is : (a b : ℕ) (x : Triple) → x.1 < 18446744073709551616 → b < 18446744073709551616 → key x.0 x.1 ≡ key a b → (x.0 ≡ a) × (x.1 ≡ b)
 key_is a b x small_x small_b e =
     elim (cases_order x.0 a) [
-      inl same ↦ (same, omega arith)
+      | inl same ↦ (same, omega arith)
       | inr (inl h) ↦ absurd (omega arith)
       | inr (inr h) ↦ absurd (omega arith)
     ]
@@ -100,20 +100,20 @@ pub sorted_insert : (n : ℕ) (xs : List Triple) (a b c : ℕ) → n ≤ key a b
 sorted_insert n [] a b c low small sorted none = (low, small, tt)
 sorted_insert n (x ∷ xs) a b c low small sorted none =
     elim (cases_order (key x.0 x.1) (key a b)) [
-      inl e ↦
-        let same = key_is a b x sorted.1 small e in
-        let one : (x.0 == a) ≡ true = grind (arith, nat_tests) in
-        let two : (x.1 == b) ≡ true = grind (arith, nat_tests) in
-        let has : has_key a b x ≡ true = rw (one, two) refl in
-        let more = count_yes (has_key a b) x xs has in
-        absurd (omega (arith, more, none))
+      | inl e ↦
+          let same = key_is a b x sorted.1 small e in
+          let one : (x.0 == a) ≡ true = grind (arith, nat_tests) in
+          let two : (x.1 == b) ≡ true = grind (arith, nat_tests) in
+          let has : has_key a b x ≡ true = rw (one, two) refl in
+          let more = count_yes (has_key a b) x xs has in
+          absurd (omega (arith, more, none))
       | inr (inl h) ↦
-        let below = lt_yes (key x.0 x.1) (key a b) h in
-        let rest : count_by (has_key a b) xs ≡ 0 = omega (arith, none, count_cons (has_key a b) x xs) in
-        rw below (sorted.0, sorted.1, sorted_insert (key x.0 x.1 + 1) xs a b c (omega arith) small sorted.2 rest)
+          let below = lt_yes (key x.0 x.1) (key a b) h in
+          let rest : count_by (has_key a b) xs ≡ 0 = omega (arith, none, count_cons (has_key a b) x xs) in
+          rw below (sorted.0, sorted.1, sorted_insert (key x.0 x.1 + 1) xs a b c (omega arith) small sorted.2 rest)
       | inr (inr h) ↦
-        let above = lt_no (key x.0 x.1) (key a b) (omega arith) in
-        rw above (low, small, (omega arith, sorted.1, sorted.2))
+          let above = lt_no (key x.0 x.1) (key a b) (omega arith) in
+          rw above (low, small, (omega arith, sorted.1, sorted.2))
     ]
 
 -- the triple at the place is taken out
@@ -121,10 +121,10 @@ pub sorted_remove : (n m : ℕ) (xs : List Triple) → SortedFrom n xs → place
 sorted_remove n m [] sorted within = absurd (omega arith)
 sorted_remove n m (x ∷ xs) sorted within =
     elim (cases_lt (key x.0 x.1) m) [
-      inl h ↦
-        let below = lt_yes (key x.0 x.1) m h in
-        let within_rest = rw below at within in
-        rw below (sorted.0, sorted.1, sorted_remove (key x.0 x.1 + 1) m xs sorted.2 (omega (arith, within_rest)))
+      | inl h ↦
+          let below = lt_yes (key x.0 x.1) m h in
+          let within_rest = rw below at within in
+          rw below (sorted.0, sorted.1, sorted_remove (key x.0 x.1 + 1) m xs sorted.2 (omega (arith, within_rest)))
       | inr h ↦ let above = lt_no (key x.0 x.1) m h in rw above (sorted_more n (key x.0 x.1 + 1) xs (omega (arith, sorted.0)) sorted.2)
     ]
 
@@ -139,16 +139,16 @@ triple_at_by n x xs a b c sorted some false e rest =
     let fewer = count_no (is_triple a b c) x xs e in
     let more : 0 < count_by (is_triple a b c) xs = omega (arith, some, fewer) in
     elim (cases_lt (key x.0 x.1) (key a b)) [
-      inl h ↦
-        let below = lt_yes (key x.0 x.1) (key a b) h in
-        let there = rest more in
-        rw below (omega (arith, there.0), there.1)
+      | inl h ↦
+          let below = lt_yes (key x.0 x.1) (key a b) h in
+          let there = rest more in
+          rw below (omega (arith, there.0), there.1)
       | inr h ↦
-        let none =
+          let none =
           none_passes (is_triple a b c) (key a b + 1) (key x.0 x.1 + 1) xs
           (λ y small is. let same = triple_same a b c y is in omega (arith, ap (λ (z : Triple). key z.0 z.1) same))
           (omega arith) sorted.2 in
-        absurd (omega (arith, more, none))
+          absurd (omega (arith, more, none))
     ]
 
 -- a triple that is listed stands at the place of its pair
@@ -161,23 +161,23 @@ pub absent : (n : ℕ) (xs : List Triple) (a b : ℕ) (d : Triple) → b < 18446
 absent n [] a b d small sorted other = refl
 absent n (x ∷ xs) a b d small sorted other =
     elim (cases_lt (key x.0 x.1) (key a b)) [
-      inl h ↦
-        let below = lt_yes (key x.0 x.1) (key a b) h in
-        let rest = absent (key x.0 x.1 + 1) xs a b d small sorted.2 (λ within. (rw below at other) (omega (arith, within))) in
-        let here : has_key a b x ≡ false = fails (has_key a b) (key x.0 x.1) x (has_key a b x) refl
+      | inl h ↦
+          let below = lt_yes (key x.0 x.1) (key a b) h in
+          let rest = absent (key x.0 x.1 + 1) xs a b d small sorted.2 (λ within. (rw below at other) (omega (arith, within))) in
+          let here : has_key a b x ≡ false = fails (has_key a b) (key x.0 x.1) x (has_key a b x) refl
           (λ e. let same = key_same a b x e in absurd (omega (arith, h, ap (λ (k : ℕ). key k x.1) same.0, ap (λ (k : ℕ). key a k) same.1))) (omega arith) in
-        count_no (has_key a b) x xs here ∙ rest
+          count_no (has_key a b) x xs here ∙ rest
       | inr h ↦
-        let above = lt_no (key x.0 x.1) (key a b) h in
-        let here : has_key a b x ≡ false = (rw above at other) (omega arith) in
-        count_no (has_key a b) x xs here ∙ none_at a b (key x.0 x.1 + 1) xs (omega arith) sorted.2
+          let above = lt_no (key x.0 x.1) (key a b) h in
+          let here : has_key a b x ≡ false = (rw above at other) (omega arith) in
+          count_no (has_key a b) x xs here ∙ none_at a b (key x.0 x.1 + 1) xs (omega arith) sorted.2
     ]
 
 pub key_place_within : (xs : List Triple) (m : ℕ) → place_of_key xs m ≤ length xs
 key_place_within [] m = omega arith
 key_place_within (x ∷ xs) m =
     elim (cases_lt (key x.0 x.1) m) [
-      inl h ↦ let below = lt_yes (key x.0 x.1) m h in rw below (omega (arith, key_place_within xs m))
+      | inl h ↦ let below = lt_yes (key x.0 x.1) m h in rw below (omega (arith, key_place_within xs m))
       | inr h ↦ let above = lt_no (key x.0 x.1) m h in rw above (omega arith)
     ]
 
@@ -192,29 +192,29 @@ count_between n (x ∷ xs) a sorted =
     let small = sorted.1 in
     let rest = count_between (key x.0 x.1 + 1) xs a sorted.2 in
     elim (cases_order x.0 a) [
-      inl e ↦
-        let has : (x.0 == a) ≡ true = grind (arith, nat_tests) in
-        let more = count_yes (λ y. y.0 == a) x xs has in
-        let above = lt_no (key x.0 x.1) (key a 0) (omega arith) in
-        let below = lt_yes (key x.0 x.1) (key (a + 1) 0) (omega arith) in
-        let first = place_zero (key x.0 x.1 + 1) (key a 0) xs (omega arith) sorted.2 in
-        rw (above, below) (omega (arith, rest, first, more))
+      | inl e ↦
+          let has : (x.0 == a) ≡ true = grind (arith, nat_tests) in
+          let more = count_yes (λ y. y.0 == a) x xs has in
+          let above = lt_no (key x.0 x.1) (key a 0) (omega arith) in
+          let below = lt_yes (key x.0 x.1) (key (a + 1) 0) (omega arith) in
+          let first = place_zero (key x.0 x.1 + 1) (key a 0) xs (omega arith) sorted.2 in
+          rw (above, below) (omega (arith, rest, first, more))
       | inr (inl h) ↦
-        let other = apart_below x.0 a h in
-        let same = count_no (λ y. y.0 == a) x xs other in
-        let below = lt_yes (key x.0 x.1) (key a 0) (omega arith) in
-        let below_end = lt_yes (key x.0 x.1) (key (a + 1) 0) (omega arith) in
-        rw (below, below_end) (omega (arith, rest, same))
+          let other = apart_below x.0 a h in
+          let same = count_no (λ y. y.0 == a) x xs other in
+          let below = lt_yes (key x.0 x.1) (key a 0) (omega arith) in
+          let below_end = lt_yes (key x.0 x.1) (key (a + 1) 0) (omega arith) in
+          rw (below, below_end) (omega (arith, rest, same))
       | inr (inr h) ↦
-        let other = apart_above x.0 a h in
-        let same = count_no (λ y. y.0 == a) x xs other in
-        let none =
+          let other = apart_above x.0 a h in
+          let same = count_no (λ y. y.0 == a) x xs other in
+          let none =
           none_passes (λ y. y.0 == a) (key (a + 1) 0) (key x.0 x.1 + 1) xs
           (λ y small e. let is = same_number y.0 a e in omega arith)
           (omega arith) sorted.2 in
-        let above = lt_no (key x.0 x.1) (key a 0) (omega arith) in
-        let above_end = lt_no (key x.0 x.1) (key (a + 1) 0) (omega arith) in
-        rw (above, above_end) (omega (arith, same, none))
+          let above = lt_no (key x.0 x.1) (key a 0) (omega arith) in
+          let above_end = lt_no (key x.0 x.1) (key (a + 1) 0) (omega arith) in
+          rw (above, above_end) (omega (arith, same, none))
     ]
 
 -- a test that says which keys are below m parts the list
@@ -253,9 +253,9 @@ key_place_is p m n (x ∷ xs) zero is sorted within below above =
 key_place_is p m n (x ∷ xs) (suc i) is sorted within below above =
     let first : nat_lt (key x.0 x.1) m ≡ true = sym (is x sorted.1) ∙ below 0 x (omega arith) (omega arith) in
     let rest : i ≡ place_of_key xs m =
-      key_place_is p m (key x.0 x.1 + 1) xs i is sorted.2 (omega arith)
-      (λ k d low h. below (suc k) d (omega arith) (omega arith))
-      (λ k d low h. above (suc k) d (omega arith) (omega arith)) in
+    key_place_is p m (key x.0 x.1 + 1) xs i is sorted.2 (omega arith)
+    (λ k d low h. below (suc k) d (omega arith) (omega arith))
+    (λ k d low h. above (suc k) d (omega arith) (omega arith)) in
     rw (first, ← rest) refl
 
 -- a triple that stands somewhere is counted

@@ -1,6 +1,7 @@
 //! Triples sorted by the pair of their first two numbers, each pair once.
-ghost use Rattle.std.specs.Prelude.{◌≡◌, ℕ, ◌+◌, ◌<◌, ◌≤◌, ◌==◌, length, count_by, Bool, if◌then◌else◌, vec_len, vec_capacity, IfSome, IfNone};
+ghost use Rattle.std.specs.Prelude.{◌≡◌, ◌+◌, ◌<◌, ◌==◌, count_by, vec_len, vec_capacity, IfSome, IfNone};
 ghost use Rattle.id_memory.specs.PairKeys.{SortedFrom, place_of_key, key, is_under, has_key, is_triple};
+ghost use Rattle.id_memory.specs.Calls.{AddsTriple, LosesTriple};
 
 /// Whether the triple's pair is below this one.
 fn is_below(item: &(u64, u64, u64), a: u64, b: u64) -> bool
@@ -55,10 +56,7 @@ pub(crate) fn enter(items: &mut Vec<(u64, u64, u64)>, a: u64, b: u64, c: u64)
     requires sorted { SortedFrom 0 items.old.items }
     requires absent { count_by (has_key a b) items.old.items ≡ 0 }
     requires room { vec_len items.old < vec_capacity items.old }
-    ensures sorted { SortedFrom 0 items.new.items }
-    ensures counts { (test : ℕ × ℕ × ℕ → Bool) → count_by test items.new.items ≡ count_by test items.old.items + (if test (a, b, c) then 1 else 0) }
-    ensures len { vec_len items.new ≡ vec_len items.old + 1 }
-    ensures capacity { vec_capacity items.new ≡ vec_capacity items.old }
+    ensures { AddsTriple (a, b, c) items.old items.new }
 {
     let at = place_of(items, a, b);
     let _ = items.insert(at, (a, b, c));
@@ -68,10 +66,7 @@ pub(crate) fn enter(items: &mut Vec<(u64, u64, u64)>, a: u64, b: u64, c: u64)
 pub(crate) fn leave(items: &mut Vec<(u64, u64, u64)>, a: u64, b: u64, c: u64)
     requires sorted { SortedFrom 0 items.old.items }
     requires there { 0 < count_by (is_triple a b c) items.old.items }
-    ensures sorted { SortedFrom 0 items.new.items }
-    ensures counts { (test : ℕ × ℕ × ℕ → Bool) → count_by test items.new.items + (if test (a, b, c) then 1 else 0) ≡ count_by test items.old.items }
-    ensures len { vec_len items.new + 1 ≡ vec_len items.old }
-    ensures capacity { vec_capacity items.new ≡ vec_capacity items.old }
+    ensures { LosesTriple (a, b, c) items.old items.new }
 {
     let at = place_of(items, a, b);
     let _item = items.remove(at);

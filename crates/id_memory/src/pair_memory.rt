@@ -1,6 +1,8 @@
 //! A memory of pairs: its entries by identifier, and the same entries by pair, both ways round.
-ghost use Rattle.std.specs.Prelude.{◌≡◌, ◌+◌, ◌<◌, ◌≤◌, [], length, IfOk, OnOk, Some, None};
+ghost use Rattle.std.specs.Prelude.{◌≡◌, ◌+◌, ◌<◌, ◌≤◌, [], length, count_by, vec_len, vec_capacity, IfOk, OnOk, Some, None};
 ghost use Rattle.id_memory.specs.Pairs.{RiseFrom, IsOneToOne, pair_of, id_of, with_first, with_second, IsWith};
+ghost use Rattle.id_memory.specs.PairKeys.{SortedFrom, has_key, is_triple};
+ghost use Rattle.id_memory.specs.Calls.{AddsTriple, LosesTriple};
 
 use crate::{PairIter, entry_list, pair_list};
 use par_base::Memory;
@@ -26,9 +28,9 @@ impl Model for PairMemory {
     ghost Value = { MemoryState };
 
     ghost view = { λ memory. record {
-        entries = memory.entries.items;
-        room = min (vec_capacity memory.entries - vec_len memory.entries)
-            (min (vec_capacity memory.by_first - vec_len memory.by_first) (vec_capacity memory.by_second - vec_len memory.by_second))
+      entries = memory.entries.items;
+      room = min (vec_capacity memory.entries - vec_len memory.entries)
+          (min (vec_capacity memory.by_first - vec_len memory.by_first) (vec_capacity memory.by_second - vec_len memory.by_second));
     } };
 
     ghost invariant = { λ memory. IsIndexed memory.entries.items memory.by_first.items memory.by_second.items };
@@ -122,8 +124,7 @@ impl PairMemory {
         ensures room { self.new.room + length self.new.entries ≡ self.old.room + length self.old.entries }
     {
         entry_list::enter(&mut self.entries, p, s, t);
-        pair_list::enter(&mut self.by_first, s, t, p);
-        pair_list::enter(&mut self.by_second, t, s, p);
+        enter_both(&mut self.by_first, &mut self.by_second, p, s, t);
     }
 
     /// Takes an identifier out with its pair, where it is there. It takes no memory.
@@ -133,8 +134,47 @@ impl PairMemory {
     {
         if let Some((s, t)) = entry_list::find(&self.entries, p) {
             entry_list::leave(&mut self.entries, p, s, t);
-            pair_list::leave(&mut self.by_first, s, t, p);
-            pair_list::leave(&mut self.by_second, t, s, p);
+            leave_both(&mut self.by_first, &mut self.by_second, p, s, t);
         }
     }
+}
+
+/// Puts the pair of an identifier into both look-up lists.
+fn enter_both(
+    first: &mut Vec<(u64, u64, u64)>,
+    second: &mut Vec<(u64, u64, u64)>,
+    p: u64,
+    s: u64,
+    t: u64,
+)
+    requires first_sorted { SortedFrom 0 first.old.items }
+    requires second_sorted { SortedFrom 0 second.old.items }
+    requires first_absent { count_by (has_key s t) first.old.items ≡ 0 }
+    requires second_absent { count_by (has_key t s) second.old.items ≡ 0 }
+    requires first_room { vec_len first.old < vec_capacity first.old }
+    requires second_room { vec_len second.old < vec_capacity second.old }
+    ensures first { AddsTriple (s, t, p) first.old first.new }
+    ensures second { AddsTriple (t, s, p) second.old second.new }
+{
+    pair_list::enter(first, s, t, p);
+    pair_list::enter(second, t, s, p);
+}
+
+/// Takes the pair of an identifier out of both look-up lists.
+fn leave_both(
+    first: &mut Vec<(u64, u64, u64)>,
+    second: &mut Vec<(u64, u64, u64)>,
+    p: u64,
+    s: u64,
+    t: u64,
+)
+    requires first_sorted { SortedFrom 0 first.old.items }
+    requires second_sorted { SortedFrom 0 second.old.items }
+    requires first_there { 0 < count_by (is_triple s t p) first.old.items }
+    requires second_there { 0 < count_by (is_triple t s p) second.old.items }
+    ensures first { LosesTriple (s, t, p) first.old first.new }
+    ensures second { LosesTriple (t, s, p) second.old second.new }
+{
+    pair_list::leave(first, s, t, p);
+    pair_list::leave(second, t, s, p);
 }

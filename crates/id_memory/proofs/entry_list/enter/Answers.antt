@@ -18,5 +18,7 @@ inserted c =
 
 pub returns-clause-with : goal.returns-clause-with
 returns-clause-with c =
-    record { rises = subst (RiseFrom 0) (sym (inserted c)) (rises_insert 0 c.args.entries.now.items c.args.p c.args.s c.args.t (omega arith) c.requires.rises c.requires.absent);
-      pairs = λ q. ap (λ (es : Pairs). pair_of es q) (inserted c) ∙ pair_of_insert 0 c.args.entries.now.items c.args.p c.args.s c.args.t c.requires.rises c.requires.absent q }
+    record {
+      rises = subst (RiseFrom 0) (sym (inserted c)) (rises_insert 0 c.args.entries.now.items c.args.p c.args.s c.args.t (omega arith) c.requires.rises c.requires.absent);
+      pairs = λ q. ap (λ (es : Pairs). pair_of es q) (inserted c) ∙ pair_of_insert 0 c.args.entries.now.items c.args.p c.args.s c.args.t c.requires.rises c.requires.absent q;
+    }

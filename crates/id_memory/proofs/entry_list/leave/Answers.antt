@@ -19,13 +19,15 @@ removed c = c.remove-entry.ensures.items ∙ ap (remove c.args.entries.now.items
 pub returns-clause-with : goal.returns-clause-with
 returns-clause-with c =
     let at = place_of_pair 0 c.args.entries.now.items c.args.p c.args.s c.args.t c.requires.rises c.requires.there in
-    record { rises = subst (RiseFrom 0) (sym (removed c)) (rises_remove 0 c.args.entries.now.items c.args.p c.requires.rises at.0);
+    record {
+      rises = subst (RiseFrom 0) (sym (removed c)) (rises_remove 0 c.args.entries.now.items c.args.p c.requires.rises at.0);
       pairs = λ q. ap (λ (es : Pairs). pair_of es q) (removed c)
-        ∙ pair_of_remove 0 c.args.entries.now.items c.args.p (0, 0, 0) c.requires.rises at.0 (ap (λ (e : ℕ × ℕ × ℕ). e.0) (at.1 (0, 0, 0))) q }
+          ∙ pair_of_remove 0 c.args.entries.now.items c.args.p (0, 0, 0) c.requires.rises at.0 (ap (λ (e : ℕ × ℕ × ℕ). e.0) (at.1 (0, 0, 0))) q;
+    }
 
 pub returns-clause-counts : goal.returns-clause-counts
 returns-clause-counts c = λ test.
     let at = place_of_pair 0 c.args.entries.now.items c.args.p c.args.s c.args.t c.requires.rises c.requires.there in
     let less : count_by test (remove c.args.entries.now.items (place_of_id c.args.entries.now.items c.args.p)) + cond (test (get_or c.args.entries.now.items (place_of_id c.args.entries.now.items c.args.p) (0, 0, 0))) 1 0 ≡ count_by test c.args.entries.now.items =
-      sum_by-remove (λ y. cond (test y) 1 0) c.args.entries.now.items (place_of_id c.args.entries.now.items c.args.p) (0, 0, 0) at.0 in
+    sum_by-remove (λ y. cond (test y) 1 0) c.args.entries.now.items (place_of_id c.args.entries.now.items c.args.p) (0, 0, 0) at.0 in
     rw (removed c) (rw (at.1 (0, 0, 0)) at less)
