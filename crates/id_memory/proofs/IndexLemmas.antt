@@ -1,12 +1,12 @@
 -- A memory and its two look-up lists.
 use Rattle.std.specs.Prelude.{◌&&◌, count_by, IfSome, IfNone, ◌↔◌}
-use Rattle.std.proofs.Common.{◌≡◌, ℕ, ◌+◌, ◌<◌, ◌≤◌, ◌==◌, ◌⊎◌, List, [], ◌∷◌, Bool, true, false, cond, if◌then◌else◌, Option, Some, None, refl, sym, ap, ◌∙◌, subst, arith}
+use Rattle.std.proofs.Common.{◌≡◌, ℕ, ◌+◌, ◌<◌, ◌≤◌, ◌==◌, ◌⊎◌, List, [], ◌∷◌, Bool, true, false, if◌then◌else◌, Option, Some, None, refl, sym, ap, ◌∙◌, subst, arith}
 use Rattle.std.proofs.lemmas.Bool.Decides.{nat_tests}
 use Rattle.std.proofs.lemmas.Bool.{cases_lt}
 use mathlib.Core.Logic.{inl, inr}
 use Rattle.id_memory.specs.Pairs.{Pairs, RiseFrom, IsOneToOne, pair_of, id_of, has_pair}
 use Rattle.id_memory.specs.PairKeys.{SortedFrom, has_key, is_triple}
-use Rattle.id_memory.specs.Indexed.{IsIndexed, Lists, by_pair, by_turned_pair}
+use Rattle.id_memory.specs.Indexed.{IsIndexed, by_pair, by_turned_pair}
 use Rattle.id_memory.proofs.EntryLemmas.{eq_self, same_number, entry, none_under}
 use Rattle.id_memory.proofs.KeyLemmas.{count_cons, count_yes, count_no, and_parts}
 

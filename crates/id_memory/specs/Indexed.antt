@@ -1,5 +1,5 @@
 -- A memory with its two look-up lists.
-use Rattle.std.specs.Prelude.{◌≡◌, ℕ, ◌+◌, ◌-◌, min, Bool, List, count_by}
+use Rattle.std.specs.Prelude.{◌≡◌, ℕ, Bool, List, count_by}
 use Rattle.id_memory.specs.Pairs.{Pairs, RiseFrom, IsOneToOne}
 use Rattle.id_memory.specs.PairKeys.{SortedFrom}
 

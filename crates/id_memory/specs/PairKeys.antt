@@ -1,5 +1,5 @@
 -- Lists of triples that are sorted by the pair of their first two numbers.
-use Rattle.std.specs.Prelude.{◌≡◌, ℕ, suc, ◌+◌, ◌*◌, ◌<◌, ◌≤◌, ◌==◌, ◌&&◌, ◌||◌, ◌^◌, nat_lt, nat_le, Bool, List, [], ◌∷◌, if◌then◌else◌}
+use Rattle.std.specs.Prelude.{ℕ, suc, ◌+◌, ◌*◌, ◌<◌, ◌≤◌, ◌==◌, ◌&&◌, ◌||◌, nat_lt, Bool, List, [], ◌∷◌, if◌then◌else◌}
 
 -- a pair of numbers below 2 ^ 64 as one number, which orders pairs by the first and then by the second
 abbrev pub key : ℕ → ℕ → ℕ

@@ -1,5 +1,5 @@
 -- What contracts say of the entries of a memory.
-use Rattle.std.specs.Prelude.{◌≡◌, ℕ, suc, ◌+◌, ◌<◌, ◌≤◌, ◌==◌, ◌&&◌, nat_lt, Bool, List, [], ◌∷◌, count_by, if◌then◌else◌, Option, Some, None}
+use Rattle.std.specs.Prelude.{◌≡◌, ℕ, suc, ◌+◌, ◌≤◌, ◌==◌, ◌&&◌, nat_lt, Bool, List, [], ◌∷◌, count_by, if◌then◌else◌, Option, Some, None}
 
 -- identifiers p, each with its pair (s, t)
 abbrev pub Pairs : Type 0

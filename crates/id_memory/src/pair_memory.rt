@@ -1,5 +1,5 @@
 //! A memory of pairs: its entries by identifier, and the same entries by pair, both ways round.
-ghost use Rattle.std.specs.Prelude.{◌≡◌, ◌+◌, ◌<◌, ◌≤◌, [], length, count_by, vec_len, vec_capacity, IfOk, OnOk, Some, None};
+ghost use Rattle.std.specs.Prelude.{◌≡◌, ◌+◌, ◌<◌, ◌≤◌, [], length, count_by, vec_len, vec_capacity, IfOk, OnOk, Some, None, is_some, if◌then◌else◌};
 ghost use Rattle.id_memory.specs.Pairs.{RiseFrom, IsOneToOne, pair_of, id_of, with_first, with_second, IsWith};
 ghost use Rattle.id_memory.specs.PairKeys.{SortedFrom, has_key, is_triple};
 ghost use Rattle.id_memory.specs.Calls.{AddsTriple, LosesTriple};
@@ -121,7 +121,8 @@ impl PairMemory {
         requires new_id { pair_of self.old.entries p ≡ None }
         requires new_pair { id_of self.old.entries s t ≡ None }
         ensures with { IsWith self.old.entries p (Some (s, t)) self.new.entries }
-        ensures room { self.new.room + length self.new.entries ≡ self.old.room + length self.old.entries }
+        ensures len { length self.new.entries ≡ length self.old.entries + 1 }
+        ensures room { self.new.room + 1 ≡ self.old.room }
     {
         entry_list::enter(&mut self.entries, p, s, t);
         enter_both(&mut self.by_first, &mut self.by_second, p, s, t);
@@ -130,6 +131,7 @@ impl PairMemory {
     /// Takes an identifier out with its pair, where it is there. It takes no memory.
     pub fn remove(&mut self, p: u64)
         ensures without { IsWith self.old.entries p None self.new.entries }
+        ensures len { length self.new.entries + (if is_some (pair_of self.old.entries p) then 1 else 0) ≡ length self.old.entries }
         ensures room { self.new.room + length self.new.entries ≡ self.old.room + length self.old.entries }
     {
         if let Some((s, t)) = entry_list::find(&self.entries, p) {

@@ -3,7 +3,7 @@ ghost use Rattle.std.specs.Prelude.{◌≡◌, ℕ, ◌+◌, ◌≤◌, [], List
 ghost use Rattle.std.specs.Option.{option_map};
 ghost use Rattle.row_store.specs.declared.change.Change.{Change};
 ghost use Rattle.row_store.specs.Rows.{Rows, RiseFrom, row_of};
-ghost use Rattle.row_store.specs.Changes.{AreOld, IsChanged, WasApplied, reverse_of};
+ghost use Rattle.row_store.specs.Changes.{AreOld, WasApplied};
 ghost use Rattle.row_store.specs.Undo.{IsUndoable};
 
 use crate::exchange::Which;
@@ -80,8 +80,7 @@ impl Table {
     pub fn apply(&mut self, changes: &mut Changes)
         requires fit { AreOld self.old.rows changes.old }
         requires spare { length changes.old ≤ self.old.spare }
-        ensures changed { IsChanged self.old.rows changes.old self.new.rows }
-        ensures reversed { changes.new ≡ reverse_of self.old.rows changes.old }
+        ensures applied { WasApplied self.old.rows changes.old self.new.rows changes.new }
         ensures room { self.new.spare + length self.new.rows ≡ self.old.spare + length self.old.rows }
     {
         changes.exchange(&mut self.rows, Which::All);

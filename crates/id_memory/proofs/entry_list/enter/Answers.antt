@@ -1,6 +1,6 @@
-use Rattle.std.proofs.Common.{◌≡◌, ◌≤◌, ℕ, length, subst, sym, ap, ◌∙◌, arith}
+use Rattle.std.proofs.Common.{◌≡◌, ℕ, length, subst, sym, ap, ◌∙◌, arith}
 use Rattle.std.specs.List.{insert}
-use Rattle.id_memory.specs.Pairs.{Pairs, RiseFrom, pair_of, place_of_id, IsWith}
+use Rattle.id_memory.specs.Pairs.{Pairs, RiseFrom, pair_of, place_of_id}
 use Rattle.id_memory.proofs.EntryLemmas.{rises_insert, pair_of_insert, place_within, at_ok}
 use Rattle.id_memory.proofs.entry_list.enter.Goals as goal
 

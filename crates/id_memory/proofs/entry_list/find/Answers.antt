@@ -1,4 +1,4 @@
-use Rattle.std.proofs.Common.{◌≡◌, sym, ◌∙◌, ap, arith}
+use Rattle.std.proofs.Common.{sym}
 use Rattle.id_memory.proofs.EntryLemmas.{pair_at, absent_past, absent_at}
 use Rattle.id_memory.proofs.entry_list.find.Goals as goal
 

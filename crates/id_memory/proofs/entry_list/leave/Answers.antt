@@ -1,8 +1,8 @@
-use Rattle.std.specs.Prelude.{count_by, if◌then◌else◌}
-use Rattle.std.proofs.Common.{◌≡◌, ◌≤◌, ◌<◌, ◌+◌, ℕ, Bool, cond, length, get_or, subst, sym, ap, ◌∙◌, arith}
+use Rattle.std.specs.Prelude.{count_by}
+use Rattle.std.proofs.Common.{◌≡◌, ◌+◌, ℕ, cond, length, get_or, subst, sym, ap, ◌∙◌, arith}
 use Rattle.std.specs.List.{remove}
 use Rattle.std.proofs.lemmas.List.Sums.{sum_by-remove}
-use Rattle.id_memory.specs.Pairs.{Pairs, RiseFrom, pair_of, place_of_id, IsWith}
+use Rattle.id_memory.specs.Pairs.{Pairs, RiseFrom, pair_of, place_of_id}
 use Rattle.id_memory.proofs.EntryLemmas.{rises_remove, pair_of_remove, place_of_pair}
 use Rattle.id_memory.proofs.entry_list.leave.Goals as goal
 

@@ -1,4 +1,4 @@
-use Rattle.std.proofs.Common.{ltb, arith, rules}
+use Rattle.std.proofs.Common.{ltb, rules}
 use Rattle.std.proofs.lemmas.List.Sorted.{IsPartitionPoint-from_clause, IsPartitionedBy-ltb}
 use Rattle.id_memory.proofs.EntryLemmas.{entries_order, place_is}
 use Rattle.id_memory.proofs.entry_list.place_of.Goals as goal

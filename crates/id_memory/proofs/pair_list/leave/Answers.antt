@@ -1,5 +1,5 @@
 use Rattle.std.specs.Prelude.{count_by}
-use Rattle.std.proofs.Common.{◌≡◌, ◌≤◌, ◌<◌, ◌+◌, ℕ, List, Bool, cond, length, get_or, subst, sym, ap, ◌∙◌, arith, rules}
+use Rattle.std.proofs.Common.{◌≡◌, ◌+◌, ℕ, List, cond, length, get_or, subst, sym, ap, ◌∙◌, arith, rules}
 use Rattle.std.specs.List.{remove}
 use Rattle.std.proofs.lemmas.List.Sums.{sum_by-remove}
 use Rattle.id_memory.specs.PairKeys.{SortedFrom, place_of_key, key}

@@ -1,4 +1,4 @@
-use Rattle.std.proofs.Common.{arith, rules, leb, ◌<◌, ◌+◌}
+use Rattle.std.proofs.Common.{rules, leb, ◌+◌}
 use Rattle.std.proofs.lemmas.List.Sorted.{IsPartitionPoint-from_clause}
 use Rattle.id_memory.specs.PairKeys.{key}
 use Rattle.id_memory.proofs.KeyLemmas.{behind_is, parted, key_place_is}

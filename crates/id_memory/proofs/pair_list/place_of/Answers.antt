@@ -1,4 +1,4 @@
-use Rattle.std.proofs.Common.{arith, rules, ◌<◌}
+use Rattle.std.proofs.Common.{rules, ◌<◌}
 use Rattle.std.proofs.lemmas.List.Sorted.{IsPartitionPoint-from_clause}
 use Rattle.id_memory.specs.PairKeys.{is_under, key}
 use Rattle.id_memory.proofs.KeyLemmas.{under_is, parted, key_place_is}

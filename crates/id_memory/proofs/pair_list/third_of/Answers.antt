@@ -1,4 +1,4 @@
-use Rattle.std.proofs.Common.{◌<◌, get_or, sym, subst, arith, rules}
+use Rattle.std.proofs.Common.{◌<◌, get_or, sym, arith, rules}
 use Rattle.id_memory.proofs.KeyLemmas.{triple_there, absent, other_key}
 use Rattle.id_memory.proofs.pair_list.third_of.Goals as goal
 

@@ -1,4 +1,4 @@
-use Rattle.std.proofs.Common.{◌≡◌, None, ap, sym, ◌∙◌}
+use Rattle.std.proofs.Common.{◌≡◌, None, ap, ◌∙◌}
 use Rattle.id_memory.specs.Pairs.{id_of}
 use Rattle.id_memory.specs.States.{MemoryState}
 use Rattle.id_memory.proofs.IndexLemmas.{absent_first, absent_second, put_indexed}
