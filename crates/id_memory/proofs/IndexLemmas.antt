@@ -6,6 +6,7 @@ use Rattle.std.proofs.lemmas.Bool.{cases_lt}
 use mathlib.Core.Logic.{inl, inr}
 use Rattle.id_memory.specs.Pairs.{Pairs, RiseFrom, IsOneToOne, pair_of, id_of, has_pair}
 use Rattle.id_memory.specs.PairKeys.{SortedFrom, has_key, is_triple}
+use Rattle.id_memory.specs.Calls.{CountsMore, CountsLess}
 use Rattle.id_memory.specs.Indexed.{IsIndexed, by_pair, by_turned_pair}
 use Rattle.id_memory.proofs.EntryLemmas.{eq_self, same_number, entry, none_under}
 use Rattle.id_memory.proofs.KeyLemmas.{count_cons, count_yes, count_no, and_parts}
@@ -108,13 +109,6 @@ there_first es first second p s t is has = subst (λ (n : ℕ). 0 < n) (sym (is.
 pub there_second : (es : Pairs) (first second : List (ℕ × ℕ × ℕ)) (p s t : ℕ) → IsIndexed es first second → pair_of es p ≡ Some (s, t) → 0 < count_by (is_triple t s p) second
 there_second es first second p s t is has = subst (λ (n : ℕ). 0 < n) (sym (is.second_lists (is_triple t s p))) (listed (λ e. is_triple t s p (by_turned_pair e)) es p s t has (triple_passes t s p))
 
--- one item more, or one less
-abbrev pub Adds : ℕ × ℕ × ℕ → List (ℕ × ℕ × ℕ) → List (ℕ × ℕ × ℕ) → Type 0
-Adds x before now = (test : ℕ × ℕ × ℕ → Bool) → count_by test now ≡ count_by test before + (if test x then 1 else 0)
-
-abbrev pub Loses : ℕ × ℕ × ℕ → List (ℕ × ℕ × ℕ) → List (ℕ × ℕ × ℕ) → Type 0
-Loses x before now = (test : ℕ × ℕ × ℕ → Bool) → count_by test now + (if test x then 1 else 0) ≡ count_by test before
-
 one_more : (es now : Pairs) (p s t u v : ℕ) (b : Bool) → has_pair u v (p, s, t) ≡ b → IsOneToOne es → count_by (has_pair s t) es ≡ 0 → count_by (has_pair u v) now ≡ count_by (has_pair u v) es + (if has_pair u v (p, s, t) then 1 else 0) → count_by (has_pair u v) now ≤ 1
 one_more es now p s t u v true is one none more =
     let parts = and_parts (s == u) (t == v) is in
@@ -127,7 +121,7 @@ one_more es now p s t u v false is one none more =
 
 -- an entry more in all three lists
 pub put_indexed : (es first second es_now first_now second_now : List (ℕ × ℕ × ℕ)) (p s t : ℕ) → IsIndexed es first second → id_of es s t ≡ None
-    → RiseFrom 0 es_now → Adds (p, s, t) es es_now → SortedFrom 0 first_now → Adds (s, t, p) first first_now → SortedFrom 0 second_now → Adds (t, s, p) second second_now
+    → RiseFrom 0 es_now → CountsMore (p, s, t) es es_now → SortedFrom 0 first_now → CountsMore (s, t, p) first first_now → SortedFrom 0 second_now → CountsMore (t, s, p) second second_now
     → IsIndexed es_now first_now second_now
 put_indexed es first second es_now first_now second_now p s t is none rise adds sorted_first adds_first sorted_second adds_second =
     record {
@@ -144,7 +138,7 @@ less a b c d x e f g = omega arith
 
 -- an entry less in all three lists
 pub remove_indexed : (es first second es_now first_now second_now : List (ℕ × ℕ × ℕ)) (p s t : ℕ) → IsIndexed es first second
-    → RiseFrom 0 es_now → Loses (p, s, t) es es_now → SortedFrom 0 first_now → Loses (s, t, p) first first_now → SortedFrom 0 second_now → Loses (t, s, p) second second_now
+    → RiseFrom 0 es_now → CountsLess (p, s, t) es es_now → SortedFrom 0 first_now → CountsLess (s, t, p) first first_now → SortedFrom 0 second_now → CountsLess (t, s, p) second second_now
     → IsIndexed es_now first_now second_now
 remove_indexed es first second es_now first_now second_now p s t is rise loses sorted_first loses_first sorted_second loses_second =
     record {

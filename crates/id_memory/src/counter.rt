@@ -1,5 +1,5 @@
 //! The counter from which identifiers are drawn.
-ghost use Rattle.std.specs.Prelude.{◌≡◌, ◌+◌, ◌<◌, ◌≤◌, ◌^◌, IfOk, IfErr};
+ghost use Rattle.std.specs.Prelude.{◌≡◌, ◌+◌, ◌<◌, ◌≤◌, ◌^◌, IfOk, IfErr, OnOk, OnErr};
 
 use par_base::IdsSpent;
 use std::marker::Model;
@@ -63,8 +63,11 @@ impl IdCounter {
 
     /// Draws the next identifier. It takes no memory.
     pub fn draw(&mut self) -> Result<u64, IdsSpent>
-        ensures ok { IfOk result (λ id. (id ≡ self.old.next) × (id ≤ self.old.limit) × (self.new ≡ record self.old { next = self.old.next + 1 })) }
-        ensures refused { IfErr result (λ spent. (self.old.limit < self.old.next) × (spent ≡ record { needed = self.old.next; limit = self.old.limit }) × (self.new ≡ self.old)) }
+        ensures ok { IfOk result (λ id. (id ≡ self.old.next) × (id ≤ self.old.limit)) }
+        ensures raised { OnOk result (self.new ≡ record self.old { next = self.old.next + 1 }) }
+        ensures refused { OnErr result (self.old.limit < self.old.next) }
+        ensures spent { IfErr result (λ spent. spent ≡ record { needed = self.old.next; limit = self.old.limit }) }
+        ensures err { OnErr result (self.new ≡ self.old) }
     {
         let id = self.next;
         if self.limit < id {

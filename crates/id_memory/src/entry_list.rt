@@ -1,6 +1,7 @@
 //! Entries (p, s, t) sorted by identifier, each identifier once.
-ghost use Rattle.std.specs.Prelude.{◌≡◌, ℕ, ◌+◌, ◌<◌, ◌≤◌, length, count_by, Bool, if◌then◌else◌, vec_len, vec_capacity, Some, None};
+ghost use Rattle.std.specs.Prelude.{◌≡◌, ◌+◌, ◌<◌, vec_len, vec_capacity, Some, None};
 ghost use Rattle.id_memory.specs.Pairs.{RiseFrom, pair_of, place_of_id, IsWith};
+ghost use Rattle.id_memory.specs.Calls.{CountsMore, CountsLess};
 
 /// The first place whose identifier isn't below this one.
 fn place_of(entries: &[(u64, u64, u64)], p: u64) -> usize
@@ -31,7 +32,7 @@ pub(crate) fn enter(entries: &mut Vec<(u64, u64, u64)>, p: u64, s: u64, t: u64)
     requires absent { pair_of entries.old.items p ≡ None }
     requires room { vec_len entries.old < vec_capacity entries.old }
     ensures with { IsWith entries.old.items p (Some (s, t)) entries.new.items }
-    ensures counts { (test : ℕ × ℕ × ℕ → Bool) → count_by test entries.new.items ≡ count_by test entries.old.items + (if test (p, s, t) then 1 else 0) }
+    ensures counts { CountsMore (p, s, t) entries.old.items entries.new.items }
     ensures len { vec_len entries.new ≡ vec_len entries.old + 1 }
     ensures capacity { vec_capacity entries.new ≡ vec_capacity entries.old }
 {
@@ -44,7 +45,7 @@ pub(crate) fn leave(entries: &mut Vec<(u64, u64, u64)>, p: u64, s: u64, t: u64)
     requires rises { RiseFrom 0 entries.old.items }
     requires there { pair_of entries.old.items p ≡ Some (s, t) }
     ensures with { IsWith entries.old.items p None entries.new.items }
-    ensures counts { (test : ℕ × ℕ × ℕ → Bool) → count_by test entries.new.items + (if test (p, s, t) then 1 else 0) ≡ count_by test entries.old.items }
+    ensures counts { CountsLess (p, s, t) entries.old.items entries.new.items }
     ensures len { vec_len entries.new + 1 ≡ vec_len entries.old }
     ensures capacity { vec_capacity entries.new ≡ vec_capacity entries.old }
 {

@@ -24,3 +24,11 @@ place_in (r ∷ rs) id = if nat_lt r.0 id then suc (place_in rs id) else 0
 -- the identifier's row stands at this place
 abbrev pub StandsAt : Rows → ℕ → ℕ → Type 0
 StandsAt rows at id = (at < length rows) × ((d : ℕ × List Value) → (slice_index_or rows at d).0 ≡ id) × ((d : ℕ × List Value) → row_of rows id ≡ Some (slice_index_or rows at d).1)
+
+-- this is the place of the identifier, and its row stands there
+abbrev pub IsPlaceOf : Rows → ℕ → ℕ → Type 0
+IsPlaceOf rows id at = (at ≡ place_in rows id) × StandsAt rows at id
+
+-- this is the place of the identifier, which has no row
+abbrev pub IsFreePlace : Rows → ℕ → ℕ → Type 0
+IsFreePlace rows id at = (at ≡ place_in rows id) × (at ≤ length rows) × (row_of rows id ≡ None)

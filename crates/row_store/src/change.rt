@@ -1,8 +1,8 @@
 //! Changes of a table's rows.
-ghost use Rattle.std.specs.Prelude.{◌≡◌, ℕ, [], ◌∷◌, ◌++◌, length, vec_capacity, OnOk, OnErr};
-ghost use Rattle.row_store.specs.Rows.{RiseFrom, row_of};
+ghost use Rattle.std.specs.Prelude.{◌≡◌, [], ◌∷◌, ◌++◌, length, vec_capacity, OnOk, OnErr};
+ghost use Rattle.row_store.specs.Rows.{RiseFrom};
 ghost use Rattle.row_store.specs.Changes.{ChangesRise, IsAbove};
-ghost use Rattle.row_store.specs.Passes.{after_in, exchanged, HasRoom};
+ghost use Rattle.row_store.specs.Passes.{exchanged, HasRoom, ExchangesRows};
 
 use crate::exchange::{Which, exchange_all};
 use par_base::{Memory, Row};
@@ -75,7 +75,7 @@ impl Changes {
         requires rises { RiseFrom 0 rows.old.items }
         requires room { HasRoom which rows.old.items self.old (vec_capacity rows.old) }
         ensures rises { RiseFrom 0 rows.new.items }
-        ensures rows { (id : ℕ) → row_of rows.new.items id ≡ after_in which self.old id (row_of rows.old.items id) }
+        ensures rows { ExchangesRows which self.old rows.old.items rows.new.items }
         ensures changes { self.new ≡ exchanged which rows.old.items self.old }
         ensures order { ChangesRise 0 self.old }
         ensures capacity { vec_capacity rows.new ≡ vec_capacity rows.old }

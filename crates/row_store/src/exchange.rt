@@ -1,10 +1,10 @@
 //! Rows of a table exchanged in place with the new rows of changes.
 //!
 //! A pass takes all changes, those that add a row, or the others. It moves rows and copies none.
-ghost use Rattle.std.specs.Prelude.{◌≡◌, ℕ, ◌+◌, ◌<◌, ◌≤◌, ◌==◌, ◌&&◌, length, if◌then◌else◌, vec_len, vec_capacity, IsSome, Some, None};
+ghost use Rattle.std.specs.Prelude.{◌≡◌, ◌+◌, ◌<◌, ◌≤◌, length, vec_len, vec_capacity, Some, None};
 ghost use Rattle.row_store.specs.Rows.{RiseFrom, row_of, place_in, StandsAt};
 ghost use Rattle.row_store.specs.Changes.{ChangesRise};
-ghost use Rattle.row_store.specs.Passes.{is_in, after_in, exchanged, exchanged_one, HasRoom, FindsRoom};
+ghost use Rattle.row_store.specs.Passes.{is_in, exchanged, exchanged_one, HasRoom, FindsRoom, PutsAt, ExchangesRow, ExchangesRows};
 
 use crate::Change;
 use crate::place::place_of;
@@ -38,7 +38,7 @@ fn replace_at(rows: &mut Vec<(u64, Row)>, at: usize, id: u64, row: Row) -> Row
     requires stands { StandsAt rows.old.items at id }
     ensures rises { RiseFrom 0 rows.new.items }
     ensures value { row_of rows.old.items id ≡ Some result }
-    ensures rows { (q : ℕ) → row_of rows.new.items q ≡ (if id == q then Some row else row_of rows.old.items q) }
+    ensures rows { PutsAt id (Some row) rows.old.items rows.new.items }
     ensures len { vec_len rows.new ≡ vec_len rows.old }
     ensures capacity { vec_capacity rows.new ≡ vec_capacity rows.old }
 {
@@ -52,7 +52,7 @@ fn remove_at(rows: &mut Vec<(u64, Row)>, at: usize, id: u64) -> Row
     requires stands { StandsAt rows.old.items at id }
     ensures rises { RiseFrom 0 rows.new.items }
     ensures value { row_of rows.old.items id ≡ Some result }
-    ensures rows { (q : ℕ) → row_of rows.new.items q ≡ (if id == q then None else row_of rows.old.items q) }
+    ensures rows { PutsAt id None rows.old.items rows.new.items }
     ensures len { vec_len rows.new + 1 ≡ vec_len rows.old }
     ensures capacity { vec_capacity rows.new ≡ vec_capacity rows.old }
 {
@@ -68,7 +68,7 @@ fn insert_at(rows: &mut Vec<(u64, Row)>, at: usize, id: u64, row: Row)
     requires absent { row_of rows.old.items id ≡ None }
     requires room { vec_len rows.old < vec_capacity rows.old }
     ensures rises { RiseFrom 0 rows.new.items }
-    ensures rows { (q : ℕ) → row_of rows.new.items q ≡ (if id == q then Some row else row_of rows.old.items q) }
+    ensures rows { PutsAt id (Some row) rows.old.items rows.new.items }
     ensures len { vec_len rows.new ≡ vec_len rows.old + 1 }
     ensures capacity { vec_capacity rows.new ≡ vec_capacity rows.old }
 {
@@ -80,7 +80,7 @@ fn exchange_one(rows: &mut Vec<(u64, Row)>, change: &mut Change, which: Which)
     requires rises { RiseFrom 0 rows.old.items }
     requires room { FindsRoom which rows.old.items change.now (vec_capacity rows.old) }
     ensures rises { RiseFrom 0 rows.new.items }
-    ensures rows { (q : ℕ) → row_of rows.new.items q ≡ (if is_in which change.entry.now && change.entry.now.id == q then change.entry.now.new else row_of rows.old.items q) }
+    ensures rows { ExchangesRow which change.entry.now rows.old.items rows.new.items }
     ensures change { change.exit.now ≡ exchanged_one which rows.old.items change.entry.now }
     ensures len { length rows.new.items ≤ length rows.old.items + 1 }
     ensures capacity { vec_capacity rows.new ≡ vec_capacity rows.old }
@@ -114,7 +114,7 @@ pub(crate) fn exchange_all(rows: &mut Vec<(u64, Row)>, changes: &mut [Change], w
     requires order { ChangesRise 0 changes.old }
     requires room { HasRoom which rows.old.items changes.old (vec_capacity rows.old) }
     ensures rises { RiseFrom 0 rows.new.items }
-    ensures rows { (id : ℕ) → row_of rows.new.items id ≡ after_in which changes.old id (row_of rows.old.items id) }
+    ensures rows { ExchangesRows which changes.old rows.old.items rows.new.items }
     ensures changes { changes.new ≡ exchanged which rows.old.items changes.old }
     ensures capacity { vec_capacity rows.new ≡ vec_capacity rows.old }
 {

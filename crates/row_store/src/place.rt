@@ -1,7 +1,6 @@
 //! Where an identifier stands in ascending rows.
-ghost use Rattle.std.specs.Prelude.{◌≡◌, ℕ, ◌<◌, ◌≤◌, length, slice_index_or, MatchResult, None};
-ghost use Rattle.par_base.specs.declared.value.Value.{Value};
-ghost use Rattle.row_store.specs.Rows.{RiseFrom, row_of, place_in, StandsAt};
+ghost use Rattle.std.specs.Prelude.{◌≡◌, MatchResult};
+ghost use Rattle.row_store.specs.Rows.{RiseFrom, place_in, IsPlaceOf, IsFreePlace};
 
 use par_base::Row;
 
@@ -16,7 +15,7 @@ fn first_place(rows: &[(u64, Row)], id: u64) -> usize
 /// The place of the identifier's row, or the place at which one would stand.
 pub(crate) fn place_of(rows: &[(u64, Row)], id: u64) -> Result<usize, usize>
     requires { RiseFrom 0 rows.now }
-    ensures { MatchResult result (λ at. (at ≡ place_in rows.now id) × StandsAt rows.now at id) (λ at. (at ≡ place_in rows.now id) × (at ≤ length rows.now) × (row_of rows.now id ≡ None)) }
+    ensures { MatchResult result (IsPlaceOf rows.now id) (IsFreePlace rows.now id) }
 {
     let at = first_place(rows, id);
     if at < rows.len() && rows[at].0 == id {

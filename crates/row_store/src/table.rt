@@ -1,10 +1,9 @@
 //! A table as one sorted list of its identifiers and rows.
-ghost use Rattle.std.specs.Prelude.{◌≡◌, ℕ, ◌+◌, ◌≤◌, [], List, length, IfOk, OnOk, OnErr};
+ghost use Rattle.std.specs.Prelude.{◌≡◌, ◌+◌, ◌≤◌, [], length, IfOk, OnOk};
 ghost use Rattle.std.specs.Option.{option_map};
-ghost use Rattle.row_store.specs.declared.change.Change.{Change};
-ghost use Rattle.row_store.specs.Rows.{Rows, RiseFrom, row_of};
+ghost use Rattle.row_store.specs.Rows.{RiseFrom, row_of};
 ghost use Rattle.row_store.specs.Changes.{AreOld, WasApplied};
-ghost use Rattle.row_store.specs.Undo.{IsUndoable};
+ghost use Rattle.row_store.specs.Undo.{IsUndoable, Restores};
 
 use crate::exchange::Which;
 use crate::{Changes, TableIter};
@@ -90,7 +89,7 @@ impl Table {
     /// and no more time than `apply`.
     pub fn undo(&mut self, changes: &mut Changes)
         requires applied { IsUndoable self.old changes.old }
-        ensures restores { (before : Rows) (applied : List Change) → WasApplied before applied self.old.rows changes.old → (self.new.rows ≡ before) × (changes.new ≡ applied) }
+        ensures restores { Restores self.old.rows changes.old self.new.rows changes.new }
         ensures room { self.new.spare + length self.new.rows ≡ self.old.spare + length self.old.rows }
     {
         // Rows that were added go first, so that there is room for those that come back.
