@@ -1,0 +1,18 @@
+//! The counter of identifiers, and memories of pairs of identifiers.
+//!
+//! It promises the crates above that identifiers are drawn in order up to a limit, and that a
+//! memory is a map from identifiers to pairs in which no pair stands twice, with two look-ups by
+//! pair that take no memory and no plain search. It knows nothing of tables or operators.
+#![tactic(auto)]
+
+mod counter;
+mod entry_list;
+mod laws;
+mod pair_iter;
+mod pair_list;
+mod pair_memory;
+
+pub use counter::IdCounter;
+pub use laws::{id_of_is_the_other_way, pairs_are_the_memory};
+pub use pair_iter::PairIter;
+pub use pair_memory::PairMemory;

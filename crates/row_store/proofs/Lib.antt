@@ -1,0 +1,5 @@
+mod ChangeLemmas
+mod OneTable
+mod PassLemmas
+mod PlaceLemmas
+mod UndoLemmas
