@@ -1,3 +1,4 @@
+//! What tokens of BiDEL say, and the parts of its statements: names, literals, lists and expressions.
 //!
 //! A grammar says which tokens spell which value: `specs/Lexemes.antt` has the kinds of one token, `specs/Operators.antt` those
 //! that are operators, `specs/Literals.antt` names, literals and lists, and `specs/Expressions.antt` expressions, each rule a
