@@ -22,7 +22,7 @@ pub fn tokens_of(alloc: Global, bytes: &[u8], ended: bool) -> Result<Vec<Token>,
     Ok(tokens)
 }
 
-// What is printed of a statement, with each name as it stands, each text behind a quote, and lists in brackets.
+// What is printed of a statement, with each name as it stands, each text behind one quote, and lists in brackets.
 fn parts_of(alloc: Global, statement: &Statement) -> Result<String, Fail> {
     let printed = format!(in alloc; "{statement:?}")?;
     let printed = printed.replace(alloc, "Name { text: \"", "")?;
