@@ -48,7 +48,7 @@ fn a_statement_is_found_once_its_end_is_known(rt: HostRuntime) -> Result<(), Fai
 fn a_version_ends_where_no_operator_begins(rt: HostRuntime) -> Result<(), Fail> {
     let alloc = rt.alloc();
     let two =
-        "18 CreateVersion { name: v, from: None, operators: [CreateTable { table: t, columns: [] }, CreateTable { table: u, columns: [] }] }";
+        "17 CreateVersion { name: v, from: None, operators: [CreateTable { table: t, columns: [] }, CreateTable { table: u, columns: [] }] }";
     for (behind, open, over) in [
         ("", "more", MADE),
         (" ", "more", MADE),
