@@ -1,5 +1,5 @@
 //! Ends that fail: a source at some call, a sink after some bytes, and words.
-use crate::runs::{Ends, expect_bytes, expect_run};
+use crate::runs::{Ends, VERSION, expect_bytes, expect_cut, expect_run};
 use inverda_run::inverda;
 use par_base::{MemorySink, MemorySource, SureFiles};
 use std::test::Fail;
@@ -18,14 +18,21 @@ fn a_full_sink_holds_the_front_of_the_replies(rt: HostRuntime) -> Result<(), Fai
             puts: &[],
             room,
         };
-        expect_bytes(&rt, rt.alloc(), SCRIPT, &ends, 6, &replies[..room])?;
+        expect_bytes(
+            &rt,
+            rt.alloc(),
+            SCRIPT.as_bytes(),
+            &ends,
+            6,
+            &replies[..room],
+        )?;
     }
     let enough = Ends {
         takes: &[],
         puts: &[],
         room: replies.len(),
     };
-    expect_bytes(&rt, rt.alloc(), SCRIPT, &enough, 0, replies)
+    expect_bytes(&rt, rt.alloc(), SCRIPT.as_bytes(), &enough, 0, replies)
 }
 
 #[test]
@@ -38,7 +45,16 @@ fn a_failing_put_ends_the_run(rt: HostRuntime) -> Result<(), Fail> {
     expect_run(&rt, rt.alloc(), SCRIPT, &ends, 6, "ok\n")
 }
 
-// The script is taken in eleven pieces, and the twelfth call finds its end.
+// What is answered of the bytes that were taken before a call fails. The script is taken in eleven pieces, and the
+// twelfth call finds its end. The ninth piece shows that the version ends, and the last one has the second semicolon.
+fn answered_before(call: u64) -> &'static str {
+    match call {
+        0..=7 => "read fault\n",
+        8..=10 => "ok\nread fault\n",
+        _ => "ok\ninserted 1 #1\nread fault\n",
+    }
+}
+
 #[test]
 fn whichever_take_fails_ends_the_run(rt: HostRuntime) -> Result<(), Fail> {
     for call in 0..12u64 {
@@ -48,7 +64,7 @@ fn whichever_take_fails_ends_the_run(rt: HostRuntime) -> Result<(), Fail> {
             puts: &[],
             room: 100,
         };
-        expect_run(&rt, rt.alloc(), SCRIPT, &ends, 5, "read fault\n")?;
+        expect_run(&rt, rt.alloc(), SCRIPT, &ends, 5, answered_before(call))?;
     }
     let later = Ends {
         takes: &[12],
@@ -56,6 +72,94 @@ fn whichever_take_fails_ends_the_run(rt: HostRuntime) -> Result<(), Fail> {
         room: 100,
     };
     expect_run(&rt, rt.alloc(), SCRIPT, &later, 0, REPLIES)
+}
+
+#[test]
+fn a_failed_read_leaves_the_last_statement_open(rt: HostRuntime) -> Result<(), Fail> {
+    let unread = "read fault\n";
+    let one = "refused 0 not built\nread fault\n";
+    for (script, written) in [
+        ("", unread),
+        (" -- STEP;", unread),
+        ("SELECT * FROM v.t", unread),
+        ("STEP", unread),
+        ("STEP;", one),
+        ("STEP; SELECT * FR", one),
+        ("STEP; UPDATE v.t SET a = 1 -", one),
+        // An unfinished token, or one that may go on, is no fault.
+        ("STEP; foo", one),
+        ("STEP; 12", one),
+        ("STEP; #", one),
+        ("STEP; |", one),
+        ("STEP; 'it''s'", one),
+        ("STEP; '\u{e9}", one),
+        ("STEP; SELECT FROM", one),
+    ] {
+        expect_cut(&rt, rt.alloc(), script, 5, written)?;
+    }
+    Ok(())
+}
+
+#[test]
+fn a_version_is_made_once_its_end_is_known(rt: HostRuntime) -> Result<(), Fail> {
+    let alloc = rt.alloc();
+    let unread = "read fault\n";
+    let made = "ok\nread fault\n";
+    for (behind, written) in [
+        ("", unread),
+        (" -- INSERT ", unread),
+        ("INSERT", unread),
+        ("INSERT ", made),
+        ("STEP;", "ok\nrefused 0 not built\nread fault\n"),
+        ("CREATE ", unread),
+        ("CREATE SCHEMA", unread),
+        ("CREATE SCHEMA ", made),
+        ("DROP ", unread),
+        ("DROP SCHEMA ", made),
+        // An operator begins.
+        ("ADD ", unread),
+        ("CREATE TABLE u(", unread),
+        ("DROP COLUMN ", unread),
+        ("CREATE TABLE u(b);", unread),
+        ("CREATE TABLE u(b); USE ", made),
+        (
+            "INSERT INTO v.t VALUES (1);",
+            "ok\ninserted 1 #1\nread fault\n",
+        ),
+    ] {
+        let script = format!(in alloc; "{VERSION}{behind}")?;
+        expect_cut(&rt, alloc, script.as_str(), 5, written)?;
+    }
+    Ok(())
+}
+
+#[test]
+fn a_fault_comes_before_a_failed_read(rt: HostRuntime) -> Result<(), Fail> {
+    let alloc = rt.alloc();
+    for (script, written) in [
+        ("STEP; foo ", "refused 0 not built\nsyntax 1:7\n"),
+        ("STEP; foo?", "refused 0 not built\nsyntax 1:7\n"),
+        ("STEP; )", "refused 0 not built\nsyntax 1:7\n"),
+        ("STEP; ?", "refused 0 not built\nsyntax 1:7\n"),
+        ("STEP; #a", "refused 0 not built\nsyntax 1:8\n"),
+        ("STEP; SELECT FROM ", "refused 0 not built\nsyntax 1:14\n"),
+    ] {
+        expect_cut(&rt, alloc, script, 3, written)?;
+    }
+    for (behind, written) in [
+        ("7 ", "ok\nsyntax 1:48\n"),
+        ("?", "ok\nsyntax 1:48\n"),
+        ("foo?", "ok\nsyntax 1:48\n"),
+        ("DROP x ", "ok\nsyntax 1:53\n"),
+        ("CREATE ;", "ok\nsyntax 1:55\n"),
+        ("CREATE ?", "ok\nsyntax 1:55\n"),
+        ("ADD ;", "syntax 1:52\n"),
+        ("ADD ?", "syntax 1:52\n"),
+    ] {
+        let script = format!(in alloc; "{VERSION}{behind}")?;
+        expect_cut(&rt, alloc, script.as_str(), 3, written)?;
+    }
+    Ok(())
 }
 
 #[test]

@@ -7,6 +7,10 @@ mod ends;
 #[cfg(test)]
 mod faults;
 #[cfg(test)]
+mod limits;
+#[cfg(test)]
+mod not_built;
+#[cfg(test)]
 mod replies;
 #[cfg(test)]
 mod runs;

@@ -121,3 +121,22 @@ rows 1
 ";
     expect_run(&rt, rt.alloc(), script, &Ends::sure(), 0, replies)
 }
+
+#[test]
+fn added_values_take_every_operator(rt: HostRuntime) -> Result<(), Fail> {
+    let script = "CREATE SCHEMA VERSION a WITH CREATE TABLE t(x, y);
+INSERT INTO a.t VALUES (-7, 'it''s'), (2, null);
+CREATE SCHEMA VERSION b FROM a WITH ADD COLUMN q AS x / 2 - x % 4 * -1 INTO t; ADD COLUMN r AS y || '!' INTO t;
+ADD COLUMN s AS NOT (x < 0 OR x > 5) AND y IS NULL INTO t; ADD COLUMN u AS y IS NOT NULL AND x <> 2 INTO t;
+ADD COLUMN v AS x + y INTO t; ADD COLUMN w AS (x <= 2) + (x >= 2) + (y = 'it''s') INTO t;
+SELECT * FROM b.t;";
+    let replies = "ok
+inserted 2 #1 #2
+ok
+p|x|y|q|r|s|u|v|w
+#1|-7|'it''s'|-6|'it''s!'|0|1|null|2
+#2|2|null|3|null|1|0|null|2
+rows 2
+";
+    expect_run(&rt, rt.alloc(), script, &Ends::sure(), 0, replies)
+}

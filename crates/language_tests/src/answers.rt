@@ -1,0 +1,67 @@
+//! What the parser answers for some bytes, as a text.
+ghost use Rattle.std.specs.Prelude.{IfOk};
+ghost use Rattle.bidel_lex.specs.Tokens.{AreTokens};
+
+use bidel_lex::{Lexed, Token, next_token};
+use bidel_parser::{Parsed, Statement, Syntax, parse_statement};
+use par_base::{Fault, Memory};
+use std::alloc::Global;
+use std::process::Abort;
+use std::test::Fail;
+
+/// The tokens of the bytes up to where none is found; `ended` says that no bytes come after these.
+pub fn tokens_of(alloc: Global, bytes: &[u8], ended: bool) -> Result<Vec<Token>, Memory>
+    ensures { IfOk result (λ tokens. AreTokens bytes.now tokens.items) }
+{
+    let mut tokens = Vec::new(alloc);
+    let mut from = 0;
+    while let Lexed::Token(token) = next_token(bytes, from, ended) {
+        tokens.push(token)?;
+        from = token.end;
+    }
+    Ok(tokens)
+}
+
+// What is printed of a statement, with each name as it stands, each text behind one quote, and lists in brackets.
+fn parts_of(alloc: Global, statement: &Statement) -> Result<String, Fail> {
+    let printed = format!(in alloc; "{statement:?}")?;
+    let printed = printed.replace(alloc, "Name { text: \"", "")?;
+    let printed = printed.replace(alloc, "Text { text: \"", "'")?;
+    let printed = printed.replace(alloc, "List { items: ", "")?;
+    let printed = printed.replace(alloc, "\" }", "")?;
+    Ok(printed.replace(alloc, "] }", "]")?)
+}
+
+/// What stands at the front of the bytes: the number of tokens of a statement and its parts, `more`, `nothing`, or the
+/// place of a fault from 0 on.
+pub fn answer_of(alloc: Global, bytes: &[u8], ended: bool) -> Result<String, Fail> {
+    let tokens = tokens_of(alloc, bytes, ended)?;
+    match parse_statement(alloc, bytes, tokens.as_slice(), ended) {
+        Ok(Parsed::Whole { statement, used }) => {
+            let parts = parts_of(alloc, &statement)?;
+            Ok(format!(in alloc; "{used} {parts}")?)
+        }
+        Ok(Parsed::More) => Ok(String::from_str(alloc, "more")?),
+        Ok(Parsed::Nothing) => Ok(String::from_str(alloc, "nothing")?),
+        Err(Fault::Refused(Syntax { at })) => Ok(format!(in alloc; "fault {at}")?),
+        Err(Fault::Memory) => Err(Memory)?,
+    }
+}
+
+/// Expects that two scripts are each one statement of these parts.
+pub fn expect_parts(
+    rt: &impl Abort,
+    alloc: Global,
+    script: &str,
+    plain: &str,
+    parts: &str,
+) -> Result<(), Fail> {
+    for spelled in [script, plain] {
+        let bytes = spelled.as_bytes();
+        let count = tokens_of(alloc, bytes, true)?.len();
+        let wanted = format!(in alloc; "{count} {parts}")?;
+        let answer = answer_of(alloc, bytes, true)?;
+        assert_eq!(rt; answer.as_str(), wanted.as_str(), "of {spelled}");
+    }
+    Ok(())
+}

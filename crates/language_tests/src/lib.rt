@@ -1,0 +1,17 @@
+//! The language layer, from bytes to statements: lexer and parser together. This crate has nothing but tests: they show
+//! the parts of a statement of each form, that spacing, comments and case don't matter, and what stands at the front
+//! of some tokens while they may go on.
+#![tactic(auto)]
+
+#[cfg(test)]
+mod answers;
+#[cfg(test)]
+mod expressions;
+#[cfg(test)]
+mod fronts;
+#[cfg(test)]
+mod operators;
+#[cfg(test)]
+mod reserved;
+#[cfg(test)]
+mod statements;
