@@ -1,5 +1,6 @@
 pub mod TokenLemmas
 pub mod BlankLemmas
+pub mod KnownLemmas
 pub mod ScriptLemmas
 pub mod UniqueLemmas
 pub mod LengthLemmas

@@ -1,10 +1,11 @@
 -- What stands behind the tokens of some bytes, and how far bytes are known.
-use Rattle.std.specs.Prelude.{◌≡◌, ◌≤◌, ◌==◌, ◌&&◌, ◌+◌, ℕ, min, not, Bool, true, false, List, [], ◌∷◌, take, drop, length, slice_get, Option, Some, None, if◌then◌else◌}
+use Rattle.std.specs.Prelude.{◌≡◌, ◌≤◌, ◌<◌, ◌↔◌, ◌==◌, ◌&&◌, ◌+◌, ℕ, min, not, Bool, true, false, List, [], ◌∷◌, take, drop, length, slice_get, Option, Some, None, if◌then◌else◌}
 use Rattle.bidel_lex.specs.Classes.{is_space}
 use Rattle.bidel_lex.specs.Next.{next_of}
 use Rattle.bidel_lex.specs.Tokens.{HasTokens, is_token}
 use Rattle.bidel_lex.specs.declared.tokens.Token.{Token}
 use Rattle.bidel_lex.specs.declared.tokens.Lexed.{Lexed}
+use Rattle.bidel_lex.specs.declared.tokens.Lexed.TheVariants as lexed
 use Rattle.bidel_lex.specs.declared.tokens.Lexed.TheVariants.{More, End, BadToken}
 use Rattle.inverda_run.specs.declared.tokens.Tail.{Tail}
 
@@ -72,3 +73,8 @@ pub record Fits (bytes : List ℕ) (tail : Tail) : Type 0 where
 abbrev pub earlier : ℕ → Lexed → ℕ
 earlier at (BadToken bad) = min bad at
 earlier at _ = at
+
+-- of a token behind which bytes follow, exactly so many first bytes show it
+abbrev pub TokensAreKnown : Type 0
+TokensAreKnown = (bytes : List ℕ) (token : Token) (n : ℕ) → next_of bytes token.start true ≡ lexed.Token token → token.end < length bytes → n ≤ length bytes
+    → (next_of (take n bytes) token.start false ≡ lexed.Token token) ↔ (shown_end bytes token ≤ n)

@@ -1,6 +1,7 @@
 //! Laws of scripts, each the contract of a function that does nothing.
 ghost use Rattle.inverda_run.specs.Script.{FaultIsNoScript, OneComes, OneScript, OverIsScript};
 ghost use Rattle.inverda_run.specs.Statuses.{OneText};
+ghost use Rattle.inverda_run.specs.Tails.{TokensAreKnown};
 
 /// Bytes are the script of at most one list of statements.
 pub fn script_is_one()
@@ -25,4 +26,9 @@ pub fn run_is_one()
 /// Where nothing fails, the run of any bytes puts one text.
 pub fn text_is_one()
     ensures { OneText }
+{}
+
+/// Exactly so many first bytes show a token as it is said to be known by.
+pub fn tokens_are_known()
+    ensures { TokensAreKnown }
 {}
