@@ -1,0 +1,17 @@
+//! Operators: what each one is, the calls that it has, and the laws that it keeps.
+//!
+//! Each operator is a bidirectional transformation by itself: a relation between a source side and
+//! a target side, a mapping either way, and auxiliary tables with which either side gives back the
+//! other. The crates above rest on these laws alone. It knows no single operator, and nothing of
+//! versions or of where tables are stored.
+#![tactic(auto)]
+
+mod flip;
+mod operator;
+mod pair;
+mod side;
+
+pub use flip::Flip;
+pub use operator::Operator;
+pub use pair::{Far, Pair};
+pub use side::{Aux, Side};
