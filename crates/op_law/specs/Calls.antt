@@ -1,5 +1,5 @@
 -- What the calls of an operator answer.
-use Rattle.std.specs.Prelude.{◌≡◌, ℕ, ◌+◌, ◌<◌, ◌≤◌, max, List, Result, Ok, Err, Option, Some, None}
+use Rattle.std.specs.Prelude.{◌≡◌, ℕ, ◌+◌, ◌*◌, ◌<◌, ◌≤◌, max, List, [], length, true, Result, Ok, Err, Option, Some, None}
 use Rattle.par_base.specs.declared.fault.Fault.{Fault}
 use Rattle.par_base.specs.declared.fault.Fault.TheVariants.{Refused, Memory as OutOfMemory}
 use Rattle.par_base.specs.declared.refusal.IdsSpent.{IdsSpent}
@@ -7,13 +7,19 @@ use Rattle.id_memory.specs.Pairs.{Pairs}
 use Rattle.id_memory.specs.States.{CounterState}
 use Rattle.op_law.specs.declared.pair.Pair.{Pair}
 use Rattle.op_law.specs.declared.pair.Far.{Far}
-use Rattle.op_law.specs.Tables.{Tables, Heading, AreTablesOf}
+use Rattle.op_law.specs.declared.side.Aux.{Aux}
+use Rattle.op_law.specs.Tables.{Tables, Heading, contents, AreTablesOf}
+use Rattle.op_law.specs.Identifiers.{ids_over}
 use Rattle.op_law.specs.Meaning.{Meaning, PairState, Mapped}
 use Rattle.op_law.specs.Premises.{Belongs}
 
 -- what the laws see of a pair
 abbrev pub seen : Pair → PairState
 seen pair = record { source = pair.source; target = pair.target; memory = pair.memory.entries }
+
+-- the auxiliary tables, as the laws see them
+abbrev pub tables_of : Aux → Tables
+tables_of aux = contents aux.tables
 
 -- the far side and the memory are those that a mapping gives
 abbrev pub IsFar : Mapped → Far → Type 0
@@ -37,3 +43,7 @@ IsMapped to old new (Err OutOfMemory) = new ≡ old
 abbrev pub Admits : Meaning → Tables → Tables → Pairs → Option Tables → Type 0
 Admits m near aux memory (Some far) = (hs ht : List Heading) → m.Fits hs ht → AreTablesOf hs near → Belongs m hs ht aux (record { source = near; target = far; memory = memory })
 Admits m near aux memory None = (hs ht : List Heading) (far : Tables) → Belongs m hs ht aux (record { source = near; target = far; memory = memory }) → ⊥
+
+-- where the operator treats each identifier by itself, a call takes at most so many steps for each identifier of these tables
+abbrev pub StepsWithin : Meaning → ℕ → Tables → Tables → ℕ → ℕ → Type 0
+StepsWithin m most near other old new = m.is_local ≡ true → new ≤ old + most * length (ids_over near (ids_over other []))

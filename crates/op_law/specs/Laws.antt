@@ -5,12 +5,16 @@ use Rattle.op_law.specs.Sound.{TablesSound, PairsSound, HasRow}
 use Rattle.op_law.specs.Meaning.{Meaning, PairState, Mapped, flip}
 use Rattle.op_law.specs.Premises.{IsPair, MayMap, pair_after}
 
+-- a row of the identifier stands on either side
+abbrev pub InPair : ℕ → PairState → Type 0
+InPair id p = HasRow id p.source ⊎ HasRow id p.target
+
 -- what a mapping gives may stand while its own next identifier is the next one, and a row that neither the near side nor the old pair has is one that it drew, not below the old next identifier
 pub record IsBelowNext (near : Tables) (old : PairState) (n : ℕ) (to : Mapped) : Type 0 where
   pub rises : n ≤ to.next
   pub far : TablesSound to.next to.far
   pub memory : PairsSound to.next to.memory
-  pub drawn : (id : ℕ) → HasRow id to.far → HasRow id near ⊎ (HasRow id old.source ⊎ (HasRow id old.target ⊎ (n ≤ id)))
+  pub drawn : (id : ℕ) → HasRow id to.far → HasRow id near ⊎ (InPair id old ⊎ (n ≤ id))
 
 -- the laws of mapping forward, and of a stored source
 pub record HalfLaws (m : Meaning) : Type 0 where

@@ -5,3 +5,5 @@ pub mod Meaning
 pub mod Premises
 pub mod Laws
 pub mod Calls
+pub mod Chained
+pub mod ChainLaws

@@ -7,11 +7,13 @@
 #![tactic(auto)]
 
 mod flip;
+mod laws;
 mod operator;
 mod pair;
 mod side;
 
 pub use flip::Flip;
+pub use laws::{chains_keep_the_laws, sound_stays_sound};
 pub use operator::Operator;
 pub use pair::{Far, Pair};
 pub use side::{Aux, Side};

@@ -1,11 +1,9 @@
 //! The trait of all operators.
-ghost use Rattle.std.specs.Prelude.{◌≡◌, ◌+◌, ◌*◌, ◌≤◌, [], true, length, IfOk};
-ghost use Rattle.op_law.specs.Tables.{contents};
-ghost use Rattle.op_law.specs.Identifiers.{ids_over};
+ghost use Rattle.std.specs.Prelude.{◌≡◌, IfOk};
 ghost use Rattle.op_law.specs.Meaning.{Meaning, flip, exchanged};
 ghost use Rattle.op_law.specs.Premises.{SomePair, SomeMap, SomeStored, SomeNear};
 ghost use Rattle.op_law.specs.Laws.{Laws};
-ghost use Rattle.op_law.specs.Calls.{seen, IsMapped, Admits};
+ghost use Rattle.op_law.specs.Calls.{seen, tables_of, IsMapped, Admits, StepsWithin};
 
 use crate::{Aux, Far, Pair, Side};
 use expr_lang::Steps;
@@ -55,9 +53,9 @@ pub trait Operator {
         memory: &PairMemory,
         steps: &mut Steps<L>,
     ) -> Result<Side, Memory>
-        requires { SomeStored (meaning self.now) source.now (contents aux.now.tables) memory.now.entries }
-        ensures answer { IfOk result (λ side. side ≡ (meaning self.now).read_target source.now (contents aux.now.tables) memory.now.entries) }
-        ensures steps { (meaning self.now).is_local ≡ true → steps.new ≤ steps.old + 2 * length (ids_over source.now (ids_over (contents aux.now.tables) [])) };
+        requires { SomeStored (meaning self.now) source.now (tables_of aux.now) memory.now.entries }
+        ensures answer { IfOk result (λ side. side ≡ (meaning self.now).read_target source.now (tables_of aux.now) memory.now.entries) }
+        ensures steps { StepsWithin (meaning self.now) 2 source.now (tables_of aux.now) steps.old steps.new };
 
     /// The source of the pair to which a target, its auxiliary tables and the memory belong.
     fn read_source<L: Ledger>(
@@ -68,21 +66,21 @@ pub trait Operator {
         memory: &PairMemory,
         steps: &mut Steps<L>,
     ) -> Result<Side, Memory>
-        requires { SomeStored (flip (meaning self.now)) target.now (contents aux.now.tables) memory.now.entries }
-        ensures answer { IfOk result (λ side. side ≡ (meaning self.now).read_source target.now (contents aux.now.tables) memory.now.entries) }
-        ensures steps { (meaning self.now).is_local ≡ true → steps.new ≤ steps.old + 2 * length (ids_over target.now (ids_over (contents aux.now.tables) [])) };
+        requires { SomeStored (flip (meaning self.now)) target.now (tables_of aux.now) memory.now.entries }
+        ensures answer { IfOk result (λ side. side ≡ (meaning self.now).read_source target.now (tables_of aux.now) memory.now.entries) }
+        ensures steps { StepsWithin (meaning self.now) 2 target.now (tables_of aux.now) steps.old steps.new };
 
     /// The auxiliary tables of a pair whose source is stored.
     fn aux_at_source<L: Ledger>(&self, alloc: Global, pair: &Pair, steps: &mut Steps<L>) -> Result<Aux, Memory>
         requires { SomePair (meaning self.now) (seen pair.now) }
-        ensures answer { IfOk result (λ aux. contents aux.tables ≡ (meaning self.now).aux_at_source (seen pair.now)) }
-        ensures steps { (meaning self.now).is_local ≡ true → steps.new ≤ steps.old + 8 * length (ids_over pair.now.source (ids_over pair.now.target [])) };
+        ensures answer { IfOk result (λ aux. tables_of aux ≡ (meaning self.now).aux_at_source (seen pair.now)) }
+        ensures steps { StepsWithin (meaning self.now) 8 pair.now.source pair.now.target steps.old steps.new };
 
     /// The auxiliary tables of a pair whose target is stored.
     fn aux_at_target<L: Ledger>(&self, alloc: Global, pair: &Pair, steps: &mut Steps<L>) -> Result<Aux, Memory>
         requires { SomePair (flip (meaning self.now)) (exchanged (seen pair.now)) }
-        ensures answer { IfOk result (λ aux. contents aux.tables ≡ (meaning self.now).aux_at_target (seen pair.now)) }
-        ensures steps { (meaning self.now).is_local ≡ true → steps.new ≤ steps.old + 8 * length (ids_over pair.now.target (ids_over pair.now.source [])) };
+        ensures answer { IfOk result (λ aux. tables_of aux ≡ (meaning self.now).aux_at_target (seen pair.now)) }
+        ensures steps { StepsWithin (meaning self.now) 8 pair.now.target pair.now.source steps.old steps.new };
 
     /// The target of the related pair to which a source, any auxiliary tables and any memory
     /// belong, where there is one.
@@ -95,7 +93,7 @@ pub trait Operator {
         steps: &mut Steps<L>,
     ) -> Result<Option<Side>, Memory>
         requires { SomeNear (meaning self.now) source.now }
-        ensures { IfOk result (λ target. Admits (meaning self.now) source.now (contents aux.now.tables) memory.now.entries target) };
+        ensures { IfOk result (λ target. Admits (meaning self.now) source.now (tables_of aux.now) memory.now.entries target) };
 
     /// The source of the related pair to which a target, any auxiliary tables and any memory
     /// belong, where there is one.
@@ -108,7 +106,7 @@ pub trait Operator {
         steps: &mut Steps<L>,
     ) -> Result<Option<Side>, Memory>
         requires { SomeNear (flip (meaning self.now)) target.now }
-        ensures { IfOk result (λ source. Admits (flip (meaning self.now)) target.now (contents aux.now.tables) memory.now.entries source) };
+        ensures { IfOk result (λ source. Admits (flip (meaning self.now)) target.now (tables_of aux.now) memory.now.entries source) };
 
     ghost laws: { (operator : Self) → Laws (meaning operator) };
 }
