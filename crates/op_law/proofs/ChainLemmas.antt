@@ -1,5 +1,5 @@
 -- One operator after another.
-use Rattle.std.proofs.Common.{◌≡◌, ℕ, ◌+◌, ◌<◌, ◌≤◌, ◌⊎◌, inl, inr, max, List, [], Bool, true, Result, Ok, Err, refl, arith, subst, sym, ap, ◌∙◌}
+use Rattle.std.proofs.Common.{◌≡◌, ℕ, ◌+◌, ◌<◌, ◌≤◌, ◌⊎◌, inl, inr, max, List, [], Bool, true, Result, Ok, Err, Option, Some, None, refl, arith, subst, sym, ap, ◌∙◌}
 use Rattle.par_base.specs.declared.fault.Fault.{Fault}
 use Rattle.par_base.specs.declared.fault.Fault.TheVariants.{Refused, Memory as OutOfMemory}
 use Rattle.par_base.specs.declared.refusal.IdsSpent.{IdsSpent}
@@ -11,7 +11,7 @@ use Rattle.op_law.specs.Sound.{TablesSound, PairsSound, HasRow}
 use Rattle.op_law.specs.Meaning.{Meaning, PairState, Mapped, flip}
 use Rattle.op_law.specs.Premises.{IsPair, IsSoundPair, MayMap, Belongs, pair_after, SomePair, SomeMap, SomeStored, SomeNear}
 use Rattle.op_law.specs.Laws.{HalfLaws, Laws, InPair, IsBelowNext}
-use Rattle.op_law.specs.Calls.{IsMapped}
+use Rattle.op_law.specs.Calls.{IsMapped, Admits, first_refused}
 use Rattle.op_law.specs.Chained.{MayChain, chain_forward, AreMapped, ChainBelongs, ChainStored, chain_read, ChainNear, ChainAdmits}
 use Rattle.op_law.specs.ChainLaws.{ChainKept, ChainBelowNext, ChainLaws}
 use Rattle.op_law.proofs.SoundLemmas.{tables_more, pairs_more}
@@ -100,3 +100,38 @@ chain_laws a b la lb = record {
   recovered = chain_recovered a b la lb;
   empty = λ hs hm ht p q. (la.empty hs hm p, lb.empty hm ht q);
 }
+
+-- what refuses the first of two mappings refuses both
+pub refused_first : (to f g : Mapped) (next : ℕ) (old new : CounterState) (fault : Fault IdsSpent) → to.next ≤ next → IsMapped to old new (Err fault) → AreMapped f g next old old (Err fault)
+refused_first to f g next old new (Refused spent) h is = let far = is.0 in (omega arith, is.1, is.2, refl)
+refused_first to f g next old new OutOfMemory h is = refl
+
+-- what refuses the second of two mappings refuses both, with the same first identifier above the limit
+pub refused_second : (to f g : Mapped) (next : ℕ) (old new : CounterState) (fault : Fault IdsSpent) → old.next ≤ next → next ≤ first_refused old → IsMapped to (record old { next = next }) new (Err fault) → AreMapped f g to.next old old (Err fault)
+refused_second to f g next old new (Refused spent) low high is =
+    let same : first_refused (record old { next = next }) ≡ first_refused old = omega arith in
+    let far = is.0 in
+    (omega arith, is.1 ∙ same, is.2, refl)
+refused_second to f g next old new OutOfMemory low high is = refl
+
+-- what belongs to a pair gives back its target
+pub read_back : (m : Meaning) → HalfLaws m → (hs ht : List Heading) (aux : Tables) (p : PairState) → m.reads_target ≡ true → Belongs m hs ht aux p → m.read_target p.source aux p.memory ≡ p.target
+read_back m laws hs ht aux p reads belongs = ap (λ (own : Tables). m.read_target p.source own p.memory) belongs.aux_is ∙ laws.recovered hs ht p reads belongs.pair
+
+-- the middle side that the first operator reads back belongs to the second one's pair
+pub second_stored : (a b : Meaning) → HalfLaws a → (near first_aux second_aux : Tables) (first_memory second_memory : Pairs) → ChainStored a b near first_aux second_aux first_memory second_memory → SomeStored b (a.read_target near first_aux first_memory) second_aux second_memory
+second_stored a b la near first_aux second_aux first_memory second_memory c =
+    let own : PairState = record { source = near; target = c.between; memory = first_memory } in
+    let read = read_back a la c.hs c.hm first_aux own c.reads c.belongs.first_belongs in
+    let stored : SomeStored b c.between second_aux second_memory = record { hs = c.hm; ht = c.ht; far = c.far; belongs = c.belongs.second_belongs } in
+    subst (λ (side : Tables). SomeStored b side second_aux second_memory) (sym read) stored
+
+-- what the second operator doesn't admit, the chain doesn't admit: there is no other middle side
+pub none_admitted : (a b : Meaning) → HalfLaws a → (near first_aux second_aux : Tables) (first_memory second_memory : Pairs) (middle : Tables) → a.reads_target ≡ true → Admits a near first_aux first_memory (Some middle) → Admits b middle second_aux second_memory None → ChainAdmits a b near first_aux second_aux first_memory second_memory None
+none_admitted a b la near first_aux second_aux first_memory second_memory middle reads first second =
+    λ hs hm ht between far belongs.
+      let other = belongs.first_belongs in
+      let one = read_back a la hs hm first_aux (record { source = near; target = between; memory = first_memory }) reads other in
+      let two = read_back a la hs hm first_aux (record { source = near; target = middle; memory = first_memory }) reads (first hs hm other.pair.fits other.pair.source_of) in
+      let same : between ≡ middle = sym one ∙ two in
+      second hm ht far (subst (λ (side : Tables). Belongs b hm ht second_aux (record { source = side; target = far; memory = second_memory })) same belongs.second_belongs)

@@ -6,12 +6,14 @@
 //! versions or of where tables are stored.
 #![tactic(auto)]
 
+mod chain;
 mod flip;
 mod laws;
 mod operator;
 mod pair;
 mod side;
 
+pub use chain::Chain;
 pub use flip::Flip;
 pub use laws::{chains_keep_the_laws, sound_stays_sound};
 pub use operator::Operator;
