@@ -1,18 +1,17 @@
 -- One operator after another.
-use Rattle.std.proofs.Common.{◌≡◌, ℕ, ◌+◌, ◌<◌, ◌≤◌, ◌⊎◌, inl, inr, max, List, [], Bool, true, Result, Ok, Err, Option, Some, None, refl, arith, subst, sym, ap, ◌∙◌}
+use Rattle.std.proofs.Common.{◌≡◌, ℕ, ◌≤◌, ◌⊎◌, inl, inr, List, true, Err, Some, None, refl, arith, subst, sym, ap, ◌∙◌}
 use Rattle.par_base.specs.declared.fault.Fault.{Fault}
 use Rattle.par_base.specs.declared.fault.Fault.TheVariants.{Refused, Memory as OutOfMemory}
 use Rattle.par_base.specs.declared.refusal.IdsSpent.{IdsSpent}
 use Rattle.id_memory.specs.Pairs.{Pairs}
 use Rattle.id_memory.specs.States.{CounterState}
-use Rattle.op_law.specs.declared.pair.Far.{Far}
-use Rattle.op_law.specs.Tables.{Tables, Heading, AreTablesOf, empty_tables}
-use Rattle.op_law.specs.Sound.{TablesSound, PairsSound, HasRow}
-use Rattle.op_law.specs.Meaning.{Meaning, PairState, Mapped, flip}
-use Rattle.op_law.specs.Premises.{IsPair, IsSoundPair, MayMap, Belongs, pair_after, SomePair, SomeMap, SomeStored, SomeNear}
-use Rattle.op_law.specs.Laws.{HalfLaws, Laws, InPair, IsBelowNext}
+use Rattle.op_law.specs.Tables.{Tables, Heading}
+use Rattle.op_law.specs.Sound.{HasRow}
+use Rattle.op_law.specs.Meaning.{Meaning, PairState, Mapped}
+use Rattle.op_law.specs.Premises.{IsPair, MayMap, Belongs, SomeStored}
+use Rattle.op_law.specs.Laws.{HalfLaws, InPair}
 use Rattle.op_law.specs.Calls.{IsMapped, Admits, first_refused}
-use Rattle.op_law.specs.Chained.{MayChain, chain_forward, AreMapped, ChainBelongs, ChainStored, chain_read, ChainNear, ChainAdmits}
+use Rattle.op_law.specs.Chained.{MayChain, chain_forward, AreMapped, ChainStored, chain_read, ChainAdmits}
 use Rattle.op_law.specs.ChainLaws.{ChainKept, ChainBelowNext, ChainLaws}
 use Rattle.op_law.proofs.SoundLemmas.{tables_more, pairs_more}
 
@@ -55,16 +54,18 @@ chain_still a b la lb first second n c =
 chain_drawn : (a b : Meaning) → HalfLaws a → HalfLaws b → (near : Tables) (first second : PairState) (n : ℕ) → MayChain a b near first second n → (id : ℕ) → HasRow id (a.forward near first n).far → HasRow id near ⊎ (InPair id first ⊎ (InPair id second ⊎ (n ≤ id)))
 chain_drawn a b la lb near first second n c id has =
     elim ((la.below c.hs c.hm near first n c.may).drawn id has) [
-      inl here ↦ inl here
-      | inr rest ↦ elim rest [ inl old ↦ inr (inl old) | inr new ↦ inr (inr (inr new)) ] ]
+      | inl here ↦ inl here
+      | inr rest ↦ elim rest [ inl old ↦ inr (inl old) | inr new ↦ inr (inr (inr new)) ]
+    ]
 
 chain_drawn_far : (a b : Meaning) → HalfLaws a → HalfLaws b → (near : Tables) (first second : PairState) (n : ℕ) → MayChain a b near first second n → (id : ℕ) → HasRow id (chain_forward a b near first second n).1.far → HasRow id near ⊎ (InPair id first ⊎ (InPair id second ⊎ (n ≤ id)))
 chain_drawn_far a b la lb near first second n c id has =
     let to = a.forward near first n in
     let rises = (la.below c.hs c.hm near first n c.may).rises in
     elim ((lb.below c.hm c.ht to.far second to.next (second_may a b la lb near first second n c)).drawn id has) [
-      inl here ↦ chain_drawn a b la lb near first second n c id here
-      | inr rest ↦ elim rest [ inl old ↦ inr (inr (inl old)) | inr new ↦ inr (inr (inr (omega arith))) ] ]
+      | inl here ↦ chain_drawn a b la lb near first second n c id here
+      | inr rest ↦ elim rest [ inl old ↦ inr (inr (inl old)) | inr new ↦ inr (inr (inr (omega arith))) ]
+    ]
 
 chain_below : (a b : Meaning) → HalfLaws a → HalfLaws b → (near : Tables) (first second : PairState) (n : ℕ) → MayChain a b near first second n → ChainBelowNext near first second n (chain_forward a b near first second n).0 (chain_forward a b near first second n).1
 chain_below a b la lb near first second n c =
@@ -81,8 +82,9 @@ chain_below a b la lb near first second n c =
       first_sound = pairs_more to.next far.next two.rises to.memory one.memory;
       second_sound = two.memory;
       drawn = λ id has. elim has [
-        inl here ↦ chain_drawn a b la lb near first second n c id here
-        | inr there ↦ chain_drawn_far a b la lb near first second n c id there ];
+        | inl here ↦ chain_drawn a b la lb near first second n c id here
+        | inr there ↦ chain_drawn_far a b la lb near first second n c id there
+      ];
     }
 
 chain_recovered : (a b : Meaning) → HalfLaws a → HalfLaws b → (hs hm ht : List Heading) (first second : PairState) → a.reads_target ≡ true → b.reads_target ≡ true → IsPair a hs hm first → IsPair b hm ht second → first.target ≡ second.source → chain_read a b first.source (a.aux_at_source first) (b.aux_at_source second) first.memory second.memory ≡ (first.target, second.target)
@@ -130,8 +132,8 @@ second_stored a b la near first_aux second_aux first_memory second_memory c =
 pub none_admitted : (a b : Meaning) → HalfLaws a → (near first_aux second_aux : Tables) (first_memory second_memory : Pairs) (middle : Tables) → a.reads_target ≡ true → Admits a near first_aux first_memory (Some middle) → Admits b middle second_aux second_memory None → ChainAdmits a b near first_aux second_aux first_memory second_memory None
 none_admitted a b la near first_aux second_aux first_memory second_memory middle reads first second =
     λ hs hm ht between far belongs.
-      let other = belongs.first_belongs in
-      let one = read_back a la hs hm first_aux (record { source = near; target = between; memory = first_memory }) reads other in
-      let two = read_back a la hs hm first_aux (record { source = near; target = middle; memory = first_memory }) reads (first hs hm other.pair.fits other.pair.source_of) in
-      let same : between ≡ middle = sym one ∙ two in
-      second hm ht far (subst (λ (side : Tables). Belongs b hm ht second_aux (record { source = side; target = far; memory = second_memory })) same belongs.second_belongs)
+    let other = belongs.first_belongs in
+    let one = read_back a la hs hm first_aux (record { source = near; target = between; memory = first_memory }) reads other in
+    let two = read_back a la hs hm first_aux (record { source = near; target = middle; memory = first_memory }) reads (first hs hm other.pair.fits other.pair.source_of) in
+    let same : between ≡ middle = sym one ∙ two in
+    second hm ht far (subst (λ (side : Tables). Belongs b hm ht second_aux (record { source = side; target = far; memory = second_memory })) same belongs.second_belongs)

@@ -8,7 +8,7 @@ use Rattle.id_memory.specs.States.{CounterState}
 use Rattle.op_law.specs.declared.pair.Far.{Far}
 use Rattle.op_law.specs.Tables.{Tables, Heading, AreTablesOf}
 use Rattle.op_law.specs.Meaning.{Meaning, PairState, Mapped}
-use Rattle.op_law.specs.Premises.{IsPair, IsSoundPair, MayMap, Belongs}
+use Rattle.op_law.specs.Premises.{IsSoundPair, MayMap, Belongs}
 use Rattle.op_law.specs.Calls.{IsFar, first_refused, IsSpent}
 
 -- what two mappings forward suppose: sound old pairs that share the middle side and its headings

@@ -7,3 +7,4 @@ pub mod Laws
 pub mod Calls
 pub mod Chained
 pub mod ChainLaws
+pub mod Local

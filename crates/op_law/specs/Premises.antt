@@ -3,7 +3,7 @@ use Rattle.std.specs.Prelude.{◌≡◌, ℕ, List}
 use Rattle.id_memory.specs.Pairs.{Pairs}
 use Rattle.op_law.specs.Tables.{Tables, Heading, AreTablesOf}
 use Rattle.op_law.specs.Sound.{TablesSound, PairsSound}
-use Rattle.op_law.specs.Meaning.{Meaning, PairState, Mapped}
+use Rattle.op_law.specs.Meaning.{Meaning, PairState}
 
 -- a related pair of an operator that is built for these headings
 pub record IsPair (m : Meaning) (hs ht : List Heading) (p : PairState) : Type 0 where

@@ -34,15 +34,19 @@ impl<A: Operator, B: Operator> Chain<A, B> {
         ids: &mut IdCounter,
         steps: &mut Steps<L>,
     ) -> Result<(Far, Far), Fault<IdsSpent>>
-        requires { MayChain (A.meaning self.now.first) (B.meaning self.now.second) near.now (seen first.now) (seen second.now) ids.old.next }
-        ensures {
-            let to = chain_forward (A.meaning self.now.first) (B.meaning self.now.second) near.now (seen first.now) (seen second.now) ids.old.next in
-            AreMapped to.0 to.1 to.1.next ids.old ids.new result
-        }
+        requires { let a = A.meaning self.now.first in
+            let b = B.meaning self.now.second in
+            MayChain a b near.now (seen first.now) (seen second.now) ids.old.next }
+        ensures { let a = A.meaning self.now.first in
+            let b = B.meaning self.now.second in
+            let to = chain_forward a b near.now (seen first.now) (seen second.now) ids.old.next in
+            AreMapped to.0 to.1 to.1.next ids.old ids.new result }
     {
         let mut drawn = ids.copy();
         let middle = self.first.forward(alloc, near, first, &mut drawn, steps)?;
-        let far = self.second.forward(alloc, &middle.side, second, &mut drawn, steps)?;
+        let far = self
+            .second
+            .forward(alloc, &middle.side, second, &mut drawn, steps)?;
         *ids = drawn;
         Ok((middle, far))
     }
@@ -57,15 +61,21 @@ impl<A: Operator, B: Operator> Chain<A, B> {
         ids: &mut IdCounter,
         steps: &mut Steps<L>,
     ) -> Result<(Far, Far), Fault<IdsSpent>>
-        requires { MayChain (flip (B.meaning self.now.second)) (flip (A.meaning self.now.first)) near.now (exchanged (seen second.now)) (exchanged (seen first.now)) ids.old.next }
-        ensures {
-            let to = chain_forward (flip (B.meaning self.now.second)) (flip (A.meaning self.now.first)) near.now (exchanged (seen second.now)) (exchanged (seen first.now)) ids.old.next in
-            AreMapped to.1 to.0 to.1.next ids.old ids.new result
-        }
+        requires { let a = flip (B.meaning self.now.second) in
+            let b = flip (A.meaning self.now.first) in
+            MayChain a b near.now (exchanged (seen second.now)) (exchanged (seen first.now)) ids.old.next }
+        ensures { let a = flip (B.meaning self.now.second) in
+            let b = flip (A.meaning self.now.first) in
+            let to = chain_forward a b near.now (exchanged (seen second.now)) (exchanged (seen first.now)) ids.old.next in
+            AreMapped to.1 to.0 to.1.next ids.old ids.new result }
     {
         let mut drawn = ids.copy();
-        let middle = self.second.backward(alloc, near, second, &mut drawn, steps)?;
-        let far = self.first.backward(alloc, &middle.side, first, &mut drawn, steps)?;
+        let middle = self
+            .second
+            .backward(alloc, near, second, &mut drawn, steps)?;
+        let far = self
+            .first
+            .backward(alloc, &middle.side, first, &mut drawn, steps)?;
         *ids = drawn;
         Ok((far, middle))
     }
@@ -81,11 +91,19 @@ impl<A: Operator, B: Operator> Chain<A, B> {
         second_memory: &PairMemory,
         steps: &mut Steps<L>,
     ) -> Result<(Side, Side), Memory>
-        requires { ChainStored (A.meaning self.now.first) (B.meaning self.now.second) source.now (tables_of first_aux.now) (tables_of second_aux.now) first_memory.now.entries second_memory.now.entries }
-        ensures { IfOk result (λ sides. sides ≡ chain_read (A.meaning self.now.first) (B.meaning self.now.second) source.now (tables_of first_aux.now) (tables_of second_aux.now) first_memory.now.entries second_memory.now.entries) }
+        requires { let a = A.meaning self.now.first in
+            let b = B.meaning self.now.second in
+            ChainStored a b source.now (tables_of first_aux.now) (tables_of second_aux.now) first_memory.now.entries second_memory.now.entries }
+        ensures { let a = A.meaning self.now.first in
+            let b = B.meaning self.now.second in
+            IfOk result (λ sides. sides ≡ chain_read a b source.now (tables_of first_aux.now) (tables_of second_aux.now) first_memory.now.entries second_memory.now.entries) }
     {
-        let middle = self.first.read_target(alloc, source, first_aux, first_memory, steps)?;
-        let target = self.second.read_target(alloc, &middle, second_aux, second_memory, steps)?;
+        let middle = self
+            .first
+            .read_target(alloc, source, first_aux, first_memory, steps)?;
+        let target = self
+            .second
+            .read_target(alloc, &middle, second_aux, second_memory, steps)?;
         Ok((middle, target))
     }
 
@@ -100,11 +118,19 @@ impl<A: Operator, B: Operator> Chain<A, B> {
         second_memory: &PairMemory,
         steps: &mut Steps<L>,
     ) -> Result<(Side, Side), Memory>
-        requires { ChainStored (flip (B.meaning self.now.second)) (flip (A.meaning self.now.first)) target.now (tables_of second_aux.now) (tables_of first_aux.now) second_memory.now.entries first_memory.now.entries }
-        ensures { IfOk result (λ sides. (sides.1, sides.0) ≡ chain_read (flip (B.meaning self.now.second)) (flip (A.meaning self.now.first)) target.now (tables_of second_aux.now) (tables_of first_aux.now) second_memory.now.entries first_memory.now.entries) }
+        requires { let a = flip (B.meaning self.now.second) in
+            let b = flip (A.meaning self.now.first) in
+            ChainStored a b target.now (tables_of second_aux.now) (tables_of first_aux.now) second_memory.now.entries first_memory.now.entries }
+        ensures { let a = flip (B.meaning self.now.second) in
+            let b = flip (A.meaning self.now.first) in
+            IfOk result (λ sides. (sides.1, sides.0) ≡ chain_read a b target.now (tables_of second_aux.now) (tables_of first_aux.now) second_memory.now.entries first_memory.now.entries) }
     {
-        let middle = self.second.read_source(alloc, target, second_aux, second_memory, steps)?;
-        let source = self.first.read_source(alloc, &middle, first_aux, first_memory, steps)?;
+        let middle = self
+            .second
+            .read_source(alloc, target, second_aux, second_memory, steps)?;
+        let source = self
+            .first
+            .read_source(alloc, &middle, first_aux, first_memory, steps)?;
         Ok((source, middle))
     }
 
@@ -156,13 +182,23 @@ impl<A: Operator, B: Operator> Chain<A, B> {
         second_memory: &PairMemory,
         steps: &mut Steps<L>,
     ) -> Result<Option<(Side, Side)>, Memory>
-        requires { ChainNear (A.meaning self.now.first) (B.meaning self.now.second) source.now }
-        ensures { IfOk result (λ sides. ChainAdmits (A.meaning self.now.first) (B.meaning self.now.second) source.now (tables_of first_aux.now) (tables_of second_aux.now) first_memory.now.entries second_memory.now.entries sides) }
+        requires { let a = A.meaning self.now.first in
+            let b = B.meaning self.now.second in
+            ChainNear a b source.now }
+        ensures { let a = A.meaning self.now.first in
+            let b = B.meaning self.now.second in
+            IfOk result (λ sides. ChainAdmits a b source.now (tables_of first_aux.now) (tables_of second_aux.now) first_memory.now.entries second_memory.now.entries sides) }
     {
-        let Some(middle) = self.first.admit_target(alloc, source, first_aux, first_memory, steps)? else {
+        let Some(middle) = self
+            .first
+            .admit_target(alloc, source, first_aux, first_memory, steps)?
+        else {
             return Ok(None);
         };
-        match self.second.admit_target(alloc, &middle, second_aux, second_memory, steps)? {
+        match self
+            .second
+            .admit_target(alloc, &middle, second_aux, second_memory, steps)?
+        {
             Some(target) => Ok(Some((middle, target))),
             None => Ok(None),
         }
@@ -180,13 +216,23 @@ impl<A: Operator, B: Operator> Chain<A, B> {
         second_memory: &PairMemory,
         steps: &mut Steps<L>,
     ) -> Result<Option<(Side, Side)>, Memory>
-        requires { ChainNear (flip (B.meaning self.now.second)) (flip (A.meaning self.now.first)) target.now }
-        ensures { IfOk result (λ sides. ChainAdmits (flip (B.meaning self.now.second)) (flip (A.meaning self.now.first)) target.now (tables_of second_aux.now) (tables_of first_aux.now) second_memory.now.entries first_memory.now.entries (option_map (λ it. (it.1, it.0)) sides)) }
+        requires { let a = flip (B.meaning self.now.second) in
+            let b = flip (A.meaning self.now.first) in
+            ChainNear a b target.now }
+        ensures { let a = flip (B.meaning self.now.second) in
+            let b = flip (A.meaning self.now.first) in
+            IfOk result (λ sides. ChainAdmits a b target.now (tables_of second_aux.now) (tables_of first_aux.now) second_memory.now.entries first_memory.now.entries (option_map (λ it. (it.1, it.0)) sides)) }
     {
-        let Some(middle) = self.second.admit_source(alloc, target, second_aux, second_memory, steps)? else {
+        let Some(middle) = self
+            .second
+            .admit_source(alloc, target, second_aux, second_memory, steps)?
+        else {
             return Ok(None);
         };
-        match self.first.admit_source(alloc, &middle, first_aux, first_memory, steps)? {
+        match self
+            .first
+            .admit_source(alloc, &middle, first_aux, first_memory, steps)?
+        {
             Some(source) => Ok(Some((source, middle))),
             None => Ok(None),
         }

@@ -64,12 +64,22 @@ impl<O: Operator> Operator for Flip<O> {
         self.inner.read_target(alloc, target, aux, memory, steps)
     }
 
-    fn aux_at_source<L: Ledger>(&self, alloc: Global, pair: &Pair, steps: &mut Steps<L>) -> Result<Aux, Memory> {
+    fn aux_at_source<L: Ledger>(
+        &self,
+        alloc: Global,
+        pair: &Pair,
+        steps: &mut Steps<L>,
+    ) -> Result<Aux, Memory> {
         let exchanged = pair.exchanged(alloc)?;
         self.inner.aux_at_target(alloc, &exchanged, steps)
     }
 
-    fn aux_at_target<L: Ledger>(&self, alloc: Global, pair: &Pair, steps: &mut Steps<L>) -> Result<Aux, Memory> {
+    fn aux_at_target<L: Ledger>(
+        &self,
+        alloc: Global,
+        pair: &Pair,
+        steps: &mut Steps<L>,
+    ) -> Result<Aux, Memory> {
         let exchanged = pair.exchanged(alloc)?;
         self.inner.aux_at_source(alloc, &exchanged, steps)
     }

@@ -71,13 +71,23 @@ pub trait Operator {
         ensures steps { StepsWithin (meaning self.now) 2 target.now (tables_of aux.now) steps.old steps.new };
 
     /// The auxiliary tables of a pair whose source is stored.
-    fn aux_at_source<L: Ledger>(&self, alloc: Global, pair: &Pair, steps: &mut Steps<L>) -> Result<Aux, Memory>
+    fn aux_at_source<L: Ledger>(
+        &self,
+        alloc: Global,
+        pair: &Pair,
+        steps: &mut Steps<L>,
+    ) -> Result<Aux, Memory>
         requires { SomePair (meaning self.now) (seen pair.now) }
         ensures answer { IfOk result (λ aux. tables_of aux ≡ (meaning self.now).aux_at_source (seen pair.now)) }
         ensures steps { StepsWithin (meaning self.now) 8 pair.now.source pair.now.target steps.old steps.new };
 
     /// The auxiliary tables of a pair whose target is stored.
-    fn aux_at_target<L: Ledger>(&self, alloc: Global, pair: &Pair, steps: &mut Steps<L>) -> Result<Aux, Memory>
+    fn aux_at_target<L: Ledger>(
+        &self,
+        alloc: Global,
+        pair: &Pair,
+        steps: &mut Steps<L>,
+    ) -> Result<Aux, Memory>
         requires { SomePair (flip (meaning self.now)) (exchanged (seen pair.now)) }
         ensures answer { IfOk result (λ aux. tables_of aux ≡ (meaning self.now).aux_at_target (seen pair.now)) }
         ensures steps { StepsWithin (meaning self.now) 8 pair.now.target pair.now.source steps.old steps.new };

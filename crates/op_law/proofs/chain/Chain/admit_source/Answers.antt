@@ -1,4 +1,4 @@
-use Rattle.std.proofs.Common.{subst, Option, Some, None}
+use Rattle.std.proofs.Common.{subst, Option}
 use Rattle.op_law.specs.Tables.{Tables}
 use Rattle.op_law.specs.Meaning.{flip}
 use Rattle.op_law.specs.Calls.{tables_of, Admits}

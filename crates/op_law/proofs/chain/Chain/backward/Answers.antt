@@ -1,10 +1,9 @@
-use Rattle.std.proofs.Common.{subst, ◌≡◌, ℕ, ◌≤◌, Ok, Err}
+use Rattle.std.proofs.Common.{subst, Ok, Err}
 use Rattle.std.proofs.lemmas.Result.{err_from_is_err_and}
 use Rattle.id_memory.specs.States.{CounterState}
 use Rattle.op_law.specs.Tables.{Tables}
 use Rattle.op_law.specs.Meaning.{flip, exchanged}
 use Rattle.op_law.specs.Calls.{seen, IsMapped}
-use Rattle.op_law.specs.Premises.{SomeMap}
 use Rattle.op_law.proofs.ChainLemmas.{second_may, refused_first, refused_second}
 use Rattle.op_law.proofs.chain.Chain.backward.Goals as goal
 

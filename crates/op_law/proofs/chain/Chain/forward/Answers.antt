@@ -1,9 +1,8 @@
-use Rattle.std.proofs.Common.{subst, ◌≡◌, ℕ, ◌≤◌, Err}
+use Rattle.std.proofs.Common.{subst, Err}
 use Rattle.std.proofs.lemmas.Result.{err_from_is_err_and}
 use Rattle.id_memory.specs.States.{CounterState}
 use Rattle.op_law.specs.Calls.{seen, IsMapped}
-use Rattle.op_law.specs.Premises.{SomeMap}
-use Rattle.op_law.proofs.ChainLemmas.{second_may, refused_first, refused_second}
+use Rattle.op_law.proofs.ChainLemmas.{second_may, refused_first}
 use Rattle.op_law.proofs.chain.Chain.forward.Goals as goal
 
 pub forward-requires-2 : goal.forward-requires-2
