@@ -1,0 +1,10 @@
+pub mod Tables
+pub mod Sound
+pub mod Identifiers
+pub mod Meaning
+pub mod Premises
+pub mod Laws
+pub mod Calls
+pub mod Chained
+pub mod ChainLaws
+pub mod Local

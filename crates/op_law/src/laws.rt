@@ -1,0 +1,21 @@
+//! Laws of all operators. The functions do nothing: their contracts are the laws.
+ghost use Rattle.std.specs.Prelude.{ℕ, ◌≤◌};
+ghost use Rattle.id_memory.specs.Pairs.{Pairs};
+ghost use Rattle.op_law.specs.Tables.{Tables};
+ghost use Rattle.op_law.specs.Sound.{TablesSound, PairsSound};
+ghost use Rattle.op_law.specs.Meaning.{flip};
+ghost use Rattle.op_law.specs.ChainLaws.{ChainLaws};
+
+use crate::Operator;
+
+/// What may stand while an identifier is the next one may stand while a greater one is.
+pub fn sound_stays_sound()
+    ensures tables { (n k : ℕ) (tables : Tables) → n ≤ k → TablesSound n tables → TablesSound k tables }
+    ensures memory { (n k : ℕ) (pairs : Pairs) → n ≤ k → PairsSound n pairs → PairsSound k pairs }
+{}
+
+/// The laws of one operator after another, forward and backward.
+pub fn chains_keep_the_laws<A: Operator, B: Operator>()
+    ensures forward { (first : A) (second : B) → ChainLaws (A.meaning first) (B.meaning second) }
+    ensures backward { (first : A) (second : B) → ChainLaws (flip (B.meaning second)) (flip (A.meaning first)) }
+{}

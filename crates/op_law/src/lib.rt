@@ -1,0 +1,21 @@
+//! Operators: what each one is, the calls that it has, and the laws that it keeps.
+//!
+//! Each operator is a bidirectional transformation by itself: a relation between a source side and
+//! a target side, a mapping either way, and auxiliary tables with which either side gives back the
+//! other. The crates above rest on these laws alone. It knows no single operator, and nothing of
+//! versions or of where tables are stored.
+#![tactic(auto)]
+
+mod chain;
+mod flip;
+mod laws;
+mod operator;
+mod pair;
+mod side;
+
+pub use chain::Chain;
+pub use flip::Flip;
+pub use laws::{chains_keep_the_laws, sound_stays_sound};
+pub use operator::Operator;
+pub use pair::{Far, Pair};
+pub use side::{Aux, Side};
