@@ -1,0 +1,5 @@
+pub mod Sets
+pub mod Tables
+pub mod Edges
+pub mod Forest
+pub mod Kept

@@ -1,0 +1,11 @@
+//! The graph of versions: which operators live, on which working sets they stand, which tables they
+//! make, and which working sets have a name.
+#![tactic(auto)]
+
+mod graph;
+mod look;
+mod node;
+mod parts;
+
+pub use graph::Graph;
+pub use parts::{Edge, Heading, NotGraph, Placed, Step};
