@@ -1,16 +1,17 @@
 -- What the nodes say of the edges, the newest first.
 use Rattle.std.proofs.Common.{◌≡◌, ℕ, zero, suc, ◌<◌, List, [], ◌∷◌, ◌++◌, Bool, true, false, cond, refl, sym, ap, ◌∙◌, subst, length, arith, inl, inr}
-use Rattle.std.specs.Prelude.{◌==◌, ◌||◌, Option, Some, None, option_map, option_and_then, slice_get}
+use Rattle.std.specs.Prelude.{◌==◌, ◌||◌, Option, Some, None, option_map, option_and_then, slice_get, unwrap_or}
 use Rattle.std.specs.List.{find}
 use Rattle.std.specs.Map.{lookup}
-use Rattle.std.proofs.lemmas.Bool.{eq-eqb, ne_eqb, cond-true, cond-false}
+use Rattle.std.proofs.lemmas.Bool.{eq-eqb, ne_eqb, cond-true, cond-false, cases_eq}
 use Rattle.std.proofs.lemmas.List.{reverse-reverse, reverse-append, map-append}
 use mathlib.Core.List.{reverse}
 use Rattle.version_graph.specs.Sets.{In, Each}
 use Rattle.version_graph.proofs.SetLemmas.{each_at}
 use Rattle.version_graph.specs.Tables.{TableVersion, table_numbers, tables_of}
 use Rattle.version_graph.specs.Edges.{AreEdges, numbers, working, set_after, sources_of, edge_of, sources_at, tables_at, maker_of, heading_of, is_in, made, made_by_edge, version_sets, set_named}
-use Rattle.version_graph.specs.Kept.{placed_in, AreRight, heading_in}
+use Rattle.version_graph.specs.Forest.{forest, tree}
+use Rattle.version_graph.specs.Kept.{tree_on, placed_in, AreRight, heading_in}
 use Rattle.version_graph.specs.declared.parts.Placed.{Placed}
 use Rattle.version_graph.specs.declared.parts.Heading.{Heading}
 use Rattle.version_graph.specs.declared.node.Node.{Node}
@@ -141,6 +142,53 @@ module _ {O : Type 0} where
   above_zero [] edges n i = absurd i
   above_zero (e ∷ es) edges n (inl same) = let less = edges.0.newest 0 (inl refl) in omega arith
   above_zero (e ∷ es) edges n (inr i) = above_zero es edges.1 n i
+
+  -- ---- working sets
+
+  working_none : (es : List (Placed O)) (w : ℕ) → edge_of es w ≡ None → working es w ≡ []
+  working_none [] w e = refl
+  working_none (f ∷ es) w e =
+      (elim (w == f.number) as (λ b. cond b (Some f) (edge_of es w) ≡ None → cond b (set_after (working es f.parent) f) (working es w) ≡ []) [
+        | true ↦ λ h. cc
+        | false ↦ λ h. working_none es w h
+      ]) e
+
+  working_zero : (es : List (Placed O)) → AreEdges es → working es 0 ≡ []
+  working_zero [] edges = refl
+  working_zero (e ∷ es) edges =
+      let less = edges.0.newest 0 (inl refl) in
+      cond-false (0 == e.number) (set_after (working es e.parent) e) (working es 0) (ne_eqb 0 e.number (λ z. omega arith)) ∙ working_zero es edges.1
+
+  either_way : (es : List (Placed O)) (w : ℕ) (o : Option (Placed O)) → edge_of es w ≡ o → unwrap_or (option_map (λ (e : Placed O). table_numbers (working es w)) o) [] ≡ table_numbers (working es w)
+  either_way es w None e = ap (λ (s : List TableVersion). table_numbers s) (sym (working_none es w e))
+  either_way es w (Some f) e = refl
+
+  -- the tables of a working set, if any
+  pub tables_or_none : (es : List (Placed O)) → AreEdges es → (w : ℕ) → unwrap_or (tables_at es w) [] ≡ table_numbers (working es w)
+  tables_or_none es edges w =
+      elim (cases_eq w 0) as (λ _. unwrap_or (tables_at es w) [] ≡ table_numbers (working es w)) [
+        | inl z ↦ subst (λ (n : ℕ). unwrap_or (tables_at es n) [] ≡ table_numbers (working es n)) (sym z) (ap (λ (s : List TableVersion). table_numbers s) (sym (working_zero es edges)))
+        | inr other ↦ ap (λ (o : Option (List ℕ)). unwrap_or o []) (not_zero es w other) ∙ either_way es w (edge_of es w) refl
+      ]
+
+  -- ---- trees
+
+  tree_one : (ns : List (Node O)) (k m : Node O) (w : ℕ) (b : Bool) → k.tree ≡ tree_on (placed_in ns) k.placed → (first_node ns w ≡ Some m → tree (forest (placed_in ns)) w ≡ m.tree) → cond b (Some k) (first_node ns w) ≡ Some m → cond b (tree_on (placed_in ns) k.placed) (tree (forest (placed_in ns)) w) ≡ m.tree
+  tree_one ns k m w true is more e = let same : k ≡ m = cc in sym is ∙ ap (λ (n : Node O). n.tree) same
+  tree_one ns k m w false is more e = more e
+
+  pub tree_of_node : (ns : List (Node O)) → AreRight ns → (w : ℕ) (m : Node O) → first_node ns w ≡ Some m → tree (forest (placed_in ns)) w ≡ m.tree
+  tree_of_node [] right w m e = cc
+  tree_of_node (k ∷ ns) right w m e = tree_one ns k m w (w == k.placed.number) right.0.tree (tree_of_node ns right.1 w m) e
+
+  -- a live operator has a node
+  pub has_node : (ns : List (Node O)) (n : ℕ) → In n (0 ∷ numbers (placed_in ns)) → (n ≡ 0 → ⊥) → first_node ns n ≡ None → ⊥
+  has_node ns n (inl z) other e = other z
+  has_node ns n (inr i) other e =
+      let here = live_edge (placed_in ns) n i in
+      let there = edge_of_node ns n ∙ ap (option_map (λ (k : Node O). k.placed)) e in
+      let clash : Some here.0 ≡ None = sym here.1 ∙ there in
+      cc
 
 pub set_listed : (versions : List (List ℕ × ℕ)) (name : List ℕ) (w : ℕ) → set_named versions name ≡ Some w → In w (version_sets versions)
 set_listed [] name w e = cc

@@ -1,12 +1,15 @@
 -- What a graph keeps of its edges.
-use Rattle.std.specs.Prelude.{◌≡◌, ℕ, cond, ◌==◌, List, [], ◌∷◌, map, Option, option_map}
+use Rattle.std.specs.Prelude.{Bool, false, filter_map, ◌≡◌, ℕ, cond, ◌==◌, List, [], ◌∷◌, map, Option, option_map}
 use Rattle.std.specs.List.{find}
+use Rattle.std.specs.Str.{bytes_eq}
+use Rattle.std.specs.Option.{option_map_or}
 use mathlib.Core.List.{reverse}
 use Rattle.version_graph.specs.Tables.{TableVersion, table_numbers}
-use Rattle.version_graph.specs.Edges.{Drawn, is_in, made_by_edge, sources_of, working, set_after, IsGraph}
+use Rattle.version_graph.specs.Edges.{heading_of, Drawn, is_in, made_by_edge, sources_of, working, set_after, IsGraph}
 use Rattle.version_graph.specs.Forest.{forest, tree}
 use Rattle.version_graph.specs.declared.parts.Placed.{Placed}
 use Rattle.version_graph.specs.declared.node.Node.{Node}
+use Rattle.version_graph.specs.declared.node.Parts.{Parts}
 use Rattle.version_graph.specs.declared.parts.Heading.{Heading}
 
 -- the edges of nodes, in their order
@@ -17,11 +20,15 @@ placed_in {O} nodes = map (λ (n : Node O). n.placed) nodes
 abbrev pub edges_of : {O : Type 0} → List (Node O) → List (Placed O)
 edges_of nodes = placed_in (reverse nodes)
 
+-- the number of the oldest edge of an edge's tree
+abbrev pub tree_on : {O : Type 0} → List (Placed O) → Placed O → ℕ
+tree_on es e = cond (e.parent == 0) e.number (tree (forest es) e.parent)
+
 -- a node on older edges
 pub record IsRight {O : Type 0} (es : List (Placed O)) (n : Node O) : Type 0 where
   pub sources : n.sources ≡ table_numbers (sources_of es n.placed)
   pub set : n.set ≡ table_numbers (set_after (working es n.placed.parent) n.placed)
-  pub tree : n.tree ≡ cond (n.placed.parent == 0) n.placed.number (tree (forest es) n.placed.parent)
+  pub tree : n.tree ≡ tree_on es n.placed
 
 -- the nodes, the newest first
 abbrev pub AreRight : {O : Type 0} → List (Node O) → Type 0
@@ -38,9 +45,22 @@ node_making {O} nodes t = find (λ (k : Node O). is_in t k.placed.tables) (rever
 abbrev pub heading_in : {O : Type 0} → Placed O → ℕ → Option Heading
 heading_in e t = option_map (λ (v : TableVersion). v.heading) (find (λ (v : TableVersion). t == v.number) (made_by_edge e))
 
-abbrev pub drawn : {O : Type 0} → List (Node O) → List (List ℕ × ℕ) → ℕ → ℕ → Drawn O
-drawn nodes versions operator table = record { edges = edges_of nodes; versions = versions; last_operator = operator; last_table = table }
+-- whether a table has this name
+abbrev pub has_name : {O : Type 0} → List (Placed O) → List ℕ → ℕ → Bool
+has_name es name t = option_map_or (λ (h : Heading). bytes_eq h.name name) (heading_of es t) false
 
-pub record IsKept {O : Type 0} (nodes : List (Node O)) (versions : List (List ℕ × ℕ)) (operator table : ℕ) : Type 0 where
-  pub right : AreRight (reverse nodes)
-  pub graph : IsGraph (drawn nodes versions operator table)
+-- the first of these tables with this name
+abbrev pub number_named : {O : Type 0} → List (Placed O) → List ℕ → List ℕ → Option ℕ
+number_named es ts name = find (has_name es name) ts
+
+-- those of these tables that have the names, in order of the names
+abbrev pub numbers_named : {O : Type 0} → List (Placed O) → List ℕ → List (List ℕ) → List ℕ
+numbers_named es ts names = filter_map (number_named es ts) names
+
+-- the graph that the parts stand for
+abbrev pub drawn : {O : Type 0} → Parts O → Drawn O
+drawn p = record { edges = edges_of p.nodes.items; versions = p.versions.entries; last_operator = p.last.operator; last_table = p.last.table }
+
+pub record IsKept {O : Type 0} (p : Parts O) : Type 0 where
+  pub right : AreRight (reverse p.nodes.items)
+  pub graph : IsGraph (drawn p)

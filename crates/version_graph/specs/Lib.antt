@@ -3,3 +3,5 @@ pub mod Tables
 pub mod Edges
 pub mod Forest
 pub mod Kept
+pub mod Evolve
+pub mod Calls

@@ -1,18 +1,19 @@
 //! The graph, and its look-ups.
-ghost use Rattle.std.specs.Prelude.{◌≡◌, ◌==◌, ◌||◌, [], length, map, slice_get, IfOk};
+ghost use Rattle.std.specs.Prelude.{◌≡◌, ◌<◌, ◌==◌, ◌||◌, [], length, map, slice_get, IfOk};
 ghost use Rattle.std.specs.Option.{option_copied, option_map};
 ghost use mathlib.Core.List.{reverse};
 ghost use Rattle.version_graph.specs.Tables.{table_numbers, headings_of};
 ghost use Rattle.version_graph.specs.Edges.{IsGraph, edge_of as edge_of_lem, sources_at as sources_at_lem, tables_at as tables_at_lem, heading_of as heading_of_lem, maker_of as maker_of_lem, set_named as set_named_lem, working};
-ghost use Rattle.version_graph.specs.declared.parts.Placed.{Placed as APlaced};
+ghost use Rattle.version_graph.specs.Evolve.{MayEvolve, Evolves};
 
+use crate::grow::evolve;
 use crate::look::{
     edge_at, edge_of, heading_of, maker_of, set_named, sources_at, tables_at, version_tables,
 };
-use crate::node::Node;
-use crate::{Heading, Placed};
+use crate::node::{Last, Parts};
+use crate::{Edge, Heading, Placed};
 use indexmap::IndexMap;
-use par_base::{List, Memory, Name};
+use par_base::{Fault, List, Name, Refusal};
 use std::alloc::Global;
 use std::marker::Model;
 
@@ -20,10 +21,7 @@ use std::marker::Model;
 /// sets that have a name.
 #[derive(Drop)]
 pub struct Graph<O> {
-    nodes: Vec<Node<O>>,
-    versions: IndexMap<Name, u32>,
-    last_operator: u32,
-    last_table: u32,
+    parts: Parts<O>,
     alloc: Global,
 }
 
@@ -33,9 +31,9 @@ impl<O> Model for Graph<O> {
 
     ghost Value = { Drawn O };
 
-    ghost view = { λ g. drawn g.nodes.items g.versions.entries g.last_operator g.last_table };
+    ghost view = { λ g. drawn g.parts };
 
-    ghost invariant = { λ g. IsKept g.nodes.items g.versions.entries g.last_operator g.last_table };
+    ghost invariant = { λ g. IsKept g.parts };
 }
 
 impl<O> Graph<O> {
@@ -46,10 +44,14 @@ impl<O> Graph<O> {
         ensures numbers { result.last_operator ≡ 0 × result.last_table ≡ 0 }
     {
         Graph {
-            nodes: Vec::new(alloc),
-            versions: IndexMap::new(alloc),
-            last_operator: 0,
-            last_table: 0,
+            parts: Parts {
+                nodes: Vec::new(alloc),
+                versions: IndexMap::new(alloc),
+                last: Last {
+                    operator: 0,
+                    table: 0,
+                },
+            },
             alloc,
         }
     }
@@ -59,21 +61,21 @@ impl<O> Graph<O> {
         ensures count { result ≡ length self.now.edges }
         ensures graph { IsGraph self.now }
     {
-        self.nodes.len()
+        self.parts.nodes.len()
     }
 
     /// The last operator number and the last table number given.
     pub fn last_numbers(&self) -> (u32, u32)
         ensures { result ≡ (self.now.last_operator, self.now.last_table) }
     {
-        (self.last_operator, self.last_table)
+        (self.parts.last.operator, self.parts.last.table)
     }
 
     /// The live edge of a number. It takes time in the number of live operators.
     pub fn edge(&self, operator: u32) -> Option<&Placed<O>>
         ensures { option_copied result ≡ edge_of_lem self.now.edges operator }
     {
-        edge_of(self.nodes.as_slice(), operator)
+        edge_of(self.parts.nodes.as_slice(), operator)
     }
 
     /// The numbers of the source tables of a live operator. It takes time in the number of live
@@ -81,35 +83,35 @@ impl<O> Graph<O> {
     pub fn source_tables(&self, operator: u32) -> Option<&[u32]>
         ensures { option_map (λ tables. tables.now) result ≡ sources_at_lem self.now.edges operator }
     {
-        sources_at(self.nodes.as_slice(), operator)
+        sources_at(self.parts.nodes.as_slice(), operator)
     }
 
     /// The tables of a live working set, or of 0. It takes time in the number of live operators.
     pub fn tables_in(&self, set: u32) -> Option<&[u32]>
         ensures { option_map (λ tables. tables.now) result ≡ tables_at_lem self.now.edges set }
     {
-        tables_at(self.nodes.as_slice(), set)
+        tables_at(self.parts.nodes.as_slice(), set)
     }
 
     /// The name and the columns of a live table. It takes time in the number of live tables.
     pub fn heading(&self, table: u32) -> Option<&Heading>
         ensures { option_copied result ≡ heading_of_lem self.now.edges table }
     {
-        heading_of(self.nodes.as_slice(), table)
+        heading_of(self.parts.nodes.as_slice(), table)
     }
 
     /// The operator that made a live table. It takes time in the number of live tables.
     pub fn made_by(&self, table: u32) -> Option<u32>
         ensures { result ≡ maker_of_lem self.now.edges table }
     {
-        maker_of(self.nodes.as_slice(), table)
+        maker_of(self.parts.nodes.as_slice(), table)
     }
 
     /// The live edge at a place, by ascending number.
     pub fn edge_at(&self, place: usize) -> Option<&Placed<O>>
         ensures { option_copied result ≡ slice_get (reverse self.now.edges) place }
     {
-        edge_at(self.nodes.as_slice(), place)
+        edge_at(self.parts.nodes.as_slice(), place)
     }
 
     /// The live version at a place, in order of creation, with its working set.
@@ -117,7 +119,7 @@ impl<O> Graph<O> {
         ensures { option_map (λ version. (version.0.now, version.1)) result
             ≡ slice_get self.now.versions place }
     {
-        match self.versions.get_index(place) {
+        match self.parts.versions.get_index(place) {
             Some((name, set)) => Some((name, *set)),
             None => None,
         }
@@ -127,7 +129,7 @@ impl<O> Graph<O> {
     pub fn set_of(&self, name: &Name) -> Option<u32>
         ensures { result ≡ set_named_lem self.now.versions name.now }
     {
-        set_named(&self.versions, name)
+        set_named(&self.parts.versions, name)
     }
 
     /// The tables of a version. It takes time in the number of live operators.
@@ -135,6 +137,24 @@ impl<O> Graph<O> {
         ensures { option_map (λ tables. tables.now) result
             ≡ option_map (λ set. table_numbers (working self.now.edges set)) (set_named_lem self.now.versions name.now) }
     {
-        version_tables(self.nodes.as_slice(), &self.versions, name)
+        version_tables(self.parts.nodes.as_slice(), &self.parts.versions, name)
+    }
+}
+
+impl<O: Drop> Graph<O> {
+    /// Adds the edges, each on the working set before it, the first on that of the version `from`
+    /// or on the empty one, and names the last working set. Answers its number. It takes time in
+    /// the number of tables, for each new edge and each table of the working set before it.
+    pub fn evolve(
+        &mut self,
+        name: Name,
+        from: Option<&Name>,
+        edges: List<Edge<O>>,
+    ) -> Result<u32, Fault<Refusal>>
+        requires some { 0 < length edges }
+        requires fits { MayEvolve self.old (option_copied from) edges }
+        ensures { Evolves self.old name (option_copied from.entry) edges result self.new }
+    {
+        evolve(self.alloc, &mut self.parts, name, from, edges)
     }
 }

@@ -2,7 +2,9 @@
 //! make, and which working sets have a name.
 #![tactic(auto)]
 
+mod build;
 mod graph;
+mod grow;
 mod look;
 mod node;
 mod parts;

@@ -13,7 +13,8 @@ use crate::{Heading, Placed};
 use indexmap::IndexMap;
 use par_base::Name;
 
-fn node_of<O>(nodes: &[Node<O>], number: u32) -> Option<&Node<O>>
+/// The node of an operator.
+pub fn node_of<O>(nodes: &[Node<O>], number: u32) -> Option<&Node<O>>
     ensures { option_copied result ≡ node_of_lem nodes.now number }
 {
     nodes.iter().rev().find(|node| number == node.placed.number)
@@ -136,5 +137,17 @@ pub fn version_tables<'a, O>(
     match set_named(versions, name) {
         Some(set) => tables_at(nodes, set),
         None => None,
+    }
+}
+
+/// The tables of a working set, of which there are none where it doesn't live.
+pub fn tables_of_set<O>(nodes: &[Node<O>], set: u32) -> &[u32]
+    requires right { AreRight (reverse nodes.now) }
+    requires edges { AreEdges (edges_of nodes.now) }
+    ensures { result.now ≡ table_numbers (working (edges_of nodes.entry.now) set) }
+{
+    match tables_at(nodes, set) {
+        Some(tables) => tables,
+        None => &[],
     }
 }
