@@ -6,3 +6,4 @@ pub mod TableLemmas
 pub mod TakenLemmas
 pub mod GrowLemmas
 pub mod EvolveLemmas
+pub mod WalkLemmas

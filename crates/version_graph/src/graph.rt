@@ -5,15 +5,19 @@ ghost use mathlib.Core.List.{reverse};
 ghost use Rattle.version_graph.specs.Tables.{table_numbers, headings_of};
 ghost use Rattle.version_graph.specs.Edges.{IsGraph, edge_of as edge_of_lem, sources_at as sources_at_lem, tables_at as tables_at_lem, heading_of as heading_of_lem, maker_of as maker_of_lem, set_named as set_named_lem, working};
 ghost use Rattle.version_graph.specs.Evolve.{MayEvolve, Evolves};
+ghost use Rattle.version_graph.specs.Sets.{In};
+ghost use Rattle.version_graph.specs.Edges.{numbers};
+ghost use Rattle.version_graph.specs.Forest.{forest, told, walk as walk_lem};
 
 use crate::grow::evolve;
 use crate::look::{
     edge_at, edge_of, heading_of, maker_of, set_named, sources_at, tables_at, version_tables,
 };
 use crate::node::{Last, Parts};
-use crate::{Edge, Heading, Placed};
+use crate::walk::walk;
+use crate::{Edge, Heading, Placed, Step};
 use indexmap::IndexMap;
-use par_base::{Fault, List, Name, Refusal};
+use par_base::{Fault, List, Memory, Name, Refusal};
 use std::alloc::Global;
 use std::marker::Model;
 
@@ -138,6 +142,16 @@ impl<O> Graph<O> {
             ≡ option_map (λ set. table_numbers (working self.now.edges set)) (set_named_lem self.now.versions name.now) }
     {
         version_tables(self.parts.nodes.as_slice(), &self.parts.versions, name)
+    }
+}
+
+impl<O> Graph<O> {
+    /// The walk from a live working set. It takes time in the number of live operators.
+    pub fn walk(&self, alloc: Global, set: u32) -> Result<List<Step>, Memory>
+        requires { In set (numbers self.now.edges) }
+        ensures { IfOk result (λ steps. steps ≡ map told (walk_lem (forest self.now.edges) set)) }
+    {
+        walk(alloc, self.parts.nodes.as_slice(), set)
     }
 }
 

@@ -8,6 +8,7 @@ mod grow;
 mod look;
 mod node;
 mod parts;
+mod walk;
 
 pub use graph::Graph;
 pub use parts::{Edge, Heading, NotGraph, Placed, Step};
