@@ -7,3 +7,5 @@ pub mod TakenLemmas
 pub mod GrowLemmas
 pub mod EvolveLemmas
 pub mod WalkLemmas
+pub mod ShedLemmas
+pub mod StayLemmas

@@ -39,13 +39,14 @@ module _ {O : Type 0} where
 
   nodes_once : (ns : List (Node O)) → AreEdges (placed_in ns) → Distinct (map (λ (k : Node O). k.placed.number) ns)
   nodes_once [] edges = tt
-  nodes_once (k ∷ ns) edges =
-      ((λ i.
-          let o = origin (λ (m : Node O). m.placed.number) k.placed.number ns i in
-          let less = edges.0.newest o.0.placed.number (inr (node_number ns o.0 o.1)) in
-          let same = o.2 in
-          omega arith),
-       nodes_once ns edges.1)
+  nodes_once (k ∷ ns) edges = (
+    (λ i.
+        let o = origin (λ (m : Node O). m.placed.number) k.placed.number ns i in
+        let less = edges.0.newest o.0.placed.number (inr (node_number ns o.0 o.1)) in
+        let same = o.2 in
+        omega arith),
+    nodes_once ns edges.1,
+  )
 
   -- a node's tree is that of its number
   pub tree_is : (nodes : List (Node O)) → AreRight (reverse nodes) → AreEdges (edges_of nodes) → (k : Node O) → In k nodes → tree (forest (edges_of nodes)) k.placed.number ≡ k.tree
@@ -53,7 +54,7 @@ module _ {O : Type 0} where
       let ns = reverse nodes in
       let j = in_reverse k nodes i in
       let found : first_node ns k.placed.number ≡ Some k = only_found (λ (m : Node O). k.placed.number == m.placed.number) ns k j (eq-eqb k.placed.number k.placed.number refl)
-          (λ m h e. same_item (λ (x : Node O). x.placed.number) ns m k (nodes_once ns edges) h j (sym (eqb-true k.placed.number m.placed.number e))) in
+      (λ m h e. same_item (λ (x : Node O). x.placed.number) ns m k (nodes_once ns edges) h j (sym (eqb-true k.placed.number m.placed.number e))) in
       tree_of_node ns right k.placed.number k found
 
 -- ---- one node
@@ -93,32 +94,35 @@ module _ {O : Type 0} (nodes : List (Node O)) (left : ℕ) (k : Node O) (some : 
       ∙ ap (λ (c : Bool). map told (cond c (rest test (here (left - 1)) k.placed.parent) (rest test (here (left - 1)) at ++ cond (test k.placed.number) (crossing false (link (placed_in (reverse (take (left - 1) nodes))) k.placed) ∷ []) []))) (ne_eqb at k.placed.number e)
       ∙ map-append told (rest test (here (left - 1)) at) (cond (test k.placed.number) (crossing false (link (placed_in (reverse (take (left - 1) nodes))) k.placed) ∷ []) [])
       ∙ ap (λ (l : List Step). map told (rest test (here (left - 1)) at) ++ l)
-          (ap (λ (c : Bool). map told (cond c (crossing false (link (placed_in (reverse (take (left - 1) nodes))) k.placed) ∷ []) [])) t
-           ∙ elim b as (λ c. map told (cond c (crossing false (link (placed_in (reverse (take (left - 1) nodes))) k.placed) ∷ []) []) ≡ cond c (step_at k.placed.number false ∷ []) []) [ true ↦ refl | false ↦ refl ])
+      (ap (λ (c : Bool). map told (cond c (crossing false (link (placed_in (reverse (take (left - 1) nodes))) k.placed) ∷ []) [])) t
+      ∙ elim b as (λ c. map told (cond c (crossing false (link (placed_in (reverse (take (left - 1) nodes))) k.placed) ∷ []) []) ≡ cond c (step_at k.placed.number false ∷ []) []) [ true ↦ refl | false ↦ refl ])
 
   module _ (ups others all_up all_rest : List Step) (so_up : ups ++ map told (up (here left) at) ≡ all_up) (so_rest : map told (rest test (here left) at) ++ reverse others ≡ all_rest) where
     -- the node stands on the way up
     pub on_way : (more : List Step) → more ≡ ups ++ step_at k.placed.number true ∷ [] → at ≡ k.placed.number
         → (more ++ map told (up (here (left - 1)) k.placed.parent) ≡ all_up) × (map told (rest test (here (left - 1)) k.placed.parent) ++ reverse others ≡ all_rest)
-    on_way more m e =
-        (ap (λ (l : List Step). l ++ map told (up (here (left - 1)) k.placed.parent)) m ∙ append_assoc ups (step_at k.placed.number true ∷ []) (map told (up (here (left - 1)) k.placed.parent)) ∙ ap (λ (l : List Step). ups ++ l) (sym (up_here e)) ∙ so_up,
-         ap (λ (l : List Step). l ++ reverse others) (sym (rest_here e)) ∙ so_rest)
+    on_way more m e = (
+      ap (λ (l : List Step). l ++ map told (up (here (left - 1)) k.placed.parent)) m ∙ append_assoc ups (step_at k.placed.number true ∷ []) (map told (up (here (left - 1)) k.placed.parent)) ∙ ap (λ (l : List Step). ups ++ l) (sym (up_here e)) ∙ so_up,
+      ap (λ (l : List Step). l ++ reverse others) (sym (rest_here e)) ∙ so_rest,
+    )
 
     -- the node stands elsewhere in the tree
     pub in_tree : (more : List Step) → more ≡ others ++ step_at k.placed.number false ∷ [] → (at ≡ k.placed.number → ⊥) → test k.placed.number ≡ true
         → (ups ++ map told (up (here (left - 1)) at) ≡ all_up) × (map told (rest test (here (left - 1)) at) ++ reverse more ≡ all_rest)
-    in_tree more m e t =
-        (ap (λ (l : List Step). ups ++ l) (sym (up_past e)) ∙ so_up,
-         ap (λ (l : List Step). map told (rest test (here (left - 1)) at) ++ l) (ap (λ (l : List Step). reverse l) m ∙ last_first others (step_at k.placed.number false))
-         ∙ sym (append_assoc (map told (rest test (here (left - 1)) at)) (step_at k.placed.number false ∷ []) (reverse others))
-         ∙ ap (λ (l : List Step). l ++ reverse others) (sym (rest_past true e t)) ∙ so_rest)
+    in_tree more m e t = (
+      ap (λ (l : List Step). ups ++ l) (sym (up_past e)) ∙ so_up,
+      ap (λ (l : List Step). map told (rest test (here (left - 1)) at) ++ l) (ap (λ (l : List Step). reverse l) m ∙ last_first others (step_at k.placed.number false))
+          ∙ sym (append_assoc (map told (rest test (here (left - 1)) at)) (step_at k.placed.number false ∷ []) (reverse others))
+          ∙ ap (λ (l : List Step). l ++ reverse others) (sym (rest_past true e t)) ∙ so_rest,
+    )
 
     -- the node stands in another tree
     pub elsewhere : (at ≡ k.placed.number → ⊥) → test k.placed.number ≡ false
         → (ups ++ map told (up (here (left - 1)) at) ≡ all_up) × (map told (rest test (here (left - 1)) at) ++ reverse others ≡ all_rest)
-    elsewhere e t =
-        (ap (λ (l : List Step). ups ++ l) (sym (up_past e)) ∙ so_up,
-         ap (λ (l : List Step). l ++ reverse others) (sym (rest_past false e t ∙ Rattle.std.proofs.lemmas.List.append-nil (map told (rest test (here (left - 1)) at)))) ∙ so_rest)
+    elsewhere e t = (
+      ap (λ (l : List Step). ups ++ l) (sym (up_past e)) ∙ so_up,
+      ap (λ (l : List Step). l ++ reverse others) (sym (rest_past false e t ∙ Rattle.std.proofs.lemmas.List.append-nil (map told (rest test (here (left - 1)) at)))) ∙ so_rest,
+    )
 
 -- whether the node at a place is in the tree of a working set
 module _ {O : Type 0} (nodes : List (Node O)) (right : AreRight (reverse nodes)) (edges : AreEdges (edges_of nodes)) (i : ℕ) (k : Node O) (within : i < length nodes) (is : k ≡ get_or nodes i k) (set t : ℕ) (of_set : t ≡ tree (forest (edges_of nodes)) set) where

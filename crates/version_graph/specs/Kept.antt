@@ -1,5 +1,5 @@
 -- What a graph keeps of its edges.
-use Rattle.std.specs.Prelude.{Bool, false, filter_map, ◌≡◌, ℕ, cond, ◌==◌, List, [], ◌∷◌, map, Option, option_map}
+use Rattle.std.specs.Prelude.{Bool, false, filter_map, ◌≡◌, ℕ, cond, ◌==◌, List, [], ◌∷◌, ◌++◌, map, Option, option_map}
 use Rattle.std.specs.List.{find}
 use Rattle.std.specs.Str.{bytes_eq}
 use Rattle.std.specs.Option.{option_map_or}
@@ -56,6 +56,15 @@ number_named es ts name = find (has_name es name) ts
 -- those of these tables that have the names, in order of the names
 abbrev pub numbers_named : {O : Type 0} → List (Placed O) → List ℕ → List (List ℕ) → List ℕ
 numbers_named es ts names = filter_map (number_named es ts) names
+
+-- the working sets that are needed, where these nodes stay
+abbrev pub needed_by : {O : Type 0} → List (Node O) → List ℕ → List ℕ
+needed_by {O} above sets = map (λ (n : Node O). n.placed.parent) above ++ sets
+
+-- the nodes that stay, the newest first
+abbrev pub staying_nodes : {O : Type 0} → List ℕ → List (Node O) → List (Node O)
+staying_nodes needed [] = []
+staying_nodes needed (n ∷ nodes) = cond (is_in n.placed.number needed) (n ∷ staying_nodes (n.placed.parent ∷ needed) nodes) (staying_nodes needed nodes)
 
 -- the graph that the parts stand for
 abbrev pub drawn : {O : Type 0} → Parts O → Drawn O

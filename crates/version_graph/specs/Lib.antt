@@ -5,3 +5,4 @@ pub mod Forest
 pub mod Kept
 pub mod Evolve
 pub mod Calls
+pub mod Dropped

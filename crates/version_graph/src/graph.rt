@@ -6,6 +6,8 @@ ghost use Rattle.version_graph.specs.Tables.{table_numbers, headings_of};
 ghost use Rattle.version_graph.specs.Edges.{IsGraph, edge_of as edge_of_lem, sources_at as sources_at_lem, tables_at as tables_at_lem, heading_of as heading_of_lem, maker_of as maker_of_lem, set_named as set_named_lem, working};
 ghost use Rattle.version_graph.specs.Evolve.{MayEvolve, Evolves};
 ghost use Rattle.version_graph.specs.Sets.{In};
+ghost use Rattle.std.specs.Option.{IsSome};
+ghost use Rattle.version_graph.specs.Dropped.{Dooms, dropped};
 ghost use Rattle.version_graph.specs.Edges.{numbers};
 ghost use Rattle.version_graph.specs.Forest.{forest, told, walk as walk_lem};
 
@@ -14,6 +16,7 @@ use crate::look::{
     edge_at, edge_of, heading_of, maker_of, set_named, sources_at, tables_at, version_tables,
 };
 use crate::node::{Last, Parts};
+use crate::shed::{doomed, drop_version};
 use crate::walk::walk;
 use crate::{Edge, Heading, Placed, Step};
 use indexmap::IndexMap;
@@ -153,6 +156,14 @@ impl<O> Graph<O> {
     {
         walk(alloc, self.parts.nodes.as_slice(), set)
     }
+
+    /// The operators that `drop_version` would remove, leaves first. It takes time in the square of
+    /// the number of live operators.
+    pub fn doomed(&self, alloc: Global, name: &Name) -> Result<List<u32>, Fault<Refusal>>
+        ensures { Dooms self.now name.now result }
+    {
+        doomed(alloc, &self.parts, name)
+    }
 }
 
 impl<O: Drop> Graph<O> {
@@ -170,5 +181,15 @@ impl<O: Drop> Graph<O> {
         ensures { Evolves self.old name (option_copied from.entry) edges result self.new }
     {
         evolve(self.alloc, &mut self.parts, name, from, edges)
+    }
+
+    /// Takes the name of a live version away, and with it, again and again, each operator with no
+    /// edge below it and no name at its working set. It takes time in the square of the number of
+    /// live operators.
+    pub fn drop_version(&mut self, name: &Name)
+        requires { IsSome (set_named_lem self.old.versions name.now) }
+        ensures { self.new ≡ dropped self.old name.now }
+    {
+        drop_version(&mut self.parts, name);
     }
 }

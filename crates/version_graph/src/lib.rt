@@ -8,6 +8,7 @@ mod grow;
 mod look;
 mod node;
 mod parts;
+mod shed;
 mod walk;
 
 pub use graph::Graph;

@@ -14,7 +14,7 @@ loop-left-preserved-then-at-operator g c =
     let k = c.index-nodes-left.result in
     let l = c.loop-left in
     let step = on_way nodes l.left k c.loop-left-test.true l.invariant.within c.index-nodes-left.is (λ n. tree all n == tree all c.args.set) l.at l.upward.items l.others.items _ _ l.invariant.upward l.invariant.others
-        c.push.new.self.items c.in_ok-push.ensures.items c.if-at-operator.true in
+    c.push.new.self.items c.in_ok-push.ensures.items c.if-at-operator.true in
     record { within = omega arith; upward = step.0; others = step.1 }
 
 pub loop-left-preserved-in-Continue-branch-2 : goal.loop-left-preserved-in-Continue-branch-2
@@ -25,7 +25,7 @@ loop-left-preserved-in-Continue-branch-2 g c =
     let l = c.loop-left in
     let test = same_tree nodes c.requires.right c.requires.edges (l.left - 1) k (omega arith) c.index-nodes-left.is c.args.set c.tree_of-tree.result c.tree_of-tree.ensures c.if-node-tree.true in
     let step = in_tree nodes l.left k c.loop-left-test.true l.invariant.within c.index-nodes-left.is (λ n. tree all n == tree all c.args.set) l.at l.upward.items l.others.items _ _ l.invariant.upward l.invariant.others
-        c.push-then-node-tree.new.self.items c.in_ok-push-2.ensures.items c.if-at-operator.false test in
+    c.push-then-node-tree.new.self.items c.in_ok-push-2.ensures.items c.if-at-operator.false test in
     record { within = omega arith; upward = step.0; others = step.1 }
 
 pub loop-left-preserved : goal.loop-left-preserved
@@ -36,7 +36,7 @@ loop-left-preserved g c =
     let l = c.loop-left in
     let test = other_tree nodes c.requires.right c.requires.edges (l.left - 1) k (omega arith) c.index-nodes-left.is c.args.set c.tree_of-tree.result c.tree_of-tree.ensures c.if-node-tree.false in
     let step = elsewhere nodes l.left k c.loop-left-test.true l.invariant.within c.index-nodes-left.is (λ n. tree all n == tree all c.args.set) l.at l.upward.items l.others.items _ _ l.invariant.upward l.invariant.others
-        c.if-at-operator.false test in
+    c.if-at-operator.false test in
     record { within = omega arith; upward = step.0; others = step.1 }
 
 pub returns : goal.returns
