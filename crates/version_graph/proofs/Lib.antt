@@ -9,3 +9,4 @@ pub mod EvolveLemmas
 pub mod WalkLemmas
 pub mod ShedLemmas
 pub mod StayLemmas
+pub mod Example

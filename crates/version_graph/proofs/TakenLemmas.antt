@@ -1,5 +1,5 @@
 -- What goes out of a working set by name goes out by number.
-use Rattle.std.proofs.Common.{◌+◌, ◌<◌, take, get_or, length, ◌≡◌, ℕ, List, [], ◌∷◌, ◌++◌, Bool, true, false, not, cond, refl, sym, ap, ◌∙◌, subst, map, inl, inr, filter}
+use Rattle.std.proofs.Common.{filter_map, ◌+◌, ◌<◌, take, get_or, length, ◌≡◌, ℕ, List, [], ◌∷◌, ◌++◌, Bool, true, false, not, cond, refl, sym, ap, ◌∙◌, subst, map, inl, inr, filter}
 use Rattle.std.specs.Prelude.{◌==◌, ◌||◌, Option, Some, None, option_map, option_to_list}
 use Rattle.std.specs.Bool.{Decides}
 use Rattle.std.specs.List.{find, list_any}
@@ -174,3 +174,21 @@ node_right es k e before sources edges counted is set named ks kset ktree =
     let goal_at : Placed _ → Type 0 = λ f. (k.sources ≡ table_numbers (sources_of es f)) × (k.set ≡ table_numbers (set_after (working es f.parent) f)) × (k.tree ≡ tree_on es f) in
     let all : goal_at k.placed = subst goal_at (sym is) (ks ∙ taken_is, kset ∙ sym after, ktree) in
     record { sources = all.0; set = all.1; tree = all.2 }
+
+-- one heading more
+pub headings_more : {O : Type 0} (es : List (Placed O)) (ts : List ℕ) (i : ℕ) → i < length ts → filter_map (heading_of es) (take (i + 1) ts) ≡ filter_map (heading_of es) (take i ts) ++ option_to_list (heading_of es (get_or ts i 0))
+headings_more es ts i within =
+    ap (filter_map (heading_of es)) (take_more ts i 0 within)
+    ∙ filter_map-append (heading_of es) (take i ts) (get_or ts i 0 ∷ []) ∙ ap (λ (l : List Heading). filter_map (heading_of es) (take i ts) ++ l) (one (heading_of es (get_or ts i 0)))
+  where
+    one : (o : Option Heading) → Rattle.std.specs.List.cons_option o [] ≡ option_to_list o
+    one None = refl
+    one (Some n) = refl
+
+known_headings : {O : Type 0} (es : List (Placed O)) (set : List TableVersion) → Each (λ v. heading_of es v.number ≡ Some v.heading) set → filter_map (heading_of es) (table_numbers set) ≡ headings_of set
+known_headings es [] known = refl
+known_headings es (v ∷ set) known =
+    ap (λ (o : Option Heading). Rattle.std.specs.List.cons_option o (filter_map (heading_of es) (table_numbers set))) known.0 ∙ ap (λ (l : List Heading). v.heading ∷ l) (known_headings es set known.1)
+
+pub headings_found : {O : Type 0} (es : List (Placed O)) (ts : List ℕ) (w : ℕ) → AreEdges es → ts ≡ table_numbers (working es w) → filter_map (heading_of es) ts ≡ headings_of (working es w)
+headings_found es ts w edges is = ap (filter_map (heading_of es)) is ∙ known_headings es (working es w) (known_set es edges w)

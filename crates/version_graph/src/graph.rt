@@ -13,7 +13,8 @@ ghost use Rattle.version_graph.specs.Forest.{forest, told, walk as walk_lem};
 
 use crate::grow::evolve;
 use crate::look::{
-    edge_at, edge_of, heading_of, maker_of, set_named, sources_at, tables_at, version_tables,
+    edge_at, edge_of, heading_of, headings, maker_of, set_named, sources_at, tables_at,
+    version_tables,
 };
 use crate::node::{Last, Parts};
 use crate::shed::{doomed, drop_version};
@@ -149,6 +150,14 @@ impl<O> Graph<O> {
 }
 
 impl<O> Graph<O> {
+    /// The names and columns of the tables of a working set, in order: none where it is 0 or doesn't
+    /// live. It takes time in the number of live tables, for each table of the set.
+    pub fn headings(&self, alloc: Global, set: u32) -> Result<List<Heading>, Memory>
+        ensures { IfOk result (λ made. made ≡ headings_of (working self.now.edges set)) }
+    {
+        headings(alloc, self.parts.nodes.as_slice(), set)
+    }
+
     /// The walk from a live working set. It takes time in the number of live operators.
     pub fn walk(&self, alloc: Global, set: u32) -> Result<List<Step>, Memory>
         requires { In set (numbers self.now.edges) }

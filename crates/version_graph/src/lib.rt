@@ -1,5 +1,13 @@
 //! The graph of versions: which operators live, on which working sets they stand, which tables they
 //! make, and which working sets have a name.
+//!
+//! It promises the crates above that a `Graph` is its list of edges, its named working sets and the
+//! last numbers given, after every call and after every error (`specs/Edges.antt`); that `evolve`
+//! adds edges under the next numbers or refuses in its order (`specs/Evolve.antt`); that the walk of
+//! a write goes up to the root and then over the rest of the tree (`specs/Forest.antt`); and that a
+//! drop takes the operators that no name needs any longer (`specs/Dropped.antt`). It keeps of each
+//! edge its source tables, its working set and its tree, so that no look-up goes the way up. It
+//! knows nothing of what an operator does: `O` is any type.
 #![tactic(auto)]
 
 mod build;

@@ -1,17 +1,18 @@
 //! Look-ups among ascending nodes, and among versions.
-ghost use Rattle.std.specs.Prelude.{◌≡◌, map, length, slice_get, IfOk};
+ghost use Rattle.std.specs.Prelude.{◌≡◌, ◌++◌, map, length, slice_get, option_to_list, IfOk, OnOk};
 ghost use mathlib.Core.List.{reverse};
 ghost use Rattle.std.specs.Option.{option_copied, option_map};
 ghost use Rattle.version_graph.specs.Edges.{AreEdges, edge_of as edge_of_lem, sources_at as sources_at_lem, tables_at as tables_at_lem, heading_of as heading_of_lem, maker_of as maker_of_lem};
 ghost use Rattle.version_graph.specs.Kept.{AreRight, edges_of, node_of as node_of_lem, node_making as node_making_lem, heading_in as heading_in_lem};
 ghost use Rattle.version_graph.specs.Sets.{In, Each};
-ghost use Rattle.version_graph.specs.Tables.{table_numbers};
+ghost use Rattle.version_graph.specs.Tables.{headings_of, table_numbers};
 ghost use Rattle.version_graph.specs.Edges.{numbers, version_sets, working, set_named as set_named_lem};
 
 use crate::node::Node;
 use crate::{Heading, Placed};
 use indexmap::IndexMap;
-use par_base::Name;
+use par_base::{List, Memory, Name};
+use std::alloc::Global;
 
 /// The node of an operator.
 pub fn node_of<O>(nodes: &[Node<O>], number: u32) -> Option<&Node<O>>
@@ -150,4 +151,50 @@ pub fn tables_of_set<O>(nodes: &[Node<O>], set: u32) -> &[u32]
         Some(tables) => tables,
         None => &[],
     }
+}
+
+fn copy_names(alloc: Global, names: &[Name]) -> Result<List<Name>, Memory>
+    ensures { IfOk result (λ made. made ≡ names.now) }
+{
+    let mut made = List::new(alloc);
+    for name in names {
+        made.push(name.copy(alloc)?)?;
+    }
+    Ok(made)
+}
+
+fn copy_heading(alloc: Global, heading: &Heading) -> Result<Heading, Memory>
+    ensures { IfOk result (λ made. made ≡ heading.now) }
+{
+    Ok(Heading {
+        name: heading.name.copy(alloc)?,
+        columns: copy_names(alloc, heading.columns.as_slice())?,
+    })
+}
+
+fn push_heading(
+    alloc: Global,
+    made: &mut List<Heading>,
+    found: Option<&Heading>,
+) -> Result<(), Memory>
+    ensures { OnOk result (made.new ≡ made.old ++ option_to_list (option_copied found.entry)) }
+{
+    if let Some(heading) = found {
+        made.push(copy_heading(alloc, heading)?)?;
+    }
+    Ok(())
+}
+
+/// The headings of the tables of a working set, in order.
+pub fn headings<O>(alloc: Global, nodes: &[Node<O>], set: u32) -> Result<List<Heading>, Memory>
+    requires right { AreRight (reverse nodes.now) }
+    requires edges { AreEdges (edges_of nodes.now) }
+    ensures { IfOk result (λ made. made ≡ headings_of (working (edges_of nodes.now) set)) }
+{
+    let tables = tables_of_set(nodes, set);
+    let mut made = List::new(alloc);
+    for table in tables {
+        push_heading(alloc, &mut made, heading_of(nodes, *table))?;
+    }
+    Ok(made)
 }
