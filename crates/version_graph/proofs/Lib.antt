@@ -10,3 +10,4 @@ pub mod WalkLemmas
 pub mod ShedLemmas
 pub mod StayLemmas
 pub mod Example
+pub mod WalkLaws

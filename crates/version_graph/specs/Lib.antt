@@ -6,3 +6,4 @@ pub mod Kept
 pub mod Evolve
 pub mod Calls
 pub mod Dropped
+pub mod Laws

@@ -13,6 +13,7 @@
 mod build;
 mod graph;
 mod grow;
+mod laws;
 mod look;
 mod node;
 mod parts;
@@ -20,4 +21,5 @@ mod shed;
 mod walk;
 
 pub use graph::Graph;
+pub use laws::walks_are_in_order;
 pub use parts::{Edge, Heading, NotGraph, Placed, Step};

@@ -1,0 +1,26 @@
+-- Laws of the walk.
+use Rattle.std.specs.Prelude.{◌≡◌, ℕ, List, [], ◌∷◌}
+use Rattle.version_graph.specs.Sets.{In, Apart, Distinct, Each}
+use Rattle.version_graph.specs.Tables.{table_numbers}
+use Rattle.version_graph.specs.Edges.{AreEdges, working}
+use Rattle.version_graph.specs.Forest.{Crossing, forest, walk}
+use Rattle.version_graph.specs.declared.parts.Placed.{Placed}
+
+-- the crossing q changes nothing of p, and is another edge's
+pub record Leaves {O : Type 0} (p q : Crossing O) : Type 0 where
+  pub near : Apart p.near q.far
+  pub far : Apart p.far q.far
+  pub memory : p.number ≡ q.number → ⊥
+
+-- no crossing changes a table of one that stands before it, nor its own near side
+abbrev pub Ordered : {O : Type 0} → List (Crossing O) → Type 0
+Ordered [] = Unit {0}
+Ordered (p ∷ ps) = Distinct p.far × Apart p.near p.far × Each (Leaves p) ps × Ordered ps
+
+-- each walk is in order
+abbrev pub WalkInOrder : Type 0 → Type 0
+WalkInOrder O = (es : List (Placed O)) → AreEdges es → (w : ℕ) → Ordered (walk (forest es) w)
+
+-- a walk changes no table of the working set from which it goes
+abbrev pub WalkLeavesSet : Type 0 → Type 0
+WalkLeavesSet O = (es : List (Placed O)) → AreEdges es → (w : ℕ) → Each (λ p. Apart p.far (table_numbers (working es w))) (walk (forest es) w)
