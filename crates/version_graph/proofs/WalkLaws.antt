@@ -1,17 +1,17 @@
 -- A walk is in order, and leaves the written working set alone.
-use Rattle.std.specs.Prelude.{◌≡◌, ◌⊎◌, ℕ, ◌<◌, Bool, true, false, not, List, [], ◌∷◌, ◌++◌, cond, ◌==◌, map, length, option_to_list, Option, Some, None}
+use Rattle.std.specs.Prelude.{◌≡◌, ℕ, ◌<◌, Bool, true, false, not, List, [], ◌∷◌, ◌++◌, cond, ◌==◌, option_to_list, Option, Some, None}
 use Rattle.std.proofs.Common.{inl, inr, refl, sym, ap, ◌∙◌, subst, arith}
-use Rattle.std.proofs.lemmas.Bool.{false≢true, eqb-true, eq-eqb}
+use Rattle.std.proofs.lemmas.Bool.{false≢true}
 use Rattle.std.proofs.lemmas.List.{map-append}
 use Rattle.version_graph.specs.Sets.{In, Apart, Distinct, Within, Each}
 use Rattle.version_graph.specs.Tables.{TableVersion, table_numbers, headings_of, heading_names, taken, table_named}
-use Rattle.version_graph.specs.Edges.{AreEdges, Follows, is_in, numbers, working, set_after, made, made_by_edge, sources_of}
-use Rattle.version_graph.specs.Forest.{Link, Crossing, crossing, link, forest, minus, tables_in, up, rest, tree, walk}
+use Rattle.version_graph.specs.Edges.{AreEdges, is_in, numbers, working, set_after, made, made_by_edge}
+use Rattle.version_graph.specs.Forest.{Link, Crossing, crossing, forest, minus, tables_in, up, rest, tree, walk}
 use Rattle.version_graph.specs.Laws.{Leaves, Ordered}
 use Rattle.version_graph.specs.declared.parts.Placed.{Placed}
 use Rattle.version_graph.proofs.SetLemmas.{each_more, each_both, each_append, in_append, in_left, in_right, in_map, origin, is_in_true}
 use Rattle.version_graph.proofs.NameLemmas.{same_name}
-use Rattle.version_graph.proofs.TableLemmas.{in_filter, passes, numbers_made, rises_apart, tables_once, names_once, working_made}
+use Rattle.version_graph.proofs.TableLemmas.{in_filter, passes, numbers_made, rises_apart, tables_once, names_once}
 use Rattle.version_graph.proofs.TakenLemmas.{same_item, found_passes, passing_numbers}
 
 abbrev pub link_numbers : {O : Type 0} → List (Link O) → List ℕ
@@ -43,8 +43,8 @@ module _ {O : Type 0} where
   in_after : (es : List (Link O)) (e : Link O) (ws : List ℕ) (n : ℕ) → Within ws (link_targets es) → In n (minus ws e.sources ++ e.targets) → In n (link_targets (e ∷ es))
   in_after es e ws n h i =
       elim (in_append n (minus ws e.sources) e.targets i) as (λ _. In n (link_targets (e ∷ es))) [
-        inl a ↦ in_right n e.targets (link_targets es) (h n (in_filter (λ x. not (is_in x e.sources)) n ws a))
-      | inr b ↦ in_left n e.targets (link_targets es) b
+        | inl a ↦ in_right n e.targets (link_targets es) (h n (in_filter (λ x. not (is_in x e.sources)) n ws a))
+        | inr b ↦ in_left n e.targets (link_targets es) b
       ]
 
   pub tables_made : (es : List (Link O)) (w : ℕ) → Within (tables_in es w) (link_targets es)
@@ -52,8 +52,8 @@ module _ {O : Type 0} where
   tables_made (e ∷ es) w n i =
       let M : Bool → Type 0 = λ b. In n (cond b (minus (tables_in es e.parent) e.sources ++ e.targets) (tables_in es w)) → In n (link_targets (e ∷ es)) in
       (elim (w == e.number) as (λ b. M b) [
-        true ↦ λ j. in_after es e (tables_in es e.parent) n (tables_made es e.parent) j
-      | false ↦ λ j. in_right n e.targets (link_targets es) (tables_made es w n j)
+        | true ↦ λ j. in_after es e (tables_in es e.parent) n (tables_made es e.parent) j
+        | false ↦ λ j. in_right n e.targets (link_targets es) (tables_made es w n j)
       ]) i
 
   pub sources_older : (es : List (Link O)) (e : Link O) → Fits es e → Within e.sources (link_targets es)
@@ -107,8 +107,8 @@ module _ {O : Type 0} where
     apart_after : (p : Crossing O) → Of es p → Apart p.far (tables_in es e.parent) → Apart p.far (minus (tables_in es e.parent) e.sources ++ e.targets)
     apart_after p o a n i j =
         elim (in_append n (minus (tables_in es e.parent) e.sources) e.targets j) as (λ _. ⊥) [
-          inl k ↦ a n i (in_filter (λ x. not (is_in x e.sources)) n (tables_in es e.parent) k)
-        | inr k ↦ fit.fresh n k (o.far n i)
+          | inl k ↦ a n i (in_filter (λ x. not (is_in x e.sources)) n (tables_in es e.parent) k)
+          | inr k ↦ fit.fresh n k (o.far n i)
         ]
 
     back_of : Of (e ∷ es) (crossing true e)
@@ -120,8 +120,8 @@ module _ {O : Type 0} where
     back_apart : Apart e.sources (minus (tables_in es e.parent) e.sources ++ e.targets)
     back_apart n i j =
         elim (in_append n (minus (tables_in es e.parent) e.sources) e.targets j) as (λ _. ⊥) [
-          inl k ↦ out_minus n (tables_in es e.parent) e.sources k i
-        | inr k ↦ targets_apart es e fit n k i
+          | inl k ↦ out_minus n (tables_in es e.parent) e.sources k i
+          | inr k ↦ targets_apart es e fit n k i
         ]
 
     -- the edge stands on the way up
@@ -172,10 +172,10 @@ module _ {O : Type 0} where
         let M : Bool → Type 0 = λ b. Good (e ∷ es) (cond b (minus (tables_in es e.parent) e.sources ++ e.targets) (tables_in es w)) (cond b (crossing true e ∷ up es e.parent) (up es w)) (cond b (rest test es e.parent) (rest test es w ++ cond (test e.number) (crossing false e ∷ []) [])) in
         let N : Bool → Type 0 = λ b. Good (e ∷ es) (tables_in es w) (up es w) (rest test es w ++ cond b (crossing false e ∷ []) []) in
         elim (w == e.number) as (λ b. M b) [
-          true ↦ good_up e es forest.0 (up es e.parent) (rest test es e.parent) (good es forest.1 e.parent)
-        | false ↦ elim (test e.number) as (λ b. N b) [
-            true ↦ good_rest e es forest.0 (tables_in es w) (up es w) (rest test es w) (tables_made es w) (good es forest.1 w)
-          | false ↦ good_out e es forest.0 (tables_in es w) (up es w) (rest test es w) (good es forest.1 w)
+          | true ↦ good_up e es forest.0 (up es e.parent) (rest test es e.parent) (good es forest.1 e.parent)
+          | false ↦ elim (test e.number) as (λ b. N b) [
+            | true ↦ good_rest e es forest.0 (tables_in es w) (up es w) (rest test es w) (tables_made es w) (good es forest.1 w)
+            | false ↦ good_out e es forest.0 (tables_in es w) (up es w) (rest test es w) (good es forest.1 w)
           ]
         ]
 
@@ -193,8 +193,8 @@ named_in : (set : List TableVersion) (names : List (List ℕ)) (v : TableVersion
 named_in set [] v i = absurd i
 named_in set (name ∷ names) v i =
     elim (in_append v (option_to_list (table_named set name)) (taken set names) i) as (λ _. In v set × In v.heading.name (name ∷ names)) [
-      inl j ↦ first (table_named set name) refl j
-    | inr j ↦ (let r = named_in set names v j in (r.0, inr r.1))
+      | inl j ↦ first (table_named set name) refl j
+      | inr j ↦ (let r = named_in set names v j in (r.0, inr r.1))
     ]
   where
     first : (o : Option TableVersion) → table_named set name ≡ o → In v (option_to_list o) → In v set × In v.heading.name (name ∷ names)
@@ -206,18 +206,19 @@ named_in set (name ∷ names) v i =
 
 taken_once : (set : List TableVersion) (names : List (List ℕ)) → Distinct (table_numbers set) → Distinct names → Distinct (table_numbers (taken set names))
 taken_once set [] dn d = tt
-taken_once set (name ∷ names) dn d = next (table_named set name) refl
+taken_once set (name ∷ names) dn d = next (table_named set name) refl (taken_once set names dn d.1)
   where
-    next : (o : Option TableVersion) → table_named set name ≡ o → Distinct (table_numbers (option_to_list o ++ taken set names))
-    next None is = taken_once set names dn d.1
-    next (Some u) is =
-        let p = found_passes (λ (t : TableVersion). Rattle.std.specs.Str.bytes_eq t.heading.name name) set u is in
-        ((λ i.
-            let o = origin (λ (t : TableVersion). t.number) u.number (taken set names) i in
-            let r = named_in set names o.0 o.1 in
-            let same : u ≡ o.0 = same_item (λ (t : TableVersion). t.number) set u o.0 dn p.0 r.0 o.2 in
-            d.0 (subst (λ (n : List ℕ). In n names) (ap (λ (t : TableVersion). t.heading.name) (sym same) ∙ same_name u.heading.name name p.1) r.1)),
-         taken_once set names dn d.1)
+    next : (o : Option TableVersion) → table_named set name ≡ o → Distinct (table_numbers (taken set names)) → Distinct (table_numbers (option_to_list o ++ taken set names))
+    next None is rest = rest
+    next (Some u) is rest =
+        let p = found_passes (λ (t : TableVersion). Rattle.std.specs.Str.bytes_eq t.heading.name name) set u is in (
+          (λ i.
+              let o = origin (λ (t : TableVersion). t.number) u.number (taken set names) i in
+              let r = named_in set names o.0 o.1 in
+              let same : u ≡ o.0 = same_item (λ (t : TableVersion). t.number) set u o.0 dn p.0 r.0 o.2 in
+              d.0 (subst (λ (n : List ℕ). In n names) (ap (λ (t : TableVersion). t.heading.name) (sym same) ∙ same_name u.heading.name name p.1) r.1)),
+          rest,
+        )
 
 module _ {O : Type 0} where
   numbers_linked : (es : List (Placed O)) → link_numbers (forest es) ≡ numbers es
@@ -238,29 +239,31 @@ module _ {O : Type 0} where
       let set = working es e.parent in
       let out = table_numbers (taken set e.edge.sources) in
       elim (w == e.number) as (λ b. cond b (minus (tables_in (forest es) e.parent) out ++ e.tables) (tables_in (forest es) w) ≡ table_numbers (cond b (set_after set e) (working es w))) [
-        true ↦
-          ap (λ (l : List ℕ). minus l out ++ e.tables) (sets_linked es edges.1 e.parent)
-          ∙ ap (λ (l : List ℕ). l ++ e.tables) (sym (passing_numbers set e.edge.sources (tables_once es edges.1 e.parent) (names_once es edges.1 e.parent)))
-          ∙ ap (λ (l : List ℕ). table_numbers (Rattle.version_graph.specs.Tables.passing set e.edge.sources) ++ l) (sym (numbers_made e.tables e.edge.targets edges.0.counted))
-          ∙ sym (map-append (λ (t : TableVersion). t.number) (Rattle.version_graph.specs.Tables.passing set e.edge.sources) (made_by_edge e))
-      | false ↦ sets_linked es edges.1 w
+        | true ↦
+            ap (λ (l : List ℕ). minus l out ++ e.tables) (sets_linked es edges.1 e.parent)
+            ∙ ap (λ (l : List ℕ). l ++ e.tables) (sym (passing_numbers set e.edge.sources (tables_once es edges.1 e.parent) (names_once es edges.1 e.parent)))
+            ∙ ap (λ (l : List ℕ). table_numbers (Rattle.version_graph.specs.Tables.passing set e.edge.sources) ++ l) (sym (numbers_made e.tables e.edge.targets edges.0.counted))
+            ∙ sym (map-append (λ (t : TableVersion). t.number) (Rattle.version_graph.specs.Tables.passing set e.edge.sources) (made_by_edge e))
+        | false ↦ sets_linked es edges.1 w
       ]
 
   pub is_forest : (es : List (Placed O)) → AreEdges es → IsForest (forest es)
   is_forest [] edges = tt
   is_forest (e ∷ es) edges =
       let f = edges.0 in
-      let set = working es e.parent in
-      (record {
-         newest = λ n i. elim i as (λ _. n < e.number) [ inl z ↦ f.newest n (inl z) | inr j ↦ f.newest n (inr (subst (λ (l : List ℕ). In n l) (numbers_linked es) j)) ];
-         within = λ n i.
-             let o = origin (λ (t : TableVersion). t.number) n (taken set e.edge.sources) i in
-             let r = named_in set e.edge.sources o.0 o.1 in
-             subst (λ (l : List ℕ). In n l) (sym (sets_linked es edges.1 e.parent)) (subst (λ (k : ℕ). In k (table_numbers set)) (sym o.2) (in_map (λ (t : TableVersion). t.number) o.0 set r.0));
-         sources = taken_once set e.edge.sources (tables_once es edges.1 e.parent) f.fits.sources_once;
-         targets = rises_apart 0 e.tables f.rising;
-         fresh = λ n i j. let less = f.above n n (subst (λ (l : List ℕ). In n l) (targets_linked es edges.1) j) i in omega arith;
-       }, is_forest es edges.1)
+      let set = working es e.parent in (
+        record {
+          newest = λ n i. elim i as (λ _. n < e.number) [ inl z ↦ f.newest n (inl z) | inr j ↦ f.newest n (inr (subst (λ (l : List ℕ). In n l) (numbers_linked es) j)) ];
+          within = λ n i.
+              let o = origin (λ (t : TableVersion). t.number) n (taken set e.edge.sources) i in
+              let r = named_in set e.edge.sources o.0 o.1 in
+              subst (λ (l : List ℕ). In n l) (sym (sets_linked es edges.1 e.parent)) (subst (λ (k : ℕ). In k (table_numbers set)) (sym o.2) (in_map (λ (t : TableVersion). t.number) o.0 set r.0));
+          sources = taken_once set e.edge.sources (tables_once es edges.1 e.parent) f.fits.sources_once;
+          targets = rises_apart 0 e.tables f.rising;
+          fresh = λ n i j. let less = f.above n n (subst (λ (l : List ℕ). In n l) (targets_linked es edges.1) j) i in omega arith;
+        },
+        is_forest es edges.1,
+      )
 
   pub walk_in_order : (es : List (Placed O)) → AreEdges es → (w : ℕ) → Ordered (walk (forest es) w)
   walk_in_order es edges w = walk_ordered (λ n. tree (forest es) n == tree (forest es) w) (forest es) (is_forest es edges) w
@@ -268,4 +271,4 @@ module _ {O : Type 0} where
   pub walk_leaves_set : (es : List (Placed O)) → AreEdges es → (w : ℕ) → Each (λ p. Apart p.far (table_numbers (working es w))) (walk (forest es) w)
   walk_leaves_set es edges w =
       each_more (λ p. Apart p.far (tables_in (forest es) w)) (λ p. Apart p.far (table_numbers (working es w))) (λ p h. subst (λ (l : List ℕ). Apart p.far l) (sets_linked es edges w) h) (walk (forest es) w)
-          (walk_apart (λ n. tree (forest es) n == tree (forest es) w) (forest es) (is_forest es edges) w)
+      (walk_apart (λ n. tree (forest es) n == tree (forest es) w) (forest es) (is_forest es edges) w)

@@ -1,6 +1,6 @@
 -- Laws of the walk.
 use Rattle.std.specs.Prelude.{◌≡◌, ℕ, List, [], ◌∷◌}
-use Rattle.version_graph.specs.Sets.{In, Apart, Distinct, Each}
+use Rattle.version_graph.specs.Sets.{Apart, Distinct, Each}
 use Rattle.version_graph.specs.Tables.{table_numbers}
 use Rattle.version_graph.specs.Edges.{AreEdges, working}
 use Rattle.version_graph.specs.Forest.{Crossing, forest, walk}
