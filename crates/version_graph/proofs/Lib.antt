@@ -11,3 +11,6 @@ pub mod ShedLemmas
 pub mod StayLemmas
 pub mod Example
 pub mod WalkLaws
+pub mod PlaceLemmas
+pub mod FinishLemmas
+pub mod UnneededLemmas

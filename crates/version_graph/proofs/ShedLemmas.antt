@@ -71,7 +71,7 @@ module _ {O : Type 0} (nodes : List (Node O)) (left : ℕ) (k : Node O) (some : 
   abbrev below : List (Placed O)
   below = placed_in (reverse (take (left - 1) nodes))
 
-  opened : placed_in (reverse (take left nodes)) ≡ k.placed ∷ below
+  pub opened : placed_in (reverse (take left nodes)) ≡ k.placed ∷ below
   opened = ap (λ (l : List (Node O)). placed_in l) (turned_at nodes left k some within is)
 
   pub doom_kept : (needed more : List ℕ) (gone all : List ℕ) → gone ++ doomed needed (placed_in (reverse (take left nodes))) ≡ all → is_in k.placed.number needed ≡ true → more ≡ needed ++ k.placed.parent ∷ [] → gone ++ doomed more below ≡ all
@@ -89,7 +89,7 @@ module _ {O : Type 0} (nodes : List (Node O)) (left : ℕ) (k : Node O) (some : 
 
   -- ---- one pass, done
 
-  above : drop (left - 1) nodes ≡ k ∷ drop left nodes
+  pub above : drop (left - 1) nodes ≡ k ∷ drop left nodes
   above =
       let one : left - 1 + 1 ≡ left = omega arith in
       drop_more nodes (left - 1) k (omega arith) ∙ ap (λ (x : Node O). x ∷ drop (left - 1 + 1) nodes) (sym is) ∙ ap (λ (i : ℕ). k ∷ drop i nodes) one

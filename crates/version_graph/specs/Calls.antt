@@ -6,10 +6,12 @@ use Rattle.par_base.specs.declared.refusal.Refusal.{Refusal}
 use Rattle.par_base.specs.declared.refusal.Refusal.TheVariants.{VersionExists}
 use Rattle.version_graph.specs.Sets.{In, Each}
 use Rattle.version_graph.specs.Tables.{table_numbers, headings_of, FitInOrder}
-use Rattle.version_graph.specs.Edges.{AreEdges, numbers, working, made, set_named}
+use Rattle.version_graph.specs.Edges.{Drawn, AreEdges, numbers, working, made, set_named}
 use Rattle.version_graph.specs.Kept.{IsRight, edges_of}
 use Rattle.version_graph.specs.Evolve.{start_of, refused_start, refused_limit, limit_at, limit_passed, targets_in}
+use Rattle.version_graph.specs.Placing.{CanPlace, last_of}
 use Rattle.version_graph.specs.declared.parts.Edge.{Edge}
+use Rattle.version_graph.specs.declared.parts.NotGraph.{NotGraph}
 use Rattle.version_graph.specs.declared.parts.Placed.{Placed}
 use Rattle.version_graph.specs.declared.node.Node.{Node}
 use Rattle.version_graph.specs.declared.node.Last.{Last}
@@ -47,6 +49,12 @@ FindsRoom live last edges (Ok after) =
     (limit_passed live last.operator last.table edges ≡ None) × (after.operator ≡ last.operator + length edges) × (after.table ≡ last.table + targets_in edges) × (live + length edges ≤ 1024) × (after.operator < 2 ^ 32) × (after.table < 2 ^ 32)
 FindsRoom live last edges (Err (Refused r)) = refused_limit (limit_passed live last.operator last.table edges) ≡ Some r
 FindsRoom live last edges (Err Memory) = ⊥
+
+-- the last numbers after an edge, where it may be placed
+abbrev pub FindsPlace : {O : Type 0} → Drawn O → Placed O → Result Last (Fault NotGraph) → Type 0
+FindsPlace g e (Ok after) = CanPlace g e × (after.operator ≡ e.number) × (after.table ≡ last_of g.last_table e.tables)
+FindsPlace g e (Err (Refused r)) = CanPlace g e → ⊥
+FindsPlace g e (Err Memory) = ⊥
 
 abbrev pub FindsRoomAt : ℕ → Last → ℕ → Result Last (Fault Refusal) → Type 0
 FindsRoomAt live last targets (Ok after) = (limit_at live last.operator last.table targets ≡ None) × (after.operator ≡ last.operator + 1) × (after.table ≡ last.table + targets) × (live < 1024) × (after.operator < 2 ^ 32) × (after.table < 2 ^ 32)

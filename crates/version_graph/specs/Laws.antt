@@ -1,8 +1,10 @@
--- Laws of the walk.
-use Rattle.std.specs.Prelude.{◌≡◌, ℕ, List, [], ◌∷◌}
-use Rattle.version_graph.specs.Sets.{Apart, Distinct, Each}
+-- Laws of the walk and of drops.
+use Rattle.std.specs.Prelude.{◌≡◌, ◌↔◌, ℕ, List, [], ◌∷◌}
+use Rattle.version_graph.specs.Sets.{In, Apart, Distinct, Each}
 use Rattle.version_graph.specs.Tables.{table_numbers}
-use Rattle.version_graph.specs.Edges.{AreEdges, working}
+use Rattle.version_graph.specs.Edges.{AreEdges, Drawn, IsGraph, numbers, version_sets, working}
+use Rattle.version_graph.specs.Dropped.{doomed, dropped, other_versions}
+use Rattle.version_graph.specs.Finished.{HasBelow}
 use Rattle.version_graph.specs.Forest.{Crossing, forest, walk}
 use Rattle.version_graph.specs.declared.parts.Placed.{Placed}
 
@@ -24,3 +26,15 @@ WalkInOrder O = (es : List (Placed O)) → AreEdges es → (w : ℕ) → Ordered
 -- a walk changes no table of the working set from which it goes
 abbrev pub WalkLeavesSet : Type 0 → Type 0
 WalkLeavesSet O = (es : List (Placed O)) → AreEdges es → (w : ℕ) → Each (λ p. Apart p.far (table_numbers (working es w))) (walk (forest es) w)
+
+-- the working sets that other versions name
+abbrev pub other_sets : {O : Type 0} → Drawn O → List ℕ → List ℕ
+other_sets g name = version_sets (other_versions g.versions name)
+
+-- an operator is doomed exactly where no other version is at or below it
+abbrev pub DoomsUnneeded : Type 0 → Type 0
+DoomsUnneeded O = (g : Drawn O) → IsGraph g → (name : List ℕ) (n : ℕ) → In n (numbers g.edges) → In n (doomed (other_sets g name) g.edges) ↔ (HasBelow g.edges (other_sets g name) n → ⊥)
+
+-- an operator stays exactly where another version is at or below it
+abbrev pub DropLeavesNeeded : Type 0 → Type 0
+DropLeavesNeeded O = (g : Drawn O) → IsGraph g → (name : List ℕ) (n : ℕ) → In n (numbers (dropped g name).edges) ↔ HasBelow g.edges (other_sets g name) n

@@ -6,4 +6,6 @@ pub mod Kept
 pub mod Evolve
 pub mod Calls
 pub mod Dropped
+pub mod Finished
+pub mod Placing
 pub mod Laws

@@ -1,5 +1,5 @@
 //! The graph, and its look-ups.
-ghost use Rattle.std.specs.Prelude.{◌≡◌, ◌<◌, ◌==◌, ◌||◌, [], length, map, slice_get, IfOk};
+ghost use Rattle.std.specs.Prelude.{◌≡◌, ◌<◌, ◌==◌, ◌||◌, [], length, map, slice_get, IfOk, OnOk};
 ghost use Rattle.std.specs.Option.{option_copied, option_map};
 ghost use mathlib.Core.List.{reverse};
 ghost use Rattle.version_graph.specs.Tables.{table_numbers, headings_of};
@@ -8,6 +8,8 @@ ghost use Rattle.version_graph.specs.Evolve.{MayEvolve, Evolves};
 ghost use Rattle.version_graph.specs.Sets.{In};
 ghost use Rattle.std.specs.Option.{IsSome};
 ghost use Rattle.version_graph.specs.Dropped.{Dooms, dropped};
+ghost use Rattle.version_graph.specs.Finished.{IsFinished};
+ghost use Rattle.version_graph.specs.Placing.{EndsPlacing, FitsParent, PlacesEdge, PlacesVersion};
 ghost use Rattle.version_graph.specs.Edges.{numbers};
 ghost use Rattle.version_graph.specs.Forest.{forest, told, walk as walk_lem};
 
@@ -17,9 +19,10 @@ use crate::look::{
     version_tables,
 };
 use crate::node::{Last, Parts};
+use crate::place::{end_placing, place_edge, place_version};
 use crate::shed::{doomed, drop_version};
 use crate::walk::walk;
-use crate::{Edge, Heading, Placed, Step};
+use crate::{Edge, Heading, NotGraph, Placed, Step};
 use indexmap::IndexMap;
 use par_base::{Fault, List, Memory, Name, Refusal};
 use std::alloc::Global;
@@ -50,6 +53,7 @@ impl<O> Graph<O> {
         ensures edges { result.edges ≡ [] }
         ensures versions { result.versions ≡ [] }
         ensures numbers { result.last_operator ≡ 0 × result.last_table ≡ 0 }
+        ensures finished { IsFinished result }
     {
         Graph {
             parts: Parts {
@@ -187,7 +191,8 @@ impl<O: Drop> Graph<O> {
     ) -> Result<u32, Fault<Refusal>>
         requires some { 0 < length edges }
         requires fits { MayEvolve self.old (option_copied from) edges }
-        ensures { Evolves self.old name (option_copied from.entry) edges result self.new }
+        ensures answers { Evolves self.old name (option_copied from.entry) edges result self.new }
+        ensures finished { IsFinished self.old → IsFinished self.new }
     {
         evolve(self.alloc, &mut self.parts, name, from, edges)
     }
@@ -197,8 +202,34 @@ impl<O: Drop> Graph<O> {
     /// live operators.
     pub fn drop_version(&mut self, name: &Name)
         requires { IsSome (set_named_lem self.old.versions name.now) }
-        ensures { self.new ≡ dropped self.old name.now }
+        ensures dropped { self.new ≡ dropped self.old name.now }
+        ensures finished { IsFinished self.new }
     {
         drop_version(&mut self.parts, name);
+    }
+
+    /// Adds the edge under its numbers, which are then the last ones given. It takes time in the
+    /// number of tables, for each table of the parent's working set.
+    pub fn place_edge(&mut self, placed: Placed<O>) -> Result<(), Fault<NotGraph>>
+        requires fits { FitsParent self.old placed }
+        ensures { PlacesEdge self.old placed result self.new }
+    {
+        place_edge(self.alloc, &mut self.parts, placed)
+    }
+
+    /// Names a live working set without a name. It takes time in the number of live operators.
+    pub fn place_version(&mut self, name: Name, set: u32) -> Result<(), Fault<NotGraph>>
+        ensures { PlacesVersion self.old name set result self.new }
+    {
+        place_version(&mut self.parts, name, set)
+    }
+
+    /// Sets the last numbers given, where each operator has a named version at or below it. It
+    /// takes no memory, and time in the square of the number of live operators.
+    pub fn end_placing(&mut self, last_operator: u32, last_table: u32) -> Result<(), NotGraph>
+        ensures answers { EndsPlacing self.old last_operator last_table result self.new }
+        ensures finished { OnOk result (IsFinished self.new) }
+    {
+        end_placing(&mut self.parts, last_operator, last_table)
     }
 }

@@ -5,6 +5,7 @@ ghost use Rattle.std.specs.Option.{option_copied};
 ghost use Rattle.version_graph.specs.Sets.{In};
 ghost use Rattle.version_graph.specs.Edges.{AreEdges, numbers, set_named as set_named_lem};
 ghost use Rattle.version_graph.specs.Evolve.{numbers_after, placed_next, grown, MayEvolve, Evolves};
+ghost use Rattle.version_graph.specs.Finished.{IsFinished};
 ghost use Rattle.version_graph.specs.Kept.{AreRight, IsKept, drawn, edges_of};
 ghost use Rattle.version_graph.specs.Calls.{AddsNode, CanGrow, CanAdd, FindsStart, IsUnused, FindsRoom, FindsRoomAt};
 
@@ -16,8 +17,8 @@ use indexmap::IndexMap;
 use par_base::{Fault, List, Memory, Name, Refusal};
 use std::alloc::Global;
 
-// The most operators that live at once.
-const MOST_OPERATORS: usize = 1024;
+/// The most operators that live at once.
+pub const MOST_OPERATORS: usize = 1024;
 
 /// The working set from which an evolution starts.
 pub fn start_of(
@@ -251,8 +252,9 @@ pub fn name_set(versions: &mut IndexMap<Name, u32>, version: (Name, u32)) -> Res
     Ok(())
 }
 
+/// The number of live operators.
 #[tactic(auto, using(crate::proofs::EvolveLemmas::length_edges))]
-fn count<O>(nodes: &[Node<O>]) -> usize
+pub fn count<O>(nodes: &[Node<O>]) -> usize
     ensures { result ≡ length (edges_of nodes.now) }
 {
     nodes.len()
@@ -271,6 +273,7 @@ pub fn evolve<O: Drop>(
     requires fits { MayEvolve (drawn parts.old) (option_copied from) edges }
     ensures answers { Evolves (drawn parts.old) name (option_copied from.entry) edges result (drawn parts.new) }
     ensures kept { IsKept parts.new }
+    ensures finished { IsFinished (drawn parts.old) → IsFinished (drawn parts.new) }
 {
     let set = start_of(alloc, &parts.versions, from)?;
     let name = unused(&parts.versions, name)?;

@@ -17,9 +17,10 @@ mod laws;
 mod look;
 mod node;
 mod parts;
+mod place;
 mod shed;
 mod walk;
 
 pub use graph::Graph;
-pub use laws::walks_are_in_order;
+pub use laws::{drops_take_unneeded, walks_are_in_order};
 pub use parts::{Edge, Heading, NotGraph, Placed, Step};

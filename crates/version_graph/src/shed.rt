@@ -3,6 +3,7 @@ ghost use Rattle.std.specs.Prelude.{◌≡◌, ◌==◌, ◌||◌, ◌++◌, ◌
 ghost use mathlib.Core.List.{reverse};
 ghost use Rattle.version_graph.specs.Edges.{is_in, version_sets, set_named as set_named_lem};
 ghost use Rattle.version_graph.specs.Dropped.{Dooms, doomed as doomed_lem, dropped, other_versions};
+ghost use Rattle.version_graph.specs.Finished.{IsFinished};
 ghost use Rattle.std.specs.List.{list_any};
 ghost use Rattle.std.specs.Prelude.{slice_index_or, ◌-◌, ◌≤◌};
 ghost use Rattle.version_graph.specs.declared.node.Node.{Node as ANode};
@@ -22,7 +23,8 @@ fn sets_of(alloc: Global, versions: &IndexMap<Name, u32>) -> Result<Vec<u32>, Me
     Ok(sets)
 }
 
-fn has_set(versions: &IndexMap<Name, u32>, set: u32) -> bool
+/// Whether a version names the working set.
+pub fn has_set(versions: &IndexMap<Name, u32>, set: u32) -> bool
     ensures { result ≡ is_in set (version_sets versions.now.entries) }
 {
     versions.values().any(|named| set == *named)
@@ -89,8 +91,8 @@ fn is_needed<O>(above: &[Node<O>], versions: &IndexMap<Name, u32>, set: u32) -> 
     is_parent(above, set) || has_set(versions, set)
 }
 
-// Whether the working set of the last of the first nodes is needed, where those above stay.
-fn is_last_needed<O>(nodes: &[Node<O>], count: usize, versions: &IndexMap<Name, u32>) -> bool
+/// Whether the working set of the last of the first nodes is needed, where those above stay.
+pub fn is_last_needed<O>(nodes: &[Node<O>], count: usize, versions: &IndexMap<Name, u32>) -> bool
     requires some { 0 < count }
     requires within { count ≤ length nodes.now }
     ensures { (k : ANode O) → k ≡ slice_index_or nodes.now (count - 1) k
@@ -120,6 +122,7 @@ pub fn drop_version<O: Drop>(parts: &mut Parts<O>, name: &Name)
     requires kept { IsKept parts.old }
     ensures dropped { drawn parts.new ≡ dropped (drawn parts.old) name.now }
     ensures kept { IsKept parts.new }
+    ensures finished { IsFinished (drawn parts.new) }
 {
     parts.versions.shift_remove(name);
     shed(&mut parts.nodes, &parts.versions);
