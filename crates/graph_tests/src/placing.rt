@@ -44,17 +44,27 @@ fn place_name(
     }
 }
 
+fn expect_placing(
+    rt: &impl Abort,
+    alloc: Global,
+    graph: &mut Graph<u32>,
+    case: Case<'_>,
+    want: &str,
+) -> Result<(), Fail> {
+    assert_eq!(rt; place(alloc, graph, case)?, want);
+    Ok(())
+}
+
 fn placed_again(rt: &impl Abort, alloc: Global) -> Result<Graph<u32>, Fail> {
-    let cases: [Case<'_>; 4] = [
-        (1, 0, &[1], &[], &["t"]),
-        (2, 1, &[2], &["t"], &["s"]),
-        (3, 1, &[3], &["t"], &["u"]),
-        (4, 3, &[], &[], &[]),
-    ];
     let mut graph = Graph::new(alloc);
-    for case in cases {
-        assert_eq!(rt; place(alloc, &mut graph, case)?, "placed");
-    }
+    let first: Case<'_> = (1, 0, &[1], &[], &["t"]);
+    expect_placing(rt, alloc, &mut graph, first, "placed")?;
+    let second: Case<'_> = (2, 1, &[2], &["t"], &["s"]);
+    expect_placing(rt, alloc, &mut graph, second, "placed")?;
+    let third: Case<'_> = (3, 1, &[3], &["t"], &["u"]);
+    expect_placing(rt, alloc, &mut graph, third, "placed")?;
+    let fourth: Case<'_> = (4, 3, &[], &[], &[]);
+    expect_placing(rt, alloc, &mut graph, fourth, "placed")?;
     Ok(graph)
 }
 
@@ -79,17 +89,18 @@ fn a_graph_is_placed_again(rt: HostRuntime) -> Result<(), Fail> {
 fn edges_that_make_no_graph_are_refused(rt: HostRuntime) -> Result<(), Fail> {
     let alloc = rt.alloc();
     let mut graph = placed_again(&rt, alloc)?;
-    let cases: [Case<'_>; 6] = [
-        (4, 0, &[4], &[], &["v"]),
-        (5, 7, &[4], &[], &["v"]),
-        (5, 0, &[], &[], &["v"]),
-        (5, 0, &[4, 5], &[], &["v"]),
-        (5, 0, &[3], &[], &["v"]),
-        (5, 0, &[5, 5], &[], &["v", "w"]),
-    ];
-    for case in cases {
-        assert_eq!(rt; place(alloc, &mut graph, case)?, "no graph");
-    }
+    let used_number: Case<'_> = (4, 0, &[4], &[], &["v"]);
+    expect_placing(&rt, alloc, &mut graph, used_number, "no graph")?;
+    let unknown_parent: Case<'_> = (5, 7, &[4], &[], &["v"]);
+    expect_placing(&rt, alloc, &mut graph, unknown_parent, "no graph")?;
+    let too_few_tables: Case<'_> = (5, 0, &[], &[], &["v"]);
+    expect_placing(&rt, alloc, &mut graph, too_few_tables, "no graph")?;
+    let too_many_tables: Case<'_> = (5, 0, &[4, 5], &[], &["v"]);
+    expect_placing(&rt, alloc, &mut graph, too_many_tables, "no graph")?;
+    let used_table: Case<'_> = (5, 0, &[3], &[], &["v"]);
+    expect_placing(&rt, alloc, &mut graph, used_table, "no graph")?;
+    let equal_tables: Case<'_> = (5, 0, &[5, 5], &[], &["v", "w"]);
+    expect_placing(&rt, alloc, &mut graph, equal_tables, "no graph")?;
     assert_eq!(rt; (graph.live_operators(), graph.last_numbers()), (4, (4, 3)));
     assert_eq!(rt;
         place(alloc, &mut graph, (7, 0, &[5], &[], &["v"]))?,

@@ -5,9 +5,12 @@
 //! last numbers given, after every call and after every error (`specs/Edges.antt`); that `evolve`
 //! adds edges under the next numbers or refuses in its order (`specs/Evolve.antt`); that the walk of
 //! a write goes up to the root and then over the rest of the tree (`specs/Forest.antt`); and that a
-//! drop takes the operators that no name needs any longer (`specs/Dropped.antt`). It keeps of each
-//! edge its source tables, its working set and its tree, so that no look-up goes the way up. It
-//! knows nothing of what an operator does: `O` is any type.
+//! drop takes exactly the operators that no other name needs (`specs/Dropped.antt`). A graph that was
+//! read out is placed again with its numbers, edge by edge and name by name (`specs/Placing.antt`).
+//! In a finished graph each operator has a named version at or below it (`specs/Finished.antt`): new
+//! graphs are so, evolutions and drops leave them so, and the end of placing asks for it. It keeps
+//! of each edge its source tables, its working set and its tree, so that no look-up goes the way up.
+//! It knows nothing of what an operator does: `O` is any type.
 #![tactic(auto)]
 
 mod build;
