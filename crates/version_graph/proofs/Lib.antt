@@ -14,3 +14,4 @@ pub mod WalkLaws
 pub mod PlaceLemmas
 pub mod FinishLemmas
 pub mod UnneededLemmas
+pub mod TreeLaws

@@ -1,11 +1,11 @@
--- Laws of the walk and of drops.
-use Rattle.std.specs.Prelude.{◌≡◌, ◌↔◌, ℕ, List, [], ◌∷◌}
+-- Laws of walks and of drops.
+use Rattle.std.specs.Prelude.{◌≡◌, ◌↔◌, ℕ, List, [], ◌∷◌, map}
 use Rattle.version_graph.specs.Sets.{In, Apart, Distinct, Each}
 use Rattle.version_graph.specs.Tables.{table_numbers}
 use Rattle.version_graph.specs.Edges.{AreEdges, Drawn, IsGraph, numbers, version_sets, working}
 use Rattle.version_graph.specs.Dropped.{doomed, dropped, other_versions}
 use Rattle.version_graph.specs.Finished.{HasBelow}
-use Rattle.version_graph.specs.Forest.{Crossing, forest, walk}
+use Rattle.version_graph.specs.Forest.{Crossing, forest, tree, walk}
 use Rattle.version_graph.specs.declared.parts.Placed.{Placed}
 
 -- the crossing q changes nothing of p, and is another edge's
@@ -26,6 +26,14 @@ WalkInOrder O = (es : List (Placed O)) → AreEdges es → (w : ℕ) → Ordered
 -- a walk changes no table of the working set from which it goes
 abbrev pub WalkLeavesSet : Type 0 → Type 0
 WalkLeavesSet O = (es : List (Placed O)) → AreEdges es → (w : ℕ) → Each (λ p. Apart p.far (table_numbers (working es w))) (walk (forest es) w)
+
+-- the operators that a walk crosses
+abbrev pub crossed : {O : Type 0} → List (Crossing O) → List ℕ
+crossed {O} ps = map (λ (p : Crossing O). p.number) ps
+
+-- a walk crosses the operators of its own tree and no others
+abbrev pub WalkCoversTree : Type 0 → Type 0
+WalkCoversTree O = (es : List (Placed O)) → AreEdges es → (w n : ℕ) → In n (numbers es) → In n (crossed (walk (forest es) w)) ↔ (tree (forest es) n ≡ tree (forest es) w)
 
 -- the working sets that other versions name
 abbrev pub other_sets : {O : Type 0} → Drawn O → List ℕ → List ℕ

@@ -25,5 +25,5 @@ mod shed;
 mod walk;
 
 pub use graph::Graph;
-pub use laws::{drops_take_unneeded, walks_are_in_order};
+pub use laws::{drops_take_unneeded, walks_are_in_order, walks_cover_trees};
 pub use parts::{Edge, Heading, NotGraph, Placed, Step};
