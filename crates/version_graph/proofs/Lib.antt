@@ -1,0 +1,17 @@
+pub mod LookLemmas
+pub mod NameLemmas
+pub mod NodeLemmas
+pub mod SetLemmas
+pub mod TableLemmas
+pub mod TakenLemmas
+pub mod GrowLemmas
+pub mod EvolveLemmas
+pub mod WalkLemmas
+pub mod ShedLemmas
+pub mod StayLemmas
+pub mod Example
+pub mod WalkLaws
+pub mod PlaceLemmas
+pub mod FinishLemmas
+pub mod UnneededLemmas
+pub mod TreeLaws

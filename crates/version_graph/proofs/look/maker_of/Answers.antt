@@ -1,0 +1,12 @@
+use mathlib.Core.List.{reverse}
+use Rattle.std.proofs.Common.{sym, ap, ◌∙◌}
+use Rattle.std.specs.Prelude.{option_map}
+use Rattle.version_graph.proofs.NodeLemmas.{maker_of_node}
+use Rattle.version_graph.specs.declared.node.Node.{Node}
+use Rattle.version_graph.proofs.look.maker_of.Goals as goal
+
+pub returns-in-Some : goal.returns-in-Some
+returns-in-Some g c = ap (option_map (λ (k : Node _). k.placed.number)) c.in-Some.ensures ∙ sym (maker_of_node (reverse c.args.nodes.now) c.args.table)
+
+pub returns-in-None : goal.returns-in-None
+returns-in-None g c = ap (option_map (λ (k : Node _). k.placed.number)) c.in-None.ensures ∙ sym (maker_of_node (reverse c.args.nodes.now) c.args.table)

@@ -1,0 +1,11 @@
+pub mod Sets
+pub mod Tables
+pub mod Edges
+pub mod Forest
+pub mod Kept
+pub mod Evolve
+pub mod Calls
+pub mod Dropped
+pub mod Finished
+pub mod Placing
+pub mod Laws

@@ -1,0 +1,293 @@
+//! Evolutions: refusals in their order, and new edges under the next numbers.
+ghost use Rattle.std.specs.Prelude.{◌≡◌, ◌+◌, ◌<◌, ◌^◌, ◌≤◌, ◌∷◌, ◌++◌, [], None, length, take, IfOk, OnOk, OnErr};
+ghost use mathlib.Core.List.{reverse};
+ghost use Rattle.std.specs.Option.{option_copied};
+ghost use Rattle.version_graph.specs.Sets.{In};
+ghost use Rattle.version_graph.specs.Edges.{AreEdges, numbers, set_named as set_named_lem};
+ghost use Rattle.version_graph.specs.Evolve.{numbers_after, placed_next, grown, MayEvolve, Evolves};
+ghost use Rattle.version_graph.specs.Finished.{IsFinished};
+ghost use Rattle.version_graph.specs.Kept.{AreRight, IsKept, drawn, edges_of};
+ghost use Rattle.version_graph.specs.Calls.{AddsNode, CanGrow, CanAdd, FindsStart, IsUnused, FindsRoom, FindsRoomAt};
+
+use crate::build::node_on;
+use crate::look::set_named;
+use crate::node::{Last, Node, Parts};
+use crate::{Edge, Heading, Placed};
+use indexmap::IndexMap;
+use par_base::{Fault, List, Memory, Name, Refusal};
+use std::alloc::Global;
+
+/// The most operators that live at once.
+pub const MOST_OPERATORS: usize = 1024;
+
+/// The working set from which an evolution starts.
+pub fn start_of(
+    alloc: Global,
+    versions: &IndexMap<Name, u32>,
+    from: Option<&Name>,
+) -> Result<u32, Fault<Refusal>>
+    ensures { FindsStart versions.now.entries (option_copied from.entry) result }
+{
+    let Some(name) = from else {
+        return Ok(0);
+    };
+    match set_named(versions, name) {
+        Some(set) => Ok(set),
+        None => Err(Fault::Refused(Refusal::UnknownVersion {
+            version: name.copy(alloc)?,
+        })),
+    }
+}
+
+/// The name, where no live version has it.
+pub fn unused(versions: &IndexMap<Name, u32>, name: Name) -> Result<Name, Fault<Refusal>>
+    ensures { IsUnused versions.now.entries name result }
+{
+    match set_named(versions, &name) {
+        Some(_) => Err(Fault::Refused(Refusal::VersionExists { version: name })),
+        None => Ok(name),
+    }
+}
+
+fn too_many(limit: u64) -> Fault<Refusal>
+    ensures { result ≡ Fault.Refused (Refusal.TooManyOperators limit) }
+{
+    Fault::Refused(Refusal::TooManyOperators { limit })
+}
+
+// The numbers after one more edge with so many targets.
+fn room_at(live: usize, last: Last, targets: usize) -> Result<Last, Fault<Refusal>>
+    ensures { FindsRoomAt live last targets result }
+{
+    if live >= MOST_OPERATORS {
+        return Err(too_many(1024));
+    }
+    if last.operator == u32::MAX || targets as u64 > (u32::MAX - last.table) as u64 {
+        return Err(too_many(4294967295));
+    }
+    Ok(Last {
+        operator: last.operator + 1,
+        table: last.table + targets as u32,
+    })
+}
+
+/// The last numbers after all edges.
+pub fn room_for<O>(live: usize, last: Last, edges: &[Edge<O>]) -> Result<Last, Fault<Refusal>>
+    requires { live ≤ 1024 }
+    ensures { FindsRoom live last edges.now result }
+{
+    let mut after = last;
+    let mut count = live;
+    for edge in edges {
+        after = room_at(count, after, edge.targets.len())?;
+        count += 1;
+    }
+    Ok(after)
+}
+
+fn next_tables(alloc: Global, last: u32, targets: &[Heading]) -> Result<List<u32>, Memory>
+    requires { last + length targets.now < 2 ^ 32 }
+    ensures { IfOk result (λ made. made ≡ numbers_after last targets.now) }
+{
+    let mut made = List::new(alloc);
+    let mut next = last;
+    for _target in targets {
+        next += 1;
+        made.push(next)?;
+    }
+    Ok(made)
+}
+
+fn place_next<O: Drop>(
+    alloc: Global,
+    last: Last,
+    parent: u32,
+    edge: Edge<O>,
+) -> Result<Placed<O>, Memory>
+    requires operator { last.operator + 1 < 2 ^ 32 }
+    requires table { last.table + length edge.targets < 2 ^ 32 }
+    ensures { IfOk result (λ placed. placed ≡ placed_next parent last.operator last.table edge) }
+{
+    let tables = next_tables(alloc, last.table, edge.targets.as_slice())?;
+    Ok(Placed {
+        number: last.operator + 1,
+        parent,
+        tables,
+        edge,
+    })
+}
+
+/// Adds the node of an edge on the others.
+pub fn add_placed<O: Drop>(
+    alloc: Global,
+    nodes: &mut Vec<Node<O>>,
+    placed: Placed<O>,
+) -> Result<(), Memory>
+    requires right { AreRight (reverse nodes.old.items) }
+    requires edges { AreEdges (edges_of nodes.old.items) }
+    requires live { In placed.parent (0 ∷ numbers (edges_of nodes.old.items)) }
+    requires counted { length placed.tables ≡ length placed.edge.targets }
+    ensures ok { OnOk result (AddsNode nodes.old.items placed nodes.new.items) }
+    ensures err { OnErr result (nodes.new.items ≡ nodes.old.items) }
+{
+    let node = node_on(alloc, nodes.as_slice(), placed)?;
+    nodes.push(node)?;
+    Ok(())
+}
+
+fn add_edge<O: Drop>(
+    alloc: Global,
+    nodes: &mut Vec<Node<O>>,
+    last: Last,
+    parent: u32,
+    edge: Edge<O>,
+) -> Result<(), Memory>
+    requires right { AreRight (reverse nodes.old.items) }
+    requires can { CanAdd (edges_of nodes.old.items) parent last.operator last.table edge }
+    ensures ok { OnOk result (AddsNode nodes.old.items
+        (placed_next parent last.operator last.table edge) nodes.new.items) }
+    ensures err { OnErr result (nodes.new.items ≡ nodes.old.items) }
+{
+    let placed = place_next(alloc, last, parent, edge)?;
+    add_placed(alloc, nodes, placed)
+}
+
+// Adds all edges in order. After an error the first nodes are as before, and some may stand behind
+// them.
+fn add_edges<O: Drop>(
+    alloc: Global,
+    nodes: &mut Vec<Node<O>>,
+    start: Last,
+    set: u32,
+    edges: List<Edge<O>>,
+) -> Result<(), Memory>
+    requires right { AreRight (reverse nodes.old.items) }
+    requires can { CanGrow (edges_of nodes.old.items) set start.operator start.table edges }
+    ensures grown { OnOk result (edges_of nodes.new.items
+        ≡ grown (edges_of nodes.old.items) set start.operator start.table edges) }
+    ensures right { OnOk result (AreRight (reverse nodes.new.items)) }
+    ensures front { take (length nodes.old.items) nodes.new.items ≡ nodes.old.items }
+{
+    let mut last = start;
+    let mut parent = set;
+    let mut left = edges.into_vec();
+    left.as_mut_slice().reverse();
+    while let Some(edge) = left.pop() {
+        let targets = edge.targets.len();
+        add_edge(alloc, nodes, last, parent, edge)?;
+        last = Last {
+            operator: last.operator + 1,
+            table: last.table + targets as u32,
+        };
+        parent = last.operator;
+    }
+    Ok(())
+}
+
+/// Adds all edges in order, each on the working set before it.
+pub fn grow<O: Drop>(
+    alloc: Global,
+    nodes: &mut Vec<Node<O>>,
+    start: Last,
+    set: u32,
+    edges: List<Edge<O>>,
+) -> Result<(), Memory>
+    requires right { AreRight (reverse nodes.old.items) }
+    requires can { CanGrow (edges_of nodes.old.items) set start.operator start.table edges }
+    ensures grown { OnOk result (edges_of nodes.new.items
+        ≡ grown (edges_of nodes.old.items) set start.operator start.table edges) }
+    ensures right { OnOk result (AreRight (reverse nodes.new.items)) }
+    ensures front { take (length nodes.old.items) nodes.new.items ≡ nodes.old.items }
+    ensures err { OnErr result (nodes.new.items ≡ nodes.old.items) }
+{
+    let count = nodes.len();
+    match add_edges(alloc, nodes, start, set, edges) {
+        Ok(()) => Ok(()),
+        Err(error) => {
+            nodes.truncate(count);
+            Err(error)
+        }
+    }
+}
+
+/// Adds all edges in order, each on the working set before it, and names the last working set.
+pub fn grow_and_name<O: Drop>(
+    alloc: Global,
+    nodes: &mut Vec<Node<O>>,
+    versions: &mut IndexMap<Name, u32>,
+    start: Last,
+    set: u32,
+    edges: List<Edge<O>>,
+    version: (Name, u32),
+) -> Result<(), Memory>
+    requires right { AreRight (reverse nodes.old.items) }
+    requires can { CanGrow (edges_of nodes.old.items) set start.operator start.table edges }
+    requires new { set_named_lem versions.old.entries version.0 ≡ None }
+    ensures grown { OnOk result (edges_of nodes.new.items
+        ≡ grown (edges_of nodes.old.items) set start.operator start.table edges) }
+    ensures right { OnOk result (AreRight (reverse nodes.new.items)) }
+    ensures named { OnOk result (versions.new.entries ≡ versions.old.entries ++ version ∷ []) }
+    ensures err { OnErr result ((nodes.new.items ≡ nodes.old.items)
+        × (versions.new.entries ≡ versions.old.entries)) }
+{
+    let count = nodes.len();
+    grow(alloc, nodes, start, set, edges)?;
+    match name_set(versions, version) {
+        Ok(()) => Ok(()),
+        Err(error) => {
+            nodes.truncate(count);
+            Err(error)
+        }
+    }
+}
+
+/// Names a working set by a name that no version has.
+pub fn name_set(versions: &mut IndexMap<Name, u32>, version: (Name, u32)) -> Result<(), Memory>
+    requires { set_named_lem versions.old.entries version.0 ≡ None }
+    ensures ok { OnOk result (versions.new.entries ≡ versions.old.entries ++ version ∷ []) }
+    ensures err { OnErr result (versions.new.entries ≡ versions.old.entries) }
+{
+    let (name, number) = version;
+    versions.insert(name, number)?;
+    Ok(())
+}
+
+/// The number of live operators.
+#[tactic(auto, using(crate::proofs::EvolveLemmas::length_edges))]
+pub fn count<O>(nodes: &[Node<O>]) -> usize
+    ensures { result ≡ length (edges_of nodes.now) }
+{
+    nodes.len()
+}
+
+/// Adds the edges, each on the working set before it, and names the last working set.
+pub fn evolve<O: Drop>(
+    alloc: Global,
+    parts: &mut Parts<O>,
+    name: Name,
+    from: Option<&Name>,
+    edges: List<Edge<O>>,
+) -> Result<u32, Fault<Refusal>>
+    requires kept { IsKept parts.old }
+    requires some { 0 < length edges }
+    requires fits { MayEvolve (drawn parts.old) (option_copied from) edges }
+    ensures answers { Evolves (drawn parts.old) name (option_copied from.entry) edges result (drawn parts.new) }
+    ensures kept { IsKept parts.new }
+    ensures finished { IsFinished (drawn parts.old) → IsFinished (drawn parts.new) }
+{
+    let set = start_of(alloc, &parts.versions, from)?;
+    let name = unused(&parts.versions, name)?;
+    let after = room_for(count(parts.nodes.as_slice()), parts.last, edges.as_slice())?;
+    let version = (name, after.operator);
+    grow_and_name(
+        alloc,
+        &mut parts.nodes,
+        &mut parts.versions,
+        parts.last,
+        set,
+        edges,
+        version,
+    )?;
+    parts.last = after;
+    Ok(after.operator)
+}
