@@ -1,0 +1,5 @@
+pub mod Cells
+pub mod RowMeaning
+pub mod CellLemmas
+pub mod Tabulated
+pub mod RowwiseLaws
