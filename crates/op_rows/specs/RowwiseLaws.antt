@@ -161,3 +161,7 @@ flips r = refl
 
 pub rowwise_laws : (r : RowMeaning) → RowLaws r → Laws (rowwise r)
 rowwise_laws r laws = (half r laws.0, half (flip_row r) laws.1)
+
+-- the laws at one identifier hold of a flip as well
+pub flip_row_laws : (r : RowMeaning) → RowLaws r → RowLaws (flip_row r)
+flip_row_laws r laws = (laws.1, laws.0)

@@ -4,8 +4,10 @@
 //! It knows no single operator, and nothing of versions.
 #![tactic(auto)]
 
+mod flip_row;
 mod laws;
 mod row_operator;
 
+pub use flip_row::FlipRow;
 pub use laws::rowwise_keeps_the_laws;
-pub use row_operator::RowOperator;
+pub use row_operator::{Cells, RowOperator};
