@@ -58,51 +58,51 @@ pub has_put : (i : ℕ) (xs : List ℕ) (id : ℕ) → has_id (put_id i xs) id �
 has_put i [] id = refl
 has_put i (x ∷ xs) id =
     elim (cases_order i x) [
-      inl e ↦
-        let no : nat_lt i x ≡ false = grind (arith, nat_tests) in
-        let yes : (i == x) ≡ true = grind (arith, nat_tests) in
-        rw (no, yes, e) (cond_twice (x == id) (has_id xs id))
+      | inl e ↦
+          let no : nat_lt i x ≡ false = grind (arith, nat_tests) in
+          let yes : (i == x) ≡ true = grind (arith, nat_tests) in
+          rw (no, yes, e) (cond_twice (x == id) (has_id xs id))
       | inr (inl h) ↦
-        let yes : nat_lt i x ≡ true = grind (arith, nat_tests) in
-        rw yes refl
+          let yes : nat_lt i x ≡ true = grind (arith, nat_tests) in
+          rw yes refl
       | inr (inr h) ↦
-        let no : nat_lt i x ≡ false = grind (arith, nat_tests) in
-        let other : (i == x) ≡ false = grind (arith, nat_tests) in
-        rw (no, other, has_put i xs id) (cond_swap (x == id) (i == id) (has_id xs id))
+          let no : nat_lt i x ≡ false = grind (arith, nat_tests) in
+          let other : (i == x) ≡ false = grind (arith, nat_tests) in
+          rw (no, other, has_put i xs id) (cond_swap (x == id) (i == id) (has_id xs id))
     ]
 
 pub rise_put : (n i : ℕ) (xs : List ℕ) → n ≤ i → IdsRise n xs → IdsRise n (put_id i xs)
 rise_put n i [] h rise = (h, tt)
 rise_put n i (x ∷ xs) h rise =
     elim (cases_order i x) [
-      inl e ↦
-        let no : nat_lt i x ≡ false = grind (arith, nat_tests) in
-        let yes : (i == x) ≡ true = grind (arith, nat_tests) in
-        rw (no, yes) rise
+      | inl e ↦
+          let no : nat_lt i x ≡ false = grind (arith, nat_tests) in
+          let yes : (i == x) ≡ true = grind (arith, nat_tests) in
+          rw (no, yes) rise
       | inr (inl k) ↦
-        let yes : nat_lt i x ≡ true = grind (arith, nat_tests) in
-        rw yes (h, (omega arith, rise.1))
+          let yes : nat_lt i x ≡ true = grind (arith, nat_tests) in
+          rw yes (h, (omega arith, rise.1))
       | inr (inr k) ↦
-        let no : nat_lt i x ≡ false = grind (arith, nat_tests) in
-        let other : (i == x) ≡ false = grind (arith, nat_tests) in
-        rw (no, other) (rise.0, rise_put (x + 1) i xs (omega arith) rise.1)
+          let no : nat_lt i x ≡ false = grind (arith, nat_tests) in
+          let other : (i == x) ≡ false = grind (arith, nat_tests) in
+          rw (no, other) (rise.0, rise_put (x + 1) i xs (omega arith) rise.1)
     ]
 
 pub below_put : (n i : ℕ) (xs : List ℕ) → IsBelow n i → IdsBelow n xs → IdsBelow n (put_id i xs)
 below_put n i [] h all = (h, tt)
 below_put n i (x ∷ xs) h all =
     elim (cases_order i x) [
-      inl e ↦
-        let no : nat_lt i x ≡ false = grind (arith, nat_tests) in
-        let yes : (i == x) ≡ true = grind (arith, nat_tests) in
-        rw (no, yes) all
+      | inl e ↦
+          let no : nat_lt i x ≡ false = grind (arith, nat_tests) in
+          let yes : (i == x) ≡ true = grind (arith, nat_tests) in
+          rw (no, yes) all
       | inr (inl k) ↦
-        let yes : nat_lt i x ≡ true = grind (arith, nat_tests) in
-        rw yes (h, all)
+          let yes : nat_lt i x ≡ true = grind (arith, nat_tests) in
+          rw yes (h, all)
       | inr (inr k) ↦
-        let no : nat_lt i x ≡ false = grind (arith, nat_tests) in
-        let other : (i == x) ≡ false = grind (arith, nat_tests) in
-        rw (no, other) (all.0, below_put n i xs h all.1)
+          let no : nat_lt i x ≡ false = grind (arith, nat_tests) in
+          let other : (i == x) ≡ false = grind (arith, nat_tests) in
+          rw (no, other) (all.0, below_put n i xs h all.1)
     ]
 
 pub rise_in : (n : ℕ) (rows : Rows) (ids : List ℕ) → RiseFrom n rows → IdsRise 0 ids → IdsRise 0 (ids_in rows ids)
@@ -154,5 +154,6 @@ pub has_over : (ts : Tables) (ids : List ℕ) (id : ℕ) → has_id (ids_over ts
 has_over [] ids id h = inr h
 has_over (t ∷ ts) ids id h =
     elim (has_over ts (ids_in t ids) id h) [
-      inl here ↦ inl (inr here)
-      | inr rest ↦ elim (has_in t ids id rest) [ inl own ↦ inl (inl own) | inr old ↦ inr old ] ]
+      | inl here ↦ inl (inr here)
+      | inr rest ↦ elim (has_in t ids id rest) [ inl own ↦ inl (inl own) | inr old ↦ inr old ]
+    ]

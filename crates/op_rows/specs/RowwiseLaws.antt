@@ -70,12 +70,12 @@ module _ (r : RowMeaning) (h : RowHalf r) where
   far_at hs ht near old n pair well id =
       let long = h.fits_long hs ht pair.fits in
       at_from r.targets (ids_over near (ids_over old.source (ids_over old.target []))) (λ id. r.forward (cells_at near id) (cells_at old.source id) (cells_at old.target id)) id
-        (cells_long ht _ (far_well hs ht near old pair well id) ∙ long.1)
-        (λ out.
-          let a = none_here hs r.sources near _ id long.0 well out in
-          let b = none_here hs r.sources old.source _ id long.0 pair.source_of a.1 in
-          let c = none_here ht r.targets old.target _ id long.1 pair.target_of b.1 in
-          rw (a.0, b.0, c.0) (none_fwd hs ht pair.fits))
+      (cells_long ht _ (far_well hs ht near old pair well id) ∙ long.1)
+      (λ out.
+      let a = none_here hs r.sources near _ id long.0 well out in
+      let b = none_here hs r.sources old.source _ id long.0 pair.source_of a.1 in
+      let c = none_here ht r.targets old.target _ id long.1 pair.target_of b.1 in
+      rw (a.0, b.0, c.0) (none_fwd hs ht pair.fits))
 
   pub far_rise : (hs ht : List Heading) (near : Tables) (old : PairState) → IsPair (rowwise r) hs ht old → AreTablesOf hs near → IdsRise 0 (ids_over near (ids_over old.source (ids_over old.target [])))
   far_rise hs ht near old pair well =
@@ -86,11 +86,11 @@ module _ (r : RowMeaning) (h : RowHalf r) where
   aux_at hs ht p pair id =
       let long = h.fits_long hs ht pair.fits in
       at_from r.source_aux (ids_over p.source (ids_over p.target [])) (λ id. r.aux_at_source (cells_at p.source id) (cells_at p.target id)) id
-        (h.aux_long hs ht _ _ (pair_at hs ht p pair id))
-        (λ out.
-          let b = none_here hs r.sources p.source _ id long.0 pair.source_of out in
-          let c = none_here ht r.targets p.target _ id long.1 pair.target_of b.1 in
-          rw (b.0, c.0) h.aux_nothing)
+      (h.aux_long hs ht _ _ (pair_at hs ht p pair id))
+      (λ out.
+      let b = none_here hs r.sources p.source _ id long.0 pair.source_of out in
+      let c = none_here ht r.targets p.target _ id long.1 pair.target_of b.1 in
+      rw (b.0, c.0) h.aux_nothing)
 
   pub aux_rise : (hs ht : List Heading) (p : PairState) → IsPair (rowwise r) hs ht p → AllRise ((rowwise r).aux_at_source p)
   aux_rise hs ht p pair = all_rise_from r.source_aux _ _ (rise_ids p.source _ (all_rise hs p.source pair.source_of) (rise_ids p.target _ (all_rise ht p.target pair.target_of) tt))
@@ -101,15 +101,15 @@ module _ (r : RowMeaning) (h : RowHalf r) where
       let aux = (rowwise r).aux_at_source p in
       let long = h.fits_long hs ht pair.fits in
       let same : r.read_target (cells_at p.source id) (cells_at aux id) ≡ cells_at p.target id =
-        ap (λ (a : Cells). r.read_target (cells_at p.source id) a) (aux_at hs ht p pair id) ∙ h.recovered hs ht _ _ reads (pair_at hs ht p pair id) in
+      ap (λ (a : Cells). r.read_target (cells_at p.source id) a) (aux_at hs ht p pair id) ∙ h.recovered hs ht _ _ reads (pair_at hs ht p pair id) in
       let here = at_from r.targets (ids_over p.source (ids_over aux [])) (λ id. r.read_target (cells_at p.source id) (cells_at aux id)) id
-        (ap length same ∙ cells_long ht _ (cells_well ht p.target id pair.target_of) ∙ long.1)
-        (λ out.
-          let b = none_here hs r.sources p.source _ id long.0 pair.source_of out in
-          let c = (none_at aux [] id b.1).0 in
-          let k : length aux ≡ r.source_aux = sym (nones_long (length aux)) ∙ sym (ap length c) ∙ ap length (aux_at hs ht p pair id) ∙ h.aux_long hs ht _ _ (pair_at hs ht p pair id) in
-          let d : cells_at aux id ≡ nones r.source_aux = c ∙ ap nones k in
-          rw (b.0, d) (none_get hs ht reads pair.fits)) in
+      (ap length same ∙ cells_long ht _ (cells_well ht p.target id pair.target_of) ∙ long.1)
+      (λ out.
+      let b = none_here hs r.sources p.source _ id long.0 pair.source_of out in
+      let c = (none_at aux [] id b.1).0 in
+      let k : length aux ≡ r.source_aux = sym (nones_long (length aux)) ∙ sym (ap length c) ∙ ap length (aux_at hs ht p pair id) ∙ h.aux_long hs ht _ _ (pair_at hs ht p pair id) in
+      let d : cells_at aux id ≡ nones r.source_aux = c ∙ ap nones k in
+      rw (b.0, d) (none_get hs ht reads pair.fits)) in
       here ∙ same
 
   -- a row that the mapping gives is at an identifier that the near side or the old pair has
@@ -117,42 +117,44 @@ module _ (r : RowMeaning) (h : RowHalf r) where
   drawn_none near old n id has =
       let listed = has_from r.targets (ids_over near (ids_over old.source (ids_over old.target []))) (λ id. r.forward (cells_at near id) (cells_at old.source id) (cells_at old.target id)) id has in
       elim (has_over near (ids_over old.source (ids_over old.target [])) id listed) [
-        inl here ↦ inl here
+        | inl here ↦ inl here
         | inr rest ↦ elim (has_over old.source (ids_over old.target []) id rest) [
-          inl own ↦ inr (inl (inl own))
-          | inr last ↦ elim (has_over old.target [] id last) [ inl own ↦ inr (inl (inr own)) | inr none ↦ absurd (false≢true none) ] ] ]
+          | inl own ↦ inr (inl (inl own))
+          | inr last ↦ elim (has_over old.target [] id last) [ inl own ↦ inr (inl (inr own)) | inr none ↦ absurd (false≢true none) ]
+        ]
+      ]
 
   pub half : HalfLaws (rowwise r)
   half = record {
     kept = λ hs ht near old n may.
-      let pair = may.sound.pair in
-      record {
-        fits = pair.fits;
-        related = (refl, λ id. subst (λ (c : Cells). r.Related (cells_at near id) c) (sym (far_at hs ht near old n pair may.near_of id)) (h.related hs ht _ _ _ (pair_at hs ht old pair id) (cells_well hs near id may.near_of)));
-        source_of = may.near_of;
-        target_of = well_from r.targets ht _ _ (h.fits_long hs ht pair.fits).1 (far_rise hs ht near old pair may.near_of) (far_well hs ht near old pair may.near_of);
-      };
+        let pair = may.sound.pair in
+        record {
+          fits = pair.fits;
+          related = (refl, λ id. subst (λ (c : Cells). r.Related (cells_at near id) c) (sym (far_at hs ht near old n pair may.near_of id)) (h.related hs ht _ _ _ (pair_at hs ht old pair id) (cells_well hs near id may.near_of)));
+          source_of = may.near_of;
+          target_of = well_from r.targets ht _ _ (h.fits_long hs ht pair.fits).1 (far_rise hs ht near old pair may.near_of) (far_well hs ht near old pair may.near_of);
+        };
     still = λ hs ht old n may.
-      let pair = may.sound.pair in
-      let far : ((rowwise r).forward old.source old n).far ≡ old.target =
+        let pair = may.sound.pair in
+        let far : ((rowwise r).forward old.source old n).far ≡ old.target =
         ext_all _ old.target (all_rise_from r.targets _ _ (far_rise hs ht old.source old pair pair.source_of)) (all_rise ht old.target pair.target_of)
-          (λ id. far_at hs ht old.source old n pair pair.source_of id ∙ h.still hs ht _ _ (pair_at hs ht old pair id)) in
-      ap (λ (ts : Tables). record { far = ts; memory = []; next = n }) far ∙ ap (λ (m : Pairs). record { far = old.target; memory = m; next = n }) (sym pair.related.0);
+        (λ id. far_at hs ht old.source old n pair pair.source_of id ∙ h.still hs ht _ _ (pair_at hs ht old pair id)) in
+        ap (λ (ts : Tables). record { far = ts; memory = []; next = n }) far ∙ ap (λ (m : Pairs). record { far = old.target; memory = m; next = n }) (sym pair.related.0);
     below = λ hs ht near old n may. record {
       rises = omega arith;
       far = all_below_from n r.targets _ _ (below_ids n near _ may.near_sound (below_ids n old.source _ may.sound.source (below_ids n old.target [] may.sound.target tt)))
-        (λ id. h.below hs ht _ _ _ n (may_at hs ht near old n may id));
+          (λ id. h.below hs ht _ _ _ n (may_at hs ht near old n may id));
       memory = tt;
       drawn = drawn_none near old n;
     };
     recovered = λ hs ht p reads pair.
-      ext_all _ p.target (all_rise_from r.targets _ _ (rise_ids p.source _ (all_rise hs p.source pair.source_of) (rise_ids ((rowwise r).aux_at_source p) [] (aux_rise hs ht p pair) tt)))
+        ext_all _ p.target (all_rise_from r.targets _ _ (rise_ids p.source _ (all_rise hs p.source pair.source_of) (rise_ids ((rowwise r).aux_at_source p) [] (aux_rise hs ht p pair) tt)))
         (all_rise ht p.target pair.target_of) (read_at hs ht p reads pair);
     readable = h.readable;
     closed_more = h.closed_more;
     empty = λ hs ht fits.
-      let long = h.fits_long hs ht fits in
-      (refl, λ id. let a = empty_at hs id ∙ ap nones long.0 in let b = empty_at ht id ∙ ap nones long.1 in rw (a, b) h.empty);
+        let long = h.fits_long hs ht fits in
+        (refl, λ id. let a = empty_at hs id ∙ ap nones long.0 in let b = empty_at ht id ∙ ap nones long.1 in rw (a, b) h.empty);
   }
 
 -- the operator with its sides exchanged is the same at each identifier

@@ -13,18 +13,20 @@ from_head : (x : ℕ) (xs : List ℕ) (f : ℕ → Option (List Value)) (id : �
 from_head x xs f id None e rest =
     let M : Bool → Type 0 = λ b. (x == id) ≡ b → row_of (table_from xs f) id ≡ cond (cond b true (has_id xs id)) (f id) None in
     let both : M (x == id) = elim (x == id) as (λ b. M b) [
-      true ↦ λ h.
-        let same : None ≡ f id = sym e ∙ ap f (is_same x id h) in
-        let N : Bool → Type 0 = λ b. cond b (f id) None ≡ f id in
-        let out : N (has_id xs id) = elim (has_id xs id) as (λ b. N b) [ true ↦ refl | false ↦ same ] in
-        rest ∙ out
-      | false ↦ λ h. rest ] in
+      | true ↦ λ h.
+          let same : None ≡ f id = sym e ∙ ap f (is_same x id h) in
+          let N : Bool → Type 0 = λ b. cond b (f id) None ≡ f id in
+          let out : N (has_id xs id) = elim (has_id xs id) as (λ b. N b) [ true ↦ refl | false ↦ same ] in
+          rest ∙ out
+      | false ↦ λ h. rest
+    ] in
     both refl
 from_head x xs f id (Some row) e rest =
     let M : Bool → Type 0 = λ b. (x == id) ≡ b → cond b (Some row) (row_of (table_from xs f) id) ≡ cond (cond b true (has_id xs id)) (f id) None in
     let both : M (x == id) = elim (x == id) as (λ b. M b) [
-      true ↦ λ h. sym e ∙ ap f (is_same x id h)
-      | false ↦ λ h. rest ] in
+      | true ↦ λ h. sym e ∙ ap f (is_same x id h)
+      | false ↦ λ h. rest
+    ] in
     both refl
 
 pub row_from : (ids : List ℕ) (f : ℕ → Option (List Value)) (id : ℕ) → row_of (table_from ids f) id ≡ cond (has_id ids id) (f id) None
@@ -112,15 +114,17 @@ pub well_from : (k : ℕ) (ws : List Heading) (ids : List ℕ) (f : ℕ → Cell
 well_from zero [] ids f e rise h = tt
 well_from (suc k) [] ids f e rise h = absurd (omega arith)
 well_from zero (w ∷ ws) ids f e rise h = absurd (omega arith)
-well_from (suc k) (w ∷ ws) ids f e rise h =
-    ((rise_from 0 ids (λ id. first_cell (f id)) rise, wide_from (length w.columns) ids (λ id. first_cell (f id)) (λ id. first_well w ws (f id) (h id))),
-     well_from k ws ids (λ id. other_cells (f id)) (omega arith) rise (λ id. others_well w ws (f id) (h id)))
+well_from (suc k) (w ∷ ws) ids f e rise h = (
+  (rise_from 0 ids (λ id. first_cell (f id)) rise, wide_from (length w.columns) ids (λ id. first_cell (f id)) (λ id. first_well w ws (f id) (h id))),
+  well_from k ws ids (λ id. other_cells (f id)) (omega arith) rise (λ id. others_well w ws (f id) (h id)),
+)
 
 pub all_below_from : (n k : ℕ) (ids : List ℕ) (f : ℕ → Cells) → IdsBelow n ids → ((id : ℕ) → CellsSound n (f id)) → TablesSound n (tables_from k ids f)
 all_below_from n zero ids f b h = tt
-all_below_from n (suc k) ids f b h =
-    (below_from n ids (λ id. first_cell (f id)) b (λ id. first_below n (f id) (h id)),
-     all_below_from n k ids (λ id. other_cells (f id)) b (λ id. others_below n (f id) (h id)))
+all_below_from n (suc k) ids f b h = (
+  below_from n ids (λ id. first_cell (f id)) b (λ id. first_below n (f id) (h id)),
+  all_below_from n k ids (λ id. other_cells (f id)) b (λ id. others_below n (f id) (h id)),
+)
 
 -- what tables have at an identifier is as the tables are
 pub all_rise : (ws : List Heading) (ts : Tables) → AreTablesOf ws ts → AllRise ts
