@@ -1,4 +1,4 @@
--- One operator after another: the target of the first is the source of the second.
+-- One operator after another: the target of the first is the source of the second. Here hm are the headings of the middle side.
 use Rattle.std.specs.Prelude.{◌≡◌, ℕ, ◌≤◌, List, true, Result, Ok, Err, Option, Some, None}
 use Rattle.par_base.specs.declared.fault.Fault.{Fault}
 use Rattle.par_base.specs.declared.fault.Fault.TheVariants.{Refused, Memory as OutOfMemory}

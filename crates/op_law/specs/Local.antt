@@ -1,5 +1,5 @@
 -- The law of operators that treat each identifier by itself.
-use Rattle.std.specs.Prelude.{◌≡◌, ℕ, Bool, List, [], ◌∷◌, map, if◌then◌else◌}
+use Rattle.std.specs.Prelude.{◌≡◌, ℕ, Bool, true, List, [], ◌∷◌, map, if◌then◌else◌}
 use Rattle.row_store.specs.Rows.{Rows}
 use Rattle.op_law.specs.Tables.{Tables, Heading}
 use Rattle.op_law.specs.Meaning.{Meaning, PairState, flip}
@@ -25,7 +25,7 @@ pub record HalfLocal (m : Meaning) : Type 0 where
   pub draws_none : (hs ht : List Heading) (near : Tables) (old : PairState) (n : ℕ) → MayMap m hs ht near old n → (m.forward near old n).next ≡ n
   pub forward : (test : ℕ → Bool) (hs ht : List Heading) (near : Tables) (old : PairState) (n : ℕ) → MayMap m hs ht near old n → (m.forward (only test near) (pair_only test old) n).far ≡ only test (m.forward near old n).far
   pub aux : (test : ℕ → Bool) (hs ht : List Heading) (p : PairState) → IsPair m hs ht p → m.aux_at_source (pair_only test p) ≡ only test (m.aux_at_source p)
-  pub read : (test : ℕ → Bool) (hs ht : List Heading) (p : PairState) → IsPair m hs ht p → m.read_target (only test p.source) (only test (m.aux_at_source p)) p.memory ≡ only test (m.read_target p.source (m.aux_at_source p) p.memory)
+  pub read : (test : ℕ → Bool) (hs ht : List Heading) (p : PairState) → m.reads_target ≡ true → IsPair m hs ht p → m.read_target (only test p.source) (only test (m.aux_at_source p)) p.memory ≡ only test (m.read_target p.source (m.aux_at_source p) p.memory)
 
 -- the law both ways
 abbrev pub IsLocal : Meaning → Type 0

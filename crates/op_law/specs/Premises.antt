@@ -1,4 +1,4 @@
--- Related pairs, when a pair is sound, and what the laws suppose.
+-- Related pairs, when a pair is sound, and what the laws suppose. Here hs are the headings of the sources, and ht those of the targets.
 use Rattle.std.specs.Prelude.{◌≡◌, ℕ, List}
 use Rattle.id_memory.specs.Pairs.{Pairs}
 use Rattle.op_law.specs.Tables.{Tables, Heading, AreTablesOf}

@@ -2,4 +2,4 @@ mod ChangeLemmas
 mod OneTable
 mod PassLemmas
 mod PlaceLemmas
-mod UndoLemmas
+pub mod UndoLemmas

@@ -1,0 +1,28 @@
+-- Which rows a rename admits.
+use Rattle.std.proofs.Common.{◌≡◌, [], ◌∷◌, length, Some, refl, sym, subst, arith}
+use Rattle.op_rows.specs.Cells.{Cells, AreCellsOf}
+use Rattle.op_rows.specs.RowMeaning.{flip_row}
+use Rattle.op_rows.specs.RowCalls.{AdmitsRows}
+use Rattle.op_column.specs.Rename.{rename, same_wide}
+
+no_cells : (cs : Cells) → length cs ≡ 0 → cs ≡ []
+no_cells [] h = refl
+no_cells (c ∷ cs) h = absurd (omega arith)
+
+pub admits : (near far aux : Cells) → far ≡ near → length aux ≡ 0 → AdmitsRows rename near aux (Some far)
+admits near far aux same none = (
+  same,
+  λ hs ht fits near_of. record {
+    pair = record { fits = fits; related = sym same; source_of = near_of; target_of = subst (λ (cs : Cells). AreCellsOf ht cs) (sym same) (same_wide hs ht near fits.2 near_of) };
+    aux_is = no_cells aux none;
+  },
+)
+
+pub admits_back : (near far aux : Cells) → far ≡ near → length aux ≡ 0 → AdmitsRows (flip_row rename) near aux (Some far)
+admits_back near far aux same none = (
+  same,
+  λ hs ht fits near_of. record {
+    pair = record { fits = fits; related = same; source_of = near_of; target_of = subst (λ (cs : Cells). AreCellsOf ht cs) (sym same) (same_wide hs ht near (sym fits.2) near_of) };
+    aux_is = no_cells aux none;
+  },
+)

@@ -1,0 +1,5 @@
+use Rattle.op_rows.proofs.LocalLemmas.{rowwise_local}
+use Rattle.op_rows.proofs.laws.rowwise_is_local.Goals as goal
+
+pub returns : goal.returns
+returns g c operator = rowwise_local (g.R.RowOperator.row_meaning operator) (g.met.R.RowOperator.row_laws operator)

@@ -1,0 +1,6 @@
+pub mod Cells
+pub mod RowMeaning
+pub mod RowCalls
+pub mod CellLemmas
+pub mod Tabulated
+pub mod RowwiseLaws

@@ -1,0 +1,17 @@
+//! Laws of operators that treat each identifier by itself. The functions do nothing: their
+//! contracts are the laws.
+ghost use Rattle.op_law.specs.Laws.{Laws};
+ghost use Rattle.op_law.specs.Local.{IsLocal};
+ghost use Rattle.op_rows.specs.RowMeaning.{rowwise};
+
+use crate::RowOperator;
+
+/// The laws at one identifier give the laws of tables.
+pub fn rowwise_keeps_the_laws<R: RowOperator>()
+    ensures { (operator : R) → Laws (rowwise (R.row_meaning operator)) }
+{}
+
+/// What is restricted to some identifiers gives what is restricted to them.
+pub fn rowwise_is_local<R: RowOperator>()
+    ensures { (operator : R) → IsLocal (rowwise (R.row_meaning operator)) }
+{}
