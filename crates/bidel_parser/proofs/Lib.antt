@@ -8,3 +8,5 @@ pub mod StatementLaws
 pub mod ReadSteps
 pub mod ParsingLaws
 pub mod ScriptLaws
+pub mod TextLaws
+pub mod TextLengths

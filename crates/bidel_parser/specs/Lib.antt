@@ -3,4 +3,5 @@ pub mod Views
 pub mod Operators
 pub mod Statements
 pub mod Parsing
+pub mod Texts
 pub mod Laws

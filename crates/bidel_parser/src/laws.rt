@@ -1,6 +1,7 @@
 //! Laws of statements and scripts, each the contract of a function that does nothing.
 
 ghost use Rattle.bidel_parser.specs.Laws.{EmptyScript, FaultFollows, FaultStays, FrontLeads, FrontPrecedes, FrontStays, NoScript, OneFront};
+ghost use Rattle.bidel_parser.specs.Texts.{TextsAreSaid, TextsAreWithin};
 
 /// Two statements at the front whose end is fixed are one.
 pub fn front_is_one()
@@ -40,4 +41,11 @@ pub fn fault_stays()
 /// The first fault behind a front is the first fault of all.
 pub fn fault_follows_front()
     ensures { FaultFollows }
+{}
+
+/// Each text of a statement is the value of one of its tokens and no longer than it; so where each
+/// of these has at most so many bytes, so has each text.
+pub fn texts_are_no_longer()
+    ensures said { TextsAreSaid }
+    ensures within { TextsAreWithin }
 {}

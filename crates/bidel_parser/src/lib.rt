@@ -6,8 +6,8 @@
 //!
 //! To the crates above it promises, of any tokens and whether or not more may come (`specs/Parsing.antt`): a whole statement comes
 //! exactly where one stands at the front and its end is fixed, `More` only where no statement stands there yet and a script begins
-//! so, and a fault at the first token with which no script goes on. Its laws (`laws`) say how a script is made of such fronts.
-//! It knows nothing of what statements mean.
+//! so, and a fault at the first token with which no script goes on. Its laws (`laws`) say how a script is made of such fronts, and
+//! that the texts of a statement (`specs/Texts.antt`) are no longer than its tokens. It knows nothing of what statements mean.
 #![tactic(auto)]
 
 mod choices;
@@ -24,7 +24,7 @@ mod tables;
 
 pub use laws::{
     fault_follows_front, fault_stays, front_is_one, front_leads_script, front_precedes_script,
-    front_stays, no_front_is_no_script, no_tokens_are_no_statements,
+    front_stays, no_front_is_no_script, no_tokens_are_no_statements, texts_are_no_longer,
 };
 pub use parse::parse_statement;
 pub use statement::{Assignment, Branch, KeyText, OpText, Parsed, Statement, Syntax, TableName};

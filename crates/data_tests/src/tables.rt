@@ -9,14 +9,16 @@ use std::alloc::Global;
 use std::process::Abort;
 use std::test::Fail;
 
+fn row_of_number(alloc: Global, number: i64) -> Result<Row, Memory> {
+    let mut row = List::new(alloc);
+    row.push(Value::Int(number))?;
+    Ok(row)
+}
+
 fn row_of_one(alloc: Global, number: Option<i64>) -> Result<Option<Row>, Memory> {
     match number {
         None => Ok(None),
-        Some(number) => {
-            let mut row = List::new(alloc);
-            row.push(Value::Int(number))?;
-            Ok(Some(row))
-        }
+        Some(number) => Ok(Some(row_of_number(alloc, number)?)),
     }
 }
 
@@ -102,6 +104,14 @@ fn two_rows(alloc: Global) -> Result<Table, Memory> {
     Ok(table)
 }
 
+/// The table with the rows 10 at 1 and 30 at 3, each pushed behind the others.
+fn pushed_rows(alloc: Global) -> Result<Table, Memory> {
+    let mut table = Table::new(alloc);
+    table.push(1, row_of_number(alloc, 10)?)?;
+    table.push(3, row_of_number(alloc, 30)?)?;
+    Ok(table)
+}
+
 const ROWS: [(u64, i64); 2] = [(1, 10), (3, 30)];
 
 #[test]
@@ -110,6 +120,14 @@ fn a_copied_table_is_equal(rt: HostRuntime) -> Result<(), Fail> {
     expect_rows(&rt, &table, ROWS.as_slice())?;
     let copy = table.copy()?;
     expect_rows(&rt, &copy, ROWS.as_slice())
+}
+
+#[test]
+fn pushed_rows_are_the_table(rt: HostRuntime) -> Result<(), Fail> {
+    let table = pushed_rows(rt.alloc())?;
+    expect_rows(&rt, &table, ROWS.as_slice())?;
+    assert_eq!(rt; table.as_slice().len(), 2);
+    Ok(())
 }
 
 #[test]

@@ -1,6 +1,8 @@
 //! The engine: one event after the other.
 ghost use Rattle.std.specs.Prelude.{◌≡◌, [], map, OnErr, IfOk};
+ghost use Rattle.expr_lang.specs.Operations.{text_limit};
 ghost use Rattle.bidel_parser.specs.Views.{statement_view, op_view};
+ghost use Rattle.bidel_parser.specs.Texts.{TextsWithin};
 ghost use Rattle.engine_core.specs.Act.{act, acted, acted_evolve, acted_insert, acted_read, acted_select, told};
 ghost use Rattle.engine_core.specs.Kept.{Answers, state_of, seen_state, empty_state};
 
@@ -73,9 +75,10 @@ impl Engine {
         }
     }
 
-    /// Carries out one statement of a session, and answers the model's reply or refusal. After an
-    /// error the state is as it was. An INSERT takes time in the number of values of all tables, a
-    /// CREATE SCHEMA VERSION in that of the new ones, a SELECT in that of its table.
+    /// Carries out one statement of a session, whose texts have at most 65,536 bytes, and answers the
+    /// model's reply or refusal. After an error the state is as it was. An INSERT takes time in the
+    /// number of values of all tables, a CREATE SCHEMA VERSION in that of the new ones, a SELECT in
+    /// that of its table.
     pub fn event<L: Ledger>(
         &mut self,
         alloc: Global,
@@ -83,6 +86,7 @@ impl Engine {
         statement: Statement,
         steps: &mut Steps<L>,
     ) -> Result<Reply, Fault<Refusal>>
+        requires texts { TextsWithin text_limit (statement_view statement) }
         ensures answers { Answers (act (state_of self.old) (statement_view statement)) result
             (state_of self.new) }
         ensures same { OnErr result (state_of self.new ≡ state_of self.old) }

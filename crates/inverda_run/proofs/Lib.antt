@@ -10,3 +10,4 @@ pub mod FrontLemmas
 pub mod RunLemmas
 pub mod EndLemmas
 pub mod TextLemmas
+pub mod TextLimits

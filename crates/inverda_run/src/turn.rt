@@ -1,7 +1,9 @@
 //! One statement: parsed, carried out and answered.
 ghost use Rattle.std.specs.Prelude.{◌≡◌, ◌≤◌, IfOk, OnOk};
 ghost use Rattle.bidel_lex.specs.Tokens.{AreTokens};
+ghost use Rattle.expr_lang.specs.Operations.{text_limit};
 ghost use Rattle.bidel_parser.specs.Views.{statement_view};
+ghost use Rattle.bidel_parser.specs.Texts.{TextsWithin};
 ghost use Rattle.engine_core.specs.Act.{act};
 ghost use Rattle.engine_core.specs.Kept.{state_of};
 ghost use Rattle.inverda_run.specs.Output.{next_state, text_of};
@@ -41,6 +43,7 @@ fn answer<L: Ledger>(
     statement: Statement,
     steps: &mut Steps<L>,
 ) -> Result<Text, Memory>
+    requires { TextsWithin text_limit (statement_view statement) }
     ensures text { IfOk result (λ text.
         text ≡ text_of (act (state_of engine.old) (statement_view statement))) }
     ensures next { OnOk result (state_of engine.new

@@ -1,1 +1,5 @@
+mod OneTableLemmas
 mod RenameLemmas
+mod TableLemmas
+mod AddColumnLemmas
+mod ColumnKeptLemmas

@@ -1,13 +1,10 @@
 -- Which rows a rename admits.
-use Rattle.std.proofs.Common.{◌≡◌, [], ◌∷◌, length, Some, refl, sym, subst, arith}
+use Rattle.std.proofs.Common.{◌≡◌, length, Some, sym, subst}
 use Rattle.op_rows.specs.Cells.{Cells, AreCellsOf}
 use Rattle.op_rows.specs.RowMeaning.{flip_row}
 use Rattle.op_rows.specs.RowCalls.{AdmitsRows}
 use Rattle.op_column.specs.Rename.{rename, same_wide}
-
-no_cells : (cs : Cells) → length cs ≡ 0 → cs ≡ []
-no_cells [] h = refl
-no_cells (c ∷ cs) h = absurd (omega arith)
+use Rattle.op_column.proofs.OneTableLemmas.{no_cells}
 
 pub admits : (near far aux : Cells) → far ≡ near → length aux ≡ 0 → AdmitsRows rename near aux (Some far)
 admits near far aux same none = (

@@ -1,2 +1,3 @@
 pub mod SoundLemmas
+pub mod SoundTermLemmas
 pub mod ChainLemmas

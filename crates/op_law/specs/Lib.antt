@@ -1,5 +1,6 @@
 pub mod Tables
 pub mod Sound
+pub mod SoundTerms
 pub mod Identifiers
 pub mod Meaning
 pub mod Premises

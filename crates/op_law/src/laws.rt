@@ -3,6 +3,7 @@ ghost use Rattle.std.specs.Prelude.{ℕ, ◌≤◌};
 ghost use Rattle.id_memory.specs.Pairs.{Pairs};
 ghost use Rattle.op_law.specs.Tables.{Tables};
 ghost use Rattle.op_law.specs.Sound.{TablesSound, PairsSound};
+ghost use Rattle.op_law.specs.SoundTerms.{SoundTermsGiveSoundValues, SoundTermsStaySound};
 ghost use Rattle.op_law.specs.Meaning.{flip};
 ghost use Rattle.op_law.specs.ChainLaws.{ChainLaws};
 
@@ -12,6 +13,12 @@ use crate::Operator;
 pub fn sound_stays_sound()
     ensures tables { (n k : ℕ) (tables : Tables) → n ≤ k → TablesSound n tables → TablesSound k tables }
     ensures memory { (n k : ℕ) (pairs : Pairs) → n ≤ k → PairsSound n pairs → PairsSound k pairs }
+{}
+
+/// Expressions whose literals may stand have values that may stand, and stay so themselves.
+pub fn sound_terms_have_sound_values()
+    ensures values { SoundTermsGiveSoundValues }
+    ensures terms { SoundTermsStaySound }
 {}
 
 /// The laws of one operator after another, forward and backward.

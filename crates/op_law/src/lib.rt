@@ -15,7 +15,7 @@ mod side;
 
 pub use chain::Chain;
 pub use flip::Flip;
-pub use laws::{chains_keep_the_laws, sound_stays_sound};
+pub use laws::{chains_keep_the_laws, sound_stays_sound, sound_terms_have_sound_values};
 pub use operator::Operator;
 pub use pair::{Far, Pair};
 pub use side::{Aux, Side};

@@ -1,1 +1,5 @@
+mod AdmissionLemmas
 mod LocalLemmas
+mod MergeLemmas
+mod PassLemmas
+mod PremiseLemmas

@@ -4,3 +4,4 @@ pub mod RowCalls
 pub mod CellLemmas
 pub mod Tabulated
 pub mod RowwiseLaws
+pub mod Passes

@@ -18,13 +18,15 @@ pub type Cells = List<Option<Row>>;
 pub trait RowOperator {
     ghost row_meaning: { Self → RowMeaning };
 
-    /// The number of tables on the source side.
+    /// The number of tables on the source side, at most two.
     fn sources(&self) -> usize
-        ensures { result ≡ (row_meaning self.now).sources };
+        ensures value { result ≡ (row_meaning self.now).sources }
+        ensures few { result ≤ 2 };
 
-    /// The number of tables on the target side.
+    /// The number of tables on the target side, at most two.
     fn targets(&self) -> usize
-        ensures { result ≡ (row_meaning self.now).targets };
+        ensures value { result ≡ (row_meaning self.now).targets }
+        ensures few { result ≤ 2 };
 
     /// The number of auxiliary tables of a stored source.
     fn source_aux(&self) -> usize

@@ -12,3 +12,4 @@ pub mod Prefixes
 pub mod Signs
 pub mod Groups
 pub mod Bounded
+pub mod Carries

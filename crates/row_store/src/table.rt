@@ -1,7 +1,7 @@
 //! A table as one sorted list of its identifiers and rows.
-ghost use Rattle.std.specs.Prelude.{◌≡◌, ◌+◌, ◌≤◌, [], length, IfOk, OnOk};
+ghost use Rattle.std.specs.Prelude.{◌≡◌, ◌+◌, ◌≤◌, [], ◌∷◌, ◌++◌, length, IfOk, OnOk, OnErr};
 ghost use Rattle.std.specs.Option.{option_map};
-ghost use Rattle.row_store.specs.Rows.{RiseFrom, row_of};
+ghost use Rattle.row_store.specs.Rows.{RiseFrom, AreBelow, row_of};
 ghost use Rattle.row_store.specs.Changes.{AreOld, WasApplied};
 ghost use Rattle.row_store.specs.Undo.{IsUndoable, Restores};
 
@@ -60,6 +60,25 @@ impl Table {
         ensures rise { RiseFrom 0 self.now.rows }
     {
         TableIter::new(&self.rows)
+    }
+
+    /// The identifiers with their rows, in order. It takes no memory.
+    pub fn as_slice(&self) -> &[(u64, Row)]
+        ensures all { result.now ≡ self.now.rows }
+        ensures rise { RiseFrom 0 self.now.rows }
+    {
+        self.rows.as_slice()
+    }
+
+    /// Adds the row of a greater identifier behind the others.
+    pub fn push(&mut self, id: u64, row: Row) -> Result<(), Memory>
+        requires { AreBelow self.old.rows id }
+        ensures ok { OnOk result (self.new.rows ≡ self.old.rows ++ (id, row) ∷ []) }
+        ensures err { OnErr result (self.new.rows ≡ self.old.rows) }
+        ensures room { self.old.spare ≤ self.new.spare + 1 }
+    {
+        self.rows.push((id, row))?;
+        Ok(())
     }
 
     /// Makes room for further rows. The rows stay.

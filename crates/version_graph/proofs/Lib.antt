@@ -15,3 +15,4 @@ pub mod PlaceLemmas
 pub mod FinishLemmas
 pub mod UnneededLemmas
 pub mod TreeLaws
+pub mod BackLemmas

@@ -5,7 +5,7 @@ use Rattle.par_base.specs.declared.fault.Fault.TheVariants.{Refused, Memory}
 use Rattle.par_base.specs.declared.refusal.Refusal.{Refusal}
 use Rattle.par_base.specs.declared.refusal.Refusal.TheVariants.{UnknownVersion, VersionExists, TooManyOperators}
 use Rattle.version_graph.specs.Tables.{headings_of, FitInOrder}
-use Rattle.version_graph.specs.Edges.{Drawn, working, set_named, operator_limit}
+use Rattle.version_graph.specs.Edges.{Drawn, IsGraph, working, set_named, operator_limit}
 use Rattle.version_graph.specs.declared.parts.Edge.{Edge}
 use Rattle.version_graph.specs.declared.parts.Placed.{Placed}
 
@@ -36,6 +36,14 @@ evolved g name w edges = record {
   last_operator = g.last_operator + length edges;
   last_table = g.last_table + targets_in edges;
 }
+
+-- an evolution made the graph of this one, which had so many operators, after these last numbers
+pub record IsEvolvedFrom {O : Type 0} (before : Drawn O) (operators last_operator last_table : ℕ) (now : Drawn O) : Type 0 where
+  pub graph : IsGraph before
+  pub counted : operators ≡ length before.edges
+  pub operator : last_operator ≡ before.last_operator
+  pub table : last_table ≡ before.last_table
+  pub evolved : (name : List ℕ) × (w : ℕ) × (edges : List (Edge O)) × (now ≡ evolved before name w edges)
 
 -- ---- refusals
 

@@ -3,8 +3,8 @@ ghost use Rattle.std.specs.Prelude.{◌≡◌, ◌<◌, ◌==◌, ◌||◌, [], 
 ghost use Rattle.std.specs.Option.{option_copied, option_map};
 ghost use mathlib.Core.List.{reverse};
 ghost use Rattle.version_graph.specs.Tables.{table_numbers, headings_of};
-ghost use Rattle.version_graph.specs.Edges.{IsGraph, edge_of as edge_of_lem, sources_at as sources_at_lem, tables_at as tables_at_lem, heading_of as heading_of_lem, maker_of as maker_of_lem, set_named as set_named_lem, working};
-ghost use Rattle.version_graph.specs.Evolve.{MayEvolve, Evolves};
+ghost use Rattle.version_graph.specs.Edges.{Drawn, IsGraph, edge_of as edge_of_lem, sources_at as sources_at_lem, tables_at as tables_at_lem, heading_of as heading_of_lem, maker_of as maker_of_lem, set_named as set_named_lem, working};
+ghost use Rattle.version_graph.specs.Evolve.{MayEvolve, Evolves, IsEvolvedFrom};
 ghost use Rattle.version_graph.specs.Sets.{In};
 ghost use Rattle.std.specs.Option.{IsSome};
 ghost use Rattle.version_graph.specs.Dropped.{Dooms, dropped};
@@ -13,7 +13,7 @@ ghost use Rattle.version_graph.specs.Placing.{EndsPlacing, FitsParent, PlacesEdg
 ghost use Rattle.version_graph.specs.Edges.{numbers};
 ghost use Rattle.version_graph.specs.Forest.{forest, told, walk as walk_lem};
 
-use crate::grow::evolve;
+use crate::grow::{evolve, take_back};
 use crate::look::{
     edge_at, edge_of, heading_of, headings, maker_of, set_named, sources_at, tables_at,
     version_tables,
@@ -195,6 +195,21 @@ impl<O: Drop> Graph<O> {
         ensures finished { IsFinished self.old → IsFinished self.new }
     {
         evolve(self.alloc, &mut self.parts, name, from, edges)
+    }
+
+    /// Takes back the newest evolution, of a graph that had so many operators and these last numbers.
+    /// It takes no memory.
+    pub fn take_back(&mut self, operators: usize, last_operator: u32, last_table: u32)
+        requires { (before : Drawn O)
+            × IsEvolvedFrom before operators last_operator last_table self.old }
+        ensures { (before : Drawn O)
+            → IsEvolvedFrom before operators last_operator last_table self.old → self.new ≡ before }
+    {
+        let last = Last {
+            operator: last_operator,
+            table: last_table,
+        };
+        take_back(&mut self.parts, operators, last);
     }
 
     /// Takes the name of a live version away, and with it, again and again, each operator with no

@@ -3,8 +3,8 @@ ghost use Rattle.std.specs.Prelude.{◌≡◌, ◌+◌, ◌<◌, ◌^◌, ◌≤
 ghost use mathlib.Core.List.{reverse};
 ghost use Rattle.std.specs.Option.{option_copied};
 ghost use Rattle.version_graph.specs.Sets.{In};
-ghost use Rattle.version_graph.specs.Edges.{AreEdges, numbers, set_named as set_named_lem};
-ghost use Rattle.version_graph.specs.Evolve.{numbers_after, placed_next, grown, MayEvolve, Evolves};
+ghost use Rattle.version_graph.specs.Edges.{AreEdges, Drawn, numbers, set_named as set_named_lem};
+ghost use Rattle.version_graph.specs.Evolve.{numbers_after, placed_next, grown, MayEvolve, Evolves, IsEvolvedFrom};
 ghost use Rattle.version_graph.specs.Finished.{IsFinished};
 ghost use Rattle.version_graph.specs.Kept.{AreRight, IsKept, drawn, edges_of};
 ghost use Rattle.version_graph.specs.Calls.{AddsNode, CanGrow, CanAdd, FindsStart, IsUnused, FindsRoom, FindsRoomAt};
@@ -290,4 +290,20 @@ pub fn evolve<O: Drop>(
     )?;
     parts.last = after;
     Ok(after.operator)
+}
+
+/// Takes back an evolution of a graph that had so many operators and these last numbers. It takes no
+/// memory.
+pub fn take_back<O: Drop>(parts: &mut Parts<O>, operators: usize, last: Last)
+    requires kept { IsKept parts.old }
+    requires evolved { (before : Drawn O)
+        × IsEvolvedFrom before operators last.operator last.table (drawn parts.old) }
+    ensures back { (before : Drawn O) → IsEvolvedFrom before operators last.operator last.table (drawn parts.old)
+        → drawn parts.new ≡ before }
+    ensures kept { IsKept parts.new }
+{
+    parts.nodes.truncate(operators);
+    let named = parts.versions.len() - 1;
+    parts.versions.truncate(named);
+    parts.last = last;
 }

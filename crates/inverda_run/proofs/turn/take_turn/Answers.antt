@@ -2,7 +2,13 @@ use Rattle.std.proofs.Common.{◌∙◌, subst}
 use Rattle.std.specs.Io.KnownBytes.{Appends}
 use Rattle.bidel_parser.specs.Views.{statement_view}
 use Rattle.inverda_run.specs.Statuses.{PutsFront}
+use Rattle.inverda_run.proofs.TextLimits.{texts_within}
 use Rattle.inverda_run.proofs.turn.take_turn.Goals as goal
+
+pub answer-requires : goal.answer-requires
+answer-requires g c =
+    let found = rw c.in-Ok-Whole.field-0-is at c.in-Ok-Whole.ensures in
+    texts_within c.args.bytes.now c.args.tail c.args.tokens.now (statement_view c.in-Ok-Whole.statement) c.in-Ok-Whole.used found.0 c.requires.tokens found.1
 
 pub returns-in-Ok-write_all-clause-turns : goal.returns-in-Ok-write_all-clause-turns
 returns-in-Ok-write_all-clause-turns g c =

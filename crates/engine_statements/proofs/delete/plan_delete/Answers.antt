@@ -1,0 +1,31 @@
+use Rattle.std.proofs.Common.{length, ap, sym, subst, ◌∙◌}
+use Rattle.id_memory.specs.States.{CounterState}
+use Rattle.row_store.specs.Rows.{Rows}
+use Rattle.bidel_parser.specs.Views.{filter_view}
+use Rattle.ordinary_table.specs.Shown.{condition_of}
+use Rattle.ordinary_table.specs.Laws.{IsTable}
+use Rattle.ordinary_table.proofs.KeptLemmas.{delete_keeps}
+use Rattle.engine_statements.specs.Found.{shown_names}
+use Rattle.engine_statements.proofs.ExpressionLemmas.{lent_reads}
+use Rattle.engine_statements.proofs.StandLemmas.{may_get_same}
+use Rattle.engine_statements.proofs.delete.plan_delete.Goals as goal
+
+pub delete_rows-requires : goal.delete_rows-requires
+delete_rows-requires g c =
+    let columns = c.in_ok-found.found.heading.now.columns in
+    let shown = c.as_slice-2.ensures ∙ c.in_ok-shown.ensures ∙ ap shown_names c.as_slice.ensures in
+    record {
+      width = length columns;
+      wide = c.in_ok-found.ensures.there.stands.wide;
+      reads = lent_reads columns (filter_view c.args.filter.now) c.as_ref.result c.in_ok-condition.condition c.as_ref.ensures.value (c.in_ok-condition.ensures columns shown);
+    }
+
+pub returns-clause-taken : goal.returns-clause-taken
+returns-clause-taken g c =
+    let k = c.args.database.now in
+    let f = c.in_ok-found.found in
+    let width = length f.heading.now.columns in
+    let table = c.in_ok-found.ensures.there in
+    let next = c.next-next.ensures.value ∙ ap (λ (i : CounterState). i.next) c.ids.ensures in
+    let stands = subst (λ (rows : Rows). IsTable width k.ids.next rows) (sym c.in_ok-changed.ensures.rows) (delete_keeps width k.ids.next f.table.now.rows (condition_of c.as_ref.result) table.stands) in
+    record { lives = table.lives; may = may_get_same k f c.in_ok-changed.changed.table.rows c.next-next.result table next stands }

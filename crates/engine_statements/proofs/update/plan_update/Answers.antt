@@ -1,0 +1,41 @@
+use Rattle.std.proofs.Common.{◌≡◌, ℕ, List, Ok, length, map, ap, sym, subst, ◌∙◌}
+use Rattle.std.specs.List.{All}
+use Rattle.id_memory.specs.States.{CounterState}
+use Rattle.bidel_parser.specs.Views.{assignment_view, filter_view}
+use Rattle.ordinary_table.specs.declared.update.SetTo.{SetTo}
+use Rattle.ordinary_table.specs.Shown.{condition_of}
+use Rattle.ordinary_table.specs.Fits.{SetFits}
+use Rattle.ordinary_table.specs.Written.{sets_of, updated}
+use Rattle.engine_statements.specs.Found.{shown_names, condition_list}
+use Rattle.engine_statements.specs.Statements.{known_sets}
+use Rattle.engine_statements.proofs.ExpressionLemmas.{lent_reads, sets_fit}
+use Rattle.engine_statements.proofs.TakenLemmas.{update_taken}
+use Rattle.engine_statements.proofs.update.plan_update.Goals as goal
+
+pub update_rows-requires : goal.update_rows-requires
+update_rows-requires g c =
+    let columns = c.in_ok-found.found.heading.now.columns in
+    let assignments = map assignment_view c.args.assignments.now in
+    let shown = c.as_slice-2.ensures ∙ c.in_ok-shown.ensures ∙ ap shown_names c.as_slice-columns.ensures in
+    let known = subst (λ (names : List (List ℕ)). known_sets names assignments ≡ Ok (sets_of c.in_ok-sets.sets)) c.as_slice-columns.ensures c.in_ok-sets.ensures in
+    record {
+      width = length columns;
+      wide = c.in_ok-found.ensures.there.stands.wide;
+      set = subst (λ (sets : List SetTo). All (SetFits (length columns)) (sets_of sets)) (sym c.as_slice-3.ensures) (sets_fit columns assignments (sets_of c.in_ok-sets.sets) known);
+      reads = lent_reads columns (filter_view c.args.filter.now) c.as_ref.result c.in_ok-condition.condition c.as_ref.ensures.value (c.in_ok-condition.ensures columns shown);
+    }
+
+pub returns-clause-taken : goal.returns-clause-taken
+returns-clause-taken g c =
+    let k = c.args.database.now in
+    let f = c.in_ok-found.found in
+    let assignments = map assignment_view c.args.assignments.now in
+    let condition = condition_of c.as_ref.result in
+    let table = c.in_ok-found.ensures.there in
+    let next = c.next-next.ensures.value ∙ ap (λ (i : CounterState). i.next) c.ids.ensures in
+    let known = subst (λ (names : List (List ℕ)). known_sets names assignments ≡ Ok (sets_of c.in_ok-sets.sets)) c.as_slice-columns.ensures c.in_ok-sets.ensures in
+    let rows = c.in_ok-changed.ensures.rows ∙ ap (λ (sets : List SetTo). updated f.table.now.rows (sets_of sets) condition) c.as_slice-3.ensures in
+    record {
+      lives = table.lives;
+      may = update_taken k f assignments (condition_list (filter_view c.args.filter.now)) (sets_of c.in_ok-sets.sets) condition c.next-next.result c.in_ok-changed.changed.table.rows tt table next known c.in_ok-check_update_ids.ensures c.requires rows;
+    }

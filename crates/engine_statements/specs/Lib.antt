@@ -1,0 +1,6 @@
+pub mod State
+pub mod Found
+pub mod Statements
+pub mod Laws
+pub mod Replies
+pub mod Calls

@@ -1,0 +1,128 @@
+//! The table that a statement names: its version by name, and then the table by its name in there.
+ghost use Rattle.std.specs.Prelude.{◌≡◌, IfOk, IfSome};
+ghost use Rattle.std.specs.Option.{option_map};
+ghost use Rattle.std.specs.Str.{bytes_eq};
+ghost use Rattle.version_graph.specs.Sets.{In};
+ghost use Rattle.version_graph.specs.Tables.{table_named};
+ghost use Rattle.version_graph.specs.Edges.{AreEdges, numbers, set_named, working};
+ghost use Rattle.version_graph.specs.Kept.{has_name as has_name_lem, number_named};
+ghost use Rattle.op_any.specs.Checks.{Gives};
+ghost use Rattle.version_model.specs.Kept.{database_of};
+ghost use Rattle.engine_statements.specs.Found.{found, known_version, set_of};
+ghost use Rattle.engine_statements.specs.Calls.{found_view, table_of, IsTableOf};
+
+use bidel_parser::TableName;
+use op_any::AnyOp;
+use par_base::{Fault, Name, Refusal};
+use row_store::Table;
+use std::alloc::Global;
+use version_graph::{Graph, Heading};
+use version_model::PlainDatabase;
+
+/// A table of a version, where it stands.
+#[derive(Drop)]
+pub struct FoundTable<'a> {
+    /// The version's working set.
+    pub set: u32,
+    /// The table's number.
+    pub number: u32,
+    pub heading: &'a Heading,
+    pub table: &'a Table,
+}
+
+/// The working set of a version, or the refusal. It takes one comparison for each version.
+pub fn known_set(alloc: Global, graph: &Graph<AnyOp>, name: &Name) -> Result<u32, Fault<Refusal>>
+    ensures { Gives (λ set. set) result (known_version name.now (set_named graph.now.versions name.now)) }
+{
+    match graph.set_of(name) {
+        Some(set) => Ok(set),
+        None => Err(Fault::Refused(Refusal::UnknownVersion {
+            version: name.copy(alloc)?,
+        })),
+    }
+}
+
+fn find_set(
+    alloc: Global,
+    database: &PlainDatabase<AnyOp>,
+    version: &Option<Name>,
+) -> Result<u32, Fault<Refusal>>
+    ensures gives { Gives (λ set. set) result (set_of (database_of database.now) version.now) }
+    ensures lives { IfOk result (λ set. In set (numbers database.now.graph.edges)) }
+{
+    match version {
+        Some(name) => known_set(alloc, database.graph(), name),
+        None => Err(Fault::Refused(Refusal::NoVersionInUse)),
+    }
+}
+
+fn is_named(heading: &Heading, name: &Name) -> bool
+    ensures { result ≡ bytes_eq heading.now.name name.now }
+{
+    heading.name.as_str().as_bytes() == name.as_str().as_bytes()
+}
+
+fn has_name(graph: &Graph<AnyOp>, table: u32, name: &Name) -> bool
+    ensures { result ≡ has_name_lem graph.now.edges name.now table }
+{
+    match graph.heading(table) {
+        Some(heading) => is_named(heading, name),
+        None => false,
+    }
+}
+
+fn find_number(graph: &Graph<AnyOp>, tables: &[u32], name: &Name) -> Option<u32>
+    ensures { result ≡ number_named graph.now.edges tables.now name.now }
+{
+    tables
+        .iter()
+        .copied()
+        .find(|table| has_name(graph, *table, name))
+}
+
+fn number_in(graph: &Graph<AnyOp>, set: u32, name: &Name) -> Option<u32>
+    requires edges { AreEdges graph.now.edges }
+    requires lives { In set (numbers graph.now.edges) }
+    ensures { result ≡ option_map (λ table. table.number) (table_named (working graph.now.edges set) name.now) }
+{
+    let tables = graph.tables_in(set)?;
+    find_number(graph, tables, name)
+}
+
+/// The table of a live working set with this name.
+fn table_in<'a>(database: &'a PlainDatabase<AnyOp>, set: u32, name: &Name) -> Option<FoundTable<'a>>
+    requires { In set (numbers database.now.graph.edges) }
+    ensures found { option_map found_view result
+        ≡ option_map (table_of set) (table_named (working database.entry.now.graph.edges set) name.now) }
+    ensures there { IfSome result (IsTableOf database.entry.now) }
+{
+    let graph = database.graph();
+    let number = number_in(graph, set, name)?;
+    let heading = graph.heading(number)?;
+    let table = database.table(number)?;
+    Some(FoundTable {
+        set,
+        number,
+        heading,
+        table,
+    })
+}
+
+/// The table that a statement names, or the refusal. It copies no rows. It takes one comparison for
+/// each version and time in the number of live tables, for each table of the version.
+pub fn find_table<'a>(
+    alloc: Global,
+    database: &'a PlainDatabase<AnyOp>,
+    name: &TableName,
+) -> Result<FoundTable<'a>, Fault<Refusal>>
+    ensures gives { Gives found_view result (found (database_of database.entry.now) name.now) }
+    ensures there { IfOk result (IsTableOf database.entry.now) }
+{
+    let set = find_set(alloc, database, &name.version)?;
+    match table_in(database, set, &name.table) {
+        Some(found) => Ok(found),
+        None => Err(Fault::Refused(Refusal::UnknownTable {
+            table: name.table.copy(alloc)?,
+        })),
+    }
+}

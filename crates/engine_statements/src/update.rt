@@ -1,0 +1,65 @@
+//! UPDATE.
+ghost use Rattle.std.specs.Prelude.{◌≡◌, IfOk, map};
+ghost use Rattle.std.specs.List.{All};
+ghost use Rattle.bidel_parser.specs.Views.{assignment_view, filter_view};
+ghost use Rattle.op_any.specs.Checks.{Gives};
+ghost use Rattle.version_model.specs.Kept.{database_of};
+ghost use Rattle.engine_statements.specs.Statements.{planned_update};
+ghost use Rattle.engine_statements.specs.Calls.{planned_view, AssignmentFits, IsTaken};
+
+use crate::expressions::{check_set_once, find_condition, find_sets, shown_names};
+use crate::found::find_table;
+use crate::ids::check_update_ids;
+use crate::{Reply, WritePlan};
+use bidel_parser::{Assignment, TableName};
+use expr_lang::{ExprText, Steps};
+use op_any::AnyOp;
+use ordinary_table::{Changed, update_rows};
+use par_base::{Fault, Refusal};
+use std::alloc::Global;
+use std::sync::ledger::Ledger;
+use version_model::PlainDatabase;
+
+/// What an UPDATE makes of its table, or the first of its checks that refuses it. All SETs see the
+/// row as it was.
+///
+/// It takes time in the number of values of the table and, for each row, of SETs, and in the
+/// number of pairs of SETs.
+pub fn plan_update<L: Ledger>(
+    alloc: Global,
+    database: &PlainDatabase<AnyOp>,
+    name: &TableName,
+    assignments: &[Assignment],
+    filter: &Option<ExprText>,
+    steps: &mut Steps<L>,
+) -> Result<WritePlan, Fault<Refusal>>
+    requires { All AssignmentFits (map assignment_view assignments.now) }
+    ensures gives { Gives (planned_view database.now.graph.edges) result
+        (planned_update (database_of database.now) name.now
+        (map assignment_view assignments.now) (filter_view filter.now)) }
+    ensures taken { IfOk result (IsTaken database.now) }
+{
+    let found = find_table(alloc, database, name)?;
+    let next = database.ids().next();
+    let columns = found.heading.columns.as_slice();
+    let shown = shown_names(alloc, columns)?;
+    let sets = find_sets(alloc, columns, shown.as_slice(), assignments)?;
+    let condition = find_condition(alloc, shown.as_slice(), filter)?;
+    check_set_once(alloc, assignments)?;
+    check_update_ids(assignments, filter, next)?;
+    let changed = update_rows(
+        alloc,
+        found.table,
+        sets.as_slice(),
+        condition.as_ref(),
+        steps,
+    )?;
+    let Changed { table, chosen } = changed;
+    Ok(WritePlan {
+        set: found.set,
+        table: found.number,
+        rows: table,
+        next,
+        reply: Reply::Updated { count: chosen },
+    })
+}

@@ -1,0 +1,17 @@
+//! What a statement makes of its version's table.
+use crate::Reply;
+use row_store::Table;
+
+/// A write that nothing but the limit of identifiers can refuse any more.
+#[derive(Drop)]
+pub struct WritePlan {
+    /// The working set of the version.
+    pub set: u32,
+    /// The number of the table.
+    pub table: u32,
+    /// The rows that the table is to have.
+    pub rows: Table,
+    /// The next identifier after those that the rows took; it may be above the limit.
+    pub next: u64,
+    pub reply: Reply,
+}

@@ -1,0 +1,126 @@
+-- No check of an operator answers that it isn't built.
+use Rattle.std.proofs.Common.{◌≡◌, ◌≢◌, ℕ, List, [], ◌∷◌, ◌++◌, length, Bool, true, false, cond, Option, Some, None, Result, Ok, Err, refl, sym}
+use Rattle.std.specs.Prelude.{◌↔◌, nat_lt}
+use Rattle.std.specs.List.{remove}
+use Rattle.std.proofs.lemmas.Bool.{false≢true}
+use Rattle.par_base.specs.declared.refusal.Refusal.TheVariants.{NotBuilt, TooManyColumns}
+use Rattle.expr_lang.specs.Terms.{Term}
+use Rattle.expr_lang.specs.Resolved.{place_of, resolved}
+use Rattle.bidel_parser.specs.Views.{Tree, OpView}
+use Rattle.bidel_parser.specs.Views as «text»
+use Rattle.version_graph.specs.Tables.{column_limit}
+use Rattle.version_graph.specs.declared.parts.Heading.{Heading}
+use Rattle.op_any.specs.Checks.{Checked, ◌then◌}
+use Rattle.op_any.specs.Build.{heading_named, is_passing, known_table, new_table, known_column, known_columns, unrepeated, new_columns, few_columns, known_id, known_ids, creating_table, dropping_table, renaming_table, renaming_column, adding_column, dropping_column, planned, with_text, built, is_built}
+
+-- the check gives something, or refuses for another cause
+abbrev Decides : {A : Type 0} → Checked A → Type 0
+Decides (Ok x) = Unit {0}
+Decides (Err r) = r ≢ NotBuilt
+
+then_decides : {A B : Type 0} (c : Checked A) (f : A → Checked B) → Decides c → ((x : A) → Decides (f x)) → Decides (c then f)
+then_decides (Ok x) f here later = later x
+then_decides (Err r) f here later = here
+
+table_decides : (name : List ℕ) (o : Option Heading) → Decides (known_table name o)
+table_decides name (Some h) = tt
+table_decides name None = λ e. absurd (cc)
+
+new_table_decides : (name : List ℕ) (b : Bool) → Decides (new_table name b)
+new_table_decides name true = λ e. absurd (cc)
+new_table_decides name false = tt
+
+column_decides : (name : List ℕ) (o : Option ℕ) → Decides (known_column name o)
+column_decides name (Some place) = tt
+column_decides name None = λ e. absurd (cc)
+
+expression_decides : (r : Result (Term ℕ) (List ℕ)) → Decides (known_columns r)
+expression_decides (Ok e) = tt
+expression_decides (Err name) = λ e. absurd (cc)
+
+once_decides : (o : Option (List ℕ)) → Decides (unrepeated o)
+once_decides (Some name) = λ e. absurd (cc)
+once_decides None = tt
+
+few_decides : (table : List ℕ) (b : Bool) → Decides {A = Unit {0}} (cond b (Err (TooManyColumns table column_limit)) (Ok tt))
+few_decides table true = λ e. absurd (cc)
+few_decides table false = tt
+
+ids_decide : (next : ℕ) (o : Option ℕ) → Decides (known_id next o)
+ids_decide next (Some id) = λ e. absurd (cc)
+ids_decide next None = tt
+
+module _ (set : List Heading) (next : ℕ) where
+  creating_decides : (table : List ℕ) (columns : List (List ℕ)) → Decides (creating_table set table columns)
+  creating_decides table columns =
+      then_decides (new_table table (is_passing set [] table)) _ (new_table_decides table _) (λ u.
+      then_decides (new_columns [] columns) _ (once_decides _) (λ v.
+      then_decides (few_columns table columns) _ (few_decides table (nat_lt column_limit (length columns))) (λ w. tt)))
+
+  dropping_decides : (table : List ℕ) → Decides (dropping_table set table)
+  dropping_decides table = then_decides (known_table table (heading_named set table)) _ (table_decides table _) (λ h. tt)
+
+  renaming_table_decides : (table new : List ℕ) → Decides (renaming_table set table new)
+  renaming_table_decides table new =
+      then_decides (known_table table (heading_named set table)) _ (table_decides table _) (λ h.
+      then_decides (new_table new (is_passing set (table ∷ []) new)) _ (new_table_decides new _) (λ u. tt))
+
+  renaming_column_decides : (column table new : List ℕ) → Decides (renaming_column set column table new)
+  renaming_column_decides column table new =
+      then_decides (known_table table (heading_named set table)) _ (table_decides table _) (λ h.
+      then_decides (known_column column (place_of h.columns column)) _ (column_decides column _) (λ place.
+      then_decides (new_columns (remove h.columns place) (new ∷ [])) _ (once_decides _) (λ u. tt)))
+
+  adding_decides : (column : List ℕ) (value : Tree) (table : List ℕ) → Decides (adding_column set next column value table)
+  adding_decides column value table =
+      then_decides (known_table table (heading_named set table)) _ (table_decides table _) (λ h.
+      then_decides (known_columns (resolved h.columns value)) _ (expression_decides _) (λ e.
+      then_decides (new_columns h.columns (column ∷ [])) _ (once_decides _) (λ u.
+      then_decides (few_columns table (h.columns ++ column ∷ [])) _ (few_decides table (nat_lt column_limit (length (h.columns ++ column ∷ [])))) (λ v.
+      then_decides (known_ids next value) _ (ids_decide next _) (λ w. tt)))))
+
+  dropping_column_decides : (column table : List ℕ) (value : Tree) → Decides (dropping_column set next column table value)
+  dropping_column_decides column table value =
+      then_decides (known_table table (heading_named set table)) _ (table_decides table _) (λ h.
+      then_decides (known_column column (place_of h.columns column)) _ (column_decides column _) (λ place.
+      then_decides (known_columns (resolved (remove h.columns place) value)) _ (expression_decides _) (λ e.
+      then_decides (known_ids next value) _ (ids_decide next _) (λ u. tt))))
+
+  planned_decides : (text : OpView) → is_built text ≡ true → Decides (planned set next text)
+  planned_decides («text».CreateTable table columns) is = creating_decides table columns
+  planned_decides («text».DropTable table) is = dropping_decides table
+  planned_decides («text».RenameTable table new) is = renaming_table_decides table new
+  planned_decides («text».RenameColumn column table new) is = renaming_column_decides column table new
+  planned_decides («text».AddColumn column value table) is = adding_decides column value table
+  planned_decides («text».DropColumn column table value) is = dropping_column_decides column table value
+  planned_decides («text».DecomposeSingle table target columns) is = absurd (false≢true is)
+  planned_decides («text».Decompose table first first_columns second second_columns key) is = absurd (false≢true is)
+  planned_decides («text».Join outer first second target key) is = absurd (false≢true is)
+  planned_decides («text».Split table first second) is = absurd (false≢true is)
+  planned_decides («text».Merge first second target) is = absurd (false≢true is)
+
+decides : {A : Type 0} (c : Checked A) → Decides c → c ≡ Err NotBuilt → ⊥
+decides (Ok x) d e = absurd (cc)
+decides (Err r) d e = d (cc)
+
+-- an operator of another form isn't built
+other_form : (set : List Heading) (next : ℕ) (text : OpView) → is_built text ≡ false → built set next text ≡ Err NotBuilt
+other_form set next («text».CreateTable table columns) is = absurd (false≢true (sym is))
+other_form set next («text».DropTable table) is = absurd (false≢true (sym is))
+other_form set next («text».RenameTable table new) is = absurd (false≢true (sym is))
+other_form set next («text».RenameColumn column table new) is = absurd (false≢true (sym is))
+other_form set next («text».AddColumn column value table) is = absurd (false≢true (sym is))
+other_form set next («text».DropColumn column table value) is = absurd (false≢true (sym is))
+other_form set next («text».DecomposeSingle table target columns) is = refl
+other_form set next («text».Decompose table first first_columns second second_columns key) is = refl
+other_form set next («text».Join outer first second target key) is = refl
+other_form set next («text».Split table first second) is = refl
+other_form set next («text».Merge first second target) is = refl
+
+own_form : (set : List Heading) (next : ℕ) (text : OpView) (b : Bool) → is_built text ≡ b → built set next text ≡ Err NotBuilt → b ≡ false
+own_form set next text true is e =
+    absurd (decides (built set next text) (then_decides (planned set next text) (λ p. Ok (with_text text p)) (planned_decides set next text is) (λ p. tt)) e)
+own_form set next text false is e = refl
+
+pub not_built : (set : List Heading) (next : ℕ) (text : OpView) → (built set next text ≡ Err NotBuilt) ↔ (is_built text ≡ false)
+not_built set next text = (λ e. own_form set next text (is_built text) refl e, other_form set next text)

@@ -1,0 +1,87 @@
+-- What is true of every edge that is built on the working set of a graph.
+use Rattle.std.specs.Prelude.{◌≡◌, ◌↔◌, ℕ, ◌≤◌, Bool, true, false, List, [], ◌∷◌, ◌++◌, length, map, option_to_list, MatchOption, Ok, Err}
+use Rattle.par_base.specs.declared.refusal.Refusal.TheVariants.{NotBuilt}
+use Rattle.bidel_parser.specs.Views.{OpView, CreateTable}
+use Rattle.version_graph.specs.Sets.{In, Distinct, Each}
+use Rattle.version_graph.specs.Tables.{TableVersion, headings_of, taken, IsHeading, FitsSet}
+use Rattle.version_graph.specs.declared.parts.Heading.{Heading as TableHeading}
+use Rattle.version_graph.specs.declared.parts.Edge.{Edge}
+use Rattle.op_law.specs.Tables.{Heading}
+use Rattle.op_any.specs.Operators.{AnyView, any_meaning}
+use Rattle.op_any.specs.Build.{built, is_built, heading_named, repeated}
+use Rattle.op_any.specs.Texts.{TextsFit}
+
+-- a table's heading, as operators see it
+abbrev pub as_seen : TableHeading → Heading
+as_seen h = record { name = h.name; columns = h.columns }
+
+-- the tables of a working set with these names, in order of the names
+abbrev pub headings_taken : List TableHeading → List (List ℕ) → List TableHeading
+headings_taken set [] = []
+headings_taken set (name ∷ names) = option_to_list (heading_named set name) ++ headings_taken set names
+
+-- of the tables of a working set, they are the headings of the tables that an edge takes
+abbrev pub HeadingsOfTaken : Type 0
+HeadingsOfTaken =
+    (set : List TableVersion) (names : List (List ℕ)) → headings_taken (headings_of set) names ≡ headings_of (taken set names)
+
+-- the text of a CREATE TABLE
+abbrev pub is_create_table : OpView → Bool
+is_create_table (CreateTable table columns) = true
+is_create_table _ = false
+
+-- an edge that is built on a working set of headings fits it
+abbrev pub BuiltEdgesFit : Type 0
+BuiltEdgesFit =
+    (set : List TableHeading) (next : ℕ) (text : OpView) (e : Edge AnyView)
+    → Each IsHeading set → built set next text ≡ Ok e → FitsSet set e
+
+-- its operator is built for its sources and targets
+abbrev pub BuiltForItsTables : Type 0
+BuiltForItsTables =
+    (set : List TableHeading) (next : ℕ) (text : OpView) (e : Edge AnyView) → built set next text ≡ Ok e
+    → (any_meaning e.operator).Fits (map as_seen (headings_taken set e.sources)) (map as_seen e.targets)
+
+-- its expressions are closed, where no text literal is too long
+abbrev pub BuiltIsClosed : Type 0
+BuiltIsClosed =
+    (set : List TableHeading) (next : ℕ) (text : OpView) (e : Edge AnyView) → built set next text ≡ Ok e
+    → TextsFit text → (any_meaning e.operator).Closed next
+
+-- it has at most two sources and at most two targets
+abbrev pub BuiltHasFewTables : Type 0
+BuiltHasFewTables =
+    (set : List TableHeading) (next : ℕ) (text : OpView) (e : Edge AnyView) → built set next text ≡ Ok e
+    → (length e.sources ≤ 2) × (length e.targets ≤ 2)
+
+-- CREATE TABLE has no source, and no other operator is without one
+abbrev pub OnlyCreateTableIsWithoutSource : Type 0
+OnlyCreateTableIsWithoutSource =
+    (set : List TableHeading) (next : ℕ) (text : OpView) (e : Edge AnyView) → built set next text ≡ Ok e
+    → (e.sources ≡ []) ↔ (is_create_table text ≡ true)
+
+-- a name that stands among those before it, while those are distinct
+pub record IsFirstRepeated (seen new : List (List ℕ)) (name : List ℕ) : Type 0 where
+  pub front : List (List ℕ)
+  pub rest : List (List ℕ)
+  pub there : new ≡ front ++ name ∷ rest
+  pub once : Distinct (seen ++ front)
+  pub again : In name (seen ++ front)
+
+-- of new columns beside distinct ones the first repeated one is refused, and none exactly where all are distinct
+abbrev pub FirstRepeatedIsRefused : Type 0
+FirstRepeatedIsRefused =
+    (seen new : List (List ℕ)) → Distinct seen
+    → MatchOption (repeated seen new) (Distinct (seen ++ new)) (IsFirstRepeated seen new)
+
+-- an operator isn't built yet exactly where its form is none of those that are
+abbrev pub NotBuiltIsTheForm : Type 0
+NotBuiltIsTheForm =
+    (set : List TableHeading) (next : ℕ) (text : OpView)
+    → (built set next text ≡ Err NotBuilt) ↔ (is_built text ≡ false)
+
+-- the operator keeps the text
+abbrev pub BuiltKeepsItsText : Type 0
+BuiltKeepsItsText =
+    (set : List TableHeading) (next : ℕ) (text : OpView) (e : Edge AnyView) → built set next text ≡ Ok e
+    → e.operator.text ≡ text

@@ -1,0 +1,156 @@
+//! Any of the operators, with the text that it was built from.
+ghost use Rattle.std.specs.Prelude.{◌≡◌};
+ghost use Rattle.bidel_parser.specs.Views.{op_view};
+ghost use Rattle.op_any.specs.Operators.{any_meaning, any_laws};
+ghost use Rattle.op_any.specs.Views.{built_view};
+
+use bidel_parser::OpText;
+use expr_lang::Steps;
+use id_memory::{IdCounter, PairMemory};
+use op_column::{AddColumn, CreateTable, DropTable, Rename};
+use op_law::{Aux, Far, Operator, Pair, Side};
+use op_rows::{FlipRow, Rowwise};
+use par_base::{Fault, IdsSpent, Memory};
+use std::alloc::Global;
+use std::marker::Model;
+use std::sync::ledger::Ledger;
+
+/// What was built from an operator's text: one case for each kind of operator.
+#[derive(Debug, Drop)]
+pub enum BuiltOp {
+    CreateTable(Rowwise<CreateTable>),
+    DropTable(Rowwise<DropTable>),
+    /// Of a table or of a column.
+    Rename(Rowwise<Rename>),
+    AddColumn(Rowwise<AddColumn>),
+    /// The flip of adding the dropped column at its place, with its default as the expression.
+    DropColumn(Rowwise<FlipRow<AddColumn>>),
+}
+
+/// An operator of any kind.
+#[derive(Debug, Drop)]
+pub struct AnyOp {
+    text: OpText,
+    operator: BuiltOp,
+}
+
+impl Model for AnyOp {
+    ghost use Rattle.bidel_parser.specs.Views.{op_view};
+    ghost use Rattle.op_any.specs.Operators.{AnyView};
+    ghost use Rattle.op_any.specs.Codes.{coded_any};
+    ghost use Rattle.op_any.specs.Views.{built_view};
+
+    ghost Value = { AnyView };
+
+    ghost coded = { coded_any };
+
+    ghost view = { λ it. record { text = op_view it.text; operator = built_view it.operator } };
+}
+
+impl AnyOp {
+    /// The operator that was built from this text. It takes no memory.
+    pub(crate) fn new(text: OpText, operator: BuiltOp) -> AnyOp
+        ensures { result ≡ record { text = op_view text; operator = built_view operator } }
+    {
+        AnyOp { text, operator }
+    }
+
+    /// The text that the operator was built from.
+    pub fn text(&self) -> &OpText
+        ensures { op_view result.now ≡ self.now.text }
+    {
+        &self.text
+    }
+}
+
+impl Operator for AnyOp {
+    ghost meaning = { any_meaning };
+
+    fn forward<L: Ledger>(
+        &self,
+        alloc: Global,
+        near: &Side,
+        old: &Pair,
+        ids: &mut IdCounter,
+        steps: &mut Steps<L>,
+    ) -> Result<Far, Fault<IdsSpent>> {
+        self.operator.forward(alloc, near, old, ids, steps)
+    }
+
+    fn backward<L: Ledger>(
+        &self,
+        alloc: Global,
+        near: &Side,
+        old: &Pair,
+        ids: &mut IdCounter,
+        steps: &mut Steps<L>,
+    ) -> Result<Far, Fault<IdsSpent>> {
+        self.operator.backward(alloc, near, old, ids, steps)
+    }
+
+    fn read_target<L: Ledger>(
+        &self,
+        alloc: Global,
+        source: &Side,
+        aux: &Aux,
+        memory: &PairMemory,
+        steps: &mut Steps<L>,
+    ) -> Result<Side, Memory> {
+        self.operator.read_target(alloc, source, aux, memory, steps)
+    }
+
+    fn read_source<L: Ledger>(
+        &self,
+        alloc: Global,
+        target: &Side,
+        aux: &Aux,
+        memory: &PairMemory,
+        steps: &mut Steps<L>,
+    ) -> Result<Side, Memory> {
+        self.operator.read_source(alloc, target, aux, memory, steps)
+    }
+
+    fn aux_at_source<L: Ledger>(
+        &self,
+        alloc: Global,
+        pair: &Pair,
+        steps: &mut Steps<L>,
+    ) -> Result<Aux, Memory> {
+        self.operator.aux_at_source(alloc, pair, steps)
+    }
+
+    fn aux_at_target<L: Ledger>(
+        &self,
+        alloc: Global,
+        pair: &Pair,
+        steps: &mut Steps<L>,
+    ) -> Result<Aux, Memory> {
+        self.operator.aux_at_target(alloc, pair, steps)
+    }
+
+    fn admit_target<L: Ledger>(
+        &self,
+        alloc: Global,
+        source: &Side,
+        aux: &Aux,
+        memory: &PairMemory,
+        steps: &mut Steps<L>,
+    ) -> Result<Option<Side>, Memory> {
+        self.operator
+            .admit_target(alloc, source, aux, memory, steps)
+    }
+
+    fn admit_source<L: Ledger>(
+        &self,
+        alloc: Global,
+        target: &Side,
+        aux: &Aux,
+        memory: &PairMemory,
+        steps: &mut Steps<L>,
+    ) -> Result<Option<Side>, Memory> {
+        self.operator
+            .admit_source(alloc, target, aux, memory, steps)
+    }
+
+    ghost laws = { any_laws };
+}

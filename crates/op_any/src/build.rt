@@ -1,0 +1,53 @@
+//! Building operators from their texts.
+ghost use Rattle.std.specs.Prelude.{◌≡◌};
+ghost use Rattle.bidel_parser.specs.Views.{op_view};
+ghost use Rattle.op_any.specs.Checks.{Gives};
+ghost use Rattle.op_any.specs.Build.{built, is_built as is_built_form};
+
+use crate::AnyOp;
+use crate::copy_text::copy_text;
+use crate::plan::plan;
+use bidel_parser::OpText;
+use par_base::{Fault, Refusal};
+use std::alloc::Global;
+use version_graph::{Edge, Heading};
+
+/// Whether operators of this form are built.
+pub fn is_built(text: &OpText) -> bool
+    ensures { result ≡ is_built_form (op_view text.now) }
+{
+    matches!(
+        text,
+        OpText::CreateTable { .. }
+            | OpText::DropTable { .. }
+            | OpText::RenameTable { .. }
+            | OpText::RenameColumn { .. }
+            | OpText::AddColumn { .. }
+            | OpText::DropColumn { .. }
+    )
+}
+
+/// The edge of an operator on the working set of these tables, while `next` is the next identifier,
+/// or the first of its checks that refuses it. It takes time in the number of pairs of names, and
+/// in the length of the expressions.
+pub fn build_op(
+    alloc: Global,
+    text: &OpText,
+    set: &[Heading],
+    next: u64,
+) -> Result<Edge<AnyOp>, Fault<Refusal>>
+    ensures { Gives (λ edge. edge) result (built set.now next (op_view text.now)) }
+{
+    let edge = plan(alloc, text, set, next)?;
+    let text = copy_text(alloc, text)?;
+    let Edge {
+        operator,
+        sources,
+        targets,
+    } = edge;
+    Ok(Edge {
+        operator: AnyOp::new(text, operator),
+        sources,
+        targets,
+    })
+}

@@ -1,0 +1,150 @@
+//! The calls of any operator: each hands on to the operator that was built.
+ghost use Rattle.std.specs.Prelude.{◌≡◌};
+ghost use Rattle.op_any.specs.Operators.{meaning_of, laws_of};
+ghost use Rattle.op_any.specs.Views.{built_view};
+
+use crate::any_op::BuiltOp;
+use expr_lang::Steps;
+use id_memory::{IdCounter, PairMemory};
+use op_law::{Aux, Far, Operator, Pair, Side};
+use par_base::{Fault, IdsSpent, Memory};
+use std::alloc::Global;
+use std::sync::ledger::Ledger;
+
+impl Operator for BuiltOp {
+    ghost meaning = { λ it. meaning_of (built_view it) };
+
+    fn forward<L: Ledger>(
+        &self,
+        alloc: Global,
+        near: &Side,
+        old: &Pair,
+        ids: &mut IdCounter,
+        steps: &mut Steps<L>,
+    ) -> Result<Far, Fault<IdsSpent>> {
+        match self {
+            BuiltOp::CreateTable(it) => it.forward(alloc, near, old, ids, steps),
+            BuiltOp::DropTable(it) => it.forward(alloc, near, old, ids, steps),
+            BuiltOp::Rename(it) => it.forward(alloc, near, old, ids, steps),
+            BuiltOp::AddColumn(it) => it.forward(alloc, near, old, ids, steps),
+            BuiltOp::DropColumn(it) => it.forward(alloc, near, old, ids, steps),
+        }
+    }
+
+    fn backward<L: Ledger>(
+        &self,
+        alloc: Global,
+        near: &Side,
+        old: &Pair,
+        ids: &mut IdCounter,
+        steps: &mut Steps<L>,
+    ) -> Result<Far, Fault<IdsSpent>> {
+        match self {
+            BuiltOp::CreateTable(it) => it.backward(alloc, near, old, ids, steps),
+            BuiltOp::DropTable(it) => it.backward(alloc, near, old, ids, steps),
+            BuiltOp::Rename(it) => it.backward(alloc, near, old, ids, steps),
+            BuiltOp::AddColumn(it) => it.backward(alloc, near, old, ids, steps),
+            BuiltOp::DropColumn(it) => it.backward(alloc, near, old, ids, steps),
+        }
+    }
+
+    fn read_target<L: Ledger>(
+        &self,
+        alloc: Global,
+        source: &Side,
+        aux: &Aux,
+        memory: &PairMemory,
+        steps: &mut Steps<L>,
+    ) -> Result<Side, Memory> {
+        match self {
+            BuiltOp::CreateTable(it) => it.read_target(alloc, source, aux, memory, steps),
+            BuiltOp::DropTable(it) => it.read_target(alloc, source, aux, memory, steps),
+            BuiltOp::Rename(it) => it.read_target(alloc, source, aux, memory, steps),
+            BuiltOp::AddColumn(it) => it.read_target(alloc, source, aux, memory, steps),
+            BuiltOp::DropColumn(it) => it.read_target(alloc, source, aux, memory, steps),
+        }
+    }
+
+    fn read_source<L: Ledger>(
+        &self,
+        alloc: Global,
+        target: &Side,
+        aux: &Aux,
+        memory: &PairMemory,
+        steps: &mut Steps<L>,
+    ) -> Result<Side, Memory> {
+        match self {
+            BuiltOp::CreateTable(it) => it.read_source(alloc, target, aux, memory, steps),
+            BuiltOp::DropTable(it) => it.read_source(alloc, target, aux, memory, steps),
+            BuiltOp::Rename(it) => it.read_source(alloc, target, aux, memory, steps),
+            BuiltOp::AddColumn(it) => it.read_source(alloc, target, aux, memory, steps),
+            BuiltOp::DropColumn(it) => it.read_source(alloc, target, aux, memory, steps),
+        }
+    }
+
+    fn aux_at_source<L: Ledger>(
+        &self,
+        alloc: Global,
+        pair: &Pair,
+        steps: &mut Steps<L>,
+    ) -> Result<Aux, Memory> {
+        match self {
+            BuiltOp::CreateTable(it) => it.aux_at_source(alloc, pair, steps),
+            BuiltOp::DropTable(it) => it.aux_at_source(alloc, pair, steps),
+            BuiltOp::Rename(it) => it.aux_at_source(alloc, pair, steps),
+            BuiltOp::AddColumn(it) => it.aux_at_source(alloc, pair, steps),
+            BuiltOp::DropColumn(it) => it.aux_at_source(alloc, pair, steps),
+        }
+    }
+
+    fn aux_at_target<L: Ledger>(
+        &self,
+        alloc: Global,
+        pair: &Pair,
+        steps: &mut Steps<L>,
+    ) -> Result<Aux, Memory> {
+        match self {
+            BuiltOp::CreateTable(it) => it.aux_at_target(alloc, pair, steps),
+            BuiltOp::DropTable(it) => it.aux_at_target(alloc, pair, steps),
+            BuiltOp::Rename(it) => it.aux_at_target(alloc, pair, steps),
+            BuiltOp::AddColumn(it) => it.aux_at_target(alloc, pair, steps),
+            BuiltOp::DropColumn(it) => it.aux_at_target(alloc, pair, steps),
+        }
+    }
+
+    fn admit_target<L: Ledger>(
+        &self,
+        alloc: Global,
+        source: &Side,
+        aux: &Aux,
+        memory: &PairMemory,
+        steps: &mut Steps<L>,
+    ) -> Result<Option<Side>, Memory> {
+        match self {
+            BuiltOp::CreateTable(it) => it.admit_target(alloc, source, aux, memory, steps),
+            BuiltOp::DropTable(it) => it.admit_target(alloc, source, aux, memory, steps),
+            BuiltOp::Rename(it) => it.admit_target(alloc, source, aux, memory, steps),
+            BuiltOp::AddColumn(it) => it.admit_target(alloc, source, aux, memory, steps),
+            BuiltOp::DropColumn(it) => it.admit_target(alloc, source, aux, memory, steps),
+        }
+    }
+
+    fn admit_source<L: Ledger>(
+        &self,
+        alloc: Global,
+        target: &Side,
+        aux: &Aux,
+        memory: &PairMemory,
+        steps: &mut Steps<L>,
+    ) -> Result<Option<Side>, Memory> {
+        match self {
+            BuiltOp::CreateTable(it) => it.admit_source(alloc, target, aux, memory, steps),
+            BuiltOp::DropTable(it) => it.admit_source(alloc, target, aux, memory, steps),
+            BuiltOp::Rename(it) => it.admit_source(alloc, target, aux, memory, steps),
+            BuiltOp::AddColumn(it) => it.admit_source(alloc, target, aux, memory, steps),
+            BuiltOp::DropColumn(it) => it.admit_source(alloc, target, aux, memory, steps),
+        }
+    }
+
+    ghost laws = { λ it. laws_of (built_view it) };
+}

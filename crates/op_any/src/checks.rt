@@ -1,0 +1,121 @@
+//! The checks of an operator, each with its refusal.
+ghost use Rattle.std.specs.Prelude.{◌≡◌, ◌<◌, length, IfOk};
+ghost use Rattle.expr_lang.specs.Terms.{text_term, expr_term};
+ghost use Rattle.expr_lang.specs.Resolved.{place_of, resolved};
+ghost use Rattle.op_any.specs.Checks.{Gives};
+ghost use Rattle.op_any.specs.Build.{heading_named, is_passing as is_passing_name, known_table, new_table, known_column, known_columns, new_columns, few_columns, known_ids};
+
+use crate::lookup::{find_column, find_heading, find_repeated, is_passing};
+use expr_lang::{Expr, ExprText, first_unknown, resolve};
+use par_base::{Fault, Name, Refusal};
+use std::alloc::Global;
+use version_graph::Heading;
+
+/// The greatest number of columns of a table.
+const COLUMN_LIMIT: usize = 64;
+
+/// The table of a working set with this name, or the refusal.
+pub(crate) fn find_table<'a>(
+    alloc: Global,
+    set: &'a [Heading],
+    name: &Name,
+) -> Result<&'a Heading, Fault<Refusal>>
+    ensures { Gives (λ heading. heading.now) result (known_table name.now (heading_named set.entry.now name.now)) }
+{
+    match find_heading(set, name) {
+        Some(heading) => Ok(heading),
+        None => Err(Fault::Refused(Refusal::UnknownTable {
+            table: name.copy(alloc)?,
+        })),
+    }
+}
+
+/// Refuses the name of a table that passes through beside these sources.
+pub(crate) fn check_new_table(
+    alloc: Global,
+    set: &[Heading],
+    sources: &[Name],
+    name: &Name,
+) -> Result<(), Fault<Refusal>>
+    ensures { Gives (λ x. x) result (new_table name.now (is_passing_name set.now sources.now name.now)) }
+{
+    if is_passing(set, sources, name) {
+        return Err(Fault::Refused(Refusal::TableExists {
+            table: name.copy(alloc)?,
+        }));
+    }
+    Ok(())
+}
+
+/// The place of the first column with this name, or the refusal. It takes one comparison for each
+/// column before it.
+pub fn find_place(alloc: Global, columns: &[Name], name: &Name) -> Result<usize, Fault<Refusal>>
+    ensures gives { Gives (λ place. place) result (known_column name.now (place_of columns.now name.now)) }
+    ensures within { IfOk result (λ place. place < length columns.now) }
+{
+    match find_column(columns, name) {
+        Some(place) => Ok(place),
+        None => Err(Fault::Refused(Refusal::UnknownColumn {
+            column: name.copy(alloc)?,
+        })),
+    }
+}
+
+/// Refuses the first of the new columns that is `p`, a known one or one of those before it.
+pub(crate) fn check_new_columns(
+    alloc: Global,
+    known: &[Name],
+    names: &[Name],
+) -> Result<(), Fault<Refusal>>
+    ensures { Gives (λ x. x) result (new_columns known.now names.now) }
+{
+    match find_repeated(known, names) {
+        Some(name) => Err(Fault::Refused(Refusal::ColumnExists {
+            column: name.copy(alloc)?,
+        })),
+        None => Ok(()),
+    }
+}
+
+/// Refuses a target with too many columns.
+pub(crate) fn check_few_columns(
+    alloc: Global,
+    table: &Name,
+    columns: &[Name],
+) -> Result<(), Fault<Refusal>>
+    ensures { Gives (λ x. x) result (few_columns table.now columns.now) }
+{
+    if columns.len() > COLUMN_LIMIT {
+        return Err(Fault::Refused(Refusal::TooManyColumns {
+            table: table.copy(alloc)?,
+            limit: COLUMN_LIMIT as u64,
+        }));
+    }
+    Ok(())
+}
+
+/// The expression over these columns, or the refusal of the first name that is none of them. It
+/// takes time in the number of its names and of the columns.
+pub fn resolve_value(
+    alloc: Global,
+    value: &ExprText,
+    columns: &[Name],
+) -> Result<Expr, Fault<Refusal>>
+    ensures { Gives expr_term result (known_columns (resolved columns.now (text_term value.now))) }
+{
+    match resolve(alloc, value, columns) {
+        Ok(expr) => Ok(expr),
+        Err(Fault::Refused(column)) => Err(Fault::Refused(Refusal::UnknownColumn { column })),
+        Err(Fault::Memory) => Err(Fault::Memory),
+    }
+}
+
+/// Refuses a reference to an identifier that is 0 or isn't below the next one.
+pub(crate) fn check_ids(value: &ExprText, next: u64) -> Result<(), Fault<Refusal>>
+    ensures { Gives (λ x. x) result (known_ids next (text_term value.now)) }
+{
+    match first_unknown(value, next) {
+        Some(id) => Err(Fault::Refused(Refusal::UnknownId { id, next })),
+        None => Ok(()),
+    }
+}

@@ -1,0 +1,32 @@
+//! Laws of built operators. The functions do nothing: their contracts are the laws.
+ghost use Rattle.op_any.specs.Laws.{BuiltEdgesFit, BuiltForItsTables, BuiltIsClosed, BuiltHasFewTables, OnlyCreateTableIsWithoutSource, BuiltKeepsItsText, NotBuiltIsTheForm, HeadingsOfTaken, FirstRepeatedIsRefused};
+
+/// An edge that was built on the working set of a graph fits it, and its operator is built for its
+/// tables: for its targets, and for the tables of the set that it takes.
+pub fn built_edges_fit()
+    ensures set { BuiltEdgesFit }
+    ensures tables { BuiltForItsTables }
+    ensures sources { HeadingsOfTaken }
+{}
+
+/// The expressions of a built operator are closed, where no text literal is too long.
+pub fn built_operators_are_closed()
+    ensures { BuiltIsClosed }
+{}
+
+/// How many tables a built edge has, and which text its operator keeps.
+pub fn built_edges_keep_their_form()
+    ensures few { BuiltHasFewTables }
+    ensures sources { OnlyCreateTableIsWithoutSource }
+    ensures text { BuiltKeepsItsText }
+{}
+
+/// Which forms are built. An operator of one of these forms may be refused, but never as not built.
+pub fn other_forms_are_not_built()
+    ensures { NotBuiltIsTheForm }
+{}
+
+/// Which column is refused because a target would have it twice.
+pub fn first_repeated_column_is_refused()
+    ensures { FirstRepeatedIsRefused }
+{}

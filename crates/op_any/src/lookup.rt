@@ -1,0 +1,81 @@
+//! Tables and columns by their names.
+ghost use Rattle.std.specs.Prelude.{◌≡◌, ◌<◌, ◌&&◌, ◌++◌, ◌∷◌, not, length, IfSome};
+ghost use Rattle.std.specs.Option.{option_map, option_copied};
+ghost use Rattle.std.specs.List.{list_any};
+ghost use Rattle.std.specs.Str.{bytes_eq};
+ghost use Rattle.expr_lang.specs.Resolved.{place_of};
+ghost use Rattle.version_graph.specs.Tables.{row_name, is_among as is_source};
+ghost use Rattle.op_any.specs.Build.{heading_named, is_passing as is_passing_name, repeated};
+
+use par_base::Name;
+use version_graph::Heading;
+
+fn has_name(name: &Name, wanted: &Name) -> bool
+    ensures { result ≡ bytes_eq name.now wanted.now }
+{
+    name.as_str().as_bytes() == wanted.as_str().as_bytes()
+}
+
+fn is_among(names: &[Name], wanted: &Name) -> bool
+    ensures { result ≡ list_any (bytes_eq wanted.now) names.now }
+{
+    names.iter().any(|name| has_name(wanted, name))
+}
+
+/// The table of a working set with this name. It takes one comparison for each table before it.
+pub(crate) fn find_heading<'a>(set: &'a [Heading], name: &Name) -> Option<&'a Heading>
+    ensures { option_copied result ≡ heading_named set.entry.now name.now }
+{
+    set.iter().find(|heading| has_name(&heading.name, name))
+}
+
+fn is_none_of(heading: &Heading, sources: &[Name]) -> bool
+    ensures { result ≡ not (is_source sources.now heading.now) }
+{
+    !is_among(sources, &heading.name)
+}
+
+/// Whether a table that is none of the sources has this name.
+#[tactic(auto, unfolding(crate::specs::Build::is_passing))]
+pub(crate) fn is_passing(set: &[Heading], sources: &[Name], name: &Name) -> bool
+    ensures { result ≡ is_passing_name set.now sources.now name.now }
+{
+    set.iter()
+        .filter(|heading| is_none_of(heading, sources))
+        .any(|heading| has_name(&heading.name, name))
+}
+
+/// The place of the first column with this name.
+#[tactic(auto, unfolding(expr_lang::specs::Resolved::place_of))]
+pub(crate) fn find_column(columns: &[Name], name: &Name) -> Option<usize>
+    ensures place { result ≡ place_of columns.now name.now }
+    ensures within { IfSome result (λ place. place < length columns.now) }
+{
+    columns.iter().position(|column| has_name(name, column))
+}
+
+fn is_row_name(name: &Name) -> bool
+    ensures { result ≡ bytes_eq name.now row_name }
+{
+    name.as_str().as_bytes() == b"p".as_slice()
+}
+
+fn is_taken(known: &[Name], before: &[Name], name: &Name) -> bool
+    ensures { result ≡ list_any (bytes_eq name.now) (row_name ∷ (known.now ++ before.now)) }
+{
+    is_row_name(name) || is_among(known, name) || is_among(before, name)
+}
+
+/// The first of the new names that is `p`, a known one or one of those before it. It takes time in
+/// the number of pairs of names.
+#[tactic(auto, unfolding(crate::specs::Build::repeated))]
+pub(crate) fn find_repeated<'a>(known: &[Name], names: &'a [Name]) -> Option<&'a Name>
+    ensures { option_map (λ name. name.now) result ≡ repeated (row_name ∷ known.now) names.entry.now }
+{
+    for (at, name) in names.iter().enumerate() {
+        if is_taken(known, &names[..at], name) {
+            return Some(name);
+        }
+    }
+    None
+}

@@ -1,0 +1,218 @@
+//! What one operator makes of a working set, or why it is refused.
+ghost use Rattle.std.specs.Prelude.{◌≡◌, ◌∷◌, ◌++◌, [], IfOk};
+ghost use Rattle.std.specs.List.{insert, remove};
+ghost use Rattle.expr_lang.specs.Terms.{text_term};
+ghost use Rattle.bidel_parser.specs.Views.{op_view};
+ghost use Rattle.op_any.specs.Checks.{Gives};
+ghost use Rattle.op_any.specs.Build.{creating_table, dropping_table, renaming_table, renaming_column, adding_column, dropping_column, one_to_one, planned};
+ghost use Rattle.op_any.specs.Views.{built_view, edge_view};
+
+use crate::any_op::BuiltOp;
+use crate::checks::{
+    check_few_columns, check_ids, check_new_columns, check_new_table, find_place, find_table,
+    resolve_value,
+};
+use crate::copy_text::copy_names;
+use bidel_parser::OpText;
+use expr_lang::ExprText;
+use op_column::{AddColumn, CreateTable, DropTable, Rename};
+use op_rows::{FlipRow, Rowwise};
+use par_base::{Fault, List, Memory, Name, Refusal};
+use std::alloc::Global;
+use std::slice;
+use version_graph::{Edge, Heading};
+
+fn one_name(alloc: Global, name: &Name) -> Result<List<Name>, Memory>
+    ensures { IfOk result (λ made. made ≡ name.now ∷ []) }
+{
+    let mut made = List::new(alloc);
+    made.push(name.copy(alloc)?)?;
+    Ok(made)
+}
+
+fn with_name(alloc: Global, names: &[Name], name: &Name) -> Result<List<Name>, Memory>
+    ensures { IfOk result (λ made. made ≡ names.now ++ name.now ∷ []) }
+{
+    let mut made = copy_names(alloc, names)?;
+    made.push(name.copy(alloc)?)?;
+    Ok(made)
+}
+
+fn one_heading(alloc: Global, name: &Name, columns: List<Name>) -> Result<List<Heading>, Memory>
+    ensures { IfOk result (λ made. made ≡ record { name = name.now; columns = columns } ∷ []) }
+{
+    let mut made = List::new(alloc);
+    made.push(Heading {
+        name: name.copy(alloc)?,
+        columns,
+    })?;
+    Ok(made)
+}
+
+// From one table to one table.
+fn from_one_to_one(
+    alloc: Global,
+    operator: BuiltOp,
+    source: &Name,
+    target: &Name,
+    columns: List<Name>,
+) -> Result<Edge<BuiltOp>, Memory>
+    ensures { IfOk result (λ made. edge_view made ≡ one_to_one (built_view operator) source.now target.now columns) }
+{
+    Ok(Edge {
+        operator,
+        sources: one_name(alloc, source)?,
+        targets: one_heading(alloc, target, columns)?,
+    })
+}
+
+fn create_table(
+    alloc: Global,
+    set: &[Heading],
+    table: &Name,
+    columns: &[Name],
+) -> Result<Edge<BuiltOp>, Fault<Refusal>>
+    ensures { Gives edge_view result (creating_table set.now table.now columns.now) }
+{
+    check_new_table(alloc, set, &[], table)?;
+    check_new_columns(alloc, &[], columns)?;
+    check_few_columns(alloc, table, columns)?;
+    Ok(Edge {
+        operator: BuiltOp::CreateTable(Rowwise { inner: CreateTable }),
+        sources: List::new(alloc),
+        targets: one_heading(alloc, table, copy_names(alloc, columns)?)?,
+    })
+}
+
+fn drop_table(alloc: Global, set: &[Heading], table: &Name) -> Result<Edge<BuiltOp>, Fault<Refusal>>
+    ensures { Gives edge_view result (dropping_table set.now table.now) }
+{
+    let source = find_table(alloc, set, table)?;
+    let inner = DropTable {
+        width: source.columns.len(),
+    };
+    Ok(Edge {
+        operator: BuiltOp::DropTable(Rowwise { inner }),
+        sources: one_name(alloc, table)?,
+        targets: List::new(alloc),
+    })
+}
+
+fn rename_table(
+    alloc: Global,
+    set: &[Heading],
+    table: &Name,
+    new_name: &Name,
+) -> Result<Edge<BuiltOp>, Fault<Refusal>>
+    ensures { Gives edge_view result (renaming_table set.now table.now new_name.now) }
+{
+    let renamed = find_table(alloc, set, table)?;
+    check_new_table(alloc, set, slice::from_ref(table), new_name)?;
+    let columns = copy_names(alloc, renamed.columns.as_slice())?;
+    let operator = BuiltOp::Rename(Rowwise { inner: Rename });
+    Ok(from_one_to_one(alloc, operator, table, new_name, columns)?)
+}
+
+fn rename_column(
+    alloc: Global,
+    set: &[Heading],
+    column: &Name,
+    table: &Name,
+    new_name: &Name,
+) -> Result<Edge<BuiltOp>, Fault<Refusal>>
+    ensures { Gives edge_view result (renaming_column set.now column.now table.now new_name.now) }
+{
+    let source = find_table(alloc, set, table)?;
+    let place = find_place(alloc, source.columns.as_slice(), column)?;
+    let mut columns = copy_names(alloc, source.columns.as_slice())?;
+    columns.remove(place);
+    check_new_columns(alloc, columns.as_slice(), slice::from_ref(new_name))?;
+    columns.insert(place, new_name.copy(alloc)?)?;
+    let operator = BuiltOp::Rename(Rowwise { inner: Rename });
+    Ok(from_one_to_one(alloc, operator, table, table, columns)?)
+}
+
+fn add_column(
+    alloc: Global,
+    set: &[Heading],
+    next: u64,
+    column: &Name,
+    value: &ExprText,
+    table: &Name,
+) -> Result<Edge<BuiltOp>, Fault<Refusal>>
+    ensures { Gives edge_view result (adding_column set.now next column.now (text_term value.now) table.now) }
+{
+    let source = find_table(alloc, set, table)?;
+    let known = source.columns.as_slice();
+    let expr = resolve_value(alloc, value, known)?;
+    check_new_columns(alloc, known, slice::from_ref(column))?;
+    let columns = with_name(alloc, known, column)?;
+    check_few_columns(alloc, table, columns.as_slice())?;
+    check_ids(value, next)?;
+    let inner = AddColumn {
+        place: known.len(),
+        value: expr,
+    };
+    let operator = BuiltOp::AddColumn(Rowwise { inner });
+    Ok(from_one_to_one(alloc, operator, table, table, columns)?)
+}
+
+fn drop_column(
+    alloc: Global,
+    set: &[Heading],
+    next: u64,
+    column: &Name,
+    table: &Name,
+    value: &ExprText,
+) -> Result<Edge<BuiltOp>, Fault<Refusal>>
+    ensures { Gives edge_view result (dropping_column set.now next column.now table.now (text_term value.now)) }
+{
+    let source = find_table(alloc, set, table)?;
+    let place = find_place(alloc, source.columns.as_slice(), column)?;
+    let mut columns = copy_names(alloc, source.columns.as_slice())?;
+    columns.remove(place);
+    let expr = resolve_value(alloc, value, columns.as_slice())?;
+    check_ids(value, next)?;
+    let inner = FlipRow {
+        inner: AddColumn { place, value: expr },
+    };
+    let operator = BuiltOp::DropColumn(Rowwise { inner });
+    Ok(from_one_to_one(alloc, operator, table, table, columns)?)
+}
+
+/// The edge of an operator on a working set, or the first of its checks that refuses it.
+pub(crate) fn plan(
+    alloc: Global,
+    text: &OpText,
+    set: &[Heading],
+    next: u64,
+) -> Result<Edge<BuiltOp>, Fault<Refusal>>
+    ensures { Gives edge_view result (planned set.now next (op_view text.now)) }
+{
+    match text {
+        OpText::CreateTable { table, columns } => create_table(
+            alloc,
+            set,
+            table,
+            columns.as_slice(),
+        ),
+        OpText::DropTable { table } => drop_table(alloc, set, table),
+        OpText::RenameTable { table, new_name } => rename_table(alloc, set, table, new_name),
+        OpText::RenameColumn {
+            column,
+            table,
+            new_name,
+        } => rename_column(alloc, set, column, table, new_name),
+        OpText::AddColumn {
+            column,
+            value,
+            table,
+        } => add_column(alloc, set, next, column, value, table),
+        OpText::DropColumn {
+            column,
+            table,
+            value,
+        } => drop_column(alloc, set, next, column, table, value),
+        _ => Err(Fault::Refused(Refusal::NotBuilt)),
+    }
+}

@@ -1,0 +1,55 @@
+-- Which rows ADD COLUMN takes and admits.
+use Rattle.std.proofs.Common.{◌≡◌, ℕ, ◌≤◌, List, [], ◌∷◌, true, false, Option, Some, None, refl, sym, ◌∙◌, ap, subst, arith}
+use Rattle.std.proofs.lemmas.Bool.{false≢true}
+use Rattle.par_base.specs.declared.value.Value.{Value}
+use Rattle.expr_lang.specs.Terms.{Term}
+use Rattle.op_rows.specs.Cells.{Cells, first_cell, CellWide, AreCellsOf}
+use Rattle.op_rows.specs.RowCalls.{AdmitsRows}
+use Rattle.op_column.specs.OneTable.{one_cell}
+use Rattle.op_column.specs.RowEdits.{value_at-insert}
+use Rattle.op_column.specs.Calls.{is_beside}
+use Rattle.op_column.specs.AddColumn.{kept_value, restored, without_column, column_alone, add_column}
+use Rattle.op_column.specs.AddColumnLaws.{source_wide, forward_wide, forward_related}
+
+-- what stands beside is the column of the row that is read back
+kept_is : (place width : ℕ) (c : Option (List Value)) (aux : Cells) → CellWide width c → place ≤ width → is_beside c aux ≡ true → aux ≡ column_alone place (restored place c (first_cell aux)) ∷ []
+kept_is place width (Some row) (Some (v ∷ []) ∷ []) wide within beside = ap (λ (x : Value). Some (x ∷ []) ∷ []) (sym (value_at-insert row place v (omega (arith, wide, within))))
+kept_is place width (Some row) (Some (v ∷ []) ∷ (d ∷ ds)) wide within beside = absurd (false≢true beside)
+kept_is place width (Some row) (Some (v ∷ (w ∷ ws)) ∷ ds) wide within beside = absurd (false≢true beside)
+kept_is place width (Some row) (Some [] ∷ ds) wide within beside = absurd (false≢true beside)
+kept_is place width (Some row) (None ∷ ds) wide within beside = absurd (false≢true beside)
+kept_is place width (Some row) [] wide within beside = absurd (false≢true beside)
+kept_is place width None (None ∷ []) wide within beside = refl
+kept_is place width None (None ∷ (d ∷ ds)) wide within beside = absurd (false≢true beside)
+kept_is place width None (Some kept ∷ ds) wide within beside = absurd (false≢true beside)
+kept_is place width None [] wide within beside = absurd (false≢true beside)
+
+-- the column of a row stands beside the row without it
+column_beside : (place : ℕ) (t : Option (List Value)) → is_beside (without_column place t) (column_alone place t ∷ []) ≡ true
+column_beside place None = refl
+column_beside place (Some row) = refl
+
+module _ (place : ℕ) (e : Term ℕ) where
+  -- a value for each row and for no other is admitted
+  pub admits_beside : (near far aux : Cells) → far ≡ restored place (first_cell near) (first_cell aux) ∷ [] → is_beside (first_cell near) aux ≡ true → AdmitsRows (add_column place e) near aux (Some far)
+  admits_beside near far aux made beside = (
+    made,
+    λ hs ht fits near_of.
+        let value : List Value → Value = λ row. kept_value (first_cell aux) in
+        record {
+          pair = record {
+            fits = fits;
+            related = forward_related place e hs ht value near fits near_of ∙ ap (λ (cs : Cells). without_column place (first_cell cs)) (sym made);
+            source_of = near_of;
+            target_of = subst (λ (cs : Cells). AreCellsOf ht cs) (sym made) (forward_wide place e hs ht value near fits near_of);
+          };
+          aux_is = kept_is place _ (first_cell near) aux (one_cell _ hs near (source_wide place e hs ht fits) near_of).wide fits.within beside ∙ ap (λ (cs : Cells). column_alone place (first_cell cs) ∷ []) (sym made);
+        },
+  )
+
+  -- and nothing else belongs to a target
+  pub admits_none_beside : (near aux : Cells) → is_beside (first_cell near) aux ≡ false → AdmitsRows (add_column place e) near aux None
+  admits_none_beside near aux fails hs ht far belongs =
+      let near_is : first_cell near ≡ without_column place (first_cell far) = belongs.pair.related in
+      let aux_is : aux ≡ column_alone place (first_cell far) ∷ [] = belongs.aux_is in
+      false≢true (sym fails ∙ ap (λ (c : Option (List Value)). is_beside c aux) near_is ∙ ap (is_beside (without_column place (first_cell far))) aux_is ∙ column_beside place (first_cell far))

@@ -1,0 +1,11 @@
+use Rattle.op_column.proofs.ColumnKeptLemmas.{added_kept, added_filled, dropped_kept}
+use Rattle.op_column.proofs.laws.columns_are_kept.Goals as goal
+
+pub returns-clause-added : goal.returns-clause-added
+returns-clause-added c = added_kept
+
+pub returns-clause-filled : goal.returns-clause-filled
+returns-clause-filled c = added_filled
+
+pub returns-clause-dropped : goal.returns-clause-dropped
+returns-clause-dropped c = dropped_kept

@@ -1,0 +1,42 @@
+-- What a pass over identifiers ensures.
+use Rattle.std.specs.Prelude.{◌≡◌, ℕ, zero, suc, true, List, [], ◌∷◌, ◌++◌, drop, Option, Some, None}
+use Rattle.row_store.specs.Rows.{Rows, AreBelow}
+use Rattle.row_store.specs.States.{TableState}
+use Rattle.op_law.specs.Tables.{Tables, contents}
+use Rattle.op_law.specs.Identifiers.{ids_in}
+use Rattle.op_rows.specs.Cells.{Cells, cells_at, first_cell, other_cells, with_row, tables_from}
+use Rattle.op_rows.specs.CellLemmas.{has_id}
+use Rattle.op_rows.specs.RowMeaning.{RowMeaning}
+use Rattle.op_rows.specs.RowCalls.{AdmitsRows}
+
+-- the identifiers from a place in each of two ascending lists on
+abbrev pub ids_left : List ℕ → ℕ → Rows → ℕ → List ℕ
+ids_left ids in_ids rows in_rows = ids_in (drop in_rows rows) (drop in_ids ids)
+
+-- every identifier of the tables is below this one
+abbrev pub AllBelow : Tables → ℕ → Type 0
+AllBelow [] id = Unit {0}
+AllBelow (t ∷ ts) id = AreBelow t id × AllBelow ts id
+
+-- so many tables without rows
+abbrev pub without_rows : ℕ → Tables
+without_rows zero = []
+without_rows (suc k) = [] ∷ without_rows k
+
+-- each cell behind its table
+abbrev pub with_cells : Tables → ℕ → Cells → Tables
+with_cells [] id cells = []
+with_cells (t ∷ ts) id cells = (t ++ with_row id (first_cell cells) []) ∷ with_cells ts id (other_cells cells)
+
+-- the target that is read back at an identifier
+abbrev pub read_at : RowMeaning → Tables → Tables → ℕ → Cells
+read_at r near aux id = r.read_target (cells_at near id) (cells_at aux id)
+
+-- the answer at an identifier
+abbrev pub AdmitsAt : RowMeaning → Tables → Tables → ℕ → Option Cells → Type 0
+AdmitsAt r near aux id far = AdmitsRows r (cells_at near id) (cells_at aux id) far
+
+-- the target that is read back, where the rows of each of the identifiers are admitted, or none, where those of one aren't
+abbrev pub AdmitsEach : RowMeaning → Tables → Tables → ℕ → List ℕ → Option (List TableState) → Type 0
+AdmitsEach r near aux count ids (Some made) = (contents made ≡ tables_from count ids (read_at r near aux)) × ((id : ℕ) → has_id ids id ≡ true → AdmitsAt r near aux id (Some (read_at r near aux id)))
+AdmitsEach r near aux count ids None = (id : ℕ) × AdmitsAt r near aux id None

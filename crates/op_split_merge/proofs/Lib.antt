@@ -1,0 +1,3 @@
+mod ShownLemmas
+mod SameLemmas
+mod CallLemmas

@@ -1,0 +1,3 @@
+mod BuiltLemmas
+mod ChainLemmas
+mod SideLemmas

@@ -1,0 +1,78 @@
+-- One row of a table, and the identifiers before it.
+use Rattle.std.proofs.Common.{◌≡◌, ◌∙◌, ℕ, zero, suc, ◌+◌, ◌<◌, ◌≤◌, List, [], ◌∷◌, ◌++◌, Bool, true, false, not, cond, length, get_or, take, Option, ap, sym, subst, arith}
+use Rattle.std.proofs.lemmas.List.{length-take-le, take_more}
+use Rattle.par_base.specs.declared.value.Value.{Value}
+use Rattle.expr_lang.specs.Terms.{Term}
+use Rattle.row_store.specs.Rows.{Rows, RiseFrom, AreBelow}
+use Rattle.op_law.specs.Tables.{RowsWide}
+use Rattle.ordinary_table.specs.Shown.{meets}
+use Rattle.ordinary_table.specs.Written.{SetTerm, numbered, inserted, updated, deleted}
+use Rattle.ordinary_table.specs.Fits.{condition_fits}
+
+-- a row stands at the place
+pub record IsRowAt (rows : Rows) (i : ℕ) (r : ℕ × List Value) : Type 0 where
+  pub within : i < length rows
+  pub is : r ≡ get_or rows i r
+
+pub row_at : (all rows : Rows) (i : ℕ) (r : ℕ × List Value) → all ≡ rows → i < length all → r ≡ get_or all i r → IsRowAt rows i r
+row_at all rows i r same within is = subst (λ (rs : Rows). IsRowAt rs i r) same (record { within = within; is = is })
+
+pub take_row : (rows : Rows) (i : ℕ) (r : ℕ × List Value) → IsRowAt rows i r → take (i + 1) rows ≡ take i rows ++ r ∷ []
+take_row rows i r at = take_more rows i r at.within ∙ ap (λ (q : ℕ × List Value). take i rows ++ q ∷ []) (sym at.is)
+
+wide_at : (width : ℕ) (rows : Rows) (i : ℕ) (d : ℕ × List Value) → RowsWide width rows → i < length rows → length (get_or rows i d).1 ≡ width
+wide_at width [] i d wide within = absurd (omega arith)
+wide_at width (r ∷ rs) zero d wide within = wide.0
+wide_at width (r ∷ rs) (suc i) d wide within = wide_at width rs i d wide.1 (omega arith)
+
+-- it has as many values as each row
+pub wide_row : (width : ℕ) (rows : Rows) (i : ℕ) (r : ℕ × List Value) → IsRowAt rows i r → RowsWide width rows → length r.1 ≡ width
+wide_row width rows i r at wide = ap (λ (q : ℕ × List Value). length q.1) at.is ∙ wide_at width rows i r wide at.within
+
+-- so a condition that fits the rows fits what it shows
+pub condition_row : (width : ℕ) (rows : Rows) (i : ℕ) (r : ℕ × List Value) (condition : Option (Term ℕ)) → IsRowAt rows i r → RowsWide width rows → condition_fits condition (width + 1) ≡ true → condition_fits condition (length r.1 + 1) ≡ true
+condition_row width rows i r condition at wide fits = rw (wide_row width rows i r at wide) fits
+
+least_at : (n : ℕ) (rows : Rows) (i : ℕ) (d : ℕ × List Value) → RiseFrom n rows → i < length rows → n ≤ (get_or rows i d).0
+least_at n [] i d rise within = absurd (omega arith)
+least_at n (r ∷ rs) zero d rise within = rise.0
+least_at n (r ∷ rs) (suc i) d rise within = omega (arith, rise.0, least_at (r.0 + 1) rs i d rise.1 (omega arith))
+
+below_at : (n : ℕ) (rows : Rows) (i : ℕ) (d : ℕ × List Value) → RiseFrom n rows → i < length rows → AreBelow (take i rows) (get_or rows i d).0
+below_at n [] i d rise within = absurd (omega arith)
+below_at n (r ∷ rs) zero d rise within = tt
+below_at n (r ∷ rs) (suc i) d rise within = (omega (arith, least_at (r.0 + 1) rs i d rise.1 (omega arith)), below_at (r.0 + 1) rs i d rise.1 (omega arith))
+
+-- the rows before it have smaller identifiers
+pub below_row : (rows : Rows) (i : ℕ) (r : ℕ × List Value) → IsRowAt rows i r → RiseFrom 0 rows → AreBelow (take i rows) r.0
+below_row rows i r at rise = subst (λ (q : ℕ × List Value). AreBelow (take i rows) q.0) (sym at.is) (below_at 0 rows i r rise at.within)
+
+pub below_more : (rows : Rows) (n m : ℕ) → n ≤ m → AreBelow rows n → AreBelow rows m
+below_more [] n m h below = tt
+below_more (r ∷ rs) n m h below = (omega (arith, below.0), below_more rs n m h below.1)
+
+pub below_append : (rows more : Rows) (n : ℕ) → AreBelow rows n → AreBelow more n → AreBelow (rows ++ more) n
+below_append [] more n below new = new
+below_append (r ∷ rs) more n below new = (below.0, below_append rs more n below.1 new)
+
+pub below_numbered : (next : ℕ) (new : List (List Value)) (n : ℕ) → next + length new ≤ n → AreBelow (numbered next new) n
+unfolding numbered
+below_numbered next [] n h = tt
+below_numbered next (row ∷ new) n h = (omega arith, below_numbered (next + 1) new n (omega arith))
+
+pub below_inserted : (rows : Rows) (new : List (List Value)) (next i : ℕ) → AreBelow rows next → i ≤ length new → AreBelow (inserted rows (take i new) next) (next + i)
+below_inserted rows new next i below within =
+    below_append rows (numbered next (take i new)) (next + i) (below_more rows next (next + i) (omega arith) below)
+    (below_numbered next (take i new) (next + i) (omega (arith, length-take-le i new within)))
+
+pub below_updated : (rows : Rows) (sets : List SetTerm) (condition : Option (Term ℕ)) (n : ℕ) → AreBelow rows n → AreBelow (updated rows sets condition) n
+below_updated [] sets condition n below = tt
+below_updated (r ∷ rs) sets condition n below = (below.0, below_updated rs sets condition n below.1)
+
+below_cons : (b : Bool) (r : ℕ × List Value) (rs : Rows) (n : ℕ) → r.0 < n → AreBelow rs n → AreBelow (cond b (r ∷ rs) rs) n
+below_cons true r rs n h below = (h, below)
+below_cons false r rs n h below = below
+
+pub below_deleted : (rows : Rows) (condition : Option (Term ℕ)) (n : ℕ) → AreBelow rows n → AreBelow (deleted rows condition) n
+below_deleted [] condition n below = tt
+below_deleted (r ∷ rs) condition n below = below_cons (not (meets condition r)) r (deleted rs condition) n below.0 (below_deleted rs condition n below.1)

@@ -1,0 +1,5 @@
+pub mod Shown
+pub mod Selected
+pub mod Written
+pub mod Fits
+pub mod Laws

@@ -1,0 +1,26 @@
+-- Rows as expressions see them, and conditions on them.
+use Rattle.std.specs.Prelude.{ℕ, Bool, true, List, ◌∷◌, Option, Some, None}
+use Rattle.std.specs.Option.{option_map}
+use Rattle.std.specs.Borrow.{Bor}
+use Rattle.par_base.specs.declared.value.Value.{Value}
+use Rattle.par_base.specs.declared.value.Value.TheVariants.{Reference}
+use Rattle.expr_lang.specs.declared.tree.Expr.{Expr}
+use Rattle.expr_lang.specs.Terms.{Term, expr_term}
+use Rattle.expr_lang.specs.Val.{holds_at}
+
+-- a row as expressions see it: the reference to its own identifier, and then its values
+abbrev pub shown : ℕ × List Value → List Value
+shown r = Reference r.0 ∷ r.1
+
+-- the condition of a statement, where it has one
+abbrev pub condition_of : Option (Bor Expr) → Option (Term ℕ)
+condition_of filter = option_map (λ e. expr_term e.now) filter
+
+-- the condition holds where a row shows these values, or there is none
+abbrev pub allows : Option (Term ℕ) → List Value → Bool
+allows None values = true
+allows (Some condition) values = holds_at condition values
+
+-- the row meets the condition
+abbrev pub meets : Option (Term ℕ) → ℕ × List Value → Bool
+meets condition r = allows condition (shown r)

@@ -1,0 +1,61 @@
+use Rattle.std.proofs.Common.{◌≤◌, false, sym, ◌∙◌, subst}
+use Rattle.std.proofs.lemmas.Result.{err_from_is_err_and}
+use Rattle.op_law.specs.Calls.{first_refused}
+use Rattle.version_model.specs.States.{State}
+use Rattle.version_model.proofs.CarryLemmas.{may_step, step_at, crosses_at, step_made, step_refused, walk_made, no_more}
+use Rattle.version_model.proofs.carry.carry.Goals as goal
+
+pub make_step-requires : goal.make_step-requires
+make_step-requires g c =
+    let es = c.args.graph.now.edges in
+    let b = c.args.before in
+    let made = c.args.made.now in
+    let laws = g.met.O.Operator.laws in
+    let meaning = g.O.Operator.meaning in
+    let may = c.requires in
+    let i = c.loop-step.step-index in
+    let at = step_at meaning laws es b made c.args.set may c.as_slice-step-items.result.now i (record { operator = 0; backward = false }) (c.as_slice-step-items.ensures ∙ c.in_ok-walk.ensures) c.loop-step-test.true in
+    may_step meaning laws es b made c.args.set may c.loop-step.made i at.0 _ at.1 c.loop-step.invariant.so_far at.2
+
+pub returns-in_err-make_step : goal.returns-in_err-make_step
+returns-in_err-make_step g c =
+    let es = c.args.graph.now.edges in
+    let b = c.args.before in
+    let made = c.args.made.now in
+    let laws = g.met.O.Operator.laws in
+    let meaning = g.O.Operator.meaning in
+    let may = c.requires in
+    let i = c.loop-step.step-index in
+    let inv = c.loop-step.invariant in
+    let at = step_at meaning laws es b made c.args.set may c.as_slice-step-items.result.now i (record { operator = 0; backward = false }) (c.as_slice-step-items.ensures ∙ c.in_ok-walk.ensures) c.loop-step-test.true in
+    let crossed = c.in_err-make_step.ensures _ (crosses_at meaning laws es b made c.args.set may i at.0 at.1) (sym at.2) in
+    let p = err_from_is_err_and c.from_residual-in_err-make_step.result c.from_residual-in_err-make_step.ensures.1 in
+    rw (p.1, p.2) (step_refused meaning laws es b made c.args.set may c.loop-step.made c.make_step.new.made i at.0 c.in_err-make_step.field-0.0 at.1 inv.so_far inv.within inv.limit crossed)
+
+pub loop-step-preserved : goal.loop-step-preserved
+loop-step-preserved g c =
+    let es = c.args.graph.now.edges in
+    let b = c.args.before in
+    let made = c.args.made.now in
+    let laws = g.met.O.Operator.laws in
+    let meaning = g.O.Operator.meaning in
+    let may = c.requires in
+    let i = c.loop-step.step-index in
+    let inv = c.loop-step.invariant in
+    let at = step_at meaning laws es b made c.args.set may c.as_slice-step-items.result.now i (record { operator = 0; backward = false }) (c.as_slice-step-items.ensures ∙ c.in_ok-walk.ensures) c.loop-step-test.true in
+    let crossed = c.in_ok-make_step.ensures _ (crosses_at meaning laws es b made c.args.set may i at.0 at.1) (sym at.2) in
+    let next = step_made meaning laws es b made c.args.set may c.loop-step.made c.make_step.new.made i at.0 at.1 inv.so_far inv.within inv.limit crossed in
+    record { so_far = next.0; within = next.1; limit = next.2 }
+
+pub returns : goal.returns
+returns g c =
+    let es = c.args.graph.now.edges in
+    let b = c.args.before in
+    let made = c.args.made.now in
+    let laws = g.met.O.Operator.laws in
+    let meaning = g.O.Operator.meaning in
+    let may = c.requires in
+    let inv = c.loop-step.invariant in
+    let all = no_more meaning laws es b made c.args.set may c.as_slice-step-items.result.now c.loop-step.step-index (c.as_slice-step-items.ensures ∙ c.in_ok-walk.ensures) c.loop-step-test.false in
+    let is = walk_made meaning laws es b made c.args.set may c.loop-step.made c.loop-step.step-index all inv.so_far in
+    (subst (λ (s : State). s.next ≤ first_refused made.ids) is inv.within, is, inv.limit)

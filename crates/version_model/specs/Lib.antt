@@ -1,0 +1,12 @@
+pub mod Put
+pub mod States
+pub mod Steps
+pub mod Sound
+pub mod Writes
+pub mod Evolving
+pub mod Dropping
+pub mod Laws
+pub mod Kept
+pub mod Calls
+pub mod Making
+pub mod Databases

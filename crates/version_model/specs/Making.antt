@@ -1,0 +1,114 @@
+-- What the inner calls of an evolution suppose and ensure.
+use Rattle.std.specs.Prelude.{◌≡◌, ℕ, ◌≤◌, ◌⊎◌, false, List, [], ◌∷◌, map, drop, slice_get, Result, Ok, Err, Some, ⊤}
+use Rattle.std.specs.Option.{IsSome}
+use mathlib.Core.List.{reverse}
+use Rattle.par_base.specs.declared.fault.Fault.{Fault}
+use Rattle.par_base.specs.declared.fault.Fault.TheVariants.{Refused, Memory as OutOfMemory}
+use Rattle.par_base.specs.declared.refusal.IdsSpent.{IdsSpent}
+use Rattle.par_base.specs.declared.refusal.Refusal.{Refusal}
+use Rattle.par_base.specs.declared.refusal.Refusal.TheVariants.{IdsSpent as SpendsIds}
+use Rattle.id_memory.specs.States.{CounterState, MemoryState}
+use Rattle.row_store.specs.States.{TableState}
+use Rattle.version_graph.specs.Edges.{AreEdges}
+use Rattle.version_graph.specs.Sets.{In, Each}
+use Rattle.version_graph.specs.Forest.{Crossing, Link, crossing, forest}
+use Rattle.version_graph.specs.declared.parts.Placed.{Placed}
+use Rattle.op_law.specs.Meaning.{Meaning}
+use Rattle.op_law.specs.Premises.{SomeMap}
+use Rattle.op_law.specs.Calls.{first_refused, IsSpent}
+use Rattle.version_model.specs.States.{State, empty_at}
+use Rattle.version_model.specs.Steps.{pair_in}
+use Rattle.version_model.specs.Evolving.{with_link}
+use Rattle.version_model.specs.Kept.{HasSides, latest_of, rows_at, pairs_at, value_of}
+use Rattle.version_model.specs.Calls.{Crosses, before_state, made_state}
+use Rattle.version_model.specs.declared.numbered.Numbered.{Numbered}
+use Rattle.version_model.specs.declared.progress.Before.{Before}
+use Rattle.version_model.specs.declared.progress.Made.{Made}
+
+-- ---- which operators
+
+-- the operators by ascending number
+abbrev pub ascending : {O : Type 0} → List (Placed O) → List (Link O)
+ascending es = reverse (forest es)
+
+-- those from a place on
+abbrev pub newer : {O : Type 0} → List (Placed O) → ℕ → List (Link O)
+newer es first = drop first (ascending es)
+
+-- ---- what they make
+
+-- the state with these operators more, in their order
+abbrev pub with_links : {O : Type 0} → (O → Meaning) → State → List (Link O) → State
+with_links meaning s [] = s
+with_links meaning s (f ∷ fs) = with_links meaning (with_link meaning s f) fs
+
+-- the call of a new operator may be made on a state
+abbrev pub MayCallNew : {O : Type 0} → (O → Meaning) → State → Link O → Type 0
+MayCallNew meaning s f = SomeMap (meaning f.operator) (map s.tables f.sources) (pair_in (empty_at s.next) (crossing false f)) s.next
+
+-- each of these operators may be made after those before it
+abbrev pub MayMake : {O : Type 0} → (O → Meaning) → State → List (Link O) → Type 0
+MayMake meaning s [] = Unit {0}
+MayMake meaning s (f ∷ fs) = HasSides f × MayCallNew meaning s f × (s.next ≤ (with_link meaning s f).next) × MayMake meaning (with_link meaning s f) fs
+
+-- the operator at a place may be made
+pub record MayMakeAt {O : Type 0} (meaning : O → Meaning) (es : List (Placed O)) (b : Before) (made : Made) (place : ℕ) : Type 0 where
+  pub edges : AreEdges es
+  pub over : Link O
+  pub here : slice_get (ascending es) place ≡ Some over
+  pub sides : HasSides over
+  pub may : MayCallNew meaning (made_state b made) over
+
+-- the targets of the operator at a place came from its sources, with an empty old pair
+abbrev pub MakesAt : {O : Type 0} → (O → Meaning) → List (Placed O) → Before → ℕ → Made → Made → Result (Unit {0}) (Fault IdsSpent) → Type 0
+MakesAt {O} meaning es b place old new result = (f : Link O) → slice_get (ascending es) place ≡ Some f → Crosses meaning b (crossing false f) (pair_in (empty_at b.next) (crossing false f)) old new result
+
+-- ---- what is there
+
+-- something was made under the number
+abbrev pub Has : {T : Type 0} → List (Numbered T) → ℕ → Type 0
+Has items n = IsSome (latest_of items n)
+
+-- a crossing's far tables and its memory were made, and what had been made is there
+pub record HasMore {O : Type 0} (p : Crossing O) (old new : Made) : Type 0 where
+  pub tables : (t : ℕ) → In t p.far ⊎ Has old.tables t → Has new.tables t
+  pub memories : (n : ℕ) → (n ≡ p.number) ⊎ Has old.memories n → Has new.memories n
+
+-- an operator's tables and its memory were made
+abbrev pub IsMade : {O : Type 0} → Made → Link O → Type 0
+IsMade made f = Each (Has made.tables) f.targets × Has made.memories f.number
+
+-- the operators were made in their order, or one needs an identifier that the counter doesn't give
+abbrev pub Makes : {O : Type 0} → (O → Meaning) → Before → CounterState → List (Link O) → Result Made (Fault IdsSpent) → Type 0
+Makes meaning b ids fs (Ok made) =
+    let end = with_links meaning (before_state b) fs in
+    (end.next ≤ first_refused ids) × (made_state b made ≡ end) × (made.ids.limit ≡ ids.limit) × Each (IsMade made) fs
+Makes meaning b ids fs (Err (Refused spent)) = IsSpent (with_links meaning (before_state b) fs).next ids ids spent
+Makes meaning b ids fs (Err OutOfMemory) = ⊤
+
+-- ---- what is kept of it
+
+-- the state of what is kept
+abbrev pub state_at : List (Numbered TableState) → List (Numbered MemoryState) → ℕ → State
+state_at tables memories next = record { tables = rows_at tables; memory = pairs_at memories; next = next }
+
+-- what is kept for an operator, a table for each target and a memory
+abbrev pub IsKeptFor : {O : Type 0} → List (Numbered TableState) → List (Numbered MemoryState) → Link O → Type 0
+IsKeptFor tables memories f = Each (λ t. IsSome (value_of tables t)) f.targets × IsSome (value_of memories f.number)
+
+-- what was kept under a number is, or what is newer
+abbrev pub Holds : {T : Type 0} → List (Numbered T) → List (Numbered T) → Type 0
+Holds old new = (n : ℕ) → IsSome (value_of old n) → IsSome (value_of new n)
+
+-- the operators were made and are kept, or one needs an identifier that the counter doesn't give
+abbrev pub Keeps : {O : Type 0} → (O → Meaning) → State → CounterState → List (Link O) → Result (Unit {0}) (Fault IdsSpent) → State → CounterState → Type 0
+Keeps meaning s ids fs (Ok done) new now =
+    let end = with_links meaning s fs in
+    (end.next ≤ first_refused ids) × (new ≡ end) × (now.limit ≡ ids.limit)
+Keeps meaning s ids fs (Err (Refused spent)) new now = IsSpent (with_links meaning s fs).next ids now spent
+Keeps meaning s ids fs (Err OutOfMemory) new now = ⊤
+
+-- a spent counter as the refusal of a statement
+abbrev pub refusal_for : Fault IdsSpent → Fault Refusal
+refusal_for (Refused spent) = Refused (SpendsIds spent.needed spent.limit)
+refusal_for OutOfMemory = OutOfMemory

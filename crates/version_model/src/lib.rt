@@ -1,0 +1,30 @@
+//! The model of a database without layout: a whole table for each table version, and how writes,
+//! evolutions and drops change them all.
+//!
+//! It promises the crates above that a write changes the written table to the rows that are given,
+//! leaves the other tables of its working set, and carries the change along the walk by the
+//! operators' mappings (`specs/Writes.antt`); that an evolution makes the tables of its new
+//! operators from their sources and changes no other one (`specs/Evolving.antt`); that a drop takes
+//! the tables of the operators that go and changes no other one (`specs/Dropping.antt`); and that
+//! after each of these every operator relates its two sides (`specs/Sound.antt`). A `PlainDatabase`
+//! keeps a graph with such a state and carries out all three: each write and each evolution is
+//! made whole, or is refused for the cause that `specs/Databases.antt` names, or wants memory, and
+//! then nothing has changed; a drop takes no memory and isn't refused. It knows operators by their
+//! laws alone, and nothing of names in statements, of layouts or of replies.
+#![tactic(auto)]
+
+mod carry;
+mod crossing;
+mod database;
+mod evolve;
+mod laws;
+mod live;
+mod now;
+mod numbered;
+mod progress;
+mod write;
+
+pub use database::PlainDatabase;
+pub use laws::{drops_keep_the_state, evolutions_keep_the_state, writes_keep_the_state};
+pub use numbered::Numbered;
+pub use write::Written;
