@@ -1,12 +1,3 @@
-mod AgreeLemmas
-mod EvolveLemmas
-mod InsertLemmas
-mod MappingLemmas
-mod OwnLemmas
+mod TextLemmas
 mod PlanLemmas
-mod PushLemmas
-mod SidesLemmas
-mod SoundLemmas
-mod StayLemmas
-mod TableLemmas
-mod WalkLemmas
+mod WriteLemmas

@@ -1,78 +1,50 @@
--- What the checks of an operator say of the tables.
-use Rattle.std.proofs.Common.{◌≡◌, ℕ, ◌<◌, ◌≤◌, List, [], ◌∷◌, Bool, true, false, cond, length, Some, None, Ok, Err, refl, ap, ◌∙◌, sym, subst, arith}
-use Rattle.std.specs.Prelude.{Option, Result, slice_get, nat_lt, IfOk}
-use Rattle.std.specs.Str.{bytes_eq}
-use Rattle.std.specs.List.{find}
-use Rattle.std.specs.Option.{option_map_or}
-use Rattle.std.proofs.lemmas.Bool.{ltb-false}
-use Rattle.par_base.specs.declared.refusal.Refusal.TheVariants.{TooManyColumns}
-use Rattle.expr_lang.specs.Terms.{Term}
-use Rattle.expr_lang.specs.Val.{fits_row}
-use Rattle.expr_lang.specs.Resolved.{resolved}
-use Rattle.expr_lang.proofs.Resolving.{resolved-fits}
-use Rattle.engine_core.specs.Tables.{Contents}
-use Rattle.engine_core.specs.Checks.{Checked}
-use Rattle.engine_core.specs.State.{Made, table_at, AreReady}
-use Rattle.engine_core.specs.Evolve.{is_named, place_named, known_table, columns_at, few_columns, known_columns}
-use Rattle.engine_core.proofs.WalkLemmas.{width_at}
+-- What a statement that writes rows replies can be printed.
+use Rattle.std.proofs.Common.{◌≡◌, ℕ, List, [], ◌++◌, length, Option, Ok, subst}
+use Rattle.par_base.specs.declared.value.Value.{Value}
+use Rattle.bidel_parser.specs.Views.{Tree, AssignmentView, StatementView, CreateVersion, DropVersion, Insert, Import, Update, Delete, Select, Materialize, Step, ShowLayout, Use, Session, Advise}
+use Rattle.bidel_parser.specs.declared.statement.TableName.{TableName}
+use Rattle.op_any.specs.Build.{known_id, repeated, unrepeated}
+use Rattle.engine_statements.specs.State.{State}
+use Rattle.engine_statements.specs.Found.{condition_list, found, known_condition, known_references, unknown_in_rows}
+use Rattle.engine_statements.specs.Statements.{Planned, columns_of, known_sets, planned_delete, planned_insert, planned_update, right_counts, set_columns, set_values}
+use Rattle.engine_statements.specs.Replies.{IsReply}
+use Rattle.engine_versions.proofs.ChainLemmas.{both_give, ok_is}
+use Rattle.engine_core.specs.Act.{planned}
 
-find_passes : {A : Type 0} (test : A → Bool) (items : List A) (x : A) → find test items ≡ Some x → test x ≡ true
-find_passes test [] x e = cc
-find_passes {A} test (y ∷ items) x e =
-    let P : Bool → Type 0 = λ b. test y ≡ b → cond b (Some y) (find test items) ≡ Some x → test x ≡ true in
-    let cases : P (test y) = elim (test y) as (λ b. P b) [ true ↦ λ is e. let same : y ≡ x = cc in subst (λ (z : A). test z ≡ true) same is | false ↦ λ is e. find_passes test items x e ] in
-    cases refl e
+insert_replies : (s : State) (t : TableName) (rows : List (List Value)) (p : Planned) → planned_insert s t rows ≡ Ok p → IsReply p.reply
+insert_replies s t rows p h =
+    let a = both_give (found s t) _ p h in
+    let b = both_give (right_counts (length (columns_of a.0)) rows) _ p a.2 in
+    let c = both_give (known_id s.state.next (unknown_in_rows s.state.next rows)) _ p b.2 in
+    subst (λ (q : Planned). IsReply q.reply) (ok_is _ p c.2) tt
 
--- the place of a known table
-pub known_place : (name : List ℕ) (o : Option ℕ) (place : ℕ) → known_table name o ≡ Ok place → o ≡ Some place
-known_place name (Some n) place e = let same : n ≡ place = cc in ap (λ (m : ℕ). Some m) same
-known_place name None place e = cc
+update_replies : (s : State) (t : TableName) (assignments : List AssignmentView) (filter : Option Tree) (p : Planned) → planned_update s t assignments filter ≡ Ok p → IsReply p.reply
+update_replies s t assignments filter p h =
+    let a = both_give (found s t) _ p h in
+    let b = both_give (known_sets (columns_of a.0) assignments) _ p a.2 in
+    let c = both_give (known_condition (columns_of a.0) filter) _ p b.2 in
+    let d = both_give (unrepeated (repeated [] (set_columns assignments))) _ p c.2 in
+    let e = both_give (known_references s.state.next (set_values assignments ++ condition_list filter)) _ p d.2 in
+    subst (λ (q : Planned). IsReply q.reply) (ok_is _ p e.2) tt
 
--- the table at a place has as many columns as the operator that made it
-pub record HasTable (operators : List Made) (tables : List Contents) (place : ℕ) : Type 0 where
-  pub within : place < length tables
-  pub wide : (table_at tables place).width ≡ length (columns_at operators place)
-  pub known : (o : Made) × (slice_get operators place ≡ Some o)
+delete_replies : (s : State) (t : TableName) (filter : Option Tree) (p : Planned) → planned_delete s t filter ≡ Ok p → IsReply p.reply
+delete_replies s t filter p h =
+    let a = both_give (found s t) _ p h in
+    let b = both_give (known_condition (columns_of a.0) filter) _ p a.2 in
+    let c = both_give (known_references s.state.next (condition_list filter)) _ p b.2 in
+    subst (λ (q : Planned). IsReply q.reply) (ok_is _ p c.2) tt
 
-named_operator : (name : List ℕ) (o : Option Made) → option_map_or (λ (m : Made). bytes_eq m.name name) o false ≡ true → (m : Made) × (o ≡ Some m)
-named_operator name (Some m) e = (m, refl)
-named_operator name None e = cc
-
-pub has_table : (operators : List Made) (tables : List Contents) (place : ℕ) (o : Made) → AreReady operators tables → slice_get operators place ≡ Some o → HasTable operators tables place
-has_table operators tables place o ready e =
-    let placed = ready.placed place o e in
-    let here = width_at tables place (length o.columns) placed.wide in
-    record {
-      within = here.0;
-      wide = here.1 ∙ ap (λ (m : Option Made). length (option_map_or (λ (x : Made). x.columns) m [])) (sym e);
-      known = (o, e);
-    }
-
-pub known_has_table : (operators : List Made) (tables : List Contents) (set : List ℕ) (name : List ℕ) (place : ℕ) → AreReady operators tables
-    → known_table name (place_named operators set name) ≡ Ok place → HasTable operators tables place
-known_has_table operators tables set name place ready e =
-    let named = find_passes (is_named operators name) set place (known_place name (place_named operators set name) place e) in
-    let o = named_operator name (slice_get operators place) named in
-    has_table operators tables place o.0 ready o.1
-
-abbrev outcome : List ℕ → Bool → Checked (Unit {0})
-outcome table b = cond b (Err (TooManyColumns table 64)) (Ok tt)
-
-few : (table : List ℕ) (b : Bool) → outcome table b ≡ Ok tt → b ≡ false
-few table true e = cc
-few table false e = refl
-
--- columns that are few enough
-pub few_length : (table : List ℕ) (columns : List (List ℕ)) → few_columns table columns ≡ Ok tt → length columns ≤ 64
-few_length table columns e = omega (arith, ltb-false 64 (length columns) (few table (nat_lt 64 (length columns)) e))
-
--- an expression that was resolved
-pub resolved_value : (r : Result (Term ℕ) (List ℕ)) (e : Term ℕ) → known_columns r ≡ Ok e → r ≡ Ok e
-resolved_value (Ok x) e h = let same : x ≡ e = cc in ap (λ (t : Term ℕ). Ok t) same
-resolved_value (Err name) e h = cc
-
--- a resolved expression fits rows with as many values as columns
-pub resolved_fits : (columns : List (List ℕ)) (t : Term (List ℕ)) (e : Term ℕ) → resolved columns t ≡ Ok e → fits_row e (length columns) ≡ true
-resolved_fits columns t e is =
-    let P : Result (Term ℕ) (List ℕ) → Type 0 = λ r. IfOk r (λ x. fits_row x (length columns) ≡ true) in
-    subst P is (resolved-fits columns t)
+pub replies_print : (s : State) (statement : StatementView) (p : Planned) → planned s statement ≡ Ok p → IsReply p.reply
+replies_print s (CreateVersion name from operators) p h = absurd (cc)
+replies_print s (DropVersion name) p h = absurd (cc)
+replies_print s (Insert t rows) p h = insert_replies s t rows p h
+replies_print s (Import t bytes) p h = absurd (cc)
+replies_print s (Update t assignments filter) p h = update_replies s t assignments filter p h
+replies_print s (Delete t filter) p h = delete_replies s t filter p h
+replies_print s (Select t items filter csv) p h = absurd (cc)
+replies_print s (Materialize named in_steps) p h = absurd (cc)
+replies_print s Step p h = absurd (cc)
+replies_print s ShowLayout p h = absurd (cc)
+replies_print s (Use name) p h = absurd (cc)
+replies_print s (Session number) p h = absurd (cc)
+replies_print s (Advise name) p h = absurd (cc)

@@ -1,12 +1,3 @@
-pub mod Tables
-pub mod Mappings
-pub mod Laws
-pub mod Checks
-pub mod State
-pub mod Walk
-pub mod Evolve
 pub mod Act
 pub mod Kept
-pub mod Own
-pub mod Agree
 pub mod Texts

@@ -1,12 +1,12 @@
 -- The lines of replies and of refusals.
-use Rattle.std.specs.Prelude.{◌≡◌, ◌++◌, ℕ, List, [], ◌∷◌, All, codes, decimal, flat_map, length, ⊤}
+use Rattle.std.specs.Prelude.{◌++◌, ℕ, List, [], ◌∷◌, codes, decimal, flat_map, length}
 use Rattle.std.specs.List.{join_by}
 use Rattle.par_base.specs.declared.value.Value.{Value}
 use Rattle.par_base.specs.Literals.{literal_of}
 use Rattle.par_base.specs.declared.refusal.Refusal.{Refusal}
 use Rattle.par_base.specs.declared.refusal.Refusal.TheVariants.{NotBuilt, UnknownVersion, VersionExists, UnknownTable, TableExists, UnknownColumn, ColumnExists, WrongCount, UnknownId, IdsSpent, BadPartition, InvalidLayout, NoVersionInUse, TooManyOperators, TooManyColumns, ColumnsDiffer, SameTable, NothingPending}
-use Rattle.engine_core.specs.declared.reply.Reply.{Reply}
-use Rattle.engine_core.specs.declared.reply.Reply.TheVariants.{Done, Inserted, Rows}
+use Rattle.engine_statements.specs.declared.reply.Reply.{Reply}
+use Rattle.engine_statements.specs.declared.reply.Reply.TheVariants.{Done, Inserted, Updated, Deleted, Rows}
 
 -- a text with its line feed
 abbrev pub line : List ℕ → List ℕ
@@ -20,24 +20,16 @@ header_text names = join_by (λ name. name) (codes "|") names
 abbrev pub row_text : List Value → List ℕ
 row_text row = join_by literal_of (codes "|") row
 
--- each row has one value for each name of the header
-abbrev pub HasWidth : List (List ℕ) → List (List Value) → Type 0
-HasWidth header rows = All (λ row. length row ≡ length header) rows
-
 -- the header, the rows in order, and their count
 abbrev pub rows_lines : List (List ℕ) → List (List Value) → List ℕ
 rows_lines header rows = line (header_text header) ++ flat_map (λ row. line (row_text row)) rows ++ line (codes "rows " ++ decimal (length rows))
-
--- a reply that can be printed: its rows are as wide as its header
-abbrev pub IsReply : Reply → Type 0
-IsReply Done = ⊤
-IsReply (Inserted ids) = ⊤
-IsReply (Rows header rows csv) = HasWidth header rows
 
 -- the lines of a reply
 unfoldable pub reply_bytes : Reply → List ℕ
 reply_bytes Done = line (codes "ok")
 reply_bytes (Inserted ids) = line (codes "inserted " ++ decimal (length ids) ++ flat_map (λ id. codes " #" ++ decimal id) ids)
+reply_bytes (Updated count) = line (codes "updated " ++ decimal count)
+reply_bytes (Deleted count) = line (codes "deleted " ++ decimal count)
 reply_bytes (Rows header rows csv) = rows_lines header rows
 
 -- the line of a refusal: `refused`, its number and its text

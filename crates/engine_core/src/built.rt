@@ -1,55 +1,17 @@
 //! Which forms of statements are carried out.
-ghost use Rattle.std.specs.Prelude.{◌≡◌};
-ghost use Rattle.std.specs.List.{list_all, list_any};
+ghost use Rattle.std.specs.Prelude.{◌≡◌, map};
 ghost use Rattle.bidel_parser.specs.Views.{op_view, statement_view};
-ghost use Rattle.engine_core.specs.Act.{is_built as is_built_statement, is_built_operator, is_reference, is_plain};
+ghost use Rattle.engine_core.specs.Act.{is_built as is_built_statement, are_built as are_built_operators};
 
 use bidel_parser::{OpText, Statement};
-use expr_lang::first_unknown;
-use par_base::{Row, Value};
 
-fn is_built_operator(text: &OpText) -> bool
-    ensures { result ≡ is_built_operator (op_view text.now) }
+fn are_built(operators: &[OpText]) -> bool
+    ensures { result ≡ are_built_operators (map op_view operators.now) }
 {
-    match text {
-        OpText::CreateTable { .. } => true,
-        // Below 1 there is no identifier, so each reference is unknown.
-        OpText::AddColumn { value, .. } => first_unknown(value, 1).is_none(),
-        _ => false,
-    }
-}
-
-fn is_reference(value: &Value) -> bool
-    ensures { result ≡ is_reference value.now }
-{
-    match value {
-        Value::Reference(_) => true,
-        _ => false,
-    }
-}
-
-fn has_reference(row: &[Value]) -> bool
-    ensures { result ≡ list_any is_reference row.now }
-{
-    row.iter().any(|value| is_reference(value))
-}
-
-fn is_plain(row: &Row) -> bool
-    ensures { result ≡ is_plain row.now }
-{
-    !has_reference(row.as_slice())
-}
-
-fn are_plain(rows: &[Row]) -> bool
-    ensures { result ≡ list_all is_plain rows.now }
-{
-    rows.iter().all(|row| is_plain(row))
-}
-
-fn are_built(texts: &[OpText]) -> bool
-    ensures { result ≡ list_all (λ text. is_built_operator (op_view text)) texts.now }
-{
-    texts.iter().all(|text| is_built_operator(text))
+    !operators.is_empty()
+        && operators
+            .iter()
+            .all(|operator| op_any::is_built(operator))
 }
 
 /// Whether the form of a statement is carried out.
@@ -58,13 +20,11 @@ pub fn is_built(statement: &Statement) -> bool
 {
     match statement {
         Statement::CreateVersion { operators, .. } => are_built(operators.as_slice()),
-        Statement::Insert { rows, .. } => are_plain(rows.as_slice()),
-        Statement::Select {
-            items: None,
-            filter: None,
-            csv: false,
-            ..
-        } => true,
+        Statement::DropVersion { .. }
+        | Statement::Insert { .. }
+        | Statement::Update { .. }
+        | Statement::Delete { .. } => true,
+        Statement::Select { csv, .. } => !*csv,
         _ => false,
     }
 }

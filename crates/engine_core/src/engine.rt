@@ -1,84 +1,62 @@
 //! The engine: one event after the other.
-ghost use Rattle.std.specs.Prelude.{◌≡◌, [], map, OnErr, IfOk};
+ghost use Rattle.std.specs.Prelude.{◌≡◌, true, Ok, OnErr, OnOk, IfOk};
 ghost use Rattle.expr_lang.specs.Operations.{text_limit};
-ghost use Rattle.bidel_parser.specs.Views.{statement_view, op_view};
+ghost use Rattle.bidel_parser.specs.Views.{statement_view};
 ghost use Rattle.bidel_parser.specs.Texts.{TextsWithin};
-ghost use Rattle.engine_core.specs.Act.{act, acted, acted_evolve, acted_insert, acted_read, acted_select, told};
-ghost use Rattle.engine_core.specs.Kept.{Answers, state_of, seen_state, empty_state};
+ghost use Rattle.op_any.specs.Checks.{Gives};
+ghost use Rattle.op_any.specs.Operators.{any_meaning};
+ghost use Rattle.version_model.specs.Sound.{IsSound};
+ghost use Rattle.engine_statements.specs.Statements.{Planned, wrote};
+ghost use Rattle.engine_statements.specs.Replies.{IsReply};
+ghost use Rattle.engine_statements.specs.Calls.{planned_view, IsTaken};
+ghost use Rattle.engine_core.specs.Act.{act, acted, is_built as is_built_statement, planned, IsOrdinary};
+ghost use Rattle.engine_core.specs.Kept.{Answers, state_of, empty_state};
 
 use crate::built::is_built;
-use crate::evolution::{Evolution, evolve};
-use crate::insert::insert_rows;
-use crate::reply::Reply;
-use crate::select::select_rows;
-use crate::snapshot::Snapshot;
-use crate::state::{Operator, Version};
-use crate::table::Table;
-use bidel_parser::{Statement, TableName};
+use crate::spent::{counter_at, refused};
+use bidel_parser::Statement;
+use engine_statements::{Reply, WritePlan, plan_delete, plan_insert, plan_update, select_rows};
+use engine_versions::{create_version, drop_version};
 use expr_lang::Steps;
-use par_base::{Fault, Limits, List, Refusal, Row};
+use op_any::AnyOp;
+use par_base::{Fault, Limits, Refusal};
 use std::alloc::Global;
 use std::marker::Model;
 use std::sync::ledger::Ledger;
+use version_model::{PlainDatabase, Written};
 
 /// A database with all its versions.
 #[derive(Drop)]
 pub struct Engine {
-    versions: List<Version>,
-    operators: List<Operator>,
-    tables: List<Table>,
-    next: u64,
-    limit: u64,
+    database: PlainDatabase<AnyOp>,
 }
 
 impl Model for Engine {
-    ghost use Rattle.std.specs.Coded.{codes};
-    ghost use Rattle.expr_lang.specs.contracts.tree.Expr as e;
-    ghost use Rattle.engine_core.specs.Kept.{Kept, state_of};
-    ghost use Rattle.engine_core.specs.State.{IsSound};
+    ghost use Rattle.version_model.specs.Kept.{Kept};
+    ghost use Rattle.op_any.specs.Operators.{AnyView};
 
-    ghost Value = { Kept };
+    ghost Value = { Kept AnyView };
 
-    ghost coded = { Prim.hlevel (codes, e.the_row.coded) };
-
-    ghost view = { λ it. record {
-      versions = it.versions;
-      operators = it.operators;
-      tables = it.tables;
-      next = it.next;
-      limit = it.limit;
-    } };
-
-    ghost invariant = { λ it. IsSound (state_of (record {
-      versions = it.versions;
-      operators = it.operators;
-      tables = it.tables;
-      next = it.next;
-      limit = it.limit;
-    })) };
+    ghost view = { λ it. it.database };
 }
 
 impl Engine {
-    ghost use Rattle.engine_core.specs.State.{IsSound};
-    ghost use Rattle.engine_core.specs.Texts.{IsReply};
-
-    /// The engine of an empty database.
+    /// The engine of an empty database. It takes no memory.
     pub fn new(alloc: Global, limits: Limits) -> Engine
         ensures { state_of result ≡ empty_state limits.max_id }
     {
         Engine {
-            versions: List::new(alloc),
-            operators: List::new(alloc),
-            tables: List::new(alloc),
-            next: 1,
-            limit: limits.max_id,
+            database: PlainDatabase::new(alloc, limits.max_id),
         }
     }
 
     /// Carries out one statement of a session, whose texts have at most 65,536 bytes, and answers the
-    /// model's reply or refusal. After an error the state is as it was. An INSERT takes time in the
-    /// number of values of all tables, a CREATE SCHEMA VERSION in that of the new ones, a SELECT in
-    /// that of its table.
+    /// model's reply or refusal. After an error the state is as it was.
+    ///
+    /// An INSERT, UPDATE or DELETE takes time in the number of values of its table and of the tables of
+    /// its tree, a CREATE SCHEMA VERSION in that of the sources and targets of its operators, a SELECT in
+    /// that of its table, however many other versions there are, a DROP SCHEMA VERSION in the square of
+    /// the number of live operators and tables.
     pub fn event<L: Ledger>(
         &mut self,
         alloc: Global,
@@ -91,128 +69,135 @@ impl Engine {
             (state_of self.new) }
         ensures same { OnErr result (state_of self.new ≡ state_of self.old) }
         ensures reply { IfOk result IsReply }
+        ensures ordinary { (p : Planned) → planned (state_of self.old) (statement_view statement) ≡ Ok p
+            → OnOk result (IsOrdinary (state_of self.old) p (state_of self.new)) }
     {
         let _session = session;
-        match self.act(alloc, &statement, steps) {
-            Ok(reply) => Ok(reply),
-            Err(Fault::Refused(refusal)) => Err(Fault::Refused(told_refusal(refusal))),
-            Err(Fault::Memory) => Err(Fault::Memory),
+        if !is_built(&statement) {
+            return Err(Fault::Refused(Refusal::NotBuilt));
         }
+        self.carry_out(alloc, statement, steps)
     }
 
-    fn act<L: Ledger>(
+    /// In every database each operator relates its source and its target tables, so that all versions
+    /// show one state of the data. It does nothing: its contract is the law.
+    pub fn versions_always_agree(&self)
+        ensures { IsSound any_meaning self.now.graph.edges (state_of self.now).state }
+    {
+        let _graph = self.database.graph();
+    }
+
+    // Carries out a statement of a form that is built.
+    fn carry_out<L: Ledger>(
         &mut self,
         alloc: Global,
-        statement: &Statement,
+        statement: Statement,
         steps: &mut Steps<L>,
     ) -> Result<Reply, Fault<Refusal>>
-        ensures answers { Answers (acted (state_of self.old) (statement_view statement.now)) result
+        requires texts { TextsWithin text_limit (statement_view statement) }
+        requires built { is_built_statement (statement_view statement) ≡ true }
+        ensures answers { Answers (acted (state_of self.old) (statement_view statement)) result
             (state_of self.new) }
         ensures same { OnErr result (state_of self.new ≡ state_of self.old) }
         ensures reply { IfOk result IsReply }
+        ensures ordinary { (p : Planned) → planned (state_of self.old) (statement_view statement) ≡ Ok p
+            → OnOk result (IsOrdinary (state_of self.old) p (state_of self.new)) }
     {
-        if !is_built(statement) {
-            return Err(Fault::Refused(Refusal::NotBuilt));
-        }
         match statement {
             Statement::CreateVersion {
                 name,
                 from,
                 operators,
             } => {
-                let evolution = Evolution {
-                    name,
-                    from,
-                    texts: operators.as_slice(),
-                };
-                self.create_version(alloc, evolution, steps)
+                let texts = operators.as_slice();
+                create_version(alloc, &mut self.database, name, from.as_ref(), texts, steps)?;
+                Ok(Reply::Done)
             }
-            Statement::Insert { table, rows } => self.insert(alloc, table, rows.as_slice(), steps),
-            _ => self.read(alloc, statement),
+            Statement::DropVersion { name } => {
+                drop_version(alloc, &mut self.database, &name)?;
+                Ok(Reply::Done)
+            }
+            Statement::Select {
+                table,
+                items,
+                filter,
+                ..
+            } => select_rows(alloc, &self.database, &table, &items, &filter, steps),
+            other => {
+                let plan = self.plan(alloc, &other, steps)?;
+                self.write(alloc, plan, steps)
+            }
         }
     }
 
-    // Carries out a statement that changes nothing.
-    fn read(&self, alloc: Global, statement: &Statement) -> Result<Reply, Fault<Refusal>>
-        ensures answers { Answers (acted_read (state_of self.now) (statement_view statement.now)) result
-            (state_of self.now) }
-        ensures reply { IfOk result IsReply }
+    // What a statement makes of its version's table.
+    fn plan<L: Ledger>(
+        &self,
+        alloc: Global,
+        statement: &Statement,
+        steps: &mut Steps<L>,
+    ) -> Result<WritePlan, Fault<Refusal>>
+        requires texts { TextsWithin text_limit (statement_view statement.now) }
+        ensures gives { Gives (planned_view self.now.graph.edges) result
+            (planned (state_of self.now) (statement_view statement.now)) }
+        ensures taken { IfOk result (IsTaken self.now) }
     {
         match statement {
-            Statement::Select { table, .. } => self.select(alloc, table),
+            Statement::Insert { table, rows } => {
+                plan_insert(alloc, &self.database, table, rows.as_slice())
+            }
+            Statement::Update {
+                table,
+                assignments,
+                filter,
+            } => plan_update(
+                alloc,
+                &self.database,
+                table,
+                assignments.as_slice(),
+                filter,
+                steps,
+            ),
+            Statement::Delete { table, filter } => {
+                plan_delete(alloc, &self.database, table, filter, steps)
+            }
             _ => Err(Fault::Refused(Refusal::NotBuilt)),
         }
     }
 
-    fn create_version<L: Ledger>(
+    // Gives a table the rows that a statement makes, and carries the change along the walk.
+    fn write<L: Ledger>(
         &mut self,
         alloc: Global,
-        evolution: Evolution<'_>,
+        plan: WritePlan,
         steps: &mut Steps<L>,
     ) -> Result<Reply, Fault<Refusal>>
-        ensures answers { Answers (acted_evolve (state_of self.old) evolution.entry.name.now
-            evolution.entry.from.now (map op_view evolution.entry.texts.now)) result (state_of self.new) }
+        requires { IsTaken self.old plan }
+        ensures answers { Answers (wrote (state_of self.old) (planned_view self.old.graph.edges plan)) result
+            (state_of self.new) }
         ensures same { OnErr result (state_of self.new ≡ state_of self.old) }
-        ensures reply { IfOk result IsReply }
+        ensures reply { IsReply plan.reply → IfOk result IsReply }
+        ensures ordinary { OnOk result (IsOrdinary (state_of self.old) (planned_view self.old.graph.edges plan)
+            (state_of self.new)) }
     {
-        evolve(
-            alloc,
-            &mut self.versions,
-            &mut self.operators,
-            &mut self.tables,
-            evolution,
-            steps,
-        )?;
-        Ok(Reply::Done)
-    }
-
-    fn insert<L: Ledger>(
-        &mut self,
-        alloc: Global,
-        table: &TableName,
-        rows: &[Row],
-        steps: &mut Steps<L>,
-    ) -> Result<Reply, Fault<Refusal>>
-        ensures answers { Answers (acted_insert (state_of self.old) table.now rows.now) result (state_of self.new) }
-        ensures same { OnErr result (state_of self.new ≡ state_of self.old) }
-        ensures reply { IfOk result IsReply }
-    {
-        let written = insert_rows(alloc, self.snapshot(), table, rows, steps)?;
-        self.tables = written.tables;
-        self.next = written.next;
-        Ok(Reply::Inserted { ids: written.ids })
-    }
-
-    fn select(&self, alloc: Global, table: &TableName) -> Result<Reply, Fault<Refusal>>
-        ensures answers { Answers (acted_select (state_of self.now) table.now) result (state_of self.now) }
-        ensures reply { IfOk result IsReply }
-    {
-        select_rows(alloc, self.snapshot(), table)
-    }
-
-    // The parts of the engine, for reading.
-    fn snapshot(&self) -> Snapshot<'_>
-        ensures parts { seen_state result ≡ state_of self.now }
-        ensures sound { IsSound (seen_state result) }
-    {
-        Snapshot {
-            versions: self.versions.as_slice(),
-            operators: self.operators.as_slice(),
-            tables: self.tables.as_slice(),
-            next: self.next,
-            limit: self.limit,
+        let WritePlan {
+            set,
+            table,
+            rows,
+            next,
+            reply,
+        } = plan;
+        let ids = counter_at(self.database.ids(), next)?;
+        let written = Written {
+            set,
+            table,
+            rows,
+            ids,
+        };
+        match self.database.write(alloc, written, steps) {
+            Ok(()) => Ok(reply),
+            Err(Fault::Refused(spent)) => Err(refused(spent)),
+            Err(Fault::Memory) => Err(Fault::Memory),
         }
-    }
-}
-
-// Refusals that aren't told apart yet are answered as not built.
-fn told_refusal(refusal: Refusal) -> Refusal
-    ensures { result ≡ told refusal }
-{
-    match refusal {
-        Refusal::UnknownVersion { version } => Refusal::UnknownVersion { version },
-        Refusal::UnknownTable { table } => Refusal::UnknownTable { table },
-        Refusal::WrongCount { given, wanted } => Refusal::WrongCount { given, wanted },
-        _ => Refusal::NotBuilt,
     }
 }

@@ -1,11 +1,11 @@
 //! The lines of a reply.
 //!
 //! Header and rows are added to one string, each by a function that ends its own line.
-ghost use Rattle.std.specs.Prelude.{◌≡◌, ◌++◌, codes, flat_map, string_bytes, IfOk, OnOk};
+ghost use Rattle.std.specs.Prelude.{◌≡◌, ◌++◌, codes, decimal, flat_map, string_bytes, IfOk, OnOk};
 ghost use Rattle.engine_core.specs.Texts.{reply_bytes, rows_lines, header_text, row_text, line};
 ghost use Rattle.par_base.specs.Literals.{literal_of};
 
-use crate::Reply;
+use engine_statements::Reply;
 use par_base::{Memory, Name, Row, Text, Value, literal_text};
 use std::alloc::Global;
 
@@ -18,6 +18,8 @@ pub fn reply_text(alloc: Global, reply: &Reply) -> Result<Text, Memory>
     match reply {
         Reply::Done => Text::from_str(alloc, "ok\n"),
         Reply::Inserted { ids } => inserted_text(alloc, ids.as_slice()),
+        Reply::Updated { count } => counted_text(alloc, "updated", *count),
+        Reply::Deleted { count } => counted_text(alloc, "deleted", *count),
         Reply::Rows {
             header,
             rows,
@@ -37,6 +39,13 @@ fn inserted_text(alloc: Global, ids: &[u64]) -> Result<Text, Memory>
     }
     text.push('\n')?;
     Ok(Text::from_string(text))
+}
+
+// A word and how many rows there were.
+fn counted_text(alloc: Global, word: &str, count: usize) -> Result<Text, Memory>
+    ensures { IfOk result (λ text. text ≡ line (word.now ++ codes " " ++ decimal count)) }
+{
+    Ok(Text::from_string(format!(in alloc; "{word} {count}\n")?))
 }
 
 fn rows_text(alloc: Global, header: &[Name], rows: &[Row]) -> Result<Text, Memory>

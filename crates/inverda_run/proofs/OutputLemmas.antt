@@ -1,7 +1,7 @@
 -- The lines that answer statements.
 use Rattle.std.proofs.Common.{◌≡◌, List, [], ◌∷◌, ◌++◌, ℕ, refl, sym, ap, ◌∙◌, append_assoc, append-nil}
 use Rattle.bidel_parser.specs.Views.{StatementView}
-use Rattle.engine_core.specs.State.{State}
+use Rattle.engine_statements.specs.State.{State}
 use Rattle.engine_core.specs.Act.{act}
 use Rattle.inverda_run.specs.Output.{out, text_of, next_state}
 

@@ -6,7 +6,7 @@ use Rattle.std.proofs.KnownBytes.{Appends-nil, Appends-trans}
 use Rattle.bidel_lex.specs.declared.tokens.Token.{Token}
 use Rattle.bidel_parser.specs.Views.{StatementView}
 use Rattle.bidel_parser.specs.Parsing.{start_of}
-use Rattle.engine_core.specs.State.{State}
+use Rattle.engine_statements.specs.State.{State}
 use Rattle.engine_core.specs.Kept.{empty_state}
 use Rattle.engine_core.specs.Act.{act}
 use Rattle.inverda_run.specs.declared.tokens.Tail.{Tail}

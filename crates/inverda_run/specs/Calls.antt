@@ -6,7 +6,7 @@ use Rattle.bidel_lex.specs.declared.tokens.Token.{Token}
 use Rattle.bidel_expr.specs.Lexemes.{lexemes}
 use Rattle.bidel_parser.specs.Views.{StatementView, statement_view}
 use Rattle.bidel_parser.specs.Parsing.{IsFront}
-use Rattle.engine_core.specs.State.{State}
+use Rattle.engine_statements.specs.State.{State}
 use Rattle.engine_core.specs.Act.{act}
 use Rattle.engine_core.specs.Texts.{line}
 use Rattle.inverda_run.specs.Tails.{is_over}

@@ -1,12 +1,12 @@
 -- What a script's statements write.
 use Rattle.std.specs.Prelude.{◌++◌, ◌-◌, ◌^◌, ℕ, List, [], ◌∷◌, Ok, Err}
 use Rattle.bidel_parser.specs.Views.{StatementView}
-use Rattle.engine_core.specs.State.{State}
-use Rattle.engine_core.specs.Checks.{Checked}
+use Rattle.engine_statements.specs.State.{State}
+use Rattle.op_any.specs.Checks.{Checked}
 use Rattle.engine_core.specs.Act.{act}
 use Rattle.engine_core.specs.Kept.{empty_state}
 use Rattle.engine_core.specs.Texts.{reply_bytes, refusal_bytes}
-use Rattle.engine_core.specs.declared.reply.Reply.{Reply}
+use Rattle.engine_statements.specs.declared.reply.Reply.{Reply}
 
 -- the lines that answer a statement
 abbrev pub text_of : Checked (Reply × State) → List ℕ

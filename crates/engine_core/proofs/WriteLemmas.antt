@@ -1,0 +1,56 @@
+-- What a write of a database gives is what the model says of a statement's write.
+use Rattle.std.proofs.Common.{◌≡◌, ℕ, ◌<◌, ◌≤◌, Bool, true, false, Ok, Err, refl, sym, ap, subst, ◌∙◌, arith}
+use Rattle.std.specs.Prelude.{if◌then◌else◌}
+use Rattle.std.proofs.lemmas.Bool.{le-ltb, lt-ltb}
+use Rattle.par_base.specs.declared.fault.Fault.TheVariants.{Refused}
+use Rattle.par_base.specs.declared.refusal.IdsSpent.{IdsSpent as Spent}
+use Rattle.par_base.specs.declared.refusal.Refusal.TheVariants.{IdsSpent}
+use Rattle.op_law.specs.Calls.{first_refused}
+use Rattle.op_any.specs.Checks.{◌then◌}
+use Rattle.op_any.specs.Operators.{AnyView, any_laws, any_meaning}
+use Rattle.version_model.specs.Kept.{Kept, IsKept, database_of}
+use Rattle.version_model.specs.Databases.{Writes}
+use Rattle.version_model.specs.Laws.{WriteIsOrdinary}
+use Rattle.version_model.proofs.WriteLemmas.{write_is_ordinary}
+use Rattle.engine_statements.specs.State.{State}
+use Rattle.engine_statements.specs.Statements.{Planned, state_with, wrote}
+use Rattle.engine_statements.specs.Calls.{planned_view, IsTaken}
+use Rattle.engine_statements.specs.declared.reply.Reply.{Reply}
+use Rattle.engine_statements.specs.declared.write_plan.WritePlan.{WritePlan}
+use Rattle.engine_core.specs.Act.{IsOrdinary}
+
+module _ (k : Kept AnyView) (w : WritePlan) (kept : IsKept any_meaning k) (taken : IsTaken k w) where
+  abbrev d : State
+  d = database_of k
+
+  abbrev p : Planned
+  p = planned_view k.graph.edges w
+
+  abbrev end : ℕ
+  end = (state_with d p).state.next
+
+  ordinary : WriteIsOrdinary any_meaning k.graph.edges d.state w.set w.table w.rows.rows w.next
+  ordinary = write_is_ordinary any_meaning k.graph.edges d.state kept.sound w.set w.table w.rows.rows w.next taken.may any_laws kept.graph.edges
+
+  checked : (b : Bool) → Rattle.std.proofs.Math.Dec.ltb (first_refused k.ids) end ≡ b
+      → wrote d p ≡ ((if b then Err (IdsSpent (first_refused k.ids) k.ids.limit) else Ok tt) then λ _. Ok (w.reply, state_with d p))
+  checked b e = ap (λ (c : Bool). (if c then Err (IdsSpent (first_refused k.ids) k.ids.limit) else Ok tt) then λ _. Ok (w.reply, state_with d p)) e
+
+  -- an identifier above the limit is drawn
+  above : first_refused k.ids < end → wrote d p ≡ Err (IdsSpent (first_refused k.ids) k.ids.limit)
+  above h = checked true (lt-ltb (first_refused k.ids) end h)
+
+  -- by the statement's own rows already
+  pub above_already : first_refused k.ids < w.next → wrote d p ≡ Err (IdsSpent (first_refused k.ids) k.ids.limit)
+  above_already h = above (omega (arith, h, ordinary.rises))
+
+  pub spent_then : (spent : Spent) (new : State) → Writes any_meaning d w.set w.table w.rows.rows w.next (Err (Refused spent)) new → wrote d p ≡ Err (IdsSpent spent.needed spent.limit)
+  spent_then spent new e =
+      above e.0.0 ∙ ap (λ (n : ℕ). Err (IdsSpent n k.ids.limit)) (sym e.0.1) ∙ ap (λ (n : ℕ). Err (IdsSpent spent.needed n)) (sym e.0.2)
+
+  pub written_then : (new : State) → Writes any_meaning d w.set w.table w.rows.rows w.next (Ok tt) new → wrote d p ≡ Ok (w.reply, new)
+  written_then new e = checked false (le-ltb (first_refused k.ids) end e.0) ∙ ap (λ (s : State). Ok (w.reply, s)) (sym e.1)
+
+  pub ordinary_then : (new : State) → Writes any_meaning d w.set w.table w.rows.rows w.next (Ok tt) new → IsOrdinary d p new
+  ordinary_then new e =
+      subst (λ (s : State). IsOrdinary d p s) (sym e.1) (record { written = ordinary.table; others = ordinary.others; versions = refl })

@@ -1,6 +1,0 @@
-use Rattle.std.proofs.Common.{◌≡◌, ◌∷◌, ◌++◌, drop, take}
-use Rattle.engine_core.specs.Evolve.{repeated, row_name}
-use Rattle.engine_core.proofs.lookup.find_repeated.Given as goal
-
-abbrev pub invariant-loop-at : goal.invariant-loop-at
-invariant-loop-at l = repeated (row_name ∷ (l.known ++ take l.at l.names)) (drop l.at l.names) ≡ repeated (row_name ∷ l.known) l.names

@@ -1,0 +1,5 @@
+pub mod ChainLemmas
+mod TargetLemmas
+mod EdgeLemmas
+mod BuiltLemmas
+mod CreateLemmas

@@ -1,0 +1,74 @@
+//! CREATE SCHEMA VERSION.
+ghost use Rattle.std.specs.Prelude.{◌≡◌, ◌<◌, map, length, OnErr};
+ghost use Rattle.std.specs.Option.{option_copied};
+ghost use Rattle.bidel_parser.specs.Views.{op_view};
+ghost use Rattle.version_graph.specs.Sets.{Each};
+ghost use Rattle.version_graph.specs.Edges.{set_named};
+ghost use Rattle.op_any.specs.Checks.{Gives};
+ghost use Rattle.op_any.specs.Texts.{TextsFit};
+ghost use Rattle.version_model.specs.Kept.{database_of};
+ghost use Rattle.engine_versions.specs.Evolve.{created, start_at, unused};
+
+use crate::edges::build_edges;
+use bidel_parser::OpText;
+use engine_statements::known_set;
+use expr_lang::Steps;
+use op_any::AnyOp;
+use par_base::{Fault, Name, Refusal};
+use std::alloc::Global;
+use std::sync::ledger::Ledger;
+use version_graph::Graph;
+use version_model::PlainDatabase;
+
+// The working set from which an evolution starts.
+fn find_start(
+    alloc: Global,
+    graph: &Graph<AnyOp>,
+    from: Option<&Name>,
+) -> Result<u32, Fault<Refusal>>
+    ensures { Gives (λ set. set) result (start_at graph.now.versions (option_copied from.entry)) }
+{
+    match from {
+        Some(name) => known_set(alloc, graph, name),
+        None => Ok(0),
+    }
+}
+
+// Refuses the name of a live version.
+fn check_unused(alloc: Global, graph: &Graph<AnyOp>, name: &Name) -> Result<(), Fault<Refusal>>
+    ensures { Gives (λ x. x) result (unused name.now (set_named graph.now.versions name.now)) }
+{
+    match graph.set_of(name) {
+        Some(_) => Err(Fault::Refused(Refusal::VersionExists {
+            version: name.copy(alloc)?,
+        })),
+        None => Ok(()),
+    }
+}
+
+/// Adds the operators, each on the tables that the one before it leaves, the first on those of the
+/// version `from` or on none, and names the last one's tables; or the first refusal. After an error
+/// the database is as before.
+///
+/// It takes time in the number of live tables for each operator, in the number of pairs of names,
+/// and in the number of values of the sources and targets of the new operators.
+pub fn create_version<L: Ledger>(
+    alloc: Global,
+    database: &mut PlainDatabase<AnyOp>,
+    name: Name,
+    from: Option<&Name>,
+    texts: &[OpText],
+    steps: &mut Steps<L>,
+) -> Result<(), Fault<Refusal>>
+    requires some { 0 < length texts.now }
+    requires fit { Each TextsFit (map op_view texts.now) }
+    ensures gives { Gives (λ _. database_of database.new) result
+        (created (database_of database.old) name (option_copied from.entry) (map op_view texts.now)) }
+    ensures same { OnErr result (database_of database.new ≡ database_of database.old) }
+{
+    let graph = database.graph();
+    let set = find_start(alloc, graph, from)?;
+    check_unused(alloc, graph, &name)?;
+    let edges = build_edges(alloc, graph, set, database.ids().next(), texts)?;
+    database.evolve(alloc, name, from, edges, steps)
+}
