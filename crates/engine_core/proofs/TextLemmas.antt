@@ -43,8 +43,8 @@ operator_fits (DecomposeSingle table target columns) short = tt
 operator_fits (Decompose table first first_columns second second_columns key) short = key_fits key short
 operator_fits (Join outer first second target key) short = key_fits key short
 operator_fits (Split table first None) short = (term_fits first.condition short.0, tt)
-operator_fits (Split table first (Some second)) short = (term_fits first.condition short.0, term_fits second.condition short.1, tt)
-operator_fits (Merge first second target) short = (term_fits first.condition short.0, term_fits second.condition short.1, tt)
+operator_fits (Split table first (Some second)) short = (term_fits first.condition short.0, (term_fits second.condition short.1, tt))
+operator_fits (Merge first second target) short = (term_fits first.condition short.0, (term_fits second.condition short.1, tt))
 
 pub operators_fit : (operators : List OpView) → All (OpTexts Short) operators → Each TextsFit operators
 operators_fit [] short = tt

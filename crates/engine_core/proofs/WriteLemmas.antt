@@ -5,10 +5,12 @@ use Rattle.std.proofs.lemmas.Bool.{le-ltb, lt-ltb}
 use Rattle.par_base.specs.declared.fault.Fault.TheVariants.{Refused}
 use Rattle.par_base.specs.declared.refusal.IdsSpent.{IdsSpent as Spent}
 use Rattle.par_base.specs.declared.refusal.Refusal.TheVariants.{IdsSpent}
+use Rattle.version_graph.specs.Edges.{AreEdges}
 use Rattle.op_law.specs.Calls.{first_refused}
 use Rattle.op_any.specs.Checks.{◌then◌}
 use Rattle.op_any.specs.Operators.{AnyView, any_laws, any_meaning}
-use Rattle.version_model.specs.Kept.{Kept, IsKept, database_of}
+use Rattle.version_model.specs.Kept.{Kept, database_of, state_of}
+use Rattle.version_model.specs.Sound.{IsSound}
 use Rattle.version_model.specs.Databases.{Writes}
 use Rattle.version_model.specs.Laws.{WriteIsOrdinary}
 use Rattle.version_model.proofs.WriteLemmas.{write_is_ordinary}
@@ -19,7 +21,7 @@ use Rattle.engine_statements.specs.declared.reply.Reply.{Reply}
 use Rattle.engine_statements.specs.declared.write_plan.WritePlan.{WritePlan}
 use Rattle.engine_core.specs.Act.{IsOrdinary}
 
-module _ (k : Kept AnyView) (w : WritePlan) (kept : IsKept any_meaning k) (taken : IsTaken k w) where
+module _ (k : Kept AnyView) (w : WritePlan) (edges : AreEdges k.graph.edges) (sound : IsSound any_meaning k.graph.edges (state_of k)) (taken : IsTaken k w) where
   abbrev d : State
   d = database_of k
 
@@ -30,11 +32,11 @@ module _ (k : Kept AnyView) (w : WritePlan) (kept : IsKept any_meaning k) (taken
   end = (state_with d p).state.next
 
   ordinary : WriteIsOrdinary any_meaning k.graph.edges d.state w.set w.table w.rows.rows w.next
-  ordinary = write_is_ordinary any_meaning k.graph.edges d.state kept.sound w.set w.table w.rows.rows w.next taken.may any_laws kept.graph.edges
+  ordinary = write_is_ordinary any_meaning k.graph.edges d.state sound w.set w.table w.rows.rows w.next taken.may any_laws edges
 
   checked : (b : Bool) → Rattle.std.proofs.Math.Dec.ltb (first_refused k.ids) end ≡ b
-      → wrote d p ≡ ((if b then Err (IdsSpent (first_refused k.ids) k.ids.limit) else Ok tt) then λ _. Ok (w.reply, state_with d p))
-  checked b e = ap (λ (c : Bool). (if c then Err (IdsSpent (first_refused k.ids) k.ids.limit) else Ok tt) then λ _. Ok (w.reply, state_with d p)) e
+      → wrote d p ≡ ((if b then Err (IdsSpent (first_refused k.ids) k.ids.limit) else Ok (tt {0})) then λ _. Ok (w.reply, state_with d p))
+  checked b e = ap (λ (c : Bool). (if c then Err (IdsSpent (first_refused k.ids) k.ids.limit) else Ok (tt {0})) then λ _. Ok (w.reply, state_with d p)) e
 
   -- an identifier above the limit is drawn
   above : first_refused k.ids < end → wrote d p ≡ Err (IdsSpent (first_refused k.ids) k.ids.limit)

@@ -1,25 +1,28 @@
 //! The engine: one event after the other.
-ghost use Rattle.std.specs.Prelude.{◌≡◌, true, Ok, OnErr, OnOk, IfOk};
+ghost use Rattle.std.specs.Prelude.{◌≡◌, ◌≤◌, true, Ok, OnErr, OnOk, IfOk, length, map};
+ghost use Rattle.std.specs.List.{All};
 ghost use Rattle.expr_lang.specs.Operations.{text_limit};
-ghost use Rattle.bidel_parser.specs.Views.{statement_view};
-ghost use Rattle.bidel_parser.specs.Texts.{TextsWithin};
-ghost use Rattle.op_any.specs.Checks.{Gives};
+ghost use Rattle.bidel_parser.specs.Views.{op_view, statement_view};
+ghost use Rattle.bidel_parser.specs.Texts.{OpTexts, TextsWithin};
+ghost use Rattle.version_graph.specs.Edges.{IsGraph};
+ghost use Rattle.op_any.specs.Checks.{◌then◌, Gives};
 ghost use Rattle.op_any.specs.Operators.{any_meaning};
 ghost use Rattle.version_model.specs.Sound.{IsSound};
 ghost use Rattle.engine_statements.specs.Statements.{Planned, wrote};
 ghost use Rattle.engine_statements.specs.Replies.{IsReply};
 ghost use Rattle.engine_statements.specs.Calls.{planned_view, IsTaken};
-ghost use Rattle.engine_core.specs.Act.{act, acted, is_built as is_built_statement, planned, IsOrdinary};
+ghost use Rattle.engine_versions.specs.Evolve.{created};
+ghost use Rattle.engine_core.specs.Act.{act, acted, are_built, is_built as is_built_statement, planned, IsOrdinary};
 ghost use Rattle.engine_core.specs.Kept.{Answers, state_of, empty_state};
 
 use crate::built::is_built;
 use crate::spent::{counter_at, refused};
-use bidel_parser::Statement;
+use bidel_parser::{OpText, Statement};
 use engine_statements::{Reply, WritePlan, plan_delete, plan_insert, plan_update, select_rows};
 use engine_versions::{create_version, drop_version};
 use expr_lang::Steps;
 use op_any::AnyOp;
-use par_base::{Fault, Limits, Refusal};
+use par_base::{Fault, Limits, Name, Refusal};
 use std::alloc::Global;
 use std::marker::Model;
 use std::sync::ledger::Ledger;
@@ -34,8 +37,12 @@ pub struct Engine {
 impl Model for Engine {
     ghost use Rattle.version_model.specs.Kept.{Kept};
     ghost use Rattle.op_any.specs.Operators.{AnyView};
+    ghost use Rattle.op_any.specs.Codes.{coded_any};
+    ghost use Rattle.std.specs.Coded.{codes};
 
     ghost Value = { Kept AnyView };
+
+    ghost coded = { Prim.hlevel (codes, coded_any) };
 
     ghost view = { λ it. it.database };
 }
@@ -76,13 +83,14 @@ impl Engine {
         if !is_built(&statement) {
             return Err(Fault::Refused(Refusal::NotBuilt));
         }
-        self.carry_out(alloc, statement, steps)
+        self.carry_out(alloc, &statement, steps)
     }
 
     /// In every database each operator relates its source and its target tables, so that all versions
     /// show one state of the data. It does nothing: its contract is the law.
     pub fn versions_always_agree(&self)
-        ensures { IsSound any_meaning self.now.graph.edges (state_of self.now).state }
+        ensures agree { IsSound any_meaning self.now.graph.edges (state_of self.now).state }
+        ensures graph { IsGraph self.now.graph }
     {
         let _graph = self.database.graph();
     }
@@ -91,16 +99,16 @@ impl Engine {
     fn carry_out<L: Ledger>(
         &mut self,
         alloc: Global,
-        statement: Statement,
+        statement: &Statement,
         steps: &mut Steps<L>,
     ) -> Result<Reply, Fault<Refusal>>
-        requires texts { TextsWithin text_limit (statement_view statement) }
-        requires built { is_built_statement (statement_view statement) ≡ true }
-        ensures answers { Answers (acted (state_of self.old) (statement_view statement)) result
+        requires texts { TextsWithin text_limit (statement_view statement.now) }
+        requires built { is_built_statement (statement_view statement.now) ≡ true }
+        ensures answers { Answers (acted (state_of self.old) (statement_view statement.now)) result
             (state_of self.new) }
         ensures same { OnErr result (state_of self.new ≡ state_of self.old) }
         ensures reply { IfOk result IsReply }
-        ensures ordinary { (p : Planned) → planned (state_of self.old) (statement_view statement) ≡ Ok p
+        ensures ordinary { (p : Planned) → planned (state_of self.old) (statement_view statement.now) ≡ Ok p
             → OnOk result (IsOrdinary (state_of self.old) p (state_of self.new)) }
     {
         match statement {
@@ -108,13 +116,9 @@ impl Engine {
                 name,
                 from,
                 operators,
-            } => {
-                let texts = operators.as_slice();
-                create_version(alloc, &mut self.database, name, from.as_ref(), texts, steps)?;
-                Ok(Reply::Done)
-            }
+            } => self.create(alloc, name, from, operators.as_slice(), steps),
             Statement::DropVersion { name } => {
-                drop_version(alloc, &mut self.database, &name)?;
+                drop_version(alloc, &mut self.database, name)?;
                 Ok(Reply::Done)
             }
             Statement::Select {
@@ -122,12 +126,56 @@ impl Engine {
                 items,
                 filter,
                 ..
-            } => select_rows(alloc, &self.database, &table, &items, &filter, steps),
-            other => {
-                let plan = self.plan(alloc, &other, steps)?;
-                self.write(alloc, plan, steps)
-            }
+            } => select_rows(alloc, &self.database, table, items, filter, steps),
+            _ => self.change(alloc, statement, steps),
         }
+    }
+
+    // Carries out a CREATE SCHEMA VERSION.
+    fn create<L: Ledger>(
+        &mut self,
+        alloc: Global,
+        name: &Name,
+        from: &Option<Name>,
+        operators: &[OpText],
+        steps: &mut Steps<L>,
+    ) -> Result<Reply, Fault<Refusal>>
+        requires texts { All (OpTexts (λ bytes. length bytes ≤ text_limit)) (map op_view operators.now) }
+        requires built { are_built (map op_view operators.now) ≡ true }
+        ensures answers { Answers ((created (state_of self.old) name.now from.now (map op_view operators.now))
+            then λ next. Ok (Reply.Done, next)) result (state_of self.new) }
+        ensures same { OnErr result (state_of self.new ≡ state_of self.old) }
+        ensures reply { IfOk result IsReply }
+    {
+        let name = name.copy(alloc)?;
+        create_version(
+            alloc,
+            &mut self.database,
+            name,
+            from.as_ref(),
+            operators,
+            steps,
+        )?;
+        Ok(Reply::Done)
+    }
+
+    // Carries out a statement that writes rows.
+    fn change<L: Ledger>(
+        &mut self,
+        alloc: Global,
+        statement: &Statement,
+        steps: &mut Steps<L>,
+    ) -> Result<Reply, Fault<Refusal>>
+        requires texts { TextsWithin text_limit (statement_view statement.now) }
+        ensures answers { Answers ((planned (state_of self.old) (statement_view statement.now))
+            then λ p. wrote (state_of self.old) p) result (state_of self.new) }
+        ensures same { OnErr result (state_of self.new ≡ state_of self.old) }
+        ensures reply { IfOk result IsReply }
+        ensures ordinary { (p : Planned) → planned (state_of self.old) (statement_view statement.now) ≡ Ok p
+            → OnOk result (IsOrdinary (state_of self.old) p (state_of self.new)) }
+    {
+        let plan = self.plan(alloc, statement, steps)?;
+        self.write(alloc, plan, steps)
     }
 
     // What a statement makes of its version's table.
@@ -180,6 +228,8 @@ impl Engine {
         ensures ordinary { OnOk result (IsOrdinary (state_of self.old) (planned_view self.old.graph.edges plan)
             (state_of self.new)) }
     {
+        // What follows in the other versions rests on it.
+        self.versions_always_agree();
         let WritePlan {
             set,
             table,

@@ -1,5 +1,5 @@
 //! Ends that fail: a source at some call, a sink after some bytes, and words.
-use crate::runs::{Ends, VERSION, expect_bytes, expect_cut, expect_run};
+use crate::runs::{Ends, VERSION, expect_bytes, expect_cut, expect_replies, expect_run};
 use inverda_run::inverda;
 use par_base::{MemorySink, MemorySource, SureFiles};
 use std::test::Fail;
@@ -8,6 +8,27 @@ const SCRIPT: &str =
     "CREATE SCHEMA VERSION v WITH CREATE TABLE t(a);\nINSERT INTO v.t VALUES (1);\n";
 
 const REPLIES: &str = "ok\ninserted 1 #1\n";
+
+const CHANGES: &str =
+    "CREATE SCHEMA VERSION v WITH CREATE TABLE t(a); INSERT INTO v.t VALUES (1), (2);
+CREATE SCHEMA VERSION w FROM v WITH RENAME TABLE t INTO u; UPDATE w.u SET a = 3 WHERE a = 2; SELECT a FROM v.t;
+SELECT b FROM v.t; DELETE FROM v.t WHERE p = #1; DROP SCHEMA VERSION v; SELECT * FROM w.u;";
+
+const CHANGES_REPLIES: &str = "ok
+inserted 2 #1 #2
+ok
+updated 1
+a
+1
+3
+rows 2
+refused 5 unknown column b
+deleted 1
+ok
+p|a
+#2|3
+rows 1
+";
 
 #[test]
 fn a_full_sink_holds_the_front_of_the_replies(rt: HostRuntime) -> Result<(), Fail> {
@@ -33,6 +54,27 @@ fn a_full_sink_holds_the_front_of_the_replies(rt: HostRuntime) -> Result<(), Fai
         room: replies.len(),
     };
     expect_bytes(&rt, rt.alloc(), SCRIPT.as_bytes(), &enough, 0, replies)
+}
+
+#[test]
+fn a_sink_that_fills_up_ends_every_kind_of_statement(rt: HostRuntime) -> Result<(), Fail> {
+    let replies = CHANGES_REPLIES.as_bytes();
+    for room in 0..replies.len() {
+        let ends = Ends {
+            takes: &[],
+            puts: &[],
+            room,
+        };
+        expect_bytes(
+            &rt,
+            rt.alloc(),
+            CHANGES.as_bytes(),
+            &ends,
+            6,
+            &replies[..room],
+        )?;
+    }
+    expect_replies(&rt, rt.alloc(), CHANGES, CHANGES_REPLIES)
 }
 
 #[test]
@@ -125,6 +167,12 @@ fn a_version_is_made_once_its_end_is_known(rt: HostRuntime) -> Result<(), Fail> 
         (
             "INSERT INTO v.t VALUES (1);",
             "ok\ninserted 1 #1\nread fault\n",
+        ),
+        ("UPDATE v.t SET a = 1;", "ok\nupdated 0\nread fault\n"),
+        ("DROP SCHEMA VERSION v;", "ok\nok\nread fault\n"),
+        (
+            "DELETE FROM v.t; DROP SCHEMA VERSION v",
+            "ok\ndeleted 0\nread fault\n",
         ),
     ] {
         let script = format!(in alloc; "{VERSION}{behind}")?;

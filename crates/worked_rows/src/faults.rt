@@ -107,7 +107,7 @@ fn the_least_integer_needs_its_sign(rt: HostRuntime) -> Result<(), Fail> {
         ),
         (
             "SELECT * FROM v.t WHERE a = - 9223372036854775808;",
-            "refused 0 not built\n",
+            unknown,
         ),
     ] {
         expect_run(&rt, alloc, script, &Ends::sure(), 0, written)?;

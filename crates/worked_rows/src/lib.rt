@@ -3,7 +3,13 @@
 #![tactic(auto)]
 
 #[cfg(test)]
+mod check_order;
+#[cfg(test)]
+mod column_refusals;
+#[cfg(test)]
 mod ends;
+#[cfg(test)]
+mod evolutions;
 #[cfg(test)]
 mod faults;
 #[cfg(test)]
@@ -11,6 +17,16 @@ mod limits;
 #[cfg(test)]
 mod not_built;
 #[cfg(test)]
+mod references;
+#[cfg(test)]
+mod refusals;
+#[cfg(test)]
 mod replies;
 #[cfg(test)]
 mod runs;
+#[cfg(test)]
+mod sizes;
+#[cfg(test)]
+mod statements;
+#[cfg(test)]
+mod versions;

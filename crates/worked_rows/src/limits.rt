@@ -1,10 +1,14 @@
 //! The limits of numbers, names, expressions and statements, just within and just above.
-use crate::runs::{Ends, VERSION, expect_bytes, expect_cut, expect_run};
+use crate::runs::{
+    Ends, VERSION, expect_bytes, expect_cut, expect_repeated, expect_replies, expect_run,
+};
 use std::alloc::Global;
 use std::process::Abort;
 use std::test::Fail;
 
 const NOT_BUILT: &str = "refused 0 not built\n";
+
+const UNKNOWN: &str = "refused 1 unknown version v\n";
 
 const TWICE: &str = "refused 0 not built\nrefused 0 not built\n";
 
@@ -15,19 +19,9 @@ const LONG_AFTER_ONE: &str = "refused 0 not built\ntoo long\n";
 // The version of `VERSION` without its semicolon.
 const OPEN_VERSION: &str = "CREATE SCHEMA VERSION v WITH CREATE TABLE t(a)";
 
-/// A script, with the status and the bytes that it gives: a front, a piece that stands so many times, and a back.
-type Repeated<'a> = (&'a str, &'a str, usize, &'a str, u8, &'a str);
-
 /// A script, with the status and the bytes that it gives: so many bytes that begin and end as said, with spaces
 /// between, and what comes behind them.
 type Spaced<'a> = (&'a str, &'a str, usize, &'a str, u8, &'a str);
-
-fn expect_repeated(rt: &impl Abort, alloc: Global, case: Repeated<'_>) -> Result<(), Fail> {
-    let (front, piece, times, back, status, written) = case;
-    let repeated = piece.repeat(alloc, times)?;
-    let script = format!(in alloc; "{front}{repeated}{back}")?;
-    expect_run(rt, alloc, script.as_str(), &Ends::sure(), status, written)
-}
 
 fn spaced(alloc: Global, case: Spaced<'_>) -> Result<String, Fail> {
     let (front, back, total, behind, _, _) = case;
@@ -75,20 +69,54 @@ fn an_expression_counts_its_operators_and_parentheses(rt: HostRuntime) -> Result
     let nested = "SELECT * FROM v.t WHERE ";
     let sum = "SELECT * FROM v.t WHERE a";
     for case in [
-        (sum, " + 1", 128, ";", 0, NOT_BUILT),
-        (nested, "NOT ", 128, "a;", 0, NOT_BUILT),
+        (sum, " + 1", 128, ";", 0, UNKNOWN),
+        (nested, "NOT ", 128, "a;", 0, UNKNOWN),
         (nested, "NOT ", 129, "a;", 3, "syntax 1:537\n"),
-        (nested, "- ", 128, "a;", 0, NOT_BUILT),
+        (nested, "- ", 128, "a;", 0, UNKNOWN),
         (nested, "- ", 129, "a;", 3, "syntax 1:283\n"),
         // The last of the signs is that of a number.
-        (nested, "- ", 129, "1;", 0, NOT_BUILT),
+        (nested, "- ", 129, "1;", 0, UNKNOWN),
         (nested, "- ", 130, "1;", 3, "syntax 1:283\n"),
         (sum, " + 1", 128, " IS NULL;", 3, "syntax 1:539\n"),
-        (sum, " + 1", 127, " IS NOT NULL;", 0, NOT_BUILT),
+        (sum, " + 1", 127, " IS NOT NULL;", 0, UNKNOWN),
         // Parentheses that are closed count too.
-        (nested, "((a)) + ", 127, "((a));", 0, NOT_BUILT),
+        (nested, "((a)) + ", 127, "((a));", 0, UNKNOWN),
         (nested, "((a)) + ", 128, "((a));", 3, "syntax 1:1049\n"),
     ] {
+        expect_repeated(&rt, alloc, case)?;
+    }
+    Ok(())
+}
+
+#[test]
+fn expressions_of_128_operators_are_carried_out(rt: HostRuntime) -> Result<(), Fail> {
+    let alloc = rt.alloc();
+    let updated = "UPDATE v.t SET a = a";
+    let chosen = "SELECT p FROM v.t WHERE a";
+    let negated = "SELECT p FROM v.t WHERE ";
+    for (statement, piece, back, written) in [
+        (
+            updated,
+            " + 1",
+            "; SELECT * FROM v.t;",
+            "updated 1\np|a\n#1|133\nrows 1\n",
+        ),
+        (
+            updated,
+            " - a",
+            "; SELECT * FROM v.t;",
+            "updated 1\np|a\n#1|-635\nrows 1\n",
+        ),
+        (chosen, " - 1", ";", "p\n#1\nrows 1\n"),
+        (negated, "NOT ", "a;", "p\n#1\nrows 1\n"),
+        (negated, "NOT ", "0;", "p\nrows 0\n"),
+        (negated, "- ", "a;", "p\n#1\nrows 1\n"),
+        ("DELETE FROM v.t WHERE a", " OR 0", ";", "deleted 1\n"),
+        ("DELETE FROM v.t WHERE a", " AND 0", ";", "deleted 0\n"),
+    ] {
+        let front = format!(in alloc; "{VERSION} INSERT INTO v.t VALUES (5); {statement}")?;
+        let replies = format!(in alloc; "ok\ninserted 1 #1\n{written}")?;
+        let case = (front.as_str(), piece, 128, back, 0, replies.as_str());
         expect_repeated(&rt, alloc, case)?;
     }
     Ok(())
@@ -100,20 +128,23 @@ fn the_deepest_expressions_are_read_and_carried_out(rt: HostRuntime) -> Result<(
     let opened = "(".repeat(alloc, 256)?;
     let closed = ")".repeat(alloc, 256)?;
     let negated = "NOT ".repeat(alloc, 128)?;
-    let refused = format!(in alloc;
-        "SELECT * FROM v.t WHERE {opened}a{closed};
-UPDATE v.t SET a = {negated}a WHERE {opened}{negated}a{closed};
+    let chosen = format!(in alloc;
+        "{VERSION} INSERT INTO v.t VALUES (5); SELECT * FROM v.t WHERE {opened}a{closed};
+UPDATE v.t SET a = {negated}a WHERE {opened}{negated}a{closed}; SELECT a FROM v.t WHERE {opened}a = 1{closed};
 CREATE SCHEMA VERSION w FROM v WITH MERGE TABLE r ({opened}a{closed}), s ({negated}a) INTO t;"
     )?;
-    let written = "refused 0 not built\nrefused 0 not built\nrefused 0 not built\n";
-    expect_run(&rt, alloc, refused.as_str(), &Ends::sure(), 0, written)?;
-    let done = format!(in alloc;
+    let written =
+        "ok\ninserted 1 #1\np|a\n#1|5\nrows 1\nupdated 1\na\n1\nrows 1\nrefused 0 not built\n";
+    expect_replies(&rt, alloc, chosen.as_str(), written)?;
+    let added = format!(in alloc;
         "{VERSION} INSERT INTO v.t VALUES (5);
 CREATE SCHEMA VERSION w FROM v WITH ADD COLUMN b AS {opened}a{closed} INTO t; ADD COLUMN c AS {negated}a INTO t;
-SELECT * FROM w.t;"
+  DROP COLUMN a FROM t DEFAULT {opened}b{closed}; SELECT * FROM w.t;
+INSERT INTO w.t VALUES (6, 7); SELECT * FROM v.t;"
     )?;
-    let written = "ok\ninserted 1 #1\nok\np|a|b|c\n#1|5|5|1\nrows 1\n";
-    expect_run(&rt, alloc, done.as_str(), &Ends::sure(), 0, written)
+    let written =
+        "ok\ninserted 1 #1\nok\np|b|c\n#1|5|1\nrows 1\ninserted 1 #2\np|a\n#1|5\n#2|6\nrows 2\n";
+    expect_replies(&rt, alloc, added.as_str(), written)
 }
 
 #[test]
@@ -208,14 +239,7 @@ fn a_word_that_may_begin_either_counts_as_a_first_one(rt: HostRuntime) -> Result
         (front, "SCHEMA", 70_000, behind, 7, LONG),
         (front, "", 47 + 65_536, "", 3, "ok\nsyntax 1:65584\n"),
         (front, "", 47 + 65_537, "", 7, LONG),
-        (
-            dropped,
-            "SCHEMA VERSION v;",
-            100,
-            "",
-            0,
-            "ok\nrefused 0 not built\n",
-        ),
+        (dropped, "SCHEMA VERSION v;", 100, "", 0, "ok\nok\n"),
         (
             dropped,
             "SCHEMA VERSION v;",
@@ -225,7 +249,7 @@ fn a_word_that_may_begin_either_counts_as_a_first_one(rt: HostRuntime) -> Result
             "ok\ntoo long\n",
         ),
         (dropped, "SCHEMA", 70_000, " VERSION v;", 7, LONG),
-        (dropped, "TABLE t;", 65_536, "", 0, NOT_BUILT),
+        (dropped, "TABLE t;", 65_536, "", 0, "ok\n"),
         (dropped, "TABLE t;", 65_537, "", 7, LONG),
     ];
     expect_spaced(&rt, rt.alloc(), cases.as_slice())

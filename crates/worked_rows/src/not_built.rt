@@ -1,5 +1,5 @@
-//! Forms that are read and not carried out yet: one line, and the run goes on.
-use crate::runs::{Ends, VERSION, expect_run};
+//! Forms that are read and not carried out: one line before all other checks, and the run goes on.
+use crate::runs::{VERSION, expect_replies};
 use std::alloc::Global;
 use std::process::Abort;
 use std::test::Fail;
@@ -8,30 +8,22 @@ use std::test::Fail;
 fn expect_not_built(rt: &impl Abort, alloc: Global, statement: &str) -> Result<(), Fail> {
     let script = format!(in alloc; "{VERSION} {statement} INSERT INTO v.t VALUES (1);")?;
     let written = "ok\nrefused 0 not built\ninserted 1 #1\n";
-    expect_run(rt, alloc, script.as_str(), &Ends::sure(), 0, written)
+    expect_replies(rt, alloc, script.as_str(), written)
 }
 
 #[test]
 fn a_statement_of_another_form_is_not_built(rt: HostRuntime) -> Result<(), Fail> {
     for statement in [
-        "DROP SCHEMA VERSION v;",
-        "INSERT INTO v.t VALUES (2), (#1);",
-        "INSERT INTO t VALUES (2);",
         "IMPORT INTO v.t CSV '2';",
-        "UPDATE v.t SET a = 2;",
-        "UPDATE v.t SET a = a + 1 WHERE a > 1;",
-        "DELETE FROM v.t;",
-        "DELETE FROM v.t WHERE a IS NOT NULL;",
-        "SELECT a FROM v.t;",
-        "SELECT * FROM v.t WHERE a = 1;",
         "SELECT * FROM v.t AS CSV;",
-        "SELECT * FROM t;",
+        "SELECT a, p FROM v.t WHERE a = 1 AS CSV;",
         "MATERIALIZE v;",
         "MATERIALIZE v, v.t;",
         "MATERIALIZE v IN STEPS;",
         "STEP;",
         "SHOW LAYOUT;",
         "USE v;",
+        "SESSION 0;",
         "SESSION 255;",
         "ADVISE v;",
     ] {
@@ -44,11 +36,6 @@ fn a_statement_of_another_form_is_not_built(rt: HostRuntime) -> Result<(), Fail>
 fn an_operator_of_another_form_is_not_built(rt: HostRuntime) -> Result<(), Fail> {
     let alloc = rt.alloc();
     for operator in [
-        "DROP TABLE t",
-        "RENAME TABLE t INTO u",
-        "RENAME COLUMN a IN t TO b",
-        "ADD COLUMN b AS #1 INTO t",
-        "DROP COLUMN a FROM t DEFAULT 0",
         "DECOMPOSE TABLE t INTO u(a)",
         "DECOMPOSE TABLE t INTO u(a), w() ON PK",
         "DECOMPOSE TABLE t INTO u(), w(a) ON FK f",
@@ -70,16 +57,43 @@ fn an_operator_of_another_form_is_not_built(rt: HostRuntime) -> Result<(), Fail>
 }
 
 #[test]
+fn one_operator_of_another_form_makes_the_evolution_not_built(rt: HostRuntime) -> Result<(), Fail> {
+    let alloc = rt.alloc();
+    for operators in [
+        "SPLIT TABLE t INTO u WITH a = 1; DROP TABLE u",
+        "ADD COLUMN b AS a INTO t; DECOMPOSE TABLE t INTO t(b)",
+        "CREATE TABLE u(a); MERGE TABLE t (a = 1), u (a <> 1) INTO w; DROP TABLE w",
+        "RENAME COLUMN a IN t TO b; RENAME TABLE t INTO u; JOIN TABLE u, u INTO t ON PK",
+    ] {
+        let statement = format!(in alloc; "CREATE SCHEMA VERSION w FROM v WITH {operators};")?;
+        expect_not_built(&rt, alloc, statement.as_str())?;
+    }
+    Ok(())
+}
+
+#[test]
 fn a_form_that_is_not_built_is_refused_before_all_else(rt: HostRuntime) -> Result<(), Fail> {
     for statement in [
-        "SELECT a FROM w.t;",
-        "INSERT INTO w.t VALUES (#1);",
-        "CREATE SCHEMA VERSION v FROM w WITH DROP TABLE u;",
-        "CREATE SCHEMA VERSION w WITH CREATE TABLE u(); CREATE TABLE p(p); DROP TABLE u;",
+        // No version in use, an unknown version, table, column and identifier.
+        "IMPORT INTO t CSV '1,2';",
+        "SELECT * FROM t AS CSV;",
+        "SELECT b FROM w.t AS CSV;",
+        "IMPORT INTO v.u CSV '#9';",
+        "SELECT b FROM v.t WHERE p = #9 AS CSV;",
+        "MATERIALIZE w, v.u;",
+        "USE w;",
+        "ADVISE w;",
+        // An unknown version after FROM, a live version's name, and operators before and behind.
+        "CREATE SCHEMA VERSION v FROM w WITH SPLIT TABLE u INTO w WITH b = #9;",
+        "CREATE SCHEMA VERSION v WITH JOIN TABLE t, t INTO t ON FK p;",
+        "CREATE SCHEMA VERSION w FROM v WITH DROP TABLE u; SPLIT TABLE t INTO u WITH a = 1;",
+        "CREATE SCHEMA VERSION w FROM v WITH CREATE TABLE t(p, p); MERGE TABLE t (a), t (a) INTO t;",
+        "CREATE SCHEMA VERSION w FROM v WITH DECOMPOSE TABLE t INTO u(b); ADD COLUMN a AS #9 INTO w;",
     ] {
         expect_not_built(&rt, rt.alloc(), statement)?;
     }
-    let script = "CREATE SCHEMA VERSION w WITH CREATE TABLE u(); DROP TABLE u; SELECT * FROM w.u;";
+    let script =
+        "CREATE SCHEMA VERSION w WITH CREATE TABLE u(); SPLIT TABLE u INTO x WITH 1; SELECT * FROM w.u;";
     let written = "refused 0 not built\nrefused 1 unknown version w\n";
-    expect_run(&rt, rt.alloc(), script, &Ends::sure(), 0, written)
+    expect_replies(&rt, rt.alloc(), script, written)
 }

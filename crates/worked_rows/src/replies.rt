@@ -63,7 +63,7 @@ refused 1 unknown version c
 refused 3 unknown table u
 refused 1 unknown version c
 refused 3 unknown table u
-refused 0 not built
+refused 2 version exists a
 inserted 1 #1
 ";
     expect_run(&rt, rt.alloc(), script, &Ends::sure(), 0, replies)

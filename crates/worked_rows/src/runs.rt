@@ -13,6 +13,21 @@ const PIECE: usize = 7;
 /// The version `v` with the table `t`, which has one column.
 pub const VERSION: &str = "CREATE SCHEMA VERSION v WITH CREATE TABLE t(a);";
 
+/// The version `v` with the table `t`, which has two columns and one row.
+pub const ROW: &str =
+    "CREATE SCHEMA VERSION v WITH CREATE TABLE t(a, b); INSERT INTO v.t VALUES (1, 2);\n";
+
+/// The same, and a version `w` from `v` up to its first operator.
+pub const EVOLUTION: &str =
+    "CREATE SCHEMA VERSION v WITH CREATE TABLE t(a, b); INSERT INTO v.t VALUES (1, 2);
+CREATE SCHEMA VERSION w FROM v WITH ";
+
+/// The replies to `ROW`.
+pub const ROW_REPLIES: &str = "ok\ninserted 1 #1\n";
+
+/// A script, with the status and the bytes that it gives: a front, a piece that stands so many times, and a back.
+pub type Repeated<'a> = (&'a str, &'a str, usize, &'a str, u8, &'a str);
+
 /// Where the calls fail: the numbers of failing calls of the source and of the sink, and the room
 /// of the sink.
 #[derive(Clone, Copy)]
@@ -67,14 +82,48 @@ pub fn expect_bytes(
     let mut files = SureFiles::new(alloc);
     let ended = inverda(alloc, &[], &mut source, &mut sink, &mut files);
     let text = String::from_utf8_lossy(alloc, sink.bytes())?;
-    let front = &script[..script.len().min(100)];
+    let front = &script[..script.len().min(300)];
     let named = String::from_utf8_lossy(alloc, front)?;
     assert_eq!(rt; sink.bytes(), written, "{text} of {named}");
     assert_eq!(rt; ended, status, "of {named}");
     Ok(())
 }
 
-/// The same, where nothing fails but the call of the source after the last byte.
+/// Runs a script where nothing fails, and expects its replies.
+pub fn expect_replies(
+    rt: &impl Abort,
+    alloc: Global,
+    script: &str,
+    written: &str,
+) -> Result<(), Fail> {
+    expect_run(rt, alloc, script, &Ends::sure(), 0, written)
+}
+
+/// Runs each case for itself behind a front: its statements, whose replies are its lines.
+pub fn expect_each(
+    rt: &impl Abort,
+    alloc: Global,
+    front: &str,
+    front_written: &str,
+    cases: &[(&str, &str)],
+) -> Result<(), Fail> {
+    for (statements, lines) in cases {
+        let script = format!(in alloc; "{front}{statements}")?;
+        let written = format!(in alloc; "{front_written}{lines}\n")?;
+        expect_replies(rt, alloc, script.as_str(), written.as_str())?;
+    }
+    Ok(())
+}
+
+/// Runs the script of the case where nothing fails.
+pub fn expect_repeated(rt: &impl Abort, alloc: Global, case: Repeated<'_>) -> Result<(), Fail> {
+    let (front, piece, times, back, status, written) = case;
+    let repeated = piece.repeat(alloc, times)?;
+    let script = format!(in alloc; "{front}{repeated}{back}")?;
+    expect_run(rt, alloc, script.as_str(), &Ends::sure(), status, written)
+}
+
+/// The same as `expect_run`, where nothing fails but the call of the source after the last byte.
 pub fn expect_cut(
     rt: &impl Abort,
     alloc: Global,

@@ -1,0 +1,12 @@
+use Rattle.std.proofs.Common.{map, sym, subst, ap}
+use Rattle.std.specs.List.{All}
+use Rattle.bidel_parser.specs.Views.{AssignmentView, assignment_view, statement_view}
+use Rattle.bidel_parser.specs.Texts.{TextsWithin}
+use Rattle.engine_statements.specs.Calls.{AssignmentFits}
+use Rattle.engine_core.proofs.TextLemmas.{assignments_fit}
+use Rattle.engine_core.proofs.engine.Engine.plan.Goals as goal
+
+pub plan_update-requires : goal.plan_update-requires
+plan_update-requires g c =
+    let texts = rw c.in-Update.is at c.requires.texts in
+    subst (λ l. All AssignmentFits (map assignment_view l)) (sym c.as_slice-in-Update.ensures) (assignments_fit (map assignment_view c.in-Update.assignments) texts.0)
