@@ -1,5 +1,5 @@
 -- What a statement that writes rows replies can be printed.
-use Rattle.std.proofs.Common.{◌≡◌, ℕ, List, [], ◌++◌, length, Option, Ok, subst}
+use Rattle.std.proofs.Common.{◌≡◌, List, [], ◌++◌, length, Option, Ok, subst}
 use Rattle.par_base.specs.declared.value.Value.{Value}
 use Rattle.bidel_parser.specs.Views.{Tree, AssignmentView, StatementView, CreateVersion, DropVersion, Insert, Import, Update, Delete, Select, Materialize, Step, ShowLayout, Use, Session, Advise}
 use Rattle.bidel_parser.specs.declared.statement.TableName.{TableName}

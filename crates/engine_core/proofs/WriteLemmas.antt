@@ -1,5 +1,5 @@
 -- What a write of a database gives is what the model says of a statement's write.
-use Rattle.std.proofs.Common.{◌≡◌, ℕ, ◌<◌, ◌≤◌, Bool, true, false, Ok, Err, refl, sym, ap, subst, ◌∙◌, arith}
+use Rattle.std.proofs.Common.{◌≡◌, ℕ, ◌<◌, Bool, true, false, Ok, Err, refl, sym, ap, subst, ◌∙◌, arith}
 use Rattle.std.specs.Prelude.{if◌then◌else◌}
 use Rattle.std.proofs.lemmas.Bool.{le-ltb, lt-ltb}
 use Rattle.par_base.specs.declared.fault.Fault.TheVariants.{Refused}
@@ -17,7 +17,6 @@ use Rattle.version_model.proofs.WriteLemmas.{write_is_ordinary}
 use Rattle.engine_statements.specs.State.{State}
 use Rattle.engine_statements.specs.Statements.{Planned, state_with, wrote}
 use Rattle.engine_statements.specs.Calls.{planned_view, IsTaken}
-use Rattle.engine_statements.specs.declared.reply.Reply.{Reply}
 use Rattle.engine_statements.specs.declared.write_plan.WritePlan.{WritePlan}
 use Rattle.engine_core.specs.Act.{IsOrdinary}
 

@@ -1,13 +1,13 @@
 -- Each operator of an evolution is built for its sources and targets.
-use Rattle.std.proofs.Common.{◌≡◌, ℕ, ◌+◌, List, [], ◌∷◌, ◌++◌, length, map, Bool, true, cond, Option, Some, None, Ok, inl, inr, refl, sym, ap, subst, ◌∙◌}
+use Rattle.std.proofs.Common.{◌≡◌, ℕ, ◌+◌, List, [], ◌∷◌, length, map, Option, Some, None, Ok, inl, inr, refl, sym, ap, subst, ◌∙◌}
 use Rattle.std.specs.Prelude.{◌==◌, option_to_list}
 use Rattle.std.specs.Option.{option_map_or}
 use Rattle.std.proofs.lemmas.Bool.{cond-true, eq-eqb}
 use Rattle.bidel_parser.specs.Views.{OpView}
 use Rattle.version_graph.specs.Sets.{In, Each, Within}
 use Rattle.version_graph.specs.Tables.{TableVersion, headings_after, headings_of, table_named, table_numbers, taken}
-use Rattle.version_graph.specs.Edges.{AreEdges, heading_of, made, made_by_edge, set_after, working}
-use Rattle.version_graph.specs.Evolve.{numbers_after, placed_next}
+use Rattle.version_graph.specs.Edges.{AreEdges, made, made_by_edge, set_after, working}
+use Rattle.version_graph.specs.Evolve.{placed_next}
 use Rattle.version_graph.specs.Calls.{CanGrow}
 use Rattle.version_graph.specs.declared.parts.Heading.{Heading}
 use Rattle.version_graph.specs.declared.parts.Edge.{Edge}

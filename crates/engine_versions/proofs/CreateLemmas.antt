@@ -1,6 +1,6 @@
 -- What an evolution of a database gives is what the model says of a new version.
-use Rattle.std.proofs.Common.{◌≡◌, ℕ, ◌<◌, ◌≤◌, ◌^◌, List, [], ◌∷◌, length, Bool, true, false, Option, Some, None, Result, Ok, Err, refl, sym, ap, subst, ◌∙◌, arith}
-use Rattle.std.specs.Prelude.{nat_lt, if◌then◌else◌, unwrap_or}
+use Rattle.std.proofs.Common.{◌≡◌, ℕ, ◌<◌, ◌≤◌, List, [], ◌∷◌, length, Bool, Option, Some, None, Result, Ok, Err, refl, sym, ap, subst, ◌∙◌, arith}
+use Rattle.std.specs.Prelude.{if◌then◌else◌, unwrap_or}
 use Rattle.std.proofs.lemmas.Bool.{le-ltb, lt-ltb}
 use Rattle.par_base.specs.declared.fault.Fault.{Fault}
 use Rattle.par_base.specs.declared.fault.Fault.TheVariants.{Refused, Memory}
@@ -11,7 +11,7 @@ use Rattle.id_memory.specs.States.{CounterState}
 use Rattle.version_graph.specs.Sets.{Each}
 use Rattle.version_graph.specs.Tables.{headings_of, FitInOrder}
 use Rattle.version_graph.specs.Edges.{Drawn, IsGraph, set_named, working}
-use Rattle.version_graph.specs.Evolve.{evolved, limit_passed, refusal_of, start_of, targets_in, MayEvolve}
+use Rattle.version_graph.specs.Evolve.{limit_passed, refusal_of, start_of, MayEvolve}
 use Rattle.version_graph.specs.Calls.{CanGrow}
 use Rattle.version_graph.specs.declared.parts.Edge.{Edge}
 use Rattle.version_graph.proofs.EvolveLemmas.{can_evolve, no_refusal}

@@ -1,5 +1,5 @@
 -- An operator makes as many tables as its text says.
-use Rattle.std.proofs.Common.{◌≡◌, ℕ, List, [], ◌∷◌, ◌++◌, length, Ok, Err, refl, ap, sym, ◌∙◌}
+use Rattle.std.proofs.Common.{◌≡◌, ℕ, List, [], ◌∷◌, ◌++◌, length, Ok, ap, sym, ◌∙◌}
 use Rattle.std.specs.List.{remove}
 use Rattle.bidel_parser.specs.Views.{Tree, OpView}
 use Rattle.bidel_parser.specs.Views as «text»

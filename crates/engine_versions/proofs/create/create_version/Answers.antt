@@ -1,4 +1,4 @@
-use Rattle.std.proofs.Common.{◌<◌, ℕ, length, map, sym, subst}
+use Rattle.std.proofs.Common.{◌<◌, ℕ, map, sym, subst}
 use Rattle.std.specs.Option.{option_copied}
 use Rattle.std.proofs.lemmas.List.{length-map}
 use Rattle.bidel_parser.specs.Views.{op_view}

@@ -1,4 +1,4 @@
-use Rattle.std.proofs.Common.{◌≡◌, ◌<◌, Ok, sym, subst, ap}
+use Rattle.std.proofs.Common.{◌≡◌, ◌<◌, Ok, subst, ap}
 use Rattle.std.proofs.lemmas.Result.{err_from_is_err_and}
 use Rattle.par_base.specs.declared.fault.Fault.TheVariants.{Refused}
 use Rattle.par_base.specs.declared.refusal.Refusal.TheVariants.{IdsSpent}
