@@ -1,13 +1,15 @@
 -- An operator makes as many tables as its text says.
-use Rattle.std.proofs.Common.{◌≡◌, ℕ, List, [], ◌∷◌, ◌++◌, length, Ok, ap, sym, ◌∙◌}
+use Rattle.std.proofs.Common.{◌≡◌, ℕ, List, [], ◌∷◌, ◌++◌, length, Some, None, Ok, ap, sym, ◌∙◌}
+use Rattle.std.specs.Prelude.{◌||◌}
 use Rattle.std.specs.List.{remove}
-use Rattle.bidel_parser.specs.Views.{Tree, OpView}
+use Rattle.std.specs.Str.{bytes_eq}
+use Rattle.bidel_parser.specs.Views.{Tree, BranchView, OpView}
 use Rattle.bidel_parser.specs.Views as «text»
 use Rattle.expr_lang.specs.Resolved.{place_of, resolved}
 use Rattle.version_graph.specs.declared.parts.Heading.{Heading}
 use Rattle.version_graph.specs.declared.parts.Edge.{Edge}
 use Rattle.op_any.specs.Operators.{Built, AnyView}
-use Rattle.op_any.specs.Build.{heading_named, is_passing, known_table, new_table, known_column, known_columns, new_columns, few_columns, known_ids, creating_table, dropping_table, renaming_table, renaming_column, adding_column, dropping_column, planned, with_text, built}
+use Rattle.op_any.specs.Build.{heading_named, is_passing, known_table, new_table, known_column, known_columns, new_columns, few_columns, known_ids, other_table, same_columns, creating_table, dropping_table, renaming_table, renaming_column, adding_column, dropping_column, splitting_in_one, splitting_in_two, merging_tables, planned, with_text, built}
 use Rattle.engine_versions.specs.Evolve.{target_count}
 use Rattle.engine_versions.proofs.ChainLemmas.{both_give, ok_is}
 
@@ -57,6 +59,38 @@ module _ (set : List Heading) (next : ℕ) where
       let d = both_give (known_ids next value) _ e c.2 in
       ap many (sym (ok_is _ e d.2))
 
+  split_in_one : (table : List ℕ) (r : BranchView) (e : Edge Built) → splitting_in_one set next table r ≡ Ok e → many e ≡ 1
+  split_in_one table r e h =
+      let a = both_give (known_table table (heading_named set table)) _ e h in
+      let b = both_give (new_table r.table (is_passing set (table ∷ []) r.table)) _ e a.2 in
+      let c = both_give (known_columns (resolved a.0.columns r.condition)) _ e b.2 in
+      let d = both_give (known_ids next r.condition) _ e c.2 in
+      ap many (sym (ok_is _ e d.2))
+
+  split_in_two : (table : List ℕ) (r s : BranchView) (e : Edge Built) → splitting_in_two set next table r s ≡ Ok e → many e ≡ 2
+  split_in_two table r s e h =
+      let a = both_give (known_table table (heading_named set table)) _ e h in
+      let b = both_give (new_table r.table (is_passing set (table ∷ []) r.table)) _ e a.2 in
+      let c = both_give (new_table s.table (bytes_eq s.table r.table || is_passing set (table ∷ []) s.table)) _ e b.2 in
+      let d = both_give (known_columns (resolved a.0.columns r.condition)) _ e c.2 in
+      let f = both_give (known_columns (resolved a.0.columns s.condition)) _ e d.2 in
+      let k = both_give (known_ids next r.condition) _ e f.2 in
+      let l = both_give (known_ids next s.condition) _ e k.2 in
+      ap many (sym (ok_is _ e l.2))
+
+  merging : (r s : BranchView) (target : List ℕ) (e : Edge Built) → merging_tables set next r s target ≡ Ok e → many e ≡ 1
+  merging r s target e h =
+      let a = both_give (known_table r.table (heading_named set r.table)) _ e h in
+      let b = both_give (known_table s.table (heading_named set s.table)) _ e a.2 in
+      let c = both_give (other_table s.table (bytes_eq s.table r.table)) _ e b.2 in
+      let d = both_give (new_table target (is_passing set (r.table ∷ s.table ∷ []) target)) _ e c.2 in
+      let f = both_give (known_columns (resolved a.0.columns r.condition)) _ e d.2 in
+      let k = both_give (known_columns (resolved b.0.columns s.condition)) _ e f.2 in
+      let l = both_give (same_columns a.0 b.0) _ e k.2 in
+      let m = both_give (known_ids next r.condition) _ e l.2 in
+      let n = both_give (known_ids next s.condition) _ e m.2 in
+      ap many (sym (ok_is _ e n.2))
+
   planned_many : (text : OpView) (e : Edge Built) → planned set next text ≡ Ok e → many e ≡ target_count text
   planned_many («text».CreateTable table columns) e h = creating table columns e h
   planned_many («text».DropTable table) e h = dropping table e h
@@ -67,8 +101,9 @@ module _ (set : List Heading) (next : ℕ) where
   planned_many («text».DecomposeSingle table target columns) e h = absurd (cc)
   planned_many («text».Decompose table first first_columns second second_columns key) e h = absurd (cc)
   planned_many («text».Join outer first second target key) e h = absurd (cc)
-  planned_many («text».Split table first second) e h = absurd (cc)
-  planned_many («text».Merge first second target) e h = absurd (cc)
+  planned_many («text».Split table first None) e h = split_in_one table first e h
+  planned_many («text».Split table first (Some second)) e h = split_in_two table first second e h
+  planned_many («text».Merge first second target) e h = merging first second target e h
 
   pub targets_counted : (text : OpView) (e : Edge AnyView) → built set next text ≡ Ok e → length e.targets ≡ target_count text
   targets_counted text e h =

@@ -1,17 +1,19 @@
 -- No check of an operator answers that it isn't built.
 use Rattle.std.proofs.Common.{◌≡◌, ◌≢◌, ℕ, List, [], ◌∷◌, ◌++◌, length, Bool, true, false, cond, Option, Some, None, Result, Ok, Err, refl, sym}
-use Rattle.std.specs.Prelude.{◌↔◌, nat_lt}
+use Rattle.std.specs.Prelude.{◌↔◌, ◌||◌, nat_lt}
 use Rattle.std.specs.List.{remove}
+use Rattle.std.specs.Str.{bytes_eq}
+use Rattle.std.specs.Cmp.Lexicographic.{pointwise}
 use Rattle.std.proofs.lemmas.Bool.{false≢true}
-use Rattle.par_base.specs.declared.refusal.Refusal.TheVariants.{NotBuilt, TooManyColumns}
+use Rattle.par_base.specs.declared.refusal.Refusal.TheVariants.{NotBuilt, TooManyColumns, ColumnsDiffer}
 use Rattle.expr_lang.specs.Terms.{Term}
 use Rattle.expr_lang.specs.Resolved.{place_of, resolved}
-use Rattle.bidel_parser.specs.Views.{Tree, OpView}
+use Rattle.bidel_parser.specs.Views.{Tree, BranchView, OpView}
 use Rattle.bidel_parser.specs.Views as «text»
 use Rattle.version_graph.specs.Tables.{column_limit}
 use Rattle.version_graph.specs.declared.parts.Heading.{Heading}
 use Rattle.op_any.specs.Checks.{Checked, ◌then◌}
-use Rattle.op_any.specs.Build.{heading_named, is_passing, known_table, new_table, known_column, known_columns, unrepeated, new_columns, few_columns, known_id, known_ids, creating_table, dropping_table, renaming_table, renaming_column, adding_column, dropping_column, planned, with_text, built, is_built}
+use Rattle.op_any.specs.Build.{heading_named, is_passing, known_table, other_table, new_table, known_column, known_columns, unrepeated, new_columns, same_columns, few_columns, known_id, known_ids, creating_table, dropping_table, renaming_table, renaming_column, adding_column, dropping_column, splitting_in_one, splitting_in_two, splitting_table, merging_tables, planned, with_text, built, is_built}
 
 -- the check gives something, or refuses for another cause
 abbrev Decides : {A : Type 0} → Checked A → Type 0
@@ -30,6 +32,10 @@ new_table_decides : (name : List ℕ) (b : Bool) → Decides (new_table name b)
 new_table_decides name true = λ e. absurd (cc)
 new_table_decides name false = tt
 
+other_table_decides : (name : List ℕ) (b : Bool) → Decides (other_table name b)
+other_table_decides name true = λ e. absurd (cc)
+other_table_decides name false = tt
+
 column_decides : (name : List ℕ) (o : Option ℕ) → Decides (known_column name o)
 column_decides name (Some place) = tt
 column_decides name None = λ e. absurd (cc)
@@ -41,6 +47,10 @@ expression_decides (Err name) = λ e. absurd (cc)
 once_decides : (o : Option (List ℕ)) → Decides (unrepeated o)
 once_decides (Some name) = λ e. absurd (cc)
 once_decides None = tt
+
+same_decides : (first second : List ℕ) (b : Bool) → Decides {A = Unit {0}} (cond b (Ok tt) (Err (ColumnsDiffer first second)))
+same_decides first second true = tt
+same_decides first second false = λ e. absurd (cc)
 
 few_decides : (table : List ℕ) (b : Bool) → Decides {A = Unit {0}} (cond b (Err (TooManyColumns table column_limit)) (Ok tt))
 few_decides table true = λ e. absurd (cc)
@@ -86,6 +96,39 @@ module _ (set : List Heading) (next : ℕ) where
       then_decides (known_columns (resolved (remove h.columns place) value)) _ (expression_decides _) (λ e.
       then_decides (known_ids next value) _ (ids_decide next _) (λ u. tt))))
 
+  splitting_in_one_decides : (table : List ℕ) (r : BranchView) → Decides (splitting_in_one set next table r)
+  splitting_in_one_decides table r =
+      then_decides (known_table table (heading_named set table)) _ (table_decides table _) (λ h.
+      then_decides (new_table r.table (is_passing set (table ∷ []) r.table)) _ (new_table_decides r.table _) (λ u.
+      then_decides (known_columns (resolved h.columns r.condition)) _ (expression_decides _) (λ c.
+      then_decides (known_ids next r.condition) _ (ids_decide next _) (λ v. tt))))
+
+  splitting_in_two_decides : (table : List ℕ) (r s : BranchView) → Decides (splitting_in_two set next table r s)
+  splitting_in_two_decides table r s =
+      then_decides (known_table table (heading_named set table)) _ (table_decides table _) (λ h.
+      then_decides (new_table r.table (is_passing set (table ∷ []) r.table)) _ (new_table_decides r.table _) (λ u.
+      then_decides (new_table s.table (bytes_eq s.table r.table || is_passing set (table ∷ []) s.table)) _ (new_table_decides s.table _) (λ v.
+      then_decides (known_columns (resolved h.columns r.condition)) _ (expression_decides _) (λ c.
+      then_decides (known_columns (resolved h.columns s.condition)) _ (expression_decides _) (λ d.
+      then_decides (known_ids next r.condition) _ (ids_decide next _) (λ w.
+      then_decides (known_ids next s.condition) _ (ids_decide next _) (λ x. tt)))))))
+
+  splitting_decides : (table : List ℕ) (r : BranchView) (o : Option BranchView) → Decides (splitting_table set next table r o)
+  splitting_decides table r None = splitting_in_one_decides table r
+  splitting_decides table r (Some s) = splitting_in_two_decides table r s
+
+  merging_decides : (r s : BranchView) (target : List ℕ) → Decides (merging_tables set next r s target)
+  merging_decides r s target =
+      then_decides (known_table r.table (heading_named set r.table)) _ (table_decides r.table _) (λ h.
+      then_decides (known_table s.table (heading_named set s.table)) _ (table_decides s.table _) (λ k.
+      then_decides (other_table s.table (bytes_eq s.table r.table)) _ (other_table_decides s.table _) (λ u.
+      then_decides (new_table target (is_passing set (r.table ∷ s.table ∷ []) target)) _ (new_table_decides target _) (λ v.
+      then_decides (known_columns (resolved h.columns r.condition)) _ (expression_decides _) (λ c.
+      then_decides (known_columns (resolved k.columns s.condition)) _ (expression_decides _) (λ d.
+      then_decides (same_columns h k) _ (same_decides h.name k.name (pointwise bytes_eq h.columns k.columns)) (λ w.
+      then_decides (known_ids next r.condition) _ (ids_decide next _) (λ x.
+      then_decides (known_ids next s.condition) _ (ids_decide next _) (λ y. tt)))))))))
+
   planned_decides : (text : OpView) → is_built text ≡ true → Decides (planned set next text)
   planned_decides («text».CreateTable table columns) is = creating_decides table columns
   planned_decides («text».DropTable table) is = dropping_decides table
@@ -96,8 +139,8 @@ module _ (set : List Heading) (next : ℕ) where
   planned_decides («text».DecomposeSingle table target columns) is = absurd (false≢true is)
   planned_decides («text».Decompose table first first_columns second second_columns key) is = absurd (false≢true is)
   planned_decides («text».Join outer first second target key) is = absurd (false≢true is)
-  planned_decides («text».Split table first second) is = absurd (false≢true is)
-  planned_decides («text».Merge first second target) is = absurd (false≢true is)
+  planned_decides («text».Split table first second) is = splitting_decides table first second
+  planned_decides («text».Merge first second target) is = merging_decides first second target
 
 decides : {A : Type 0} (c : Checked A) → Decides c → c ≡ Err NotBuilt → ⊥
 decides (Ok x) d e = absurd (cc)
@@ -114,8 +157,8 @@ other_form set next («text».DropColumn column table value) is = absurd (false�
 other_form set next («text».DecomposeSingle table target columns) is = refl
 other_form set next («text».Decompose table first first_columns second second_columns key) is = refl
 other_form set next («text».Join outer first second target key) is = refl
-other_form set next («text».Split table first second) is = refl
-other_form set next («text».Merge first second target) is = refl
+other_form set next («text».Split table first second) is = absurd (false≢true (sym is))
+other_form set next («text».Merge first second target) is = absurd (false≢true (sym is))
 
 own_form : (set : List Heading) (next : ℕ) (text : OpView) (b : Bool) → is_built text ≡ b → built set next text ≡ Err NotBuilt → b ≡ false
 own_form set next text true is e =

@@ -55,7 +55,8 @@ module _ {X : Type 0} where
   insert-remove (x ∷ xs) zero d h = refl
   insert-remove (x ∷ xs) (suc place) d h = ap (λ (ys : List X). x ∷ ys) (insert-remove xs place d (omega arith))
 
-either : (a b : Bool) → (a || b) ≡ false → (a ≡ false) × (b ≡ false)
+-- neither holds where not one of them does
+pub either : (a b : Bool) → (a || b) ≡ false → (a ≡ false) × (b ≡ false)
 either true b e = absurd (false≢true (sym e))
 either false b e = (refl, e)
 

@@ -181,20 +181,26 @@ BuiltParts =
     ⊎ Unit {0}
     ⊎ ℕ × Term ℕ
     ⊎ ℕ × Term ℕ
+    ⊎ ℕ × (Term ℕ × Option (Term ℕ))
+    ⊎ ℕ × (Term ℕ × Option (Term ℕ))
 
 abbrev built_parts : Built → BuiltParts
 built_parts «any».CreateTable = inl tt
 built_parts («any».DropTable a) = inr (inl a)
 built_parts «any».Rename = inr (inr (inl tt))
 built_parts («any».AddColumn a b) = inr (inr (inr (inl (a, b))))
-built_parts («any».DropColumn a b) = inr (inr (inr (inr (a, b))))
+built_parts («any».DropColumn a b) = inr (inr (inr (inr (inl (a, b)))))
+built_parts («any».Split a b c) = inr (inr (inr (inr (inr (inl (a, (b, c)))))))
+built_parts («any».Merge a b c) = inr (inr (inr (inr (inr (inr (a, (b, c)))))))
 
 abbrev built_from : BuiltParts → Built
 built_from (inl u) = «any».CreateTable
 built_from (inr (inl a)) = «any».DropTable a
 built_from (inr (inr (inl u))) = «any».Rename
 built_from (inr (inr (inr (inl p)))) = «any».AddColumn p.0 p.1
-built_from (inr (inr (inr (inr p)))) = «any».DropColumn p.0 p.1
+built_from (inr (inr (inr (inr (inl p))))) = «any».DropColumn p.0 p.1
+built_from (inr (inr (inr (inr (inr (inl p)))))) = «any».Split p.0 p.1.0 p.1.1
+built_from (inr (inr (inr (inr (inr (inr p)))))) = «any».Merge p.0 p.1.0 p.1.1
 
 pub built_back : (x : Built) → built_from (built_parts x) ≡ x
 built_back «any».CreateTable = refl
@@ -202,13 +208,21 @@ built_back («any».DropTable a) = refl
 built_back «any».Rename = refl
 built_back («any».AddColumn a b) = refl
 built_back («any».DropColumn a b) = refl
+built_back («any».Split a b c) = refl
+built_back («any».Merge a b c) = refl
+
+abbrev coded_place : Coded (Term ℕ)
+coded_place = coded_term coded_ℕ
 
 abbrev coded_built : Coded Built
 coded_built = code_by BuiltParts
     (coded⊎ coded_unit
     (coded⊎ coded_ℕ
     (coded⊎ coded_unit
-    (coded⊎ (coded× coded_ℕ (coded_term coded_ℕ)) (coded× coded_ℕ (coded_term coded_ℕ))))))
+    (coded⊎ (coded× coded_ℕ coded_place)
+    (coded⊎ (coded× coded_ℕ coded_place)
+    (coded⊎ (coded× coded_ℕ (coded× coded_place (coded_option coded_place)))
+    (coded× coded_ℕ (coded× coded_place (coded_option coded_place)))))))))
     built_parts built_from built_back
 
 abbrev pub coded_any : Coded AnyView

@@ -10,6 +10,7 @@ use id_memory::{IdCounter, PairMemory};
 use op_column::{AddColumn, CreateTable, DropTable, Rename};
 use op_law::{Aux, Far, Operator, Pair, Side};
 use op_rows::{FlipRow, Rowwise};
+use op_split_merge::Split;
 use par_base::{Fault, IdsSpent, Memory};
 use std::alloc::Global;
 use std::marker::Model;
@@ -25,6 +26,9 @@ pub enum BuiltOp {
     AddColumn(Rowwise<AddColumn>),
     /// The flip of adding the dropped column at its place, with its default as the expression.
     DropColumn(Rowwise<FlipRow<AddColumn>>),
+    Split(Rowwise<Split>),
+    /// The flip of splitting the target into the sources.
+    Merge(Rowwise<FlipRow<Split>>),
 }
 
 /// An operator of any kind.

@@ -24,6 +24,8 @@ pub fn is_built(text: &OpText) -> bool
             | OpText::RenameColumn { .. }
             | OpText::AddColumn { .. }
             | OpText::DropColumn { .. }
+            | OpText::Split { .. }
+            | OpText::Merge { .. }
     )
 }
 

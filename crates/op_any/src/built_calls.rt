@@ -28,6 +28,8 @@ impl Operator for BuiltOp {
             BuiltOp::Rename(it) => it.forward(alloc, near, old, ids, steps),
             BuiltOp::AddColumn(it) => it.forward(alloc, near, old, ids, steps),
             BuiltOp::DropColumn(it) => it.forward(alloc, near, old, ids, steps),
+            BuiltOp::Split(it) => it.forward(alloc, near, old, ids, steps),
+            BuiltOp::Merge(it) => it.forward(alloc, near, old, ids, steps),
         }
     }
 
@@ -45,6 +47,8 @@ impl Operator for BuiltOp {
             BuiltOp::Rename(it) => it.backward(alloc, near, old, ids, steps),
             BuiltOp::AddColumn(it) => it.backward(alloc, near, old, ids, steps),
             BuiltOp::DropColumn(it) => it.backward(alloc, near, old, ids, steps),
+            BuiltOp::Split(it) => it.backward(alloc, near, old, ids, steps),
+            BuiltOp::Merge(it) => it.backward(alloc, near, old, ids, steps),
         }
     }
 
@@ -62,6 +66,8 @@ impl Operator for BuiltOp {
             BuiltOp::Rename(it) => it.read_target(alloc, source, aux, memory, steps),
             BuiltOp::AddColumn(it) => it.read_target(alloc, source, aux, memory, steps),
             BuiltOp::DropColumn(it) => it.read_target(alloc, source, aux, memory, steps),
+            BuiltOp::Split(it) => it.read_target(alloc, source, aux, memory, steps),
+            BuiltOp::Merge(it) => it.read_target(alloc, source, aux, memory, steps),
         }
     }
 
@@ -79,6 +85,8 @@ impl Operator for BuiltOp {
             BuiltOp::Rename(it) => it.read_source(alloc, target, aux, memory, steps),
             BuiltOp::AddColumn(it) => it.read_source(alloc, target, aux, memory, steps),
             BuiltOp::DropColumn(it) => it.read_source(alloc, target, aux, memory, steps),
+            BuiltOp::Split(it) => it.read_source(alloc, target, aux, memory, steps),
+            BuiltOp::Merge(it) => it.read_source(alloc, target, aux, memory, steps),
         }
     }
 
@@ -94,6 +102,8 @@ impl Operator for BuiltOp {
             BuiltOp::Rename(it) => it.aux_at_source(alloc, pair, steps),
             BuiltOp::AddColumn(it) => it.aux_at_source(alloc, pair, steps),
             BuiltOp::DropColumn(it) => it.aux_at_source(alloc, pair, steps),
+            BuiltOp::Split(it) => it.aux_at_source(alloc, pair, steps),
+            BuiltOp::Merge(it) => it.aux_at_source(alloc, pair, steps),
         }
     }
 
@@ -109,6 +119,8 @@ impl Operator for BuiltOp {
             BuiltOp::Rename(it) => it.aux_at_target(alloc, pair, steps),
             BuiltOp::AddColumn(it) => it.aux_at_target(alloc, pair, steps),
             BuiltOp::DropColumn(it) => it.aux_at_target(alloc, pair, steps),
+            BuiltOp::Split(it) => it.aux_at_target(alloc, pair, steps),
+            BuiltOp::Merge(it) => it.aux_at_target(alloc, pair, steps),
         }
     }
 
@@ -126,6 +138,8 @@ impl Operator for BuiltOp {
             BuiltOp::Rename(it) => it.admit_target(alloc, source, aux, memory, steps),
             BuiltOp::AddColumn(it) => it.admit_target(alloc, source, aux, memory, steps),
             BuiltOp::DropColumn(it) => it.admit_target(alloc, source, aux, memory, steps),
+            BuiltOp::Split(it) => it.admit_target(alloc, source, aux, memory, steps),
+            BuiltOp::Merge(it) => it.admit_target(alloc, source, aux, memory, steps),
         }
     }
 
@@ -143,6 +157,8 @@ impl Operator for BuiltOp {
             BuiltOp::Rename(it) => it.admit_source(alloc, target, aux, memory, steps),
             BuiltOp::AddColumn(it) => it.admit_source(alloc, target, aux, memory, steps),
             BuiltOp::DropColumn(it) => it.admit_source(alloc, target, aux, memory, steps),
+            BuiltOp::Split(it) => it.admit_source(alloc, target, aux, memory, steps),
+            BuiltOp::Merge(it) => it.admit_source(alloc, target, aux, memory, steps),
         }
     }
 

@@ -1,11 +1,12 @@
 //! The checks of an operator, each with its refusal.
-ghost use Rattle.std.specs.Prelude.{◌≡◌, ◌<◌, length, IfOk};
+ghost use Rattle.std.specs.Prelude.{◌≡◌, ◌<◌, ◌||◌, length, IfOk};
+ghost use Rattle.std.specs.Str.{bytes_eq};
 ghost use Rattle.expr_lang.specs.Terms.{text_term, expr_term};
 ghost use Rattle.expr_lang.specs.Resolved.{place_of, resolved};
 ghost use Rattle.op_any.specs.Checks.{Gives};
-ghost use Rattle.op_any.specs.Build.{heading_named, is_passing as is_passing_name, known_table, new_table, known_column, known_columns, new_columns, few_columns, known_ids};
+ghost use Rattle.op_any.specs.Build.{heading_named, is_passing as is_passing_name, known_table, other_table, new_table, known_column, known_columns, new_columns, same_columns, few_columns, known_ids};
 
-use crate::lookup::{find_column, find_heading, find_repeated, is_passing};
+use crate::lookup::{find_column, find_heading, find_repeated, has_name, is_passing};
 use expr_lang::{Expr, ExprText, first_unknown, resolve};
 use par_base::{Fault, Name, Refusal};
 use std::alloc::Global;
@@ -47,6 +48,40 @@ pub(crate) fn check_new_table(
     Ok(())
 }
 
+/// Refuses the name of a table that passes through beside these sources, or of the first target.
+pub(crate) fn check_second_table(
+    alloc: Global,
+    set: &[Heading],
+    sources: &[Name],
+    first: &Name,
+    name: &Name,
+) -> Result<(), Fault<Refusal>>
+    ensures { Gives (λ x. x) result (new_table name.now (bytes_eq name.now first.now || is_passing_name set.now sources.now name.now)) }
+{
+    if has_name(name, first) || is_passing(set, sources, name) {
+        return Err(Fault::Refused(Refusal::TableExists {
+            table: name.copy(alloc)?,
+        }));
+    }
+    Ok(())
+}
+
+/// Refuses a second source that is the first one.
+pub(crate) fn check_other_table(
+    alloc: Global,
+    first: &Name,
+    name: &Name,
+) -> Result<(), Fault<Refusal>>
+    ensures { Gives (λ x. x) result (other_table name.now (bytes_eq name.now first.now)) }
+{
+    if has_name(name, first) {
+        return Err(Fault::Refused(Refusal::SameTable {
+            table: name.copy(alloc)?,
+        }));
+    }
+    Ok(())
+}
+
 /// The place of the first column with this name, or the refusal. It takes one comparison for each
 /// column before it.
 pub fn find_place(alloc: Global, columns: &[Name], name: &Name) -> Result<usize, Fault<Refusal>>
@@ -75,6 +110,23 @@ pub(crate) fn check_new_columns(
         })),
         None => Ok(()),
     }
+}
+
+/// Refuses two sources whose columns have other names or another order.
+pub(crate) fn check_same_columns(
+    alloc: Global,
+    first: &Heading,
+    second: &Heading,
+) -> Result<(), Fault<Refusal>>
+    ensures { Gives (λ x. x) result (same_columns first.now second.now) }
+{
+    if first.columns.as_slice() == second.columns.as_slice() {
+        return Ok(());
+    }
+    Err(Fault::Refused(Refusal::ColumnsDiffer {
+        first: first.name.copy(alloc)?,
+        second: second.name.copy(alloc)?,
+    }))
 }
 
 /// Refuses a target with too many columns.

@@ -12,9 +12,11 @@ mod build;
 mod built_calls;
 mod checks;
 mod copy_text;
+mod edges;
 mod laws;
 mod lookup;
 mod plan;
+mod plan_two;
 
 pub use any_op::AnyOp;
 pub use build::{build_op, is_built};

@@ -10,7 +10,8 @@ ghost use Rattle.op_any.specs.Build.{heading_named, is_passing as is_passing_nam
 use par_base::Name;
 use version_graph::Heading;
 
-fn has_name(name: &Name, wanted: &Name) -> bool
+/// Whether this is the wanted name.
+pub(crate) fn has_name(name: &Name, wanted: &Name) -> bool
     ensures { result ≡ bytes_eq name.now wanted.now }
 {
     name.as_str().as_bytes() == wanted.as_str().as_bytes()

@@ -4,7 +4,7 @@ ghost use Rattle.std.specs.List.{insert, remove};
 ghost use Rattle.expr_lang.specs.Terms.{text_term};
 ghost use Rattle.bidel_parser.specs.Views.{op_view};
 ghost use Rattle.op_any.specs.Checks.{Gives};
-ghost use Rattle.op_any.specs.Build.{creating_table, dropping_table, renaming_table, renaming_column, adding_column, dropping_column, one_to_one, planned};
+ghost use Rattle.op_any.specs.Build.{creating_table, dropping_table, renaming_table, renaming_column, adding_column, dropping_column, planned};
 ghost use Rattle.op_any.specs.Views.{built_view, edge_view};
 
 use crate::any_op::BuiltOp;
@@ -13,6 +13,8 @@ use crate::checks::{
     resolve_value,
 };
 use crate::copy_text::copy_names;
+use crate::edges::{from_one_to_one, one_heading, one_name};
+use crate::plan_two::{merge, split};
 use bidel_parser::OpText;
 use expr_lang::ExprText;
 use op_column::{AddColumn, CreateTable, DropTable, Rename};
@@ -22,48 +24,12 @@ use std::alloc::Global;
 use std::slice;
 use version_graph::{Edge, Heading};
 
-fn one_name(alloc: Global, name: &Name) -> Result<List<Name>, Memory>
-    ensures { IfOk result (λ made. made ≡ name.now ∷ []) }
-{
-    let mut made = List::new(alloc);
-    made.push(name.copy(alloc)?)?;
-    Ok(made)
-}
-
 fn with_name(alloc: Global, names: &[Name], name: &Name) -> Result<List<Name>, Memory>
     ensures { IfOk result (λ made. made ≡ names.now ++ name.now ∷ []) }
 {
     let mut made = copy_names(alloc, names)?;
     made.push(name.copy(alloc)?)?;
     Ok(made)
-}
-
-fn one_heading(alloc: Global, name: &Name, columns: List<Name>) -> Result<List<Heading>, Memory>
-    ensures { IfOk result (λ made. made ≡ record { name = name.now; columns = columns } ∷ []) }
-{
-    let mut made = List::new(alloc);
-    made.push(Heading {
-        name: name.copy(alloc)?,
-        columns,
-    })?;
-    Ok(made)
-}
-
-// From one table to one table.
-fn from_one_to_one(
-    alloc: Global,
-    operator: BuiltOp,
-    source: &Name,
-    target: &Name,
-    columns: List<Name>,
-) -> Result<Edge<BuiltOp>, Memory>
-    ensures { IfOk result (λ made. edge_view made ≡ one_to_one (built_view operator) source.now target.now columns) }
-{
-    Ok(Edge {
-        operator,
-        sources: one_name(alloc, source)?,
-        targets: one_heading(alloc, target, columns)?,
-    })
 }
 
 fn create_table(
@@ -213,6 +179,16 @@ pub(crate) fn plan(
             table,
             value,
         } => drop_column(alloc, set, next, column, table, value),
+        OpText::Split {
+            table,
+            first,
+            second,
+        } => split(alloc, set, next, table, first, second),
+        OpText::Merge {
+            first,
+            second,
+            target,
+        } => merge(alloc, set, next, first, second, target),
         _ => Err(Fault::Refused(Refusal::NotBuilt)),
     }
 }

@@ -27,6 +27,8 @@ mod runs;
 #[cfg(test)]
 mod sizes;
 #[cfg(test)]
+mod splits;
+#[cfg(test)]
 mod statements;
 #[cfg(test)]
 mod versions;

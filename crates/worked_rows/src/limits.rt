@@ -131,10 +131,10 @@ fn the_deepest_expressions_are_read_and_carried_out(rt: HostRuntime) -> Result<(
     let chosen = format!(in alloc;
         "{VERSION} INSERT INTO v.t VALUES (5); SELECT * FROM v.t WHERE {opened}a{closed};
 UPDATE v.t SET a = {negated}a WHERE {opened}{negated}a{closed}; SELECT a FROM v.t WHERE {opened}a = 1{closed};
-CREATE SCHEMA VERSION w FROM v WITH MERGE TABLE r ({opened}a{closed}), s ({negated}a) INTO t;"
+CREATE SCHEMA VERSION w FROM v WITH SPLIT TABLE t INTO r WITH {opened}a{closed}, s WITH {negated}a; SELECT * FROM w.s;"
     )?;
     let written =
-        "ok\ninserted 1 #1\np|a\n#1|5\nrows 1\nupdated 1\na\n1\nrows 1\nrefused 0 not built\n";
+        "ok\ninserted 1 #1\np|a\n#1|5\nrows 1\nupdated 1\na\n1\nrows 1\nok\np|a\n#1|1\nrows 1\n";
     expect_replies(&rt, alloc, chosen.as_str(), written)?;
     let added = format!(in alloc;
         "{VERSION} INSERT INTO v.t VALUES (5);

@@ -46,9 +46,6 @@ fn an_operator_of_another_form_is_not_built(rt: HostRuntime) -> Result<(), Fail>
         "OUTER JOIN TABLE t, u INTO w ON PK",
         "OUTER JOIN TABLE t, u INTO w ON FK a",
         "OUTER JOIN TABLE t, u INTO w ON a < b",
-        "SPLIT TABLE t INTO u WITH a = 1",
-        "SPLIT TABLE t INTO u WITH a = 1, w WITH a <> 1",
-        "MERGE TABLE t (a = 1), u (a <> 1) INTO w",
     ] {
         let statement = format!(in alloc; "CREATE SCHEMA VERSION w FROM v WITH {operator};")?;
         expect_not_built(&rt, alloc, statement.as_str())?;
@@ -60,9 +57,9 @@ fn an_operator_of_another_form_is_not_built(rt: HostRuntime) -> Result<(), Fail>
 fn one_operator_of_another_form_makes_the_evolution_not_built(rt: HostRuntime) -> Result<(), Fail> {
     let alloc = rt.alloc();
     for operators in [
-        "SPLIT TABLE t INTO u WITH a = 1; DROP TABLE u",
+        "DECOMPOSE TABLE t INTO u(a); DROP TABLE u",
         "ADD COLUMN b AS a INTO t; DECOMPOSE TABLE t INTO t(b)",
-        "CREATE TABLE u(a); MERGE TABLE t (a = 1), u (a <> 1) INTO w; DROP TABLE w",
+        "CREATE TABLE u(a); OUTER JOIN TABLE t, u INTO w ON PK; DROP TABLE w",
         "RENAME COLUMN a IN t TO b; RENAME TABLE t INTO u; JOIN TABLE u, u INTO t ON PK",
     ] {
         let statement = format!(in alloc; "CREATE SCHEMA VERSION w FROM v WITH {operators};")?;
@@ -84,16 +81,16 @@ fn a_form_that_is_not_built_is_refused_before_all_else(rt: HostRuntime) -> Resul
         "USE w;",
         "ADVISE w;",
         // An unknown version after FROM, a live version's name, and operators before and behind.
-        "CREATE SCHEMA VERSION v FROM w WITH SPLIT TABLE u INTO w WITH b = #9;",
+        "CREATE SCHEMA VERSION v FROM w WITH DECOMPOSE TABLE u INTO w(b), x(a) ON b = #9;",
         "CREATE SCHEMA VERSION v WITH JOIN TABLE t, t INTO t ON FK p;",
-        "CREATE SCHEMA VERSION w FROM v WITH DROP TABLE u; SPLIT TABLE t INTO u WITH a = 1;",
-        "CREATE SCHEMA VERSION w FROM v WITH CREATE TABLE t(p, p); MERGE TABLE t (a), t (a) INTO t;",
+        "CREATE SCHEMA VERSION w FROM v WITH DROP TABLE u; JOIN TABLE t, t INTO u ON a = 1;",
+        "CREATE SCHEMA VERSION w FROM v WITH CREATE TABLE t(p, p); OUTER JOIN TABLE t, t INTO t ON a;",
         "CREATE SCHEMA VERSION w FROM v WITH DECOMPOSE TABLE t INTO u(b); ADD COLUMN a AS #9 INTO w;",
     ] {
         expect_not_built(&rt, rt.alloc(), statement)?;
     }
     let script =
-        "CREATE SCHEMA VERSION w WITH CREATE TABLE u(); SPLIT TABLE u INTO x WITH 1; SELECT * FROM w.u;";
+        "CREATE SCHEMA VERSION w WITH CREATE TABLE u(); DECOMPOSE TABLE u INTO x(); SELECT * FROM w.u;";
     let written = "refused 0 not built\nrefused 1 unknown version w\n";
     expect_replies(&rt, rt.alloc(), script, written)
 }

@@ -5,3 +5,6 @@ returns-in-CreateTable g c = rw c.in-CreateTable.is c.admit_source.ensures
 
 pub returns-in-AddColumn : goal.returns-in-AddColumn
 returns-in-AddColumn g c = rw c.in-AddColumn.is c.admit_source-in-AddColumn.ensures
+
+pub returns-in-Split : goal.returns-in-Split
+returns-in-Split g c = rw c.in-Split.is c.admit_source-in-Split.ensures

@@ -1,0 +1,126 @@
+//! What SPLIT and MERGE make of a working set, or why they are refused.
+ghost use Rattle.std.specs.Prelude.{◌≡◌};
+ghost use Rattle.bidel_parser.specs.Views.{branch_view, second_view};
+ghost use Rattle.op_any.specs.Checks.{Gives};
+ghost use Rattle.op_any.specs.Build.{splitting_in_one, splitting_in_two, splitting_table, merging_tables};
+ghost use Rattle.op_any.specs.Views.{edge_view};
+
+use crate::any_op::BuiltOp;
+use crate::checks::{
+    check_ids, check_new_table, check_other_table, check_same_columns, check_second_table,
+    find_table, resolve_value,
+};
+use crate::copy_text::copy_names;
+use crate::edges::{from_one_to_one, from_one_to_two, one_heading, two_names};
+use bidel_parser::Branch;
+use op_rows::{FlipRow, Rowwise};
+use op_split_merge::Split;
+use par_base::{Fault, Name, Refusal};
+use std::alloc::Global;
+use std::slice;
+use version_graph::{Edge, Heading};
+
+fn split_in_one(
+    alloc: Global,
+    set: &[Heading],
+    next: u64,
+    table: &Name,
+    first: &Branch,
+) -> Result<Edge<BuiltOp>, Fault<Refusal>>
+    ensures { Gives edge_view result (splitting_in_one set.now next table.now (branch_view first.now)) }
+{
+    let source = find_table(alloc, set, table)?;
+    let columns = source.columns.as_slice();
+    check_new_table(alloc, set, slice::from_ref(table), &first.table)?;
+    let condition = resolve_value(alloc, &first.condition, columns)?;
+    check_ids(&first.condition, next)?;
+    let inner = Split {
+        width: columns.len(),
+        first: condition,
+        second: None,
+    };
+    let operator = BuiltOp::Split(Rowwise { inner });
+    let columns = copy_names(alloc, columns)?;
+    Ok(from_one_to_one(alloc, operator, table, &first.table, columns)?)
+}
+
+fn split_in_two(
+    alloc: Global,
+    set: &[Heading],
+    next: u64,
+    table: &Name,
+    first: &Branch,
+    second: &Branch,
+) -> Result<Edge<BuiltOp>, Fault<Refusal>>
+    ensures { Gives edge_view result (splitting_in_two set.now next table.now (branch_view first.now) (branch_view second.now)) }
+{
+    let source = find_table(alloc, set, table)?;
+    let columns = source.columns.as_slice();
+    let sources = slice::from_ref(table);
+    check_new_table(alloc, set, sources, &first.table)?;
+    check_second_table(alloc, set, sources, &first.table, &second.table)?;
+    let condition = resolve_value(alloc, &first.condition, columns)?;
+    let other_condition = resolve_value(alloc, &second.condition, columns)?;
+    check_ids(&first.condition, next)?;
+    check_ids(&second.condition, next)?;
+    let inner = Split {
+        width: columns.len(),
+        first: condition,
+        second: Some(other_condition),
+    };
+    let operator = BuiltOp::Split(Rowwise { inner });
+    Ok(from_one_to_two(alloc, operator, table, &first.table, &second.table, columns)?)
+}
+
+/// The edge of a SPLIT with one target or two, or the first of its checks that refuses it.
+pub(crate) fn split(
+    alloc: Global,
+    set: &[Heading],
+    next: u64,
+    table: &Name,
+    first: &Branch,
+    second: &Option<Branch>,
+) -> Result<Edge<BuiltOp>, Fault<Refusal>>
+    ensures { Gives edge_view result (splitting_table set.now next table.now (branch_view first.now) (second_view second.now)) }
+{
+    match second {
+        Some(second) => split_in_two(alloc, set, next, table, first, second),
+        None => split_in_one(alloc, set, next, table, first),
+    }
+}
+
+/// The edge of a MERGE, or the first of its checks that refuses it.
+pub(crate) fn merge(
+    alloc: Global,
+    set: &[Heading],
+    next: u64,
+    first: &Branch,
+    second: &Branch,
+    target: &Name,
+) -> Result<Edge<BuiltOp>, Fault<Refusal>>
+    ensures { Gives edge_view result (merging_tables set.now next (branch_view first.now) (branch_view second.now) target.now) }
+{
+    let source = find_table(alloc, set, &first.table)?;
+    let other_source = find_table(alloc, set, &second.table)?;
+    check_other_table(alloc, &first.table, &second.table)?;
+    let sources = two_names(alloc, &first.table, &second.table)?;
+    check_new_table(alloc, set, sources.as_slice(), target)?;
+    let columns = source.columns.as_slice();
+    let condition = resolve_value(alloc, &first.condition, columns)?;
+    let other_columns = other_source.columns.as_slice();
+    let other_condition = resolve_value(alloc, &second.condition, other_columns)?;
+    check_same_columns(alloc, source, other_source)?;
+    check_ids(&first.condition, next)?;
+    check_ids(&second.condition, next)?;
+    let inner = Split {
+        width: columns.len(),
+        first: condition,
+        second: Some(other_condition),
+    };
+    let inner = FlipRow { inner };
+    Ok(Edge {
+        operator: BuiltOp::Merge(Rowwise { inner }),
+        sources,
+        targets: one_heading(alloc, target, copy_names(alloc, columns)?)?,
+    })
+}
