@@ -11,7 +11,6 @@ use Rattle.version_graph.specs.Sets.{In, Each}
 use Rattle.version_graph.specs.Tables.{IsHeading, FitsSet, row_name, heading_names, headings_passing}
 use Rattle.version_graph.specs.declared.parts.Heading.{Heading}
 use Rattle.version_graph.specs.declared.parts.Edge.{Edge}
-use Rattle.op_any.specs.Checks.{◌then◌}
 use Rattle.op_any.specs.Operators.{Built, AnyView, any_meaning}
 use Rattle.op_any.specs.Operators as «any»
 use Rattle.op_any.specs.Build.{heading_named, is_passing, known_table, new_table, known_column, known_columns, new_columns, few_columns, known_ids, creating_table, dropping_table, renaming_table, renaming_column, adding_column, dropping_column, planned, with_text, built}

@@ -1,5 +1,5 @@
 -- What SPLIT and MERGE build suits the working set.
-use Rattle.std.proofs.Common.{◌≡◌, ℕ, List, [], ◌∷◌, length, true, false, Option, Some, None, Ok, IfOk, refl, sym, ap, subst, arith}
+use Rattle.std.proofs.Common.{◌≡◌, ℕ, List, [], ◌∷◌, length, true, Option, Some, None, Ok, IfOk, refl, sym, ap, subst, arith}
 use Rattle.std.specs.Prelude.{◌||◌}
 use Rattle.std.specs.Str.{bytes_eq}
 use Rattle.std.proofs.lemmas.Bool.{false≢true}
@@ -9,7 +9,6 @@ use Rattle.bidel_parser.specs.Views.{BranchView}
 use Rattle.bidel_parser.specs.Views as «text»
 use Rattle.version_graph.specs.Tables.{IsHeading}
 use Rattle.version_graph.specs.declared.parts.Heading.{Heading}
-use Rattle.op_any.specs.Checks.{◌then◌}
 use Rattle.op_any.specs.Operators as «any»
 use Rattle.op_any.specs.Build.{heading_named, is_passing, known_table, other_table, new_table, known_columns, same_columns, known_ids, splitting_in_one, splitting_in_two, splitting_table, merging_tables}
 use Rattle.op_any.proofs.NameLists.{either}

@@ -56,7 +56,8 @@ pub(crate) fn check_second_table(
     first: &Name,
     name: &Name,
 ) -> Result<(), Fault<Refusal>>
-    ensures { Gives (λ x. x) result (new_table name.now (bytes_eq name.now first.now || is_passing_name set.now sources.now name.now)) }
+    ensures { Gives (λ x. x) result
+        (new_table name.now (bytes_eq name.now first.now || is_passing_name set.now sources.now name.now)) }
 {
     if has_name(name, first) || is_passing(set, sources, name) {
         return Err(Fault::Refused(Refusal::TableExists {

@@ -79,7 +79,8 @@ pub(crate) fn from_one_to_two(
     second: &Name,
     columns: &[Name],
 ) -> Result<Edge<BuiltOp>, Memory>
-    ensures { IfOk result (λ made. edge_view made ≡ one_to_two (built_view operator) source.now first.now second.now columns.now) }
+    ensures { IfOk result (λ made. edge_view made
+        ≡ one_to_two (built_view operator) source.now first.now second.now columns.now) }
 {
     let mut targets = List::new(alloc);
     targets.push(heading_of(alloc, first, columns)?)?;

@@ -52,7 +52,8 @@ fn split_in_two(
     first: &Branch,
     second: &Branch,
 ) -> Result<Edge<BuiltOp>, Fault<Refusal>>
-    ensures { Gives edge_view result (splitting_in_two set.now next table.now (branch_view first.now) (branch_view second.now)) }
+    ensures { Gives edge_view result
+        (splitting_in_two set.now next table.now (branch_view first.now) (branch_view second.now)) }
 {
     let source = find_table(alloc, set, table)?;
     let columns = source.columns.as_slice();
@@ -81,7 +82,8 @@ pub(crate) fn split(
     first: &Branch,
     second: &Option<Branch>,
 ) -> Result<Edge<BuiltOp>, Fault<Refusal>>
-    ensures { Gives edge_view result (splitting_table set.now next table.now (branch_view first.now) (second_view second.now)) }
+    ensures { Gives edge_view result
+        (splitting_table set.now next table.now (branch_view first.now) (second_view second.now)) }
 {
     match second {
         Some(second) => split_in_two(alloc, set, next, table, first, second),
@@ -98,7 +100,8 @@ pub(crate) fn merge(
     second: &Branch,
     target: &Name,
 ) -> Result<Edge<BuiltOp>, Fault<Refusal>>
-    ensures { Gives edge_view result (merging_tables set.now next (branch_view first.now) (branch_view second.now) target.now) }
+    ensures { Gives edge_view result
+        (merging_tables set.now next (branch_view first.now) (branch_view second.now) target.now) }
 {
     let source = find_table(alloc, set, &first.table)?;
     let other_source = find_table(alloc, set, &second.table)?;
