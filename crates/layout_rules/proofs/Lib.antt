@@ -1,0 +1,5 @@
+mod LinkLemmas
+mod MoveLemmas
+mod ChangeLemmas
+mod TreeLemmas
+mod NeededLemmas

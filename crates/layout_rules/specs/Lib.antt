@@ -1,0 +1,7 @@
+pub mod Layouts
+pub mod Moves
+pub mod Changes
+pub mod Closing
+pub mod Passes
+pub mod Ways
+pub mod Laws
