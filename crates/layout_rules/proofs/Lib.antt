@@ -3,3 +3,5 @@ mod MoveLemmas
 mod ChangeLemmas
 mod TreeLemmas
 mod NeededLemmas
+mod LookupLemmas
+mod PassLemmas

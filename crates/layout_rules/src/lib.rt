@@ -10,6 +10,10 @@
 
 mod laws;
 mod layout;
+mod storing;
+mod validity;
 
 pub use laws::{changes_stay_valid, closing_stays_valid, moves_stay_valid};
 pub use layout::Layout;
+pub use storing::stored_tables;
+pub use validity::is_valid;
