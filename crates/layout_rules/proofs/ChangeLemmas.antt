@@ -1,26 +1,26 @@
 -- A layout stays valid when operators are added or dropped.
-use Rattle.std.specs.Prelude.{◌<◌, ◌⊎◌, Option, Some, None, option_to_list}
+use Rattle.std.specs.Prelude.{◌⊎◌, Option, option_to_list}
 use Rattle.std.specs.Str.{bytes_eq}
-use Rattle.std.proofs.Common.{◌≡◌, ℕ, ◌+◌, List, [], ◌∷◌, ◌++◌, Bool, true, false, cond, filter, map, length, inl, inr, refl, sym, ap, ◌∙◌, subst, arith, append_assoc}
+use Rattle.std.proofs.Common.{◌≡◌, ℕ, ◌+◌, List, [], ◌∷◌, ◌++◌, Bool, true, false, cond, filter, length, inl, inr, refl, sym, ap, ◌∙◌, subst, arith, append_assoc}
 use Rattle.std.proofs.lemmas.Bool.{cond-true, false≢true}
 use Rattle.std.proofs.lemmas.List.{append-nil}
 use Rattle.version_graph.specs.Sets.{In, Each}
-use Rattle.version_graph.specs.Tables.{TableVersion, headings_of, heading_names, table_named, table_numbers, taken}
-use Rattle.version_graph.specs.Edges.{AreEdges, Drawn, Follows, IsGraph, is_in, numbers, sources_of, version_sets, working}
+use Rattle.version_graph.specs.Tables.{TableVersion, headings_of, heading_names, table_numbers, taken}
+use Rattle.version_graph.specs.Edges.{AreEdges, Drawn, Follows, IsGraph, is_in, numbers, version_sets, working}
 use Rattle.version_graph.specs.Evolve.{evolved, grown, placed_next}
 use Rattle.version_graph.specs.Dropped.{dropped, other_versions, staying}
 use Rattle.version_graph.specs.Forest.{Link, forest, link}
 use Rattle.version_graph.specs.declared.parts.Edge.{Edge}
 use Rattle.version_graph.specs.declared.parts.Heading.{Heading}
 use Rattle.version_graph.specs.declared.parts.Placed.{Placed}
-use Rattle.version_graph.proofs.SetLemmas.{each_at, in_append, in_left, in_of_test, in_right, is_in_true, origin}
+use Rattle.version_graph.proofs.SetLemmas.{in_append, in_left, in_of_test, in_right, is_in_true, origin}
 use Rattle.version_graph.proofs.NameLemmas.{name_is}
 use Rattle.version_graph.proofs.TableLemmas.{in_filter, passes}
 use Rattle.version_graph.proofs.TakenLemmas.{some_found}
 use Rattle.version_graph.proofs.BackLemmas.{grown_ends}
 use Rattle.version_graph.proofs.StayLemmas.{edges_stay, working_stays}
 use Rattle.version_graph.proofs.WalkLaws.{IsForest, is_forest}
-use Rattle.layout_rules.specs.Layouts.{IsCreate, IsMade, IsValid, Lives, Share}
+use Rattle.layout_rules.specs.Layouts.{IsCreate, IsMade, IsValid, Lives}
 use Rattle.layout_rules.specs.Changes.{creates_next, dropped_layout, evolved_layout, is_empty}
 use Rattle.layout_rules.proofs.LinkLemmas.{number_listed, same_maker, source_made, target_link}
 

@@ -5,3 +5,5 @@ mod TreeLemmas
 mod NeededLemmas
 mod LookupLemmas
 mod PassLemmas
+mod DownLemmas
+mod CloseLemmas

@@ -1,11 +1,11 @@
 -- Links of a forest by themselves.
 use Rattle.std.specs.Prelude.{◌<◌, ◌⊎◌}
-use Rattle.std.proofs.Common.{◌≡◌, ℕ, List, [], ◌∷◌, ◌++◌, Bool, true, false, inl, inr, refl, sym, ap, ◌∙◌, subst, arith}
+use Rattle.std.proofs.Common.{◌≡◌, ℕ, List, [], ◌∷◌, inl, inr, refl, sym, ap, ◌∙◌, subst, arith}
 use Rattle.std.proofs.lemmas.Bool.{cases_eq}
-use Rattle.version_graph.specs.Sets.{In, Within}
+use Rattle.version_graph.specs.Sets.{In}
 use Rattle.version_graph.specs.Forest.{Link}
 use Rattle.version_graph.proofs.SetLemmas.{in_append, in_left, in_right}
-use Rattle.version_graph.proofs.WalkLaws.{Fits, IsForest, link_numbers, link_targets, sources_older, targets_apart}
+use Rattle.version_graph.proofs.WalkLaws.{IsForest, link_numbers, link_targets, sources_older, targets_apart}
 use Rattle.layout_rules.specs.Layouts.{IsMade, Lives}
 
 neither : (n k : ℕ) (ks : List ℕ) → (n ≡ k → ⊥) → (In n ks → ⊥) → In n (k ∷ ks) → ⊥

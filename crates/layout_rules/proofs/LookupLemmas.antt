@@ -1,11 +1,10 @@
 -- What the look-ups of a graph say of its links.
-use Rattle.std.specs.Prelude.{◌==◌, ◌&&◌, ◌||◌, ◌↔◌, Option, Some, None, option_map, is_some, unwrap_or, slice_get}
+use Rattle.std.specs.Prelude.{◌==◌, ◌&&◌, ◌||◌, ◌↔◌, Option, Some, None, option_map, is_some, unwrap_or}
 use Rattle.std.specs.List.{find, list_all, list_any}
 use Rattle.std.specs.Option.{option_map_or}
-use Rattle.std.proofs.Common.{◌≡◌, ℕ, List, [], ◌∷◌, ◌++◌, Bool, true, false, not, cond, map, inl, inr, refl, sym, ap, ◌∙◌, subst, arith}
+use Rattle.std.proofs.Common.{◌≡◌, ℕ, List, [], ◌∷◌, Bool, true, false, not, cond, inl, inr, refl, sym, ap, ◌∙◌, subst, arith}
 use Rattle.std.proofs.lemmas.Bool.{cases_eq, cond-false, cond-true, eq-eqb, eqb-true, false≢true, ne_eqb}
-use Rattle.std.proofs.lemmas.List.{reverse-append, reverse-reverse}
-use Rattle.std.proofs.lemmas.Option.{slice_get-map}
+use Rattle.std.proofs.lemmas.List.{reverse-reverse}
 use mathlib.Core.List.{reverse}
 use Rattle.version_graph.specs.Sets.{In}
 use Rattle.version_graph.specs.Tables.{table_numbers}
@@ -15,8 +14,8 @@ use Rattle.version_graph.specs.declared.parts.Placed.{Placed}
 use Rattle.version_graph.proofs.SetLemmas.{in_of_test, is_in_true}
 use Rattle.version_graph.proofs.NodeLemmas.{live_edge}
 use Rattle.version_graph.proofs.WalkLemmas.{in_reverse}
-use Rattle.version_graph.proofs.WalkLaws.{IsForest, is_forest}
-use Rattle.layout_rules.specs.Layouts.{IsCreate, IsMade, IsStored, IsTaken, IsValid, Lives, Share}
+use Rattle.version_graph.proofs.WalkLaws.{is_forest}
+use Rattle.layout_rules.specs.Layouts.{IsMade, IsStored, IsTaken, IsValid, Lives, Share}
 use Rattle.layout_rules.specs.Changes.{is_empty}
 use Rattle.layout_rules.specs.Passes.{meet}
 use Rattle.layout_rules.specs.Lookups.{clash, clashes, has_makers, is_made, is_stored, is_taken, is_valid, may_miss, may_stand, numbers_up, sources_or_none, takes}

@@ -1,11 +1,11 @@
 -- A move passes only through valid layouts, and its next flip is found.
-use Rattle.std.specs.Prelude.{◌<◌, ◌≤◌, ◌⊎◌, ◌↔◌}
-use Rattle.std.proofs.Common.{◌≡◌, ℕ, zero, suc, List, [], ◌∷◌, inl, inr, refl, sym, ap, ◌∙◌, subst, arith}
+use Rattle.std.specs.Prelude.{◌≤◌, ◌⊎◌}
+use Rattle.std.proofs.Common.{◌≡◌, ℕ, zero, suc, List, [], ◌∷◌, inl, inr, refl, sym, ap, subst, arith}
 use Rattle.std.proofs.lemmas.Bool.{cases_eq}
 use Rattle.version_graph.specs.Sets.{In}
 use Rattle.version_graph.specs.Forest.{Link}
-use Rattle.version_graph.proofs.WalkLaws.{Fits, IsForest, link_numbers}
-use Rattle.layout_rules.specs.Layouts.{IsCreate, IsMade, IsValid, Lives, Share}
+use Rattle.version_graph.proofs.WalkLaws.{Fits, IsForest}
+use Rattle.layout_rules.specs.Layouts.{IsValid, Lives}
 use Rattle.layout_rules.specs.Moves.{Flips, IsDown, IsUp, Moves, PutsIn, SameOperators, TakesOut}
 use Rattle.layout_rules.proofs.LinkLemmas.{in_or_out, maker_in, number_listed, same_link, taker_newer}
 

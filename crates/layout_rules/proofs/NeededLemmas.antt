@@ -1,15 +1,15 @@
 -- One pass finds what closing needs, and no more.
-use Rattle.std.specs.Prelude.{◌==◌, ◌<◌, ◌&&◌, ◌||◌, ◌⊎◌, ◌↔◌}
+use Rattle.std.specs.Prelude.{◌&&◌, ◌||◌, ◌⊎◌}
 use Rattle.std.proofs.Common.{◌≡◌, ℕ, List, [], ◌∷◌, ◌++◌, Bool, true, false, cond, inl, inr, refl, sym, ap, ◌∙◌, subst, arith}
 use Rattle.std.proofs.lemmas.Bool.{cases_eq, cond-true, false≢true}
 use Rattle.version_graph.specs.Sets.{In}
 use Rattle.version_graph.specs.Edges.{is_in}
 use Rattle.version_graph.specs.Forest.{Link, tree}
 use Rattle.version_graph.proofs.SetLemmas.{in_append, in_left, in_of_test, in_right, is_in_true}
-use Rattle.version_graph.proofs.WalkLaws.{Fits, IsForest, link_targets, targets_apart}
-use Rattle.layout_rules.specs.Layouts.{IsCreate, IsMade, IsValid, Lives, Share}
+use Rattle.version_graph.proofs.WalkLaws.{Fits, IsForest, targets_apart}
+use Rattle.layout_rules.specs.Layouts.{IsCreate, IsValid, Lives, Share}
 use Rattle.layout_rules.specs.Changes.{is_empty}
-use Rattle.layout_rules.specs.Closing.{HasNeeded, IsClosed, IsIn, IsNeeded, IsShared, NoneIsShared}
+use Rattle.layout_rules.specs.Closing.{HasNeeded, IsClosed, IsIn, IsNeeded, NoneIsShared}
 use Rattle.layout_rules.specs.Passes.{meet, needed}
 use Rattle.layout_rules.proofs.LinkLemmas.{in_or_out, number_listed, source_made, target_link, target_listed}
 use Rattle.layout_rules.proofs.TreeLemmas.{source_tree}
@@ -175,7 +175,7 @@ module _ {O : Type 0} (es : List (Link O)) (forest : IsForest es) (trees tables 
   found_needed n i layout has =
       needed_least in_trees es tables layout (λ e j is. has.creates e j (told e.number is)) (λ e j is. has.makers e j (told e.number is)) (λ e f j k is. has.sources e f j k (told e.number is)) n i
 
-  needed_lives : (n : ℕ) → IsNeeded es trees tables n → Lives es n
+  pub needed_lives : (n : ℕ) → IsNeeded es trees tables n → Lives es n
   needed_lives n need = (needed_live in_trees es tables n (need found found_has)).0
 
   -- ---- the closed layout is valid

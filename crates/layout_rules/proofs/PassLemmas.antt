@@ -1,10 +1,10 @@
 -- Passes by place, and ascending lists.
-use Rattle.std.specs.Prelude.{◌<◌, ◌≤◌, ◌==◌, ◌&&◌, ◌↔◌, Option, Some, None, option_map, option_to_list, slice_get, Result, Ok, Err, IfOk}
+use Rattle.std.specs.Prelude.{◌<◌, ◌≤◌, ◌&&◌, ◌↔◌, Option, Some, None, option_map, option_to_list, slice_get, Result, Ok, Err, IfOk}
 use Rattle.std.specs.List.{list_all}
 use Rattle.std.specs.Option.{option_map_or}
 use Rattle.std.proofs.Common.{◌≡◌, ℕ, zero, suc, ◌+◌, List, [], ◌∷◌, ◌++◌, Bool, true, false, cond, filter, map, length, take, inl, inr, refl, sym, ap, ◌∙◌, subst, arith, add-one}
 use Rattle.std.proofs.lemmas.Bool.{false≢true}
-use Rattle.std.proofs.lemmas.List.{append_assoc, append-nil, length-reverse, map-append, reverse-append, reverse-reverse, take_all}
+use Rattle.std.proofs.lemmas.List.{append_assoc, append-nil, length-reverse, map-append, reverse-append, take_all}
 use Rattle.std.proofs.lemmas.List.Elements.{filter-append}
 use Rattle.std.proofs.lemmas.List.Folds.{list_all-append}
 use Rattle.std.proofs.lemmas.Option.{slice_get-map}
@@ -15,7 +15,7 @@ use Rattle.version_graph.specs.Edges.{AreEdges, Rises, made, made_by_edge, numbe
 use Rattle.version_graph.specs.Forest.{Link, forest}
 use Rattle.version_graph.specs.declared.parts.Placed.{Placed}
 use Rattle.version_graph.proofs.SetLemmas.{in_append, in_left, in_right}
-use Rattle.version_graph.proofs.TableLemmas.{in_filter, numbers_made, passes}
+use Rattle.version_graph.proofs.TableLemmas.{numbers_made, passes}
 use Rattle.layout_rules.specs.Layouts.{IsStored}
 use Rattle.layout_rules.proofs.ChangeLemmas.{filter_in}
 use Rattle.layout_rules.proofs.LookupLemmas.{stored_test, stored_told}
@@ -41,6 +41,14 @@ module _ {X : Type 0} where
   got_in [] i x e = let clash : Some x ≡ None = e in cc
   got_in (y ∷ xs) zero x e = inl (let same : x ≡ y = cc in same)
   got_in (y ∷ xs) (suc i) x e = inr (got_in xs i x e)
+
+  -- what passes of one item more
+  pub filter_next : (test : X → Bool) (xs : List X) (i : ℕ) (so_far more : List X) (o : Option X) → o ≡ slice_get xs i → so_far ≡ filter test (take i xs) → more ≡ so_far ++ filter test (option_to_list o) → more ≡ filter test (take (i + 1) xs)
+  filter_next test xs i so_far more o got is m =
+      m ∙ ap (λ (l : List X). l ++ filter test (option_to_list o)) is ∙ sym (ap (filter test) (take_next xs i o got) ∙ filter-append test (take i xs) (option_to_list o))
+
+  pub filter_all : (test : X → Bool) (xs : List X) (i : ℕ) (so_far : List X) → length xs ≤ i → so_far ≡ filter test (take i xs) → so_far ≡ filter test xs
+  filter_all test xs i so_far past is = is ∙ ap (filter test) (take_all i xs past)
 
   pub reverse_next : (x : X) (xs : List X) → reverse (x ∷ xs) ≡ reverse xs ++ x ∷ []
   reverse_next x xs = reverse-append (x ∷ []) xs
@@ -93,7 +101,7 @@ module _ {O : Type 0} where
 
   -- ---- tables by place
 
-  along_both : (xs ys : List (Placed O)) → tables_along (xs ++ ys) ≡ tables_along xs ++ tables_along ys
+  pub along_both : (xs ys : List (Placed O)) → tables_along (xs ++ ys) ≡ tables_along xs ++ tables_along ys
   along_both [] ys = refl
   along_both (x ∷ xs) ys = ap (λ (l : List ℕ). x.tables ++ l) (along_both xs ys) ∙ sym (append_assoc x.tables (tables_along xs) (tables_along ys))
 
@@ -138,7 +146,7 @@ module _ {O : Type 0} where
   up_next : (e : Placed O) (es : List (Placed O)) → tables_up (e ∷ es) ≡ tables_up es ++ e.tables
   up_next e es = ap (λ (l : List (Placed O)). tables_along l) (reverse_next e es) ∙ along_both (reverse es) (e ∷ []) ∙ ap (λ (l : List ℕ). tables_up es ++ l) (append-nil e.tables)
 
-  up_made : (es : List (Placed O)) → AreEdges es → (t : ℕ) → In t (tables_up es) → In t (table_numbers (made es))
+  pub up_made : (es : List (Placed O)) → AreEdges es → (t : ℕ) → In t (tables_up es) → In t (table_numbers (made es))
   up_made [] edges t i = absurd i
   up_made (e ∷ es) edges t i =
       let all : table_numbers (made (e ∷ es)) ≡ e.tables ++ table_numbers (made es) = map-append (λ (v : TableVersion). v.number) (made_by_edge e) (made es) ∙ ap (λ (l : List ℕ). l ++ table_numbers (made es)) (numbers_made e.tables e.edge.targets edges.0.counted) in

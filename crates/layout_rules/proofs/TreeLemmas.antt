@@ -7,7 +7,7 @@ use Rattle.version_graph.specs.Edges.{is_in}
 use Rattle.version_graph.specs.Forest.{Link, minus, tables_in, tree}
 use Rattle.version_graph.proofs.SetLemmas.{in_append}
 use Rattle.version_graph.proofs.TableLemmas.{in_filter}
-use Rattle.version_graph.proofs.WalkLaws.{Fits, IsForest, link_numbers, link_targets, tables_made, targets_apart}
+use Rattle.version_graph.proofs.WalkLaws.{Fits, IsForest, link_numbers, tables_made, targets_apart}
 use Rattle.layout_rules.proofs.LinkLemmas.{number_listed, source_made, target_listed}
 
 module _ {O : Type 0} where

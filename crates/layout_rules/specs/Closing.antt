@@ -1,5 +1,5 @@
 -- Closing: the layout that stores the named tables.
-use Rattle.std.specs.Prelude.{◌≡◌, ◌↔◌, ◌⊎◌, ℕ, ◌≤◌, is_none, List, [], ◌∷◌, ◌++◌, Option, Some, None, unwrap_or, option_map, option_and_then, option_to_list, Result, Ok, Err, codes, ⊤}
+use Rattle.std.specs.Prelude.{◌≡◌, ◌↔◌, ◌⊎◌, ℕ, ◌≤◌, Bool, is_none, List, [], ◌∷◌, ◌++◌, Option, Some, None, unwrap_or, option_map, option_and_then, option_to_list, Result, Ok, Err, codes, ⊤}
 use Rattle.std.specs.List.{find}
 use Rattle.par_base.specs.declared.fault.Fault.{Fault}
 use Rattle.par_base.specs.declared.fault.Fault.TheVariants.{Refused, Memory}
@@ -7,23 +7,25 @@ use Rattle.par_base.specs.declared.limits.Target.{Target}
 use Rattle.par_base.specs.declared.refusal.Refusal.{Refusal}
 use Rattle.par_base.specs.declared.refusal.Refusal.TheVariants.{InvalidLayout}
 use Rattle.version_graph.specs.Sets.{In, Each}
-use Rattle.version_graph.specs.Tables.{TableVersion, table_named, table_numbers}
+use Rattle.version_graph.specs.Tables.{table_numbers}
 use Rattle.version_graph.specs.Edges.{Drawn, Rises, heading_of, set_named, working}
 use Rattle.version_graph.specs.Forest.{Link, forest, tree}
+use Rattle.version_graph.specs.Kept.{number_named}
 use Rattle.version_graph.specs.declared.parts.Heading.{Heading}
+use Rattle.version_graph.specs.declared.parts.Placed.{Placed}
 use Rattle.layout_rules.specs.Layouts.{IsCreate, IsStored, Lives}
 use Rattle.layout_rules.specs.declared.layout.Layout.{Layout}
 
 -- ---- what is named
 
 -- the one of these tables with this name, or all of them where no name is given
-abbrev pub chosen : List TableVersion → Option (List ℕ) → Option (List ℕ)
-chosen set None = Some (table_numbers set)
-chosen set (Some name) = option_map (λ (t : TableVersion). t.number ∷ []) (table_named set name)
+abbrev pub chosen : {O : Type 0} → List (Placed O) → List ℕ → Option (List ℕ) → Option (List ℕ)
+chosen es ts None = Some ts
+chosen es ts (Some name) = option_map (λ t. t ∷ []) (number_named es ts name)
 
 -- the tables that a target names; None where there is no such version or table
 abbrev pub tables_of : {O : Type 0} → Drawn O → Target → Option (List ℕ)
-tables_of g target = option_and_then (λ w. chosen (working g.edges w) target.table) (set_named g.versions target.version)
+tables_of g target = option_and_then (λ ts. chosen g.edges ts target.table) (option_map (λ w. table_numbers (working g.edges w)) (set_named g.versions target.version))
 
 -- the tables that targets name
 abbrev pub named_tables : {O : Type 0} → Drawn O → List Target → List ℕ
@@ -63,8 +65,11 @@ pub record IsClosed {O : Type 0} (es : List (Link O)) (trees tables layout new :
 -- ---- refusals
 
 -- the first target for which there is no version or no table
+abbrev pub is_unknown : {O : Type 0} → Drawn O → Target → Bool
+is_unknown g target = is_none (tables_of g target)
+
 abbrev pub first_unknown : {O : Type 0} → Drawn O → List Target → Option Target
-first_unknown g named = find (λ target. is_none (tables_of g target)) named
+first_unknown g named = find (is_unknown g) named
 
 -- two needed operators share the table as a source
 abbrev pub IsShared : {O : Type 0} → List (Link O) → List ℕ → List ℕ → ℕ → Type 0

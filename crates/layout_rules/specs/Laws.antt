@@ -1,5 +1,5 @@
 -- Laws of layouts.
-use Rattle.std.specs.Prelude.{◌≡◌, ◌⊎◌, ℕ, List, [], ◌∷◌}
+use Rattle.std.specs.Prelude.{◌⊎◌, ℕ, List}
 use Rattle.version_graph.specs.Sets.{In}
 use Rattle.version_graph.specs.Edges.{AreEdges, Drawn, IsGraph}
 use Rattle.version_graph.specs.Evolve.{evolved}
@@ -9,7 +9,7 @@ use Rattle.version_graph.specs.declared.parts.Edge.{Edge}
 use Rattle.version_graph.specs.declared.parts.Placed.{Placed}
 use Rattle.layout_rules.specs.Layouts.{IsValid}
 use Rattle.layout_rules.specs.Closing.{HasNeeded, IsClosed, IsNeeded, NoneIsShared}
-use Rattle.layout_rules.specs.Moves.{Flips, IsDown, IsUp, Moves, SameOperators}
+use Rattle.layout_rules.specs.Moves.{IsDown, IsUp, Moves, SameOperators}
 use Rattle.layout_rules.specs.Changes.{dropped_layout, evolved_layout}
 
 -- towards a valid goal each flip from a valid layout leads to a valid one, and so does a whole move

@@ -4,5 +4,6 @@ pub mod Changes
 pub mod Closing
 pub mod Passes
 pub mod Lookups
+pub mod Calls
 pub mod Ways
 pub mod Laws

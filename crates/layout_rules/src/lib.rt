@@ -8,11 +8,16 @@
 //! knows nothing of what an operator does, nor of rows: `O` is any type.
 #![tactic(auto)]
 
+mod closing;
 mod laws;
 mod layout;
+mod naming;
+mod needing;
+mod sharing;
 mod storing;
 mod validity;
 
+pub use closing::close;
 pub use laws::{changes_stay_valid, closing_stays_valid, moves_stay_valid};
 pub use layout::Layout;
 pub use storing::stored_tables;

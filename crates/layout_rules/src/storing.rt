@@ -41,7 +41,8 @@ pub fn is_made<O>(graph: &Graph<O>, layout: &[u32], table: u32) -> bool
     }
 }
 
-fn takes<O>(graph: &Graph<O>, table: u32, operator: u32) -> bool
+/// Whether an operator takes the table as a source.
+pub fn takes<O>(graph: &Graph<O>, table: u32, operator: u32) -> bool
     ensures { result ≡ takes_lem graph.now.edges table operator }
 {
     holds(sources_of(graph, operator), table)

@@ -1,4 +1,3 @@
-use Rattle.std.proofs.Common.{sym}
 use Rattle.layout_rules.proofs.PassLemmas.{number_place}
 use Rattle.layout_rules.proofs.validity.number_at.Goals as goal
 
