@@ -134,7 +134,7 @@ module _ {O : Type 0} where
       let u = some_found (λ (v : TableVersion). t == v.number) (made es) v.0 v.1 (eq-eqb t v.0.number v.2) in
       ap (λ (o : Option TableVersion). is_some (option_map (λ (v : TableVersion). v.heading) o)) u.1
 
-  numbers_rise : (es : List (Placed O)) → AreEdges es → Rises 0 (numbers_up es)
+  pub numbers_rise : (es : List (Placed O)) → AreEdges es → Rises 0 (numbers_up es)
   numbers_rise [] edges = tt
   numbers_rise (e ∷ es) edges =
       let less = edges.0.newest 0 (inl refl) in

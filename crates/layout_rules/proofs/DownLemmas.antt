@@ -1,5 +1,5 @@
 -- Passes over the operators from the newest on.
-use Rattle.std.specs.Prelude.{◌<◌, ◌==◌, ◌&&◌, ◌||◌, if◌then◌else◌, Option, Some, None, option_map, option_to_list, slice_get, ⊤}
+use Rattle.std.specs.Prelude.{◌≤◌, ◌<◌, ◌==◌, ◌&&◌, ◌||◌, if◌then◌else◌, Option, Some, None, option_map, option_to_list, slice_get, ⊤}
 use Rattle.std.proofs.Common.{◌≡◌, ℕ, suc, ◌+◌, ◌-◌, List, [], ◌∷◌, ◌++◌, Bool, true, false, not, cond, map, length, take, drop, inl, inr, refl, sym, ap, ◌∙◌, subst, arith}
 use Rattle.std.proofs.lemmas.Bool.{cond-false, cond-true, eq-eqb, eqb-true, ne_eqb}
 use Rattle.std.proofs.lemmas.List.{append_assoc, append-nil, length-reverse, map-append, reverse-append, reverse-reverse, take-append-drop, take_all}
@@ -70,16 +70,22 @@ module _ {O : Type 0} where
   abbrev pub below : List (Placed O) → ℕ → List (Link O)
   below es left = reverse (take left (reverse (forest es)))
 
-  pub below_all : (es : List (Placed O)) (left : ℕ) → left ≡ length es → below es left ≡ forest es
-  below_all es left is =
-      let long : length (reverse (forest es)) ≡ length es = length-reverse (forest es) ∙ length_links es in
-      ap (λ (l : List (Link O)). reverse l) (take_all left (reverse (forest es)) (omega (arith, long, is))) ∙ reverse-reverse (forest es)
-    where
-      length_links : (fs : List (Placed O)) → length (forest fs) ≡ length fs
-      length_links [] = refl
-      length_links (e ∷ fs) = ap suc (length_links fs)
+  length_links : (fs : List (Placed O)) → length (forest fs) ≡ length fs
+  length_links [] = refl
+  length_links (e ∷ fs) = ap suc (length_links fs)
 
-  below_next : (es : List (Placed O)) (i : ℕ) (o : Option (Link O)) → o ≡ slice_get (reverse (forest es)) i → below es (i + 1) ≡ option_to_list o ++ below es i
+  pub below_past : (es : List (Placed O)) (left count : ℕ) → count ≡ length es → count ≤ left → below es left ≡ forest es
+  below_past es left count is past =
+      let long : length (reverse (forest es)) ≡ length es = length-reverse (forest es) ∙ length_links es in
+      ap (λ (l : List (Link O)). reverse l) (take_all left (reverse (forest es)) (omega (arith, long, is, past))) ∙ reverse-reverse (forest es)
+
+  pub below_all : (es : List (Placed O)) (left : ℕ) → left ≡ length es → below es left ≡ forest es
+  below_all es left is = below_past es left left is (omega arith)
+
+  pub link_listed : (es : List (Placed O)) (i : ℕ) (f : Link O) → Some f ≡ slice_get (reverse (forest es)) i → In f (forest es)
+  link_listed es i f got = subst (λ (l : List (Link O)). In f l) (reverse-reverse (forest es)) (in_reverse f (reverse (forest es)) (got_in (reverse (forest es)) i f got))
+
+  pub below_next : (es : List (Placed O)) (i : ℕ) (o : Option (Link O)) → o ≡ slice_get (reverse (forest es)) i → below es (i + 1) ≡ option_to_list o ++ below es i
   below_next es i None got = ap (λ (l : List (Link O)). reverse l) (take_next (reverse (forest es)) i None got ∙ append-nil (take i (reverse (forest es))))
   below_next es i (Some f) got = ap (λ (l : List (Link O)). reverse l) (take_next (reverse (forest es)) i (Some f) got) ∙ reverse-append (take i (reverse (forest es))) (f ∷ [])
 
@@ -140,8 +146,7 @@ module _ {O : Type 0} where
       let named = in_trees es trees in
       let rest = below es i in
       let G : ℕ → List ℕ → List ℕ → List ℕ = λ n s ts. cond (named n && (is_empty s || meet ts tables)) (n ∷ needed named rest (tables ++ s)) (needed named rest tables) in
-      let listed = subst (λ (l : List (Link O)). In f l) (reverse-reverse (forest es)) (in_reverse f (reverse (forest es)) (got_in (reverse (forest es)) i f got)) in
-      let sources : sources_or_none es e.number ≡ f.sources = ap (sources_or_none es) both.0 ∙ sources_link es edges f listed in
+      let sources : sources_or_none es e.number ≡ f.sources = ap (sources_or_none es) both.0 ∙ sources_link es edges f (link_listed es i f got) in
       let same : G e.number (sources_or_none es e.number) e.tables ≡ G f.number f.sources f.targets =
       ap (λ (n : ℕ). G n (sources_or_none es e.number) e.tables) both.0 ∙ ap (λ (s : List ℕ). G f.number s e.tables) sources ∙ ap (λ (ts : List ℕ). G f.number f.sources ts) both.2 in
       joined (is_needed es trees tables e) ∙ ap (λ (l : List ℕ). made ++ l) same ∙ ap (λ (l : List (Link O)). made ++ needed named l tables) (sym (below_next es i (Some f) got))

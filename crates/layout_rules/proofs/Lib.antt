@@ -7,3 +7,5 @@ mod LookupLemmas
 mod PassLemmas
 mod DownLemmas
 mod CloseLemmas
+mod WayLemmas
+mod WayPassLemmas

@@ -59,7 +59,7 @@ pub not_off : (b : Bool) → not b ≡ true → b ≡ true → ⊥
 not_off true h k = false≢true h
 not_off false h k = false≢true k
 
-not_on : (b : Bool) → (b ≡ true → ⊥) → not b ≡ true
+pub not_on : (b : Bool) → (b ≡ true → ⊥) → not b ≡ true
 not_on b h = ap not (off b h)
 
 pub both_of : (a b : Bool) → (a && b) ≡ true → (a ≡ true) × (b ≡ true)

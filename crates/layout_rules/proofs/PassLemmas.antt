@@ -78,7 +78,7 @@ module _ {X : Type 0} (test : X → Bool) where
 -- ---- operators by place
 
 module _ {O : Type 0} where
-  map_reverse : (es : List (Placed O)) → numbers_up es ≡ map (λ (e : Placed O). e.number) (reverse es)
+  pub map_reverse : (es : List (Placed O)) → numbers_up es ≡ map (λ (e : Placed O). e.number) (reverse es)
   map_reverse [] = refl
   map_reverse (e ∷ es) =
       reverse_next e.number (numbers es) ∙ ap (λ (l : List ℕ). l ++ e.number ∷ []) (map_reverse es)

@@ -5,5 +5,6 @@ pub mod Closing
 pub mod Passes
 pub mod Lookups
 pub mod Calls
+pub mod Reached
 pub mod Ways
 pub mod Laws
