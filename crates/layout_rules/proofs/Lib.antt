@@ -1,0 +1,11 @@
+mod LinkLemmas
+mod MoveLemmas
+mod ChangeLemmas
+mod TreeLemmas
+mod NeededLemmas
+mod LookupLemmas
+mod PassLemmas
+mod DownLemmas
+mod CloseLemmas
+mod WayLemmas
+mod WayPassLemmas

@@ -1,0 +1,39 @@
+-- Laws of layouts.
+use Rattle.std.specs.Prelude.{◌⊎◌, ℕ, List}
+use Rattle.version_graph.specs.Sets.{In}
+use Rattle.version_graph.specs.Edges.{AreEdges, Drawn, IsGraph}
+use Rattle.version_graph.specs.Evolve.{evolved}
+use Rattle.version_graph.specs.Dropped.{dropped}
+use Rattle.version_graph.specs.Forest.{Link, forest}
+use Rattle.version_graph.specs.declared.parts.Edge.{Edge}
+use Rattle.version_graph.specs.declared.parts.Placed.{Placed}
+use Rattle.layout_rules.specs.Layouts.{IsValid}
+use Rattle.layout_rules.specs.Closing.{HasNeeded, IsClosed, IsNeeded, NoneIsShared}
+use Rattle.layout_rules.specs.Moves.{IsDown, IsUp, Moves, SameOperators}
+use Rattle.layout_rules.specs.Changes.{dropped_layout, evolved_layout}
+
+-- towards a valid goal each flip from a valid layout leads to a valid one, and so does a whole move
+abbrev pub MovesStayValid : Type 0 → Type 0
+MovesStayValid O = (es : List (Placed O)) → AreEdges es → (goal : List ℕ) → IsValid (forest es) goal → (n : ℕ) (layout last : List ℕ) → IsValid (forest es) layout → Moves (forest es) goal n layout last → IsValid (forest es) last
+
+-- a layout is the goal, or there is a next operator of the move
+abbrev pub FlipsAreFound : Type 0 → Type 0
+FlipsAreFound O = (es : List (Placed O)) → AreEdges es → (layout goal : List ℕ) → IsValid (forest es) layout → IsValid (forest es) goal
+    → SameOperators layout goal ⊎ ((e : Link O) × (IsDown (forest es) layout goal e ⊎ IsUp (forest es) layout goal e))
+
+-- an evolution leaves a valid layout
+abbrev pub EvolutionsStayValid : Type 0 → Type 0
+EvolutionsStayValid O = (g : Drawn O) (name : List ℕ) (w : ℕ) (edges : List (Edge O)) → IsGraph (evolved g name w edges) → (layout : List ℕ) → IsValid (forest g.edges) layout
+    → IsValid (forest (evolved g name w edges).edges) (evolved_layout g edges layout)
+
+-- a drop leaves a valid layout
+abbrev pub DropsStayValid : Type 0 → Type 0
+DropsStayValid O = (g : Drawn O) (name : List ℕ) → IsGraph g → (layout : List ℕ) → IsValid (forest g.edges) layout → IsValid (forest (dropped g name).edges) (dropped_layout g name layout)
+
+-- what closing needs has itself all that is asked for: so it is the least such set
+abbrev pub NeededIsLeast : Type 0 → Type 0
+NeededIsLeast O = (es : List (Placed O)) → AreEdges es → (trees tables : List ℕ) → (least : List ℕ) × HasNeeded (forest es) trees tables least × ((n : ℕ) → In n least → IsNeeded (forest es) trees tables n)
+
+-- where no table is shared, closing a valid layout leaves a valid one
+abbrev pub ClosingStaysValid : Type 0 → Type 0
+ClosingStaysValid O = (es : List (Placed O)) → AreEdges es → (trees tables layout new : List ℕ) → IsValid (forest es) layout → IsClosed (forest es) trees tables layout new → NoneIsShared (forest es) trees tables → IsValid (forest es) new

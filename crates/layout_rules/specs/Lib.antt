@@ -1,0 +1,10 @@
+pub mod Layouts
+pub mod Moves
+pub mod Changes
+pub mod Closing
+pub mod Passes
+pub mod Lookups
+pub mod Calls
+pub mod Reached
+pub mod Ways
+pub mod Laws
