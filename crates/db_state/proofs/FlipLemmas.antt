@@ -1,0 +1,277 @@
+-- A flip into a valid layout leaves the state.
+use Rattle.std.specs.Prelude.{◌↔◌, ◌==◌}
+use Rattle.std.proofs.Common.{◌≡◌, ℕ, List, [], ◌∷◌, Bool, true, false, not, inl, inr, refl, sym, ap, ◌∙◌, subst, map}
+use Rattle.std.proofs.lemmas.Bool.{cases_eq, cond-false, cond-true, eq-eqb, ne_eqb}
+use Rattle.row_store.specs.Rows.{Rows}
+use Rattle.version_graph.specs.Sets.{Distinct, In}
+use Rattle.version_graph.specs.Edges.{AreEdges, is_in, numbers}
+use Rattle.version_graph.specs.Forest.{Crossing, Link, crossing, forest}
+use Rattle.version_graph.specs.declared.parts.Placed.{Placed}
+use Rattle.version_graph.proofs.SetLemmas.{each_at, each_of, is_in_true}
+use Rattle.version_graph.proofs.WalkLaws.{IsForest, is_forest}
+use Rattle.op_law.specs.Tables.{Tables}
+use Rattle.op_law.specs.Meaning.{Meaning, PairState}
+use Rattle.op_law.specs.Laws.{Laws}
+use Rattle.layout_rules.specs.Layouts.{IsMade, IsStored, IsValid}
+use Rattle.layout_rules.specs.Moves.{PutsIn, TakesOut}
+use Rattle.version_model.specs.Put.{put}
+use Rattle.version_model.specs.States.{State, headings}
+use Rattle.version_model.specs.Steps.{pair_in, way}
+use Rattle.version_model.proofs.PutLemmas.{AsMany, map_same, put_else, put_here, put_one, put_other}
+use Rattle.db_state.specs.Parts.{Parts, Stands, StandsOver, aux_of, stored_way}
+use Rattle.db_state.specs.Reading.{ReadsSources, far_read}
+use Rattle.db_state.specs.Flips.{Turns, flipped, none_for, pair_read}
+use Rattle.db_state.proofs.LinkLemmas.{apart_at, in_or_out, link_number, not_in_false, same_link, same_maker, same_test}
+use Rattle.db_state.proofs.ReadLemmas.{IsRead, far_right, read_at}
+use Rattle.db_state.proofs.CanonicalLemmas.{either_way}
+
+-- ---- layouts that differ at one operator
+
+pub turned_back : (n : ℕ) (layout new : List ℕ) → Turns n layout new → Turns n new layout
+turned_back n layout new (inl t) = inr (t.1.gone, record { there = t.0; others = λ m other. let o = t.1.others m other in (o.1, o.0) })
+turned_back n layout new (inr t) = inl (t.1.there, record { gone = t.0; others = λ m other. let o = t.1.others m other in (o.1, o.0) })
+
+others_stay : (n : ℕ) (layout new : List ℕ) → Turns n layout new → (m : ℕ) → (m ≡ n → ⊥) → In m new ↔ In m layout
+others_stay n layout new (inl t) = t.1.others
+others_stay n layout new (inr t) = t.1.others
+
+pub side_turned : (n : ℕ) (layout new : List ℕ) → Turns n layout new → is_in n new ≡ not (is_in n layout)
+side_turned n layout new (inl t) = not_in_false n new t.1.gone ∙ ap not (sym (is_in_true n layout t.0))
+side_turned n layout new (inr t) = is_in_true n new t.1.there ∙ ap not (sym (not_in_false n layout t.0))
+
+module _ {O : Type 0} (es : List (Link O)) (links : IsForest es) (e : Link O) (at : In e es) (layout new : List ℕ) (valid_new : IsValid es new) where
+  -- an operator of the number is this one
+  is_it : (f : Link O) → In f es → f.number ≡ e.number → (P : Link O → Type 0) → P f → P e
+  is_it f i same P h = subst P (same_link es f e links i at same) h
+
+  -- its targets are stored where it leaves the layout
+  targets_stored : In e.number layout → TakesOut e.number layout new → (t : ℕ) → In t e.targets → IsStored es layout t
+  targets_stored has out t i = record {
+    made = (e, at, has, i);
+    free = λ k. elim (cases_eq k.0.number e.number) as (λ _. ⊥) [
+      | inl same ↦ apart_at es e t links at i (is_it k.0 k.1 same (λ (y : Link O). In t y.sources) k.3)
+      | inr other ↦
+          let m = valid_new.makers k.0 k.1 ((out.others k.0.number other).1 k.2) t k.3 in
+          out.gone (subst (λ (y : Link O). In y.number new) (same_maker es m.0 e t links m.1 at m.3 i) m.2)
+    ];
+  }
+
+  -- its sources are stored where it comes into the layout
+  sources_stored : (In e.number layout → ⊥) → PutsIn e.number layout new → (t : ℕ) → In t e.sources → IsStored es layout t
+  sources_stored lacks comes t i =
+      let m = valid_new.makers e at comes.there t i in
+      record {
+        made = elim (cases_eq m.0.number e.number) as (λ _. IsMade es layout t) [
+          | inl same ↦ absurd (apart_at es e t links at (is_it m.0 m.1 same (λ (y : Link O). In t y.targets) m.3) i)
+          | inr other ↦ (m.0, m.1, (comes.others m.0.number other).0 m.2, m.3)
+        ];
+        free = λ k. elim (cases_eq k.0.number e.number) as (λ _. ⊥) [
+          | inl same ↦ lacks (subst (λ (n : ℕ). In n layout) same k.2)
+          | inr other ↦ other (valid_new.once k.0 e k.1 at ((comes.others k.0.number other).1 k.2) comes.there (t, k.3, i))
+        ];
+      }
+
+  near_side : (turns : Turns e.number layout new) (t : ℕ) → In t (stored_way layout e).near → IsStored es layout t
+  near_side (inl turns) t i = targets_stored turns.0 turns.1 t (subst (λ (b : Bool). In t (crossing b e).near) (is_in_true e.number layout turns.0) i)
+  near_side (inr turns) t i = sources_stored turns.0 turns.1 t (subst (λ (b : Bool). In t (crossing b e).near) (not_in_false e.number layout turns.0) i)
+
+  -- what is stored after was stored before, but the far side
+  kept_out : In e.number layout → TakesOut e.number layout new → (t : ℕ) → IsStored es new t → (In t e.sources → ⊥) → IsStored es layout t
+  kept_out has out t k none = record {
+    made = elim (cases_eq k.made.0.number e.number) as (λ _. IsMade es layout t) [
+      | inl same ↦ absurd (out.gone (subst (λ (n : ℕ). In n new) same k.made.2))
+      | inr other ↦ (k.made.0, k.made.1, (out.others k.made.0.number other).0 k.made.2, k.made.3)
+    ];
+    free = λ j. elim (cases_eq j.0.number e.number) as (λ _. ⊥) [
+      | inl same ↦ none (is_it j.0 j.1 same (λ (y : Link O). In t y.sources) j.3)
+      | inr other ↦ k.free (j.0, j.1, (out.others j.0.number other).1 j.2, j.3)
+    ];
+  }
+
+  kept_in : (In e.number layout → ⊥) → PutsIn e.number layout new → (t : ℕ) → IsStored es new t → (In t e.targets → ⊥) → IsStored es layout t
+  kept_in lacks comes t k none = record {
+    made = elim (cases_eq k.made.0.number e.number) as (λ _. IsMade es layout t) [
+      | inl same ↦ absurd (none (is_it k.made.0 k.made.1 same (λ (y : Link O). In t y.targets) k.made.3))
+      | inr other ↦ (k.made.0, k.made.1, (comes.others k.made.0.number other).0 k.made.2, k.made.3)
+    ];
+    free = λ j. elim (cases_eq j.0.number e.number) as (λ _. ⊥) [
+      | inl same ↦ lacks (subst (λ (n : ℕ). In n layout) same j.2)
+      | inr other ↦ k.free (j.0, j.1, (comes.others j.0.number other).1 j.2, j.3)
+    ];
+  }
+
+  still_side : (turns : Turns e.number layout new) (t : ℕ) → IsStored es new t → (In t (stored_way layout e).far → ⊥) → IsStored es layout t
+  still_side (inl turns) t k none = kept_out turns.0 turns.1 t k (λ i. none (subst (λ (b : Bool). In t (crossing b e).far) (sym (is_in_true e.number layout turns.0)) i))
+  still_side (inr turns) t k none = kept_in turns.0 turns.1 t k (λ i. none (subst (λ (b : Bool). In t (crossing b e).far) (sym (not_in_false e.number layout turns.0)) i))
+
+-- ---- sides
+
+other_near : {O : Type 0} (x : Bool) (e : Link O) → (crossing (not x) e).near ≡ (crossing x e).far
+other_near false e = refl
+other_near true e = refl
+
+other_far : {O : Type 0} (x : Bool) (e : Link O) → (crossing (not x) e).far ≡ (crossing x e).near
+other_far false e = refl
+other_far true e = refl
+
+-- the auxiliary tables of the far side are those of the other way's near side
+other_aux : {O : Type 0} (meaning : O → Meaning) (s : State) (x : Bool) (e : Link O) → (way x (meaning e.operator)).aux_at_target (pair_in s (crossing x e)) ≡ aux_of meaning s (crossing (not x) e)
+other_aux meaning s false e = refl
+other_aux meaning s true e = refl
+
+distinct_at : {O : Type 0} (es : List (Link O)) (e : Link O) (x : Bool) → IsForest es → In e es → Distinct (crossing x e).far
+distinct_at [] e x links i = absurd i
+distinct_at {O} (f ∷ es) e x links (inl same) = subst (λ (y : Link O). Distinct (crossing x y).far) (sym same) (elim x as (λ b. Distinct (crossing b f).far) [ true ↦ links.0.sources | false ↦ links.0.targets ])
+distinct_at (f ∷ es) e x links (inr i) = distinct_at es e x links.1 i
+
+as_many_map : {A : Type 0} (f : ℕ → A) (ks : List ℕ) → AsMany ks (map f ks)
+as_many_map f [] = tt
+as_many_map f (k ∷ ks) = as_many_map f ks
+
+same_map : {A : Type 0} (f g : ℕ → A) (ks : List ℕ) → map f ks ≡ map g ks → (n : ℕ) → In n ks → f n ≡ g n
+same_map f g [] h n i = absurd i
+same_map f g (k ∷ ks) h n (inl e) = subst (λ (x : ℕ). f x ≡ g x) (sym e) (cc)
+same_map f g (k ∷ ks) h n (inr i) = same_map f g ks (cc) n i
+
+-- tables that are put away have no rows
+put_away : (rows : ℕ → Rows) (ks : List ℕ) (t : ℕ) → In t ks → put rows ks (none_for ks) t ≡ []
+put_away rows [] t i = absurd i
+put_away rows (k ∷ ks) t i =
+    elim (cases_eq t k) as (λ _. put rows (k ∷ ks) (none_for (k ∷ ks)) t ≡ []) [
+      | inl same ↦ cond-true (t == k) [] (put rows ks (none_for ks) t) (eq-eqb t k same)
+      | inr other ↦ cond-false (t == k) [] (put rows ks (none_for ks) t) (ne_eqb t k other)
+          ∙ put_away rows ks t (elim i as (λ _. In t ks) [ inl same ↦ absurd (other same) | inr j ↦ j ])
+    ]
+
+-- ---- the parts
+
+module _ {O : Type 0} (meaning : O → Meaning) (laws : (o : O) → Laws (meaning o)) (reads : ReadsSources meaning) (es : List (Placed O)) (edges : AreEdges es) (parts : Parts) (valid : IsValid (forest es) parts.layout)
+    (e : Link O) (at : In e (forest es)) (new : List ℕ) (turns : Turns e.number parts.layout new) (valid_new : IsValid (forest es) new) (s : State) (st : Stands meaning es parts s) where
+  abbrev x : Bool
+  x = is_in e.number parts.layout
+
+  abbrev here : Crossing O
+  here = crossing x e
+
+  abbrev after : Parts
+  after = flipped meaning parts e new
+
+  links : IsForest (forest es)
+  links = is_forest es edges
+
+  over_here : IsRead meaning (headings es) parts s here
+  over_here = read_at meaning laws reads es parts valid s st e at
+
+  near_right : (t : ℕ) → In t here.near → parts.stored t ≡ s.tables t
+  near_right t i = st.stored t (near_side (forest es) links e at parts.layout new valid_new turns t i)
+
+  near_is : map parts.stored here.near ≡ map s.tables here.near
+  near_is = map_same parts.stored s.tables here.near near_right
+
+  far_is : far_read meaning parts here parts.stored ≡ map s.tables here.far
+  far_is = far_right meaning laws (headings es) parts s here over_here parts.stored near_right
+
+  pair_is : pair_read meaning parts e ≡ pair_in s here
+  pair_is =
+      let near = near_is in
+      let far = far_is in
+      let memory : parts.memory e.number ≡ s.memory e.number = over_here.stands.memory in
+      cc
+
+  aux_is : after.aux e.number ≡ aux_of meaning s (crossing (not x) e)
+  aux_is =
+      put_one parts.aux e.number ((way x (meaning e.operator)).aux_at_target (pair_read meaning parts e))
+      ∙ ap (λ (p : PairState). (way x (meaning e.operator)).aux_at_target p) pair_is ∙ other_aux meaning s x e
+
+  -- ---- stored tables
+
+  far_put : (t : ℕ) → In t here.far → after.stored t ≡ s.tables t
+  far_put t i =
+      let before = put parts.stored here.near (none_for here.near) in
+      let long = subst (λ (ts : Tables). AsMany here.far ts) (sym far_is) (as_many_map s.tables here.far) in
+      same_map after.stored s.tables here.far (put_here before here.far (far_read meaning parts here parts.stored) (distinct_at (forest es) e x links at) long ∙ far_is) t i
+
+  -- the near side is the far one of the way back
+  near_gone : (t : ℕ) → In t here.near → IsStored (forest es) new t → In t here.far
+  near_gone t i k =
+      elim (in_or_out t here.far) as (λ _. In t here.far) [
+        | inl j ↦ j
+        | inr o ↦ absurd (gone turns t i k)
+      ]
+    where
+      gone : Turns e.number parts.layout new → (t : ℕ) → In t here.near → IsStored (forest es) new t → ⊥
+      gone (inl out) t i k =
+          let mine = subst (λ (b : Bool). In t (crossing b e).near) (is_in_true e.number parts.layout out.0) i in
+          out.1.gone (subst (λ (y : Link O). In y.number new) (same_maker (forest es) k.made.0 e t links k.made.1 at k.made.3 mine) k.made.2)
+      gone (inr comes) t i k =
+          let mine = subst (λ (b : Bool). In t (crossing b e).near) (not_in_false e.number parts.layout comes.0) i in
+          k.free (e, at, comes.1.there, mine)
+
+  away : (t : ℕ) → (In t here.far → ⊥) → (In t here.near → ⊥) → after.stored t ≡ parts.stored t
+  away t far near = put_other (put parts.stored here.near (none_for here.near)) here.far (far_read meaning parts here parts.stored) t far ∙ put_other parts.stored here.near (none_for here.near) t near
+
+  stored_is : (t : ℕ) → IsStored (forest es) new t → after.stored t ≡ s.tables t
+  stored_is t k =
+      elim (in_or_out t here.far) as (λ _. after.stored t ≡ s.tables t) [
+        | inl i ↦ far_put t i
+        | inr o ↦ away t o (λ i. o (near_gone t i k)) ∙ st.stored t (still_side (forest es) links e at parts.layout new valid_new turns t k o)
+      ]
+
+  back : Turns e.number new parts.layout
+  back = turned_back e.number parts.layout new turns
+
+  -- the far side is stored after
+  far_stored : (t : ℕ) → In t here.far → IsStored (forest es) new t
+  far_stored t i =
+      near_side (forest es) links e at new parts.layout valid back t
+      (subst (λ (b : Bool). In t (crossing b e).near) (sym (side_turned e.number parts.layout new turns)) (subst (λ (l : List ℕ). In t l) (sym (other_near x e)) i))
+
+  -- what was stored before is stored after, but the near side
+  old_stored : (t : ℕ) → IsStored (forest es) parts.layout t → (In t here.near → ⊥) → IsStored (forest es) new t
+  old_stored t k none =
+      still_side (forest es) links e at new parts.layout valid back t k
+      (λ i. none (subst (λ (l : List ℕ). In t l) (other_far x e) (subst (λ (b : Bool). In t (crossing b e).far) (side_turned e.number parts.layout new turns) i)))
+
+  stored_none : (t : ℕ) → (IsStored (forest es) new t → ⊥) → after.stored t ≡ []
+  stored_none t none =
+      let out : In t here.far → ⊥ = λ i. none (far_stored t i) in
+      elim (in_or_out t here.near) as (λ _. after.stored t ≡ []) [
+        | inl i ↦ put_other (put parts.stored here.near (none_for here.near)) here.far (far_read meaning parts here parts.stored) t out ∙ put_away parts.stored here.near t i
+        | inr o ↦ away t out o ∙ st.no_more.stored t (λ k. none (old_stored t k o))
+      ]
+
+  -- ---- operators
+
+  over_it : StandsOver meaning (headings es) after s (stored_way new e)
+  over_it =
+      subst (λ (b : Bool). StandsOver meaning (headings es) after s (crossing b e)) (sym (side_turned e.number parts.layout new turns))
+      (record { related = either_way meaning (headings es) s x (not x) e over_here.stands.related; aux = aux_is; memory = over_here.stands.memory })
+
+  over_other : (f : Link O) → In f (forest es) → (f.number ≡ e.number → ⊥) → StandsOver meaning (headings es) after s (stored_way new f)
+  over_other f i other =
+      let old = each_at (λ (g : Link O). StandsOver meaning (headings es) parts s (stored_way parts.layout g)) (forest es) f i st.edges in
+      let side = same_test f.number new parts.layout (others_stay e.number parts.layout new turns f.number other) in
+      subst (λ (b : Bool). StandsOver meaning (headings es) after s (crossing b f)) (sym side)
+      (record { related = old.related; aux = put_else parts.aux e.number ((way x (meaning e.operator)).aux_at_target (pair_read meaning parts e)) f.number other ∙ old.aux; memory = old.memory })
+
+  over_each : (f : Link O) → In f (forest es) → StandsOver meaning (headings es) after s (stored_way new f)
+  over_each f i =
+      elim (cases_eq f.number e.number) as (λ _. StandsOver meaning (headings es) after s (stored_way new f)) [
+        | inl same ↦ subst (λ (g : Link O). StandsOver meaning (headings es) after s (stored_way new g)) (sym (same_link (forest es) f e links i at same)) over_it
+        | inr other ↦ over_other f i other
+      ]
+
+  lives_here : In e.number (numbers es)
+  lives_here = link_number es e at
+
+  -- A FLIP INTO A VALID LAYOUT LEAVES THE STATE
+  pub flip_stands : Stands meaning es after s
+  flip_stands = record {
+    edges = each_of (λ (f : Link O). StandsOver meaning (headings es) after s (stored_way new f)) (forest es) over_each;
+    stored = stored_is;
+    no_more = record {
+      stored = stored_none;
+      aux = λ n none. put_else parts.aux e.number ((way x (meaning e.operator)).aux_at_target (pair_read meaning parts e)) n (λ same. none (subst (λ (k : ℕ). In k (numbers es)) (sym same) lives_here)) ∙ st.no_more.aux n none;
+      memories = st.no_more.memories;
+    };
+  }

@@ -1,0 +1,4 @@
+mod LinkLemmas
+mod ReadLemmas
+mod CanonicalLemmas
+mod FlipLemmas

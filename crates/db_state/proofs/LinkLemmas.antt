@@ -1,0 +1,127 @@
+-- Links of a forest by themselves, and which tables a layout stores.
+use Rattle.std.specs.Prelude.{◌⊎◌, ◌↔◌}
+use Rattle.std.proofs.Common.{◌≡◌, ℕ, List, [], ◌∷◌, true, false, inl, inr, refl, sym, ap, ◌∙◌, subst, map, arith}
+use Rattle.std.proofs.lemmas.Bool.{false≢true}
+use Rattle.version_graph.specs.Sets.{In}
+use Rattle.version_graph.specs.Edges.{is_in, numbers}
+use Rattle.version_graph.specs.Forest.{Link, forest, link}
+use Rattle.version_graph.specs.declared.parts.Placed.{Placed}
+use Rattle.version_graph.proofs.SetLemmas.{in_left, in_of_test, in_right, is_in_true}
+use Rattle.version_graph.proofs.WalkLaws.{Fits, IsForest, link_numbers, link_targets, sources_older, targets_apart}
+use Rattle.version_model.proofs.HeadingLemmas.{in_or_not}
+use Rattle.layout_rules.specs.Layouts.{IsMade, IsStored, IsTaken, Lives}
+
+pub in_or_out : (n : ℕ) (ks : List ℕ) → In n ks ⊎ (In n ks → ⊥)
+in_or_out n ks = in_or_not n ks (In n ks ⊎ (In n ks → ⊥)) (λ i. inl i) (λ o. inr o)
+
+-- ---- tests
+
+pub not_in_false : (n : ℕ) (ks : List ℕ) → (In n ks → ⊥) → is_in n ks ≡ false
+not_in_false n ks out =
+    (elim (is_in n ks) as (λ b. is_in n ks ≡ b → b ≡ false) [
+      | true ↦ λ is. absurd (out (in_of_test n ks is))
+      | false ↦ λ is. refl
+    ]) refl
+
+pub not_in_of_false : (n : ℕ) (ks : List ℕ) → is_in n ks ≡ false → In n ks → ⊥
+not_in_of_false n ks is i = false≢true (sym is ∙ is_in_true n ks i)
+
+-- lists that both have a number or both lack it
+pub same_test : (n : ℕ) (ks ls : List ℕ) → (In n ks ↔ In n ls) → is_in n ks ≡ is_in n ls
+same_test n ks ls both =
+    in_or_not n ls (is_in n ks ≡ is_in n ls)
+    (λ i. is_in_true n ks (both.1 i) ∙ sym (is_in_true n ls i))
+    (λ o. not_in_false n ks (λ i. o (both.0 i)) ∙ sym (not_in_false n ls o))
+
+pub map_none : {X Y : Type 0} (f : X → Y) (xs : List X) → map f xs ≡ [] → xs ≡ []
+map_none f [] none = refl
+map_none f (x ∷ xs) none = let clash : f x ∷ map f xs ≡ [] = none in absurd (let no : ⊥ = cc in no)
+
+module _ {O : Type 0} where
+  -- ---- links
+
+  pub number_listed : (es : List (Link O)) (e : Link O) → In e es → In e.number (link_numbers es)
+  number_listed [] e i = i
+  number_listed (x ∷ es) e (inl h) = inl (ap (λ (y : Link O). y.number) h)
+  number_listed (x ∷ es) e (inr i) = inr (number_listed es e i)
+
+  pub target_listed : (es : List (Link O)) (e : Link O) (t : ℕ) → In e es → In t e.targets → In t (link_targets es)
+  target_listed [] e t i j = absurd i
+  target_listed (x ∷ es) e t (inl h) j = in_left t x.targets (link_targets es) (subst (λ (y : Link O). In t y.targets) h j)
+  target_listed (x ∷ es) e t (inr i) j = in_right t x.targets (link_targets es) (target_listed es e t i j)
+
+  -- sources are made
+  pub source_made : (es : List (Link O)) (e : Link O) (t : ℕ) → IsForest es → In e es → In t e.sources → In t (link_targets es)
+  source_made [] e t forest i a = absurd i
+  source_made (x ∷ xs) e t forest (inl i) a = in_right t x.targets (link_targets xs) (sources_older xs x forest.0 t (subst (λ (y : Link O). In t y.sources) i a))
+  source_made (x ∷ xs) e t forest (inr i) a = in_right t x.targets (link_targets xs) (source_made xs e t forest.1 i a)
+
+  -- the number tells the link
+  pub same_link : (es : List (Link O)) (e f : Link O) → IsForest es → In e es → In f es → e.number ≡ f.number → e ≡ f
+  same_link [] e f forest i j h = absurd i
+  same_link (x ∷ xs) e f forest (inl i) (inl j) h = i ∙ sym j
+  same_link (x ∷ xs) e f forest (inl i) (inr j) h =
+      let less = forest.0.newest f.number (inr (number_listed xs f j)) in
+      let here = ap (λ (y : Link O). y.number) i in
+      absurd (omega arith)
+  same_link (x ∷ xs) e f forest (inr i) (inl j) h =
+      let less = forest.0.newest e.number (inr (number_listed xs e i)) in
+      let here = ap (λ (y : Link O). y.number) j in
+      absurd (omega arith)
+  same_link (x ∷ xs) e f forest (inr i) (inr j) h = same_link xs e f forest.1 i j h
+
+  -- a table is made once
+  pub same_maker : (es : List (Link O)) (e f : Link O) (t : ℕ) → IsForest es → In e es → In f es → In t e.targets → In t f.targets → e ≡ f
+  same_maker [] e f t forest i j a b = absurd i
+  same_maker (x ∷ xs) e f t forest (inl i) (inl j) a b = i ∙ sym j
+  same_maker (x ∷ xs) e f t forest (inl i) (inr j) a b = absurd (forest.0.fresh t (subst (λ (y : Link O). In t y.targets) i a) (target_listed xs f t j b))
+  same_maker (x ∷ xs) e f t forest (inr i) (inl j) a b = absurd (forest.0.fresh t (subst (λ (y : Link O). In t y.targets) j b) (target_listed xs e t i a))
+  same_maker (x ∷ xs) e f t forest (inr i) (inr j) a b = same_maker xs e f t forest.1 i j a b
+
+  -- no operator takes what it makes
+  pub apart_at : (es : List (Link O)) (e : Link O) (t : ℕ) → IsForest es → In e es → In t e.targets → In t e.sources → ⊥
+  apart_at [] e t forest i a b = absurd i
+  apart_at (x ∷ xs) e t forest (inl i) a b = targets_apart xs x forest.0 t (subst (λ (y : Link O). In t y.targets) i a) (subst (λ (y : Link O). In t y.sources) i b)
+  apart_at (x ∷ xs) e t forest (inr i) a b = apart_at xs e t forest.1 i a b
+
+  -- ---- stored tables
+
+  pub made_split : (e : Link O) (es : List (Link O)) (layout : List ℕ) (t : ℕ) → IsMade (e ∷ es) layout t → (In e.number layout × In t e.targets) ⊎ IsMade es layout t
+  made_split e es layout t m =
+      elim m.1 as (λ _. (In e.number layout × In t e.targets) ⊎ IsMade es layout t) [
+        | inl same ↦ inl (subst (λ (y : Link O). In y.number layout) same m.2, subst (λ (y : Link O). In t y.targets) same m.3)
+        | inr j ↦ inr (m.0, j, m.2, m.3)
+      ]
+
+  pub taken_split : (e : Link O) (es : List (Link O)) (layout : List ℕ) (t : ℕ) → IsTaken (e ∷ es) layout t → (In e.number layout × In t e.sources) ⊎ IsTaken es layout t
+  taken_split e es layout t m =
+      elim m.1 as (λ _. (In e.number layout × In t e.sources) ⊎ IsTaken es layout t) [
+        | inl same ↦ inl (subst (λ (y : Link O). In y.number layout) same m.2, subst (λ (y : Link O). In t y.sources) same m.3)
+        | inr j ↦ inr (m.0, j, m.2, m.3)
+      ]
+
+  -- what the newest operator makes is stored where it is in the layout
+  pub stored_here : (e : Link O) (es : List (Link O)) (layout : List ℕ) (t : ℕ) → Fits es e → IsForest es → In e.number layout → In t e.targets → IsStored (e ∷ es) layout t
+  stored_here e es layout t fit forest a i = record {
+    made = (e, inl refl, a, i);
+    free = λ k. elim (taken_split e es layout t k) as (λ _. ⊥) [ inl j ↦ targets_apart es e fit t i j.1 | inr j ↦ fit.fresh t i (source_made es j.0 t forest j.1 j.3) ];
+  }
+
+  -- what older operators store stays stored where the newest one doesn't take it
+  pub stored_more : (e : Link O) (es : List (Link O)) (layout : List ℕ) (t : ℕ) → IsStored es layout t → (In e.number layout → In t e.sources → ⊥) → IsStored (e ∷ es) layout t
+  stored_more e es layout t k spares = record {
+    made = (k.made.0, inr k.made.1, k.made.2, k.made.3);
+    free = λ j. elim (taken_split e es layout t j) as (λ _. ⊥) [ inl i ↦ spares i.0 i.1 | inr i ↦ k.free i ];
+  }
+
+  -- ---- numbers of edges are those of their links
+
+  pub number_lives : (es : List (Placed O)) (n : ℕ) → In n (numbers es) → Lives (forest es) n
+  number_lives [] n i = absurd i
+  number_lives (e ∷ es) n (inl same) = (link es e, inl refl, same)
+  number_lives (e ∷ es) n (inr i) = let l = number_lives es n i in (l.0, inr l.1, l.2)
+
+  pub link_number : (es : List (Placed O)) (f : Link O) → In f (forest es) → In f.number (numbers es)
+  link_number [] f i = i
+  link_number (e ∷ es) f (inl same) = inl (ap (λ (y : Link O). y.number) same)
+  link_number (e ∷ es) f (inr i) = inr (link_number es f i)

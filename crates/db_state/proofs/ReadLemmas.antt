@@ -1,0 +1,150 @@
+-- Two passes read everything back.
+use Rattle.std.specs.Prelude.{◌==◌}
+use Rattle.std.proofs.Common.{◌≡◌, ℕ, List, [], ◌∷◌, Bool, true, false, cond, inl, inr, refl, sym, ap, ◌∙◌, subst, map}
+use Rattle.std.proofs.lemmas.Bool.{eqb-true, eqb-false}
+use Rattle.row_store.specs.Rows.{Rows}
+use Rattle.version_graph.specs.Sets.{In, Each}
+use Rattle.version_graph.specs.Tables.{table_numbers}
+use Rattle.version_graph.specs.Edges.{AreEdges, is_in, made}
+use Rattle.version_graph.specs.Forest.{Crossing, Link, crossing, forest}
+use Rattle.version_graph.specs.declared.parts.Placed.{Placed}
+use Rattle.version_graph.proofs.SetLemmas.{each_at, each_of, in_append, in_of_test}
+use Rattle.version_graph.proofs.WalkLaws.{Fits, IsForest, is_forest, link_targets, sources_older}
+use Rattle.op_law.specs.Tables.{Heading, Tables}
+use Rattle.op_law.specs.Meaning.{Meaning}
+use Rattle.op_law.specs.Laws.{Laws}
+use Rattle.layout_rules.specs.Layouts.{IsMade, IsStored, IsValid}
+use Rattle.version_model.specs.Put.{put}
+use Rattle.version_model.specs.States.{State, headings}
+use Rattle.version_model.specs.Steps.{IsRelated, pair_in, way}
+use Rattle.version_model.proofs.PutLemmas.{map_same}
+use Rattle.version_model.proofs.RunLemmas.{way_laws}
+use Rattle.version_model.proofs.CrossingLemmas.{targets_linked}
+use Rattle.db_state.specs.Parts.{Parts, Stands, StandsOver, stored_way}
+use Rattle.db_state.specs.Laws.{SameOf}
+use Rattle.db_state.specs.Reading.{ReadsSources, far_read, reach, read_all, read_down, read_up}
+use Rattle.db_state.proofs.LinkLemmas.{in_or_out, made_split, map_none, not_in_of_false, number_lives, stored_here, stored_more}
+
+-- the far side of a crossing can be read from what is stored
+pub record IsRead {O : Type 0} (meaning : O → Meaning) (heading : ℕ → Heading) (parts : Parts) (s : State) (p : Crossing O) : Type 0 where
+  pub stands : StandsOver meaning heading parts s p
+  pub reads : (way p.backward (meaning p.operator)).reads_target ≡ true
+
+module _ {O : Type 0} (meaning : O → Meaning) (laws : (o : O) → Laws (meaning o)) (heading : ℕ → Heading) (parts : Parts) (s : State) where
+  abbrev Right : (ℕ → Rows) → ℕ → Type 0
+  Right rows t = rows t ≡ s.tables t
+
+  pub far_right : (p : Crossing O) → IsRead meaning heading parts s p → (rows : ℕ → Rows) → ((t : ℕ) → In t p.near → Right rows t) → far_read meaning parts p rows ≡ map s.tables p.far
+  far_right p st rows h =
+      let m = way p.backward (meaning p.operator) in
+      let near : map rows p.near ≡ map s.tables p.near = map_same rows s.tables p.near h in
+      let back : m.read_target (map s.tables p.near) (m.aux_at_source (pair_in s p)) (s.memory p.number) ≡ map s.tables p.far = (way_laws p.backward (meaning p.operator) (laws p.operator)).recovered (map heading p.near) (map heading p.far) (pair_in s p) st.reads st.stands.related in
+      let aux : parts.aux p.number ≡ m.aux_at_source (pair_in s p) = st.stands.aux in
+      let memory : parts.memory p.number ≡ s.memory p.number = st.stands.memory in
+      cc
+
+  put_one_right : (rows : ℕ → Rows) (k : ℕ) (ks : List ℕ) (t : ℕ) (b : Bool) → (t == k) ≡ b → (Right rows t → Right (put rows ks (map s.tables ks)) t) × (In t ks → Right (put rows ks (map s.tables ks)) t)
+      → (Right rows t → cond b (s.tables k) (put rows ks (map s.tables ks) t) ≡ s.tables t) × (In t (k ∷ ks) → cond b (s.tables k) (put rows ks (map s.tables ks) t) ≡ s.tables t)
+  put_one_right rows k ks t true is h = let same : s.tables k ≡ s.tables t = ap s.tables (sym (eqb-true t k is)) in ((λ _. same), (λ _. same))
+  put_one_right rows k ks t false is h = (h.0, (λ i. elim i as (λ _. Right (put rows ks (map s.tables ks)) t) [ inl e ↦ absurd (eqb-false t k is e) | inr j ↦ h.1 j ]))
+
+  -- putting right tables keeps what is right, and makes them right
+  put_rights : (rows : ℕ → Rows) (ks : List ℕ) (t : ℕ) → (Right rows t → Right (put rows ks (map s.tables ks)) t) × (In t ks → Right (put rows ks (map s.tables ks)) t)
+  put_rights rows [] t = ((λ h. h), (λ i. absurd i))
+  put_rights rows (k ∷ ks) t = put_one_right rows k ks t (t == k) refl (put_rights rows ks t)
+
+  reach_right : (p : Crossing O) → IsRead meaning heading parts s p → (rows : ℕ → Rows) → ((t : ℕ) → In t p.near → Right rows t) → (t : ℕ) → (Right rows t → Right (reach meaning parts p rows) t) × (In t p.far → Right (reach meaning parts p rows) t)
+  reach_right p st rows h t = subst (λ (vs : Tables). (Right rows t → Right (put rows p.far vs) t) × (In t p.far → Right (put rows p.far vs) t)) (sym (far_right p st rows h)) (put_rights rows p.far t)
+
+  -- ---- down
+
+  -- what is stored of these operators is right
+  abbrev EndsRight : List (Link O) → (ℕ → Rows) → Type 0
+  EndsRight es rows = (t : ℕ) → IsStored es parts.layout t → Right rows t
+
+  -- after a pass what was right is, and so is what is made in the layout
+  abbrev Passed : List (Link O) → (ℕ → Rows) → (ℕ → Rows) → Type 0
+  Passed es rows new = (t : ℕ) → (Right rows t → Right new t) × (IsMade es parts.layout t → Right new t)
+
+  down_one : (e : Link O) (es : List (Link O)) (x : Bool) → is_in e.number parts.layout ≡ x → Fits es e → IsForest es → IsRead meaning heading parts s (crossing x e) → (rows : ℕ → Rows) → EndsRight (e ∷ es) rows
+      → ((next : ℕ → Rows) → EndsRight es next → Passed es next (read_down meaning parts es next)) → Passed (e ∷ es) rows (read_down meaning parts es (cond x (reach meaning parts (crossing true e) rows) rows))
+  down_one e es true is fit forest st rows ends ih =
+      let a = in_of_test e.number parts.layout is in
+      let targets : (t : ℕ) → In t e.targets → Right rows t = λ t i. ends t (stored_here e es parts.layout t fit forest a i) in
+      let next = reach meaning parts (crossing true e) rows in
+      let right = reach_right (crossing true e) st rows targets in
+      let older : EndsRight es next = λ t k. elim (in_or_out t e.sources) as (λ _. Right next t) [ inl i ↦ (right t).1 i | inr o ↦ (right t).0 (ends t (stored_more e es parts.layout t k (λ _ i. o i))) ] in
+      let rest = ih next older in
+      λ t. ((λ h. (rest t).0 ((right t).0 h)), (λ k. elim (made_split e es parts.layout t k) as (λ _. Right (read_down meaning parts es next) t) [ inl h ↦ (rest t).0 ((right t).0 (targets t h.1)) | inr h ↦ (rest t).1 h ]))
+  down_one e es false is fit forest st rows ends ih =
+      let older : EndsRight es rows = λ t k. ends t (stored_more e es parts.layout t k (λ a _. not_in_of_false e.number parts.layout is a)) in
+      let rest = ih rows older in
+      λ t. ((rest t).0, (λ k. elim (made_split e es parts.layout t k) as (λ _. Right (read_down meaning parts es rows) t) [ inl h ↦ absurd (not_in_of_false e.number parts.layout is h.0) | inr h ↦ (rest t).1 h ]))
+
+  abbrev pub AreRead : List (Link O) → Type 0
+  AreRead es = Each (λ e. IsRead meaning heading parts s (stored_way parts.layout e)) es
+
+  down_right : (es : List (Link O)) → IsForest es → AreRead es → (rows : ℕ → Rows) → EndsRight es rows → Passed es rows (read_down meaning parts es rows)
+  down_right [] forest st rows ends = λ t. ((λ h. h), (λ k. absurd k.1))
+  down_right (e ∷ es) forest st rows ends = down_one e es (is_in e.number parts.layout) refl forest.0 forest.1 st.0 rows ends (λ next. down_right es forest.1 st.1 next)
+
+  -- ---- up
+
+  -- what was right is, and so are all tables of these operators
+  abbrev Reached : List (Link O) → (ℕ → Rows) → (ℕ → Rows) → Type 0
+  Reached es rows new = (t : ℕ) → (Right rows t → Right new t) × (In t (link_targets es) → Right new t)
+
+  up_one : (e : Link O) (es : List (Link O)) (x : Bool) → is_in e.number parts.layout ≡ x → Fits es e → IsRead meaning heading parts s (crossing x e) → (rows : ℕ → Rows) → ((t : ℕ) → IsMade (e ∷ es) parts.layout t → Right rows t)
+      → Reached es rows (read_up meaning parts es rows) → Reached (e ∷ es) rows (cond x (read_up meaning parts es rows) (reach meaning parts (crossing false e) (read_up meaning parts es rows)))
+  up_one e es true is fit st rows made_right ih =
+      let a = in_of_test e.number parts.layout is in
+      λ t. ((ih t).0, (λ i. elim (in_append t e.targets (link_targets es) i) as (λ _. Right (read_up meaning parts es rows) t) [ inl j ↦ (ih t).0 (made_right t (e, inl refl, a, j)) | inr j ↦ (ih t).1 j ]))
+  up_one e es false is fit st rows made_right ih =
+      let next = read_up meaning parts es rows in
+      let right = reach_right (crossing false e) st next (λ n i. (ih n).1 (sources_older es e fit n i)) in
+      λ t. ((λ h. (right t).0 ((ih t).0 h)), (λ i. elim (in_append t e.targets (link_targets es) i) as (λ _. Right (reach meaning parts (crossing false e) next) t) [ inl j ↦ (right t).1 j | inr j ↦ (right t).0 ((ih t).1 j) ]))
+
+  up_right : (es : List (Link O)) → IsForest es → AreRead es → (rows : ℕ → Rows) → ((t : ℕ) → IsMade es parts.layout t → Right rows t) → Reached es rows (read_up meaning parts es rows)
+  up_right [] forest st rows made_right = λ t. ((λ h. h), (λ i. absurd i))
+  up_right (e ∷ es) forest st rows made_right =
+      up_one e es (is_in e.number parts.layout) refl forest.0 st.0 rows made_right (up_right es forest.1 st.1 rows (λ t m. made_right t (m.0, inr m.1, m.2, m.3)))
+
+  all_right : (es : List (Link O)) → IsForest es → AreRead es → EndsRight es parts.stored → (t : ℕ) → In t (link_targets es) → read_all meaning parts es t ≡ s.tables t
+  all_right es forest st ends t i =
+      let down = down_right es forest st parts.stored ends in
+      (up_right es forest st (read_down meaning parts es parts.stored) (λ n k. (down n).1 k) t).1 i
+
+-- ---- each operator is stored on a side from which the other one is read
+
+module _ {O : Type 0} (meaning : O → Meaning) (laws : (o : O) → Laws (meaning o)) (reads : ReadsSources meaning) (es : List (Placed O)) (parts : Parts) (valid : IsValid (forest es) parts.layout) (s : State) where
+  reads_at : (e : Link O) → In e (forest es) → (x : Bool) → is_in e.number parts.layout ≡ x → IsRelated meaning (headings es) s (crossing x e) → (way x (meaning e.operator)).reads_target ≡ true
+  reads_at e at true is related = reads e.operator
+  reads_at e at false is related =
+      elim ((laws e.operator).0.readable (map (headings es) e.sources) (map (headings es) e.targets) related.fits) as (λ _. (meaning e.operator).reads_target ≡ true) [
+        | inl none ↦ absurd (not_in_of_false e.number parts.layout is (valid.creates e at (map_none (headings es) e.sources none)))
+        | inr h ↦ h
+      ]
+
+  pub read_at : Stands meaning es parts s → (e : Link O) → In e (forest es) → IsRead meaning (headings es) parts s (stored_way parts.layout e)
+  read_at st e at =
+      let over = each_at (λ (f : Link O). StandsOver meaning (headings es) parts s (stored_way parts.layout f)) (forest es) e at st.edges in
+      record { stands = over; reads = reads_at e at (is_in e.number parts.layout) refl over.related }
+
+  -- WHAT IS READ BACK IS THE STATE
+  pub read_back : AreEdges es → Stands meaning es parts s → (t : ℕ) → In t (table_numbers (made es)) → read_all meaning parts (forest es) t ≡ s.tables t
+  read_back edges st t i =
+      all_right meaning laws (headings es) parts s (forest es) (is_forest es edges)
+      (each_of (λ (e : Link O). IsRead meaning (headings es) parts s (stored_way parts.layout e)) (forest es) (read_at st)) st.stored t
+      (subst (λ (l : List ℕ). In t l) (sym (targets_linked es edges)) i)
+
+-- so the same parts stand for one state
+pub one_state : {O : Type 0} (meaning : O → Meaning) → ((o : O) → Laws (meaning o)) → ReadsSources meaning → (es : List (Placed O)) → AreEdges es → (parts : Parts) → IsValid (forest es) parts.layout → (a b : State)
+    → Stands meaning es parts a → Stands meaning es parts b → SameOf es a b
+one_state {O} meaning laws reads es edges parts valid a b first second = record {
+  tables = λ t i. sym (read_back meaning laws reads es parts valid a edges first t i) ∙ read_back meaning laws reads es parts valid b edges second t i;
+  memories = λ n i.
+      let l = number_lives es n i in
+      let one = (read_at meaning laws reads es parts valid a first l.0 l.1).stands.memory in
+      let two = (read_at meaning laws reads es parts valid b second l.0 l.1).stands.memory in
+      subst (λ (k : ℕ). a.memory k ≡ b.memory k) (sym l.2) (sym one ∙ two);
+}

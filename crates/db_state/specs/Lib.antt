@@ -1,0 +1,5 @@
+pub mod Parts
+pub mod Reading
+pub mod Canonical
+pub mod Flips
+pub mod Laws
