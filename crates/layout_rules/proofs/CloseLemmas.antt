@@ -17,7 +17,7 @@ use Rattle.version_graph.specs.Forest.{Link, forest, tree}
 use Rattle.version_graph.specs.declared.parts.Placed.{Placed}
 use Rattle.version_graph.proofs.SetLemmas.{each_at, each_of, in_of_test, is_in_true, origin}
 use Rattle.version_graph.proofs.NodeLemmas.{find_append, find_past}
-use Rattle.version_graph.proofs.TableLemmas.{passes}
+use Rattle.version_graph.proofs.TableLemmas.{passes, rises_above}
 use Rattle.version_graph.proofs.TakenLemmas.{found_passes, some_found}
 use Rattle.version_graph.proofs.WalkLaws.{is_forest}
 use Rattle.version_graph.proofs.WalkLemmas.{in_reverse}
@@ -29,8 +29,8 @@ use Rattle.layout_rules.specs.Lookups.{in_trees, is_shared, is_stored, numbers_u
 use Rattle.layout_rules.specs.declared.layout.Layout.{Layout}
 use Rattle.layout_rules.proofs.LinkLemmas.{source_made, target_link}
 use Rattle.layout_rules.proofs.ChangeLemmas.{filter_in, link_number, number_lives}
-use Rattle.layout_rules.proofs.NeededLemmas.{found_has, found_needed}
-use Rattle.layout_rules.proofs.LookupLemmas.{all_at, all_true, and_true, any_at, any_true, both_of, not_off, source_link, sources_link, stored_test, stored_told}
+use Rattle.layout_rules.proofs.NeededLemmas.{both_true, found_has, found_needed}
+use Rattle.layout_rules.proofs.LookupLemmas.{all_at, all_true, and_true, any_at, any_true, not_off, source_link, sources_link, stored_test, stored_told}
 use Rattle.layout_rules.proofs.PassLemmas.{along_both, reverse_next, rises_both, rises_filter, tables_rise, take_next, target_up, up_made}
 
 -- ---- targets in their order
@@ -117,14 +117,9 @@ first_least : (test : ℕ → Bool) (n : ℕ) (xs : List ℕ) → Rises n xs →
 first_least test n [] rise t found u i h = absurd i
 first_least test n (x ∷ xs) rise t found u i h =
     (elim (test x) as (λ b. test x ≡ b → cond b (Some x) (find test xs) ≡ Some t → t ≤ u) [
-      | true ↦ λ is f. (let same : x ≡ t = cc in elim i as (λ _. t ≤ u) [ inl e ↦ omega arith | inr j ↦ (let less = above x xs rise.1 u j in omega arith) ])
+      | true ↦ λ is f. (let same : x ≡ t = cc in elim i as (λ _. t ≤ u) [ inl e ↦ omega arith | inr j ↦ (let less = rises_above x xs rise.1 u j in omega arith) ])
       | false ↦ λ is f. elim i as (λ _. t ≤ u) [ inl e ↦ absurd (false≢true (sym is ∙ ap test (sym e) ∙ h)) | inr j ↦ first_least test x xs rise.1 t f u j h ]
     ]) refl found
-  where
-    above : (n : ℕ) (xs : List ℕ) → Rises n xs → (x : ℕ) → In x xs → n < x
-    above n [] r x i = absurd i
-    above n (y ∷ xs) r x (inl e) = let a = r.0 in omega arith
-    above n (y ∷ xs) r x (inr i) = let a = r.0 in let b = above y xs r.1 x i in omega arith
 
 module _ {O : Type 0} where
   pub heading_known : (es : List (Placed O)) → AreEdges es → (test : ℕ → Bool) (t : ℕ) → Some t ≡ find test (tables_up es) → IsSome (heading_of es t)
@@ -200,9 +195,9 @@ module _ {O : Type 0} where
     pub shared_told : (t : ℕ) → is_shared es wanted t ≡ true → IsShared (forest es) trees tables t
     shared_told t h =
         let a = any_at (λ n. takes es t n && list_any (takes_too es t n) wanted) wanted h in
-        let p = both_of (takes es t a.0) (list_any (takes_too es t a.0) wanted) a.2 in
+        let p = both_true (takes es t a.0) (list_any (takes_too es t a.0) wanted) a.2 in
         let b = any_at (takes_too es t a.0) wanted p.1 in
-        let q = both_of (not (a.0 == b.0)) (takes es t b.0) b.2 in
+        let q = both_true (not (a.0 == b.0)) (takes es t b.0) b.2 in
         let e = source_link es a.0 t (in_of_test t (sources_or_none es a.0) p.0) in
         let f = source_link es b.0 t (in_of_test t (sources_or_none es b.0) q.1) in (
           e.0,

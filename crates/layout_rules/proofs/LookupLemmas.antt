@@ -21,7 +21,7 @@ use Rattle.layout_rules.specs.Passes.{meet}
 use Rattle.layout_rules.specs.Lookups.{clash, clashes, has_makers, is_made, is_stored, is_taken, is_valid, may_miss, may_stand, numbers_up, sources_or_none, takes}
 use Rattle.layout_rules.proofs.LinkLemmas.{target_listed}
 use Rattle.layout_rules.proofs.ChangeLemmas.{link_number, number_lives}
-use Rattle.layout_rules.proofs.NeededLemmas.{meet_at, meet_true}
+use Rattle.layout_rules.proofs.NeededLemmas.{both_true, meet_at, meet_true}
 
 -- ---- tests of lists
 
@@ -61,10 +61,6 @@ not_off false h k = false≢true k
 
 pub not_on : (b : Bool) → (b ≡ true → ⊥) → not b ≡ true
 not_on b h = ap not (off b h)
-
-pub both_of : (a b : Bool) → (a && b) ≡ true → (a ≡ true) × (b ≡ true)
-both_of true b h = (refl, h)
-both_of false b h = absurd (false≢true h)
 
 pub and_true : (a b : Bool) → a ≡ true → b ≡ true → (a && b) ≡ true
 and_true a b h k = ap (λ (x : Bool). x && b) h ∙ k
@@ -137,7 +133,7 @@ module _ {O : Type 0} where
 
     pub stored_told : (t : ℕ) → is_stored es layout t ≡ true → IsStored (forest es) layout t
     stored_told t h =
-        let p = both_of (is_made es layout t) (not (is_taken es layout t)) h in
+        let p = both_true (is_made es layout t) (not (is_taken es layout t)) h in
         record { made = made_told t p.0; free = λ m. not_off (is_taken es layout t) p.1 (taken_test t m) }
 
     -- ---- valid layouts
@@ -155,7 +151,7 @@ module _ {O : Type 0} where
 
     shared : (n m : ℕ) → clash es n m ≡ true → (e : Link O) × (f : Link O) × In e (forest es) × In f (forest es) × (n ≡ e.number) × (m ≡ f.number) × Share e f × (n ≡ m → ⊥)
     shared n m h =
-        let p = both_of (not (n == m)) (meet (sources_or_none es n) (sources_or_none es m)) h in
+        let p = both_true (not (n == m)) (meet (sources_or_none es n) (sources_or_none es m)) h in
         let t = meet_at (sources_or_none es n) (sources_or_none es m) p.1 in
         let e = source_link es n t.0 t.1 in
         let f = source_link es m t.0 t.2 in
@@ -201,10 +197,10 @@ module _ {O : Type 0} where
 
     pub valid_told : is_valid es layout ≡ true → IsValid (forest es) layout
     valid_told h =
-        let p = both_of (list_all (may_miss es layout) (numbers_up es)) (list_all (may_stand es layout) layout) h in
+        let p = both_true (list_all (may_miss es layout) (numbers_up es)) (list_all (may_stand es layout) layout) h in
         let stand : (n : ℕ) → In n layout → (is_some (edge_of es n) ≡ true) × (has_makers es layout n ≡ true) × (not (clashes es layout n) ≡ true) = λ n i.
-        (let a = both_of (is_some (edge_of es n)) (has_makers es layout n && not (clashes es layout n)) (all_at (may_stand es layout) layout p.1 n i) in
-        let b = both_of (has_makers es layout n) (not (clashes es layout n)) a.1 in
+        (let a = both_true (is_some (edge_of es n)) (has_makers es layout n && not (clashes es layout n)) (all_at (may_stand es layout) layout p.1 n i) in
+        let b = both_true (has_makers es layout n) (not (clashes es layout n)) a.1 in
         (a.0, b.0, b.1)) in
         record {
           live = λ n i. number_lives es n (edge_listed es n (stand n i).0);

@@ -15,7 +15,7 @@ use Rattle.version_graph.specs.Edges.{AreEdges, Rises, made, made_by_edge, numbe
 use Rattle.version_graph.specs.Forest.{Link, forest}
 use Rattle.version_graph.specs.declared.parts.Placed.{Placed}
 use Rattle.version_graph.proofs.SetLemmas.{in_append, in_left, in_right}
-use Rattle.version_graph.proofs.TableLemmas.{numbers_made, passes}
+use Rattle.version_graph.proofs.TableLemmas.{numbers_made, passes, rises_above}
 use Rattle.layout_rules.specs.Layouts.{IsStored}
 use Rattle.layout_rules.proofs.ChangeLemmas.{filter_in}
 use Rattle.layout_rules.proofs.LookupLemmas.{stored_test, stored_told}
@@ -137,11 +137,6 @@ pub rises_both : (n : ℕ) (xs ys : List ℕ) → Rises n xs → Rises 0 ys → 
 rises_both n [] ys a b h k = rises_first n ys b h
 rises_both n (x ∷ xs) ys a b h k = (a.0, rises_both x xs ys a.1 b (λ y j. k x y (inl refl) j) (λ z y i j. k z y (inr i) j))
 
-above_zero : (n : ℕ) (xs : List ℕ) → Rises n xs → (x : ℕ) → In x xs → n < x
-above_zero n [] r x i = absurd i
-above_zero n (y ∷ xs) r x (inl e) = let a = r.0 in omega arith
-above_zero n (y ∷ xs) r x (inr i) = let a = r.0 in let b = above_zero y xs r.1 x i in omega arith
-
 module _ {O : Type 0} where
   up_next : (e : Placed O) (es : List (Placed O)) → tables_up (e ∷ es) ≡ tables_up es ++ e.tables
   up_next e es = ap (λ (l : List (Placed O)). tables_along l) (reverse_next e es) ∙ along_both (reverse es) (e ∷ []) ∙ ap (λ (l : List ℕ). tables_up es ++ l) (append-nil e.tables)
@@ -160,7 +155,7 @@ module _ {O : Type 0} where
   tables_rise [] edges = tt
   tables_rise (e ∷ es) edges =
       subst (λ (l : List ℕ). Rises 0 l) (sym (up_next e es))
-      (rises_both 0 (tables_up es) e.tables (tables_rise es edges.1) edges.0.rising (λ y j. above_zero 0 e.tables edges.0.rising y j) (λ x y i j. edges.0.above x y (up_made es edges.1 x i) j))
+      (rises_both 0 (tables_up es) e.tables (tables_rise es edges.1) edges.0.rising (λ y j. rises_above 0 e.tables edges.0.rising y j) (λ x y i j. edges.0.above x y (up_made es edges.1 x i) j))
 
   -- each target is listed
   pub target_up : (es : List (Placed O)) (f : Link O) (t : ℕ) → In f (forest es) → In t f.targets → In t (tables_up es)

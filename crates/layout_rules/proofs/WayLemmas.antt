@@ -12,8 +12,8 @@ use Rattle.layout_rules.specs.Passes.{meet}
 use Rattle.layout_rules.specs.Ways.{Reads, ReadsFrom}
 use Rattle.layout_rules.specs.Reached.{down_from, up_from}
 use Rattle.layout_rules.proofs.LinkLemmas.{maker_in, source_made}
-use Rattle.layout_rules.proofs.NeededLemmas.{meet_at, meet_true}
-use Rattle.layout_rules.proofs.LookupLemmas.{and_true, both_of, not_off, not_on}
+use Rattle.layout_rules.proofs.NeededLemmas.{both_true, meet_at, meet_true}
+use Rattle.layout_rules.proofs.LookupLemmas.{and_true, not_off, not_on}
 
 module _ {O : Type 0} (layout : List ℕ) where
   abbrev ups : Link O → List ℕ → Bool
@@ -73,7 +73,7 @@ module _ {O : Type 0} (layout : List ℕ) where
       let later = λ (e : Link O) (t u : ℕ) (j : In e es). step e t u (inr j) in
       (elim (ups x ts) as (λ b. ups x ts ≡ b → In t (cond b (up_from layout es (ts ++ x.sources)) (up_from layout es ts)) → P t) [
         | true ↦ λ is. (
-            let p = both_of (not (is_in x.number layout)) (meet x.targets ts) is in
+            let p = both_true (not (is_in x.number layout)) (meet x.targets ts) is in
             let m = meet_at x.targets ts p.1 in
             up_holds P es later (ts ++ x.sources) (λ u j. elim (in_append u ts x.sources j) as (λ _. P u) [
               | inl k ↦ h u k
@@ -100,7 +100,7 @@ module _ {O : Type 0} (layout : List ℕ) where
       (elim (downs x (down_from layout es ts)) as (λ b. downs x (down_from layout es ts) ≡ b → In t (cond b (down_from layout es ts ++ x.targets) (down_from layout es ts)) → In t ts ⊎ IsMade (x ∷ es) layout t) [
         | true ↦ λ is j. elim (in_append t (down_from layout es ts) x.targets j) as (λ _. In t ts ⊎ IsMade (x ∷ es) layout t) [
           | inl k ↦ older k
-          | inr k ↦ inr (x, inl refl, in_of_test x.number layout (both_of (is_in x.number layout) (meet x.sources (down_from layout es ts)) is).0, k)
+          | inr k ↦ inr (x, inl refl, in_of_test x.number layout (both_true (is_in x.number layout) (meet x.sources (down_from layout es ts)) is).0, k)
         ]
         | false ↦ λ is j. older j
       ]) refl i
@@ -141,7 +141,7 @@ module _ {O : Type 0} (layout : List ℕ) where
         | true ↦ λ is j. elim (in_append t (down_from layout es ts) x.targets j) as (λ _. P t) [
           | inl k ↦ older t k
           | inr k ↦
-              let p = both_of (is_in x.number layout) (meet x.sources (down_from layout es ts)) is in
+              let p = both_true (is_in x.number layout) (meet x.sources (down_from layout es ts)) is in
               let m = meet_at x.sources (down_from layout es ts) p.1 in
               step x m.0 t (inl refl) (in_of_test x.number layout p.0) m.1 k (older m.0 m.2)
         ]

@@ -1,5 +1,5 @@
 -- The way to storage by edges, and what it lists.
-use Rattle.std.specs.Prelude.{◌&&◌, ◌||◌, ◌↔◌, ◌⊎◌, if◌then◌else◌, Option, Some, None, option_to_list, slice_get}
+use Rattle.std.specs.Prelude.{◌&&◌, ◌||◌, ◌↔◌, if◌then◌else◌, Option, Some, None, option_to_list, slice_get}
 use Rattle.std.proofs.Common.{◌≡◌, ℕ, ◌+◌, ◌-◌, ◌<◌, ◌≤◌, List, [], ◌∷◌, ◌++◌, Bool, true, false, not, cond, map, length, take, inl, inr, refl, sym, ap, ◌∙◌, subst, arith}
 use Rattle.std.proofs.lemmas.List.{append_assoc, append-nil, reverse-reverse, take_all}
 use mathlib.Core.List.{reverse}
@@ -15,8 +15,8 @@ use Rattle.layout_rules.specs.Passes.{meet}
 use Rattle.layout_rules.specs.Ways.{IsOnWay, ReadsOver}
 use Rattle.layout_rules.specs.Lookups.{sources_or_none}
 use Rattle.layout_rules.specs.Reached.{down_from, down_with, goes_down, goes_up, up_from, up_with, way_along, way_with}
-use Rattle.layout_rules.proofs.NeededLemmas.{meet_at, meet_true}
-use Rattle.layout_rules.proofs.LookupLemmas.{and_true, both_of, not_off, not_on, sources_link}
+use Rattle.layout_rules.proofs.NeededLemmas.{both_true, either_true, meet_at, meet_true}
+use Rattle.layout_rules.proofs.LookupLemmas.{and_true, not_off, not_on, sources_link}
 use Rattle.layout_rules.proofs.PassLemmas.{map_reverse, rises_lower, take_next}
 use Rattle.layout_rules.proofs.DownLemmas.{Beside, SameSides, below, below_next, beside, link_listed}
 use Rattle.layout_rules.proofs.CloseLemmas.{numbers_rise}
@@ -145,23 +145,19 @@ module _ {O : Type 0} (es : List (Placed O)) (edges : AreEdges es) (layout : Lis
   or_right true b h = refl
   or_right false b h = h
 
-  or_either : (a b : Bool) → (a || b) ≡ true → (a ≡ true) ⊎ (b ≡ true)
-  or_either true b h = inl refl
-  or_either false b h = inr h
-
   module _ (valid : IsValid (forest es) layout) (t : ℕ) where
     abbrev found : List ℕ
     found = reached (forest es) (is_forest es edges) layout valid t
 
     over_edge : (e : Placed O) (f : Link O) → In f (forest es) → SameSides e f → goes found e ≡ true → (u : ℕ) × In u found × ReadsOver (forest es) layout u f
     over_edge e f i same h =
-        elim (or_either (goes_up layout found e) (goes_down es layout found e) h) as (λ _. (u : ℕ) × In u found × ReadsOver (forest es) layout u f) [
+        elim (either_true (goes_up layout found e) (goes_down es layout found e) h) as (λ _. (u : ℕ) × In u found × ReadsOver (forest es) layout u f) [
           | inl a ↦ (
-              let p = both_of (not (is_in e.number layout)) (meet e.tables found) a in
+              let p = both_true (not (is_in e.number layout)) (meet e.tables found) a in
               let m = meet_at e.tables found p.1 in
               (m.0, m.2, inl (subst (λ (l : List ℕ). In m.0 l) same.2 m.1, (λ has. not_off (is_in e.number layout) p.0 (is_in_true e.number layout (subst (λ (k : ℕ). In k layout) (sym same.0) has))))))
           | inr a ↦ (
-              let p = both_of (is_in e.number layout) (meet (sources_or_none es e.number) found) a in
+              let p = both_true (is_in e.number layout) (meet (sources_or_none es e.number) found) a in
               let m = meet_at (sources_or_none es e.number) found p.1 in
               let takes = subst (λ (l : List ℕ). In m.0 l) (sources_beside e f i same) m.1 in
               let has = subst (λ (k : ℕ). In k layout) same.0 (in_of_test e.number layout p.0) in

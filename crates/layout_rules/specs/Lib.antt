@@ -4,6 +4,7 @@ pub mod Changes
 pub mod Closing
 pub mod Passes
 pub mod Lookups
+pub mod Choices
 pub mod Calls
 pub mod Reached
 pub mod Ways

@@ -1,11 +1,15 @@
 //! Layouts: which operators' data are stored on their target side, and which on their source side.
 //!
-//! A layout is the set of operators that are stored on their target side (`specs/Layouts.antt`). A
-//! move to another layout goes operator by operator (`specs/Moves.antt`); evolutions and drops
-//! change a layout as `specs/Changes.antt` says; closing finds the layout that stores named tables
-//! (`specs/Closing.antt`); and a table that isn't stored is read over the operators on its way to
-//! storage (`specs/Ways.antt`). All of these are over numbers of operators and tables. The crate
-//! knows nothing of what an operator does, nor of rows: `O` is any type.
+//! A layout is the set of operators that are stored on their target side. It promises the crates
+//! above that `is_valid` says of a layout exactly whether it is valid, and that `stored_tables` gives
+//! the tables that it stores (`specs/Layouts.antt`); that `close` finds the least layout of the named
+//! trees that stores the named tables, leaves other trees as they are, and is refused exactly where a
+//! name is unknown, operators share a table or a named table would not be stored
+//! (`specs/Closing.antt`); and that `way_to_storage` gives the operators over which a table is read
+//! (`specs/Ways.antt`). By the laws of `specs/Laws.antt` a move passes through valid layouts alone
+//! (`specs/Moves.antt`), and evolutions, drops and closing leave valid ones (`specs/Changes.antt`).
+//! All of this is over numbers of operators and tables. The crate knows nothing of what an operator
+//! does, nor of rows: `O` is any type.
 #![tactic(auto)]
 
 mod closing;

@@ -48,7 +48,8 @@ fn choose<O>(
     tables: &[u32],
     table: &Option<Name>,
 ) -> Result<Option<Vec<u32>>, Memory>
-    ensures { IfOk result (λ found. option_map (λ made. made.items) found ≡ chosen graph.now.edges tables.now table.now) }
+    ensures { IfOk result (λ found. option_map (λ made. made.items) found
+        ≡ chosen graph.now.edges tables.now table.now) }
 {
     let Some(name) = table else {
         return Ok(Some(copy(alloc, tables)?));
@@ -65,7 +66,8 @@ pub fn tables_of<O>(
     graph: &Graph<O>,
     target: &Target,
 ) -> Result<Option<Vec<u32>>, Memory>
-    ensures { IfOk result (λ found. option_map (λ made. made.items) found ≡ tables_of_lem graph.now target.now) }
+    ensures { IfOk result (λ found. option_map (λ made. made.items) found
+        ≡ tables_of_lem graph.now target.now) }
 {
     match graph.tables_of(&target.version) {
         Some(tables) => choose(alloc, graph, tables, &target.table),

@@ -5,7 +5,8 @@ ghost use Rattle.std.specs.Option.{option_copied};
 ghost use Rattle.version_graph.specs.Edges.{AreEdges};
 ghost use Rattle.version_graph.specs.Forest.{forest, tree};
 ghost use Rattle.layout_rules.specs.Passes.{needed as needed_lem};
-ghost use Rattle.layout_rules.specs.Lookups.{climbed as climbed_lem, in_trees as in_trees_lem, is_needed as is_needed_lem, needed_with, numbers_up, stays as stays_lem, tables_with};
+ghost use Rattle.layout_rules.specs.Lookups.{climbed as climbed_lem, in_trees as in_trees_lem, is_needed as is_needed_lem, needed_with, numbers_up, tables_with};
+ghost use Rattle.layout_rules.specs.Choices.{is_chosen};
 
 use crate::storing::{holds, sources_of};
 use crate::validity::{meet, number_at};
@@ -85,7 +86,8 @@ pub fn needed<O>(
     trees: &[u32],
     named: Vec<u32>,
 ) -> Result<Vec<u32>, Memory>
-    ensures value { IfOk result (λ made. made.items ≡ needed_lem (in_trees_lem graph.now.edges trees.now) (forest graph.now.edges) named.items) }
+    ensures value { IfOk result (λ made. made.items
+        ≡ needed_lem (in_trees_lem graph.now.edges trees.now) (forest graph.now.edges) named.items) }
     ensures edges { AreEdges graph.now.edges }
 {
     let mut left = graph.live_operators();
@@ -107,7 +109,7 @@ pub struct Choice<'a> {
 }
 
 fn stays<O>(graph: &Graph<O>, choice: Choice<'_>, operator: u32) -> bool
-    ensures { result ≡ stays_lem graph.now.edges choice.entry.trees.now choice.entry.wanted.now choice.entry.layout.now operator }
+    ensures { result ≡ is_chosen graph.now.edges choice.entry operator }
 {
     if in_trees(graph, choice.trees, operator) {
         holds(choice.wanted, operator)
@@ -123,7 +125,7 @@ fn push_staying<O>(
     made: &mut List<u32>,
 ) -> Result<(), Memory>
     ensures { OnOk result (made.new ≡ made.old ++ filter
-        (stays_lem graph.now.edges choice.entry.trees.now choice.entry.wanted.now choice.entry.layout.now) (option_to_list operator)) }
+        (is_chosen graph.now.edges choice.entry) (option_to_list operator)) }
 {
     let Some(number) = operator else {
         return Ok(());
@@ -137,7 +139,7 @@ fn push_staying<O>(
 /// The new layout, ascending. It takes time in the square of the number of live operators.
 pub fn chosen<O>(alloc: Global, graph: &Graph<O>, choice: Choice<'_>) -> Result<List<u32>, Memory>
     ensures value { IfOk result (λ made. made ≡ filter
-        (stays_lem graph.now.edges choice.entry.trees.now choice.entry.wanted.now choice.entry.layout.now) (numbers_up graph.now.edges)) }
+        (is_chosen graph.now.edges choice.entry) (numbers_up graph.now.edges)) }
     ensures edges { AreEdges graph.now.edges }
 {
     let mut made = List::new(alloc);

@@ -28,7 +28,8 @@ fn another_takes<O>(graph: &Graph<O>, wanted: &[u32], table: u32, operator: u32)
 }
 
 fn shares<O>(graph: &Graph<O>, wanted: &[u32], table: u32, operator: u32) -> bool
-    ensures { result ≡ (takes_lem graph.now.edges table operator && list_any (takes_too_lem graph.now.edges table operator) wanted.now) }
+    ensures { result ≡ (takes_lem graph.now.edges table operator
+        && list_any (takes_too_lem graph.now.edges table operator) wanted.now) }
 {
     takes(graph, table, operator) && another_takes(graph, wanted, table, operator)
 }

@@ -94,7 +94,8 @@ fn push_stored_at<O>(
 }
 
 fn all_stored<O>(alloc: Global, graph: &Graph<O>, layout: &[u32]) -> Result<List<u32>, Memory>
-    ensures value { IfOk result (λ made. made ≡ filter (is_stored_lem graph.now.edges layout.now) (tables_up graph.now.edges)) }
+    ensures value { IfOk result (λ made. made
+        ≡ filter (is_stored_lem graph.now.edges layout.now) (tables_up graph.now.edges)) }
     ensures edges { AreEdges graph.now.edges }
 {
     let mut made = List::new(alloc);
@@ -111,7 +112,8 @@ pub fn stored_tables<O>(
     graph: &Graph<O>,
     layout: &Layout,
 ) -> Result<List<u32>, Memory>
-    ensures stored { IfOk result (λ made. (t : ℕ) → In t made ↔ IsStored (forest graph.now.edges) layout.now.operators t) }
+    ensures stored { IfOk result (λ made. (t : ℕ) → In t made
+        ↔ IsStored (forest graph.now.edges) layout.now.operators t) }
     ensures ascending { IfOk result (λ made. Rises 0 made) }
 {
     all_stored(alloc, graph, layout.operators.as_slice())

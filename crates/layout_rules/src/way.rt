@@ -94,7 +94,8 @@ fn push_way<O>(
     placed: Option<&Placed<O>>,
     made: &mut List<u32>,
 ) -> Result<(), Memory>
-    ensures { OnOk result (made.new ≡ made.old ++ way_with graph.now.edges layout.now tables.now (option_copied placed.entry)) }
+    ensures { OnOk result (made.new ≡ made.old
+        ++ way_with graph.now.edges layout.now tables.now (option_copied placed.entry)) }
 {
     let Some(edge) = placed else {
         return Ok(());
@@ -111,7 +112,8 @@ fn list_way<O>(
     layout: &[u32],
     tables: &[u32],
 ) -> Result<List<u32>, Memory>
-    ensures { IfOk result (λ made. made ≡ way_along graph.now.edges layout.now tables.now (reverse graph.now.edges)) }
+    ensures { IfOk result (λ made. made
+        ≡ way_along graph.now.edges layout.now tables.now (reverse graph.now.edges)) }
 {
     let mut made = List::new(alloc);
     for place in 0..graph.live_operators() {
@@ -137,7 +139,8 @@ pub fn way_to_storage<O>(
     table: u32,
 ) -> Result<List<u32>, Memory>
     requires { IsValid (forest graph.now.edges) layout.now.operators }
-    ensures way { IfOk result (λ made. (n : ℕ) → In n made ↔ IsOnWay (forest graph.now.edges) layout.now.operators table n) }
+    ensures way { IfOk result (λ made. (n : ℕ) → In n made
+        ↔ IsOnWay (forest graph.now.edges) layout.now.operators table n) }
     ensures ascending { IfOk result (λ made. Rises 0 made) }
 {
     let operators = layout.operators.as_slice();
