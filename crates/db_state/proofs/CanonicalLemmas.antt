@@ -2,7 +2,7 @@
 use Rattle.std.specs.Prelude.{◌⊎◌, ◌==◌, ◌&&◌, ◌||◌}
 use Rattle.std.specs.List.{list_any}
 use Rattle.std.proofs.Common.{◌≡◌, ℕ, List, [], ◌∷◌, Bool, true, false, cond, not, inl, inr, refl, sym, ap, ◌∙◌, subst, arith}
-use Rattle.std.proofs.lemmas.Bool.{cond-true, cond-false, eq-eqb, ne_eqb, false≢true}
+use Rattle.std.proofs.lemmas.Bool.{and_from, cond-true, cond-false, eq-eqb, ne_eqb, false≢true}
 use Rattle.version_graph.specs.Sets.{In}
 use Rattle.version_graph.specs.Edges.{AreEdges, is_in, numbers}
 use Rattle.version_graph.specs.Forest.{Link, crossing, forest, link}
@@ -22,10 +22,6 @@ use Rattle.db_state.specs.Canonical.{SameStored, auxes_of, is_made, is_taken, pa
 use Rattle.db_state.proofs.LinkLemmas.{number_listed, number_lives, same_test}
 
 -- ---- the tests of stored tables
-
-both : (a b : Bool) → a ≡ true → b ≡ true → (a && b) ≡ true
-both true b h k = k
-both false b h k = absurd (false≢true h)
 
 both_of : (a b : Bool) → (a && b) ≡ true → (a ≡ true) × (b ≡ true)
 both_of true b h = (refl, h)
@@ -49,7 +45,7 @@ module _ {O : Type 0} (side : Link O → List ℕ) (es : List (Link O)) (layout 
   on_side e = is_in e.number layout && is_in t (side e)
 
   side_true : (e : Link O) × In e es × In e.number layout × In t (side e) → list_any on_side es ≡ true
-  side_true m = any_true on_side es m.0 m.1 (both (is_in m.0.number layout) (is_in t (side m.0)) (is_in_true m.0.number layout m.2) (is_in_true t (side m.0) m.3))
+  side_true m = any_true on_side es m.0 m.1 (and_from (is_in m.0.number layout) (is_in t (side m.0)) (is_in_true m.0.number layout m.2) (is_in_true t (side m.0) m.3))
 
   side_found : list_any on_side es ≡ true → (e : Link O) × In e es × In e.number layout × In t (side e)
   side_found h =
@@ -63,7 +59,7 @@ module _ {O : Type 0} (es : List (Link O)) (layout : List ℕ) (t : ℕ) where
 
   stored_true : IsStored es layout t → stores ≡ true
   stored_true k =
-      both (is_made es layout t) (not (is_taken es layout t)) (side_true (λ (e : Link O). e.targets) es layout t k.made)
+      and_from (is_made es layout t) (not (is_taken es layout t)) (side_true (λ (e : Link O). e.targets) es layout t k.made)
       ((elim (is_taken es layout t) as (λ b. is_taken es layout t ≡ b → not b ≡ true) [
         | true ↦ λ is. absurd (k.free (side_found (λ (e : Link O). e.sources) es layout t is))
         | false ↦ λ is. refl

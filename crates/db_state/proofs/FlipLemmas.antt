@@ -1,6 +1,6 @@
 -- A flip into a valid layout leaves the state.
 use Rattle.std.specs.Prelude.{◌↔◌, ◌==◌}
-use Rattle.std.proofs.Common.{◌≡◌, ℕ, List, [], ◌∷◌, Bool, true, false, not, inl, inr, refl, sym, ap, ◌∙◌, subst, map}
+use Rattle.std.proofs.Common.{◌≡◌, ℕ, zero, suc, List, [], ◌∷◌, Bool, true, false, not, inl, inr, refl, sym, ap, ◌∙◌, subst, map}
 use Rattle.std.proofs.lemmas.Bool.{cases_eq, cond-false, cond-true, eq-eqb, ne_eqb}
 use Rattle.row_store.specs.Rows.{Rows}
 use Rattle.version_graph.specs.Sets.{Distinct, In}
@@ -13,14 +13,15 @@ use Rattle.op_law.specs.Tables.{Tables}
 use Rattle.op_law.specs.Meaning.{Meaning, PairState}
 use Rattle.op_law.specs.Laws.{Laws}
 use Rattle.layout_rules.specs.Layouts.{IsMade, IsStored, IsValid}
-use Rattle.layout_rules.specs.Moves.{PutsIn, TakesOut}
+use Rattle.layout_rules.specs.Laws.{MovesStayValid}
+use Rattle.layout_rules.specs.Moves.{Flips, PutsIn, TakesOut}
 use Rattle.version_model.specs.Put.{put}
 use Rattle.version_model.specs.States.{State, headings}
 use Rattle.version_model.specs.Steps.{pair_in, way}
 use Rattle.version_model.proofs.PutLemmas.{AsMany, map_same, put_else, put_here, put_one, put_other}
 use Rattle.db_state.specs.Parts.{Parts, Stands, StandsOver, aux_of, stored_way}
 use Rattle.db_state.specs.Reading.{ReadsSources, far_read}
-use Rattle.db_state.specs.Flips.{Turns, flipped, none_for, pair_read}
+use Rattle.db_state.specs.Flips.{MovesParts, Turns, flipped, none_for, pair_read}
 use Rattle.db_state.proofs.LinkLemmas.{apart_at, in_or_out, link_number, not_in_false, same_link, same_maker, same_test}
 use Rattle.db_state.proofs.ReadLemmas.{IsRead, far_right, read_at}
 use Rattle.db_state.proofs.CanonicalLemmas.{either_way}
@@ -75,34 +76,23 @@ module _ {O : Type 0} (es : List (Link O)) (links : IsForest es) (e : Link O) (a
   near_side (inl turns) t i = targets_stored turns.0 turns.1 t (subst (λ (b : Bool). In t (crossing b e).near) (is_in_true e.number layout turns.0) i)
   near_side (inr turns) t i = sources_stored turns.0 turns.1 t (subst (λ (b : Bool). In t (crossing b e).near) (not_in_false e.number layout turns.0) i)
 
-  -- what is stored after was stored before, but the far side
-  kept_out : In e.number layout → TakesOut e.number layout new → (t : ℕ) → IsStored es new t → (In t e.sources → ⊥) → IsStored es layout t
-  kept_out has out t k none = record {
+  -- what is stored after was stored before, unless this operator made or takes it
+  kept : ((m : ℕ) → (m ≡ e.number → ⊥) → In m new ↔ In m layout) → (t : ℕ) → IsStored es new t → (In e.number new → In t e.targets → ⊥) → (In e.number layout → In t e.sources → ⊥) → IsStored es layout t
+  kept others t k unmade spares = record {
     made = elim (cases_eq k.made.0.number e.number) as (λ _. IsMade es layout t) [
-      | inl same ↦ absurd (out.gone (subst (λ (n : ℕ). In n new) same k.made.2))
-      | inr other ↦ (k.made.0, k.made.1, (out.others k.made.0.number other).0 k.made.2, k.made.3)
+      | inl same ↦ absurd (unmade (subst (λ (n : ℕ). In n new) same k.made.2) (is_it k.made.0 k.made.1 same (λ (y : Link O). In t y.targets) k.made.3))
+      | inr other ↦ (k.made.0, k.made.1, (others k.made.0.number other).0 k.made.2, k.made.3)
     ];
     free = λ j. elim (cases_eq j.0.number e.number) as (λ _. ⊥) [
-      | inl same ↦ none (is_it j.0 j.1 same (λ (y : Link O). In t y.sources) j.3)
-      | inr other ↦ k.free (j.0, j.1, (out.others j.0.number other).1 j.2, j.3)
+      | inl same ↦ spares (subst (λ (n : ℕ). In n layout) same j.2) (is_it j.0 j.1 same (λ (y : Link O). In t y.sources) j.3)
+      | inr other ↦ k.free (j.0, j.1, (others j.0.number other).1 j.2, j.3)
     ];
   }
 
-  kept_in : (In e.number layout → ⊥) → PutsIn e.number layout new → (t : ℕ) → IsStored es new t → (In t e.targets → ⊥) → IsStored es layout t
-  kept_in lacks comes t k none = record {
-    made = elim (cases_eq k.made.0.number e.number) as (λ _. IsMade es layout t) [
-      | inl same ↦ absurd (none (is_it k.made.0 k.made.1 same (λ (y : Link O). In t y.targets) k.made.3))
-      | inr other ↦ (k.made.0, k.made.1, (comes.others k.made.0.number other).0 k.made.2, k.made.3)
-    ];
-    free = λ j. elim (cases_eq j.0.number e.number) as (λ _. ⊥) [
-      | inl same ↦ lacks (subst (λ (n : ℕ). In n layout) same j.2)
-      | inr other ↦ k.free (j.0, j.1, (comes.others j.0.number other).1 j.2, j.3)
-    ];
-  }
-
+  -- so all but the far side was
   still_side : (turns : Turns e.number layout new) (t : ℕ) → IsStored es new t → (In t (stored_way layout e).far → ⊥) → IsStored es layout t
-  still_side (inl turns) t k none = kept_out turns.0 turns.1 t k (λ i. none (subst (λ (b : Bool). In t (crossing b e).far) (sym (is_in_true e.number layout turns.0)) i))
-  still_side (inr turns) t k none = kept_in turns.0 turns.1 t k (λ i. none (subst (λ (b : Bool). In t (crossing b e).far) (sym (not_in_false e.number layout turns.0)) i))
+  still_side (inl turns) t k none = kept turns.1.others t k (λ a _. turns.1.gone a) (λ _ i. none (subst (λ (b : Bool). In t (crossing b e).far) (sym (is_in_true e.number layout turns.0)) i))
+  still_side (inr turns) t k none = kept turns.1.others t k (λ _ i. none (subst (λ (b : Bool). In t (crossing b e).far) (sym (not_in_false e.number layout turns.0)) i)) (λ a _. turns.0 a)
 
 -- ---- sides
 
@@ -124,11 +114,11 @@ distinct_at [] e x links i = absurd i
 distinct_at {O} (f ∷ es) e x links (inl same) = subst (λ (y : Link O). Distinct (crossing x y).far) (sym same) (elim x as (λ b. Distinct (crossing b f).far) [ true ↦ links.0.sources | false ↦ links.0.targets ])
 distinct_at (f ∷ es) e x links (inr i) = distinct_at es e x links.1 i
 
-as_many_map : {A : Type 0} (f : ℕ → A) (ks : List ℕ) → AsMany ks (map f ks)
+pub as_many_map : {A : Type 0} (f : ℕ → A) (ks : List ℕ) → AsMany ks (map f ks)
 as_many_map f [] = tt
 as_many_map f (k ∷ ks) = as_many_map f ks
 
-same_map : {A : Type 0} (f g : ℕ → A) (ks : List ℕ) → map f ks ≡ map g ks → (n : ℕ) → In n ks → f n ≡ g n
+pub same_map : {A : Type 0} (f g : ℕ → A) (ks : List ℕ) → map f ks ≡ map g ks → (n : ℕ) → In n ks → f n ≡ g n
 same_map f g [] h n i = absurd i
 same_map f g (k ∷ ks) h n (inl e) = subst (λ (x : ℕ). f x ≡ g x) (sym e) (cc)
 same_map f g (k ∷ ks) h n (inr i) = same_map f g ks (cc) n i
@@ -191,21 +181,12 @@ module _ {O : Type 0} (meaning : O → Meaning) (laws : (o : O) → Laws (meanin
       let long = subst (λ (ts : Tables). AsMany here.far ts) (sym far_is) (as_many_map s.tables here.far) in
       same_map after.stored s.tables here.far (put_here before here.far (far_read meaning parts here parts.stored) (distinct_at (forest es) e x links at) long ∙ far_is) t i
 
-  -- the near side is the far one of the way back
-  near_gone : (t : ℕ) → In t here.near → IsStored (forest es) new t → In t here.far
-  near_gone t i k =
-      elim (in_or_out t here.far) as (λ _. In t here.far) [
-        | inl j ↦ j
-        | inr o ↦ absurd (gone turns t i k)
-      ]
-    where
-      gone : Turns e.number parts.layout new → (t : ℕ) → In t here.near → IsStored (forest es) new t → ⊥
-      gone (inl out) t i k =
-          let mine = subst (λ (b : Bool). In t (crossing b e).near) (is_in_true e.number parts.layout out.0) i in
-          out.1.gone (subst (λ (y : Link O). In y.number new) (same_maker (forest es) k.made.0 e t links k.made.1 at k.made.3 mine) k.made.2)
-      gone (inr comes) t i k =
-          let mine = subst (λ (b : Bool). In t (crossing b e).near) (not_in_false e.number parts.layout comes.0) i in
-          k.free (e, at, comes.1.there, mine)
+  -- the near side isn't stored after
+  near_gone : Turns e.number parts.layout new → (t : ℕ) → In t here.near → IsStored (forest es) new t → ⊥
+  near_gone (inl out) t i k =
+      let mine = subst (λ (b : Bool). In t (crossing b e).near) (is_in_true e.number parts.layout out.0) i in
+      out.1.gone (subst (λ (y : Link O). In y.number new) (same_maker (forest es) k.made.0 e t links k.made.1 at k.made.3 mine) k.made.2)
+  near_gone (inr comes) t i k = k.free (e, at, comes.1.there, subst (λ (b : Bool). In t (crossing b e).near) (not_in_false e.number parts.layout comes.0) i)
 
   away : (t : ℕ) → (In t here.far → ⊥) → (In t here.near → ⊥) → after.stored t ≡ parts.stored t
   away t far near = put_other (put parts.stored here.near (none_for here.near)) here.far (far_read meaning parts here parts.stored) t far ∙ put_other parts.stored here.near (none_for here.near) t near
@@ -214,7 +195,7 @@ module _ {O : Type 0} (meaning : O → Meaning) (laws : (o : O) → Laws (meanin
   stored_is t k =
       elim (in_or_out t here.far) as (λ _. after.stored t ≡ s.tables t) [
         | inl i ↦ far_put t i
-        | inr o ↦ away t o (λ i. o (near_gone t i k)) ∙ st.stored t (still_side (forest es) links e at parts.layout new valid_new turns t k o)
+        | inr o ↦ away t o (λ i. near_gone turns t i k) ∙ st.stored t (still_side (forest es) links e at parts.layout new valid_new turns t k o)
       ]
 
   back : Turns e.number new parts.layout
@@ -275,3 +256,19 @@ module _ {O : Type 0} (meaning : O → Meaning) (laws : (o : O) → Laws (meanin
       memories = st.no_more.memories;
     };
   }
+
+-- ---- a whole move
+
+-- a flip of a move turns its operator
+pub flip_turns : {O : Type 0} (es : List (Link O)) (goal layout new : List ℕ) (flip : Flips es goal layout new) → In flip.0 es × Turns flip.0.number layout new
+flip_turns es goal layout new flip = elim flip.1 as (λ _. In flip.0 es × Turns flip.0.number layout new) [ inl d ↦ (d.0.lives, inl (d.0.stored, d.1)) | inr u ↦ (u.0.lives, inr (u.0.missing, u.1)) ]
+
+-- EACH FLIP OF A MOVE LEAVES THE STATE
+pub moves_stand : {O : Type 0} (meaning : O → Meaning) → ((o : O) → Laws (meaning o)) → ReadsSources meaning → MovesStayValid O → (es : List (Placed O)) → AreEdges es → (goal : List ℕ) → IsValid (forest es) goal → (s : State) (n : ℕ) (parts last : Parts) → IsValid (forest es) parts.layout
+    → Stands meaning es parts s → MovesParts meaning (forest es) goal n parts last → IsValid (forest es) last.layout × Stands meaning es last s
+moves_stand meaning laws reads moves es edges goal valid_goal s zero parts last valid st same = subst (λ (p : Parts). IsValid (forest es) p.layout × Stands meaning es p s) same (valid, st)
+moves_stand meaning laws reads moves es edges goal valid_goal s (suc n) parts last valid st rest =
+    let t = flip_turns (forest es) goal parts.layout rest.0 rest.1 in
+    let valid_next = moves es edges goal valid_goal 1 parts.layout rest.0 valid (rest.0, rest.1, refl) in
+    moves_stand meaning laws reads moves es edges goal valid_goal s n (flipped meaning parts rest.1.0 rest.0) last valid_next
+    (flip_stands meaning laws reads es edges parts valid rest.1.0 t.0 rest.0 t.1 valid_next s st) rest.2

@@ -2,3 +2,5 @@ mod LinkLemmas
 mod ReadLemmas
 mod CanonicalLemmas
 mod FlipLemmas
+mod GrowLemmas
+mod DropLemmas

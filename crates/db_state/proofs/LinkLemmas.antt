@@ -1,12 +1,12 @@
 -- Links of a forest by themselves, and which tables a layout stores.
 use Rattle.std.specs.Prelude.{◌⊎◌, ◌↔◌}
-use Rattle.std.proofs.Common.{◌≡◌, ℕ, List, [], ◌∷◌, true, false, inl, inr, refl, sym, ap, ◌∙◌, subst, map, arith}
-use Rattle.std.proofs.lemmas.Bool.{false≢true}
+use Rattle.std.proofs.Common.{◌≡◌, ℕ, List, [], ◌∷◌, Bool, true, false, inl, inr, refl, sym, ap, ◌∙◌, subst, map, arith, cond, filter}
+use Rattle.std.proofs.lemmas.Bool.{cond-true, false≢true}
 use Rattle.version_graph.specs.Sets.{In}
 use Rattle.version_graph.specs.Edges.{is_in, numbers}
 use Rattle.version_graph.specs.Forest.{Link, forest, link}
 use Rattle.version_graph.specs.declared.parts.Placed.{Placed}
-use Rattle.version_graph.proofs.SetLemmas.{in_left, in_of_test, in_right, is_in_true}
+use Rattle.version_graph.proofs.SetLemmas.{in_append, in_left, in_of_test, in_right, is_in_true}
 use Rattle.version_graph.proofs.WalkLaws.{Fits, IsForest, link_numbers, link_targets, sources_older, targets_apart}
 use Rattle.version_model.proofs.HeadingLemmas.{in_or_not}
 use Rattle.layout_rules.specs.Layouts.{IsMade, IsStored, IsTaken, Lives}
@@ -33,6 +33,13 @@ same_test n ks ls both =
     (λ i. is_in_true n ks (both.1 i) ∙ sym (is_in_true n ls i))
     (λ o. not_in_false n ks (λ i. o (both.0 i)) ∙ sym (not_in_false n ls o))
 
+pub filter_in : (test : ℕ → Bool) (n : ℕ) (ns : List ℕ) → In n ns → test n ≡ true → In n (filter test ns)
+filter_in test n [] i is = i
+filter_in test n (k ∷ ns) (inl same) is =
+    subst (λ (l : List ℕ). In n l) (sym (cond-true (test k) (k ∷ filter test ns) (filter test ns) (ap test (sym same) ∙ is))) (inl same)
+filter_in test n (k ∷ ns) (inr i) is =
+    elim (test k) as (λ b. In n (cond b (k ∷ filter test ns) (filter test ns))) [ true ↦ inr (filter_in test n ns i is) | false ↦ filter_in test n ns i is ]
+
 pub map_none : {X Y : Type 0} (f : X → Y) (xs : List X) → map f xs ≡ [] → xs ≡ []
 map_none f [] none = refl
 map_none f (x ∷ xs) none = let clash : f x ∷ map f xs ≡ [] = none in absurd (let no : ⊥ = cc in no)
@@ -49,6 +56,15 @@ module _ {O : Type 0} where
   target_listed [] e t i j = absurd i
   target_listed (x ∷ es) e t (inl h) j = in_left t x.targets (link_targets es) (subst (λ (y : Link O). In t y.targets) h j)
   target_listed (x ∷ es) e t (inr i) j = in_right t x.targets (link_targets es) (target_listed es e t i j)
+
+  -- each listed target is made by a link
+  pub target_link : (es : List (Link O)) (t : ℕ) → In t (link_targets es) → (e : Link O) × In e es × In t e.targets
+  target_link [] t i = absurd i
+  target_link (x ∷ es) t i =
+      elim (in_append t x.targets (link_targets es) i) as (λ _. (e : Link O) × In e (x ∷ es) × In t e.targets) [
+        | inl j ↦ (x, inl refl, j)
+        | inr j ↦ (let m = target_link es t j in (m.0, inr m.1, m.2))
+      ]
 
   -- sources are made
   pub source_made : (es : List (Link O)) (e : Link O) (t : ℕ) → IsForest es → In e es → In t e.sources → In t (link_targets es)

@@ -1,10 +1,10 @@
 -- One operator's data moves to its other side.
-use Rattle.std.specs.Prelude.{◌⊎◌, ℕ, List, [], ◌∷◌, map}
+use Rattle.std.specs.Prelude.{◌≡◌, ◌⊎◌, ℕ, zero, suc, List, [], ◌∷◌, map}
 use Rattle.version_graph.specs.Sets.{In}
 use Rattle.version_graph.specs.Forest.{Link}
 use Rattle.op_law.specs.Tables.{Tables}
 use Rattle.op_law.specs.Meaning.{Meaning, PairState}
-use Rattle.layout_rules.specs.Moves.{PutsIn, TakesOut}
+use Rattle.layout_rules.specs.Moves.{Flips, PutsIn, TakesOut}
 use Rattle.version_model.specs.Put.{put}
 use Rattle.version_model.specs.Steps.{way}
 use Rattle.db_state.specs.Parts.{Parts, stored_way}
@@ -35,3 +35,8 @@ flipped meaning parts e new =
       aux = put parts.aux (e.number ∷ []) ((way p.backward (meaning e.operator)).aux_at_target pair ∷ []);
       memory = parts.memory;
     }
+
+-- so many flips of a move towards a goal, from the first parts to the last
+abbrev pub MovesParts : {O : Type 0} → (O → Meaning) → List (Link O) → List ℕ → ℕ → Parts → Parts → Type 0
+MovesParts meaning es goal zero parts last = parts ≡ last
+MovesParts meaning es goal (suc n) parts last = (new : List ℕ) × (flip : Flips es goal parts.layout new) × MovesParts meaning es goal n (flipped meaning parts flip.0 new) last

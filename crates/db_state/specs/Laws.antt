@@ -1,19 +1,27 @@
 -- Laws of what is stored.
-use Rattle.std.specs.Prelude.{◌≡◌, ℕ, List}
+use Rattle.std.specs.Prelude.{◌≡◌, ℕ, List, ◌++◌, map}
+use Rattle.row_store.specs.Rows.{Rows}
 use Rattle.version_graph.specs.Sets.{In}
 use Rattle.version_graph.specs.Tables.{table_numbers}
 use Rattle.version_graph.specs.Edges.{AreEdges, made, numbers}
+use Rattle.version_graph.specs.Evolve.{grown}
+use Rattle.version_graph.specs.Dropped.{staying}
 use Rattle.version_graph.specs.Forest.{Link, forest}
+use Rattle.version_graph.specs.declared.parts.Edge.{Edge}
 use Rattle.version_graph.specs.declared.parts.Placed.{Placed}
 use Rattle.op_law.specs.Meaning.{Meaning}
+use Rattle.layout_rules.specs.Changes.{creates_next}
 use Rattle.layout_rules.specs.Layouts.{IsValid}
 use Rattle.layout_rules.specs.Moves.{SameOperators}
 use Rattle.version_model.specs.States.{State}
 use Rattle.version_model.specs.Sound.{IsSound}
-use Rattle.db_state.specs.Parts.{Parts, Stands}
-use Rattle.db_state.specs.Reading.{read_all}
+use Rattle.version_model.specs.Evolving.{AreBuilt, grown_state}
+use Rattle.version_model.specs.Dropping.{staying_state}
+use Rattle.db_state.specs.Parts.{Parts, Stands, stored_way}
+use Rattle.db_state.specs.Reading.{far_read, read_all}
 use Rattle.db_state.specs.Canonical.{SameStored, parts_of}
-use Rattle.db_state.specs.Flips.{Turns, flipped}
+use Rattle.db_state.specs.Flips.{MovesParts, Turns, flipped}
+use Rattle.db_state.specs.Changes.{GoFromSources, grown_parts, staying_parts}
 
 -- two states have the same tables and memories of these edges
 pub record SameOf {O : Type 0} (es : List (Placed O)) (a b : State) : Type 0 where
@@ -24,6 +32,11 @@ pub record SameOf {O : Type 0} (es : List (Placed O)) (a b : State) : Type 0 whe
 abbrev pub StandsForOne : {O : Type 0} → (O → Meaning) → Type 0
 StandsForOne {O} meaning = (es : List (Placed O)) → AreEdges es → (parts : Parts) → IsValid (forest es) parts.layout → (a b : State) → Stands meaning es parts a → Stands meaning es parts b → SameOf es a b
 
+-- the far side of one operator is read back, where the near one is known
+abbrev pub ReadsOver : {O : Type 0} → (O → Meaning) → Type 0
+ReadsOver {O} meaning = (es : List (Placed O)) (parts : Parts) → IsValid (forest es) parts.layout → (s : State) → Stands meaning es parts s → (e : Link O) → In e (forest es)
+    → (rows : ℕ → Rows) → let p = stored_way parts.layout e in ((t : ℕ) → In t p.near → rows t ≡ s.tables t) → far_read meaning parts p rows ≡ map s.tables p.far
+
 -- the two passes give the state back
 abbrev pub ReadsBack : {O : Type 0} → (O → Meaning) → Type 0
 ReadsBack {O} meaning = (es : List (Placed O)) → AreEdges es → (parts : Parts) → IsValid (forest es) parts.layout → (s : State) → Stands meaning es parts s
@@ -33,7 +46,7 @@ ReadsBack {O} meaning = (es : List (Placed O)) → AreEdges es → (parts : Part
 abbrev pub SoundStands : {O : Type 0} → (O → Meaning) → Type 0
 SoundStands {O} meaning = (es : List (Placed O)) → AreEdges es → (s : State) → IsSound meaning es s → (layout : List ℕ) → Stands meaning es (parts_of meaning es layout s) s
 
--- one state and one layout have the same parts
+-- one state and one layout, in whatever order, have the same parts
 abbrev pub PartsAreOne : {O : Type 0} → (O → Meaning) → Type 0
 PartsAreOne {O} meaning = (es : List (Placed O)) (s : State) (p q : Parts) → SameOperators p.layout q.layout → Stands meaning es p s → Stands meaning es q s → SameStored p q
 
@@ -41,3 +54,22 @@ PartsAreOne {O} meaning = (es : List (Placed O)) (s : State) (p q : Parts) → S
 abbrev pub FlipsLeave : {O : Type 0} → (O → Meaning) → Type 0
 FlipsLeave {O} meaning = (es : List (Placed O)) → AreEdges es → (parts : Parts) → IsValid (forest es) parts.layout → (e : Link O) → In e (forest es) → (new : List ℕ) → Turns e.number parts.layout new → IsValid (forest es) new
     → (s : State) → Stands meaning es parts s → Stands meaning es (flipped meaning parts e new) s
+
+-- so a move towards a valid layout passes through valid layouts alone, and all its parts stand for the state
+abbrev pub MovesLeave : {O : Type 0} → (O → Meaning) → Type 0
+MovesLeave {O} meaning = (es : List (Placed O)) → AreEdges es → (goal : List ℕ) → IsValid (forest es) goal → (s : State) (n : ℕ) (parts last : Parts) → IsValid (forest es) parts.layout → Stands meaning es parts s
+    → MovesParts meaning (forest es) goal n parts last → IsValid (forest es) last.layout × Stands meaning es last s
+
+-- an evolution moves no data, and puts its CREATE TABLE operators into the layout
+pub record GrownStand {O : Type 0} (meaning : O → Meaning) (es : List (Placed O)) (parent operator table : ℕ) (edges : List (Edge O)) (s : State) (parts : Parts) : Type 0 where
+  pub layout : (grown_parts meaning es parent operator table edges s parts).layout ≡ parts.layout ++ creates_next operator edges
+  pub stands : Stands meaning (grown es parent operator table edges) (grown_parts meaning es parent operator table edges s parts) (grown_state meaning es parent operator table edges s)
+
+abbrev pub EvolutionsStand : {O : Type 0} → (O → Meaning) → Type 0
+EvolutionsStand {O} meaning = (es : List (Placed O)) (parent operator table : ℕ) (edges : List (Edge O)) (s : State) → AreEdges (grown es parent operator table edges) → IsSound meaning es s → AreBuilt meaning es parent operator table edges s.next
+    → (parts : Parts) → IsValid (forest es) parts.layout → Stands meaning es parts s → GrownStand meaning es parent operator table edges s parts
+
+-- a drop of operators that are stored on their source side, or are CREATE TABLE operators, moves no data of what stays
+abbrev pub DropsStand : {O : Type 0} → (O → Meaning) → Type 0
+DropsStand {O} meaning = (es : List (Placed O)) (needed : List ℕ) (s : State) → AreEdges es → IsSound meaning es s → (parts : Parts) → GoFromSources es (staying needed es) parts.layout → Stands meaning es parts s
+    → Stands meaning (staying needed es) (staying_parts (staying needed es) parts) (staying_state (staying needed es) s)

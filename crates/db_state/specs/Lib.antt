@@ -2,4 +2,5 @@ pub mod Parts
 pub mod Reading
 pub mod Canonical
 pub mod Flips
+pub mod Changes
 pub mod Laws

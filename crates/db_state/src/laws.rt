@@ -1,12 +1,15 @@
 //! Laws of what is stored. The functions do nothing: their contracts are the laws.
-ghost use Rattle.db_state.specs.Laws.{FlipsLeave, PartsAreOne, ReadsBack, SoundStands, StandsForOne};
+ghost use Rattle.db_state.specs.Laws.{DropsStand, EvolutionsStand, FlipsLeave, MovesLeave, PartsAreOne, ReadsBack, ReadsOver, SoundStands, StandsForOne};
 ghost use Rattle.db_state.specs.Reading.{ReadsSources};
 
+use layout_rules::moves_stay_valid;
 use op_law::Operator;
 
-/// The same parts stand for one state alone, and the two passes read it back.
+/// The same parts stand for one state alone: each operator reads back its other side, and two passes
+/// read back everything.
 pub fn parts_have_one_state<O: Operator>()
     ensures one { ReadsSources O.meaning → StandsForOne O.meaning }
+    ensures over { ReadsSources O.meaning → ReadsOver O.meaning }
     ensures read { ReadsSources O.meaning → ReadsBack O.meaning }
 {}
 
@@ -21,4 +24,18 @@ pub fn sound_states_have_parts<O: Operator>()
 /// the same state.
 pub fn flips_leave_the_state<O: Operator>()
     ensures { ReadsSources O.meaning → FlipsLeave O.meaning }
+{}
+
+/// So does a whole move: where it leads back to the operators of the first layout, everything that
+/// is stored is again what it was.
+pub fn moves_leave_the_state<O: Operator>()
+    ensures { ReadsSources O.meaning → MovesLeave O.meaning }
+{
+    moves_stay_valid::<O>()
+}
+
+/// An evolution and a drop move no data: what is stored stands for the state after it.
+pub fn changes_move_no_data<O: Operator>()
+    ensures evolved { EvolutionsStand O.meaning }
+    ensures dropped { DropsStand O.meaning }
 {}

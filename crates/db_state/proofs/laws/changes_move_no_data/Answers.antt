@@ -1,0 +1,15 @@
+use Rattle.std.proofs.Common.{ℕ, arith, subst, sym}
+use Rattle.version_graph.specs.Sets.{In}
+use Rattle.version_graph.specs.Edges.{numbers}
+use Rattle.db_state.proofs.LinkLemmas.{link_number}
+use Rattle.db_state.proofs.GrowLemmas.{grown_stand}
+use Rattle.db_state.proofs.DropLemmas.{drop_stands}
+use Rattle.db_state.proofs.laws.changes_move_no_data.Goals as goal
+
+pub returns-clause-evolved : goal.returns-clause-evolved
+returns-clause-evolved g c es parent operator table edges s all sound built parts valid st =
+    grown_stand g.O.Operator.meaning g.met.O.Operator.laws es parent operator table edges s s.next (record { all = all; sound = sound; built = built; drawn = omega arith }) parts
+    (λ n i. let l = valid.live n i in subst (λ (k : ℕ). In k (numbers es)) (sym l.2) (link_number es l.0 l.1)) st
+
+pub returns-clause-dropped : goal.returns-clause-dropped
+returns-clause-dropped g c es needed s edges sound parts go st = drop_stands g.O.Operator.meaning es needed s edges sound parts go st

@@ -1,0 +1,46 @@
+-- What is stored after evolutions and drops. Neither moves data.
+use Rattle.std.specs.Prelude.{ℕ, ◌+◌, Bool, cond, List, [], ◌∷◌, ◌++◌, filter, length, map, if◌then◌else◌}
+use Rattle.version_graph.specs.Sets.{In}
+use Rattle.version_graph.specs.Tables.{table_numbers}
+use Rattle.version_graph.specs.Edges.{is_in, made, numbers}
+use Rattle.version_graph.specs.Evolve.{placed_next}
+use Rattle.version_graph.specs.Forest.{Link, crossing, forest, link}
+use Rattle.version_graph.specs.declared.parts.Edge.{Edge}
+use Rattle.version_graph.specs.declared.parts.Placed.{Placed}
+use Rattle.op_law.specs.Meaning.{Meaning}
+use Rattle.layout_rules.specs.Changes.{is_empty}
+use Rattle.layout_rules.specs.Layouts.{IsCreate}
+use Rattle.version_model.specs.Put.{put}
+use Rattle.version_model.specs.States.{State}
+use Rattle.version_model.specs.Evolving.{with_link}
+use Rattle.db_state.specs.Parts.{Parts, aux_of}
+
+-- one operator more, in the state that it leaves: a CREATE TABLE comes into the layout with its tables, and another one stays on its source side
+abbrev pub with_parts : {O : Type 0} → (O → Meaning) → Parts → State → Link O → Bool → Parts
+with_parts meaning parts s e create = record {
+  layout = parts.layout ++ cond create (e.number ∷ []) [];
+  stored = cond create (put parts.stored e.targets (map s.tables e.targets)) parts.stored;
+  aux = put parts.aux (e.number ∷ []) (aux_of meaning s (crossing create e) ∷ []);
+  memory = put parts.memory (e.number ∷ []) (s.memory e.number ∷ []);
+}
+
+-- the parts with further operators, each on the working set that the one before it leaves
+abbrev pub grown_parts : {O : Type 0} → (O → Meaning) → List (Placed O) → ℕ → ℕ → ℕ → List (Edge O) → State → Parts → Parts
+grown_parts meaning es parent operator table [] s parts = parts
+grown_parts meaning es parent operator table (e ∷ edges) s parts =
+    let new = placed_next parent operator table e in
+    let next = with_link meaning s (link es new) in
+    grown_parts meaning (new ∷ es) (operator + 1) (operator + 1) (table + length e.targets) edges next (with_parts meaning parts next (link es new) (is_empty e.sources))
+
+-- the parts of these edges alone
+abbrev pub staying_parts : {O : Type 0} → List (Placed O) → Parts → Parts
+staying_parts es parts = record {
+  layout = filter (λ n. is_in n (numbers es)) parts.layout;
+  stored = λ t. if is_in t (table_numbers (made es)) then parts.stored t else [];
+  aux = λ n. if is_in n (numbers es) then parts.aux n else [];
+  memory = λ n. if is_in n (numbers es) then parts.memory n else [];
+}
+
+-- each operator that doesn't stay is stored on its source side, or is a CREATE TABLE
+abbrev pub GoFromSources : {O : Type 0} → List (Placed O) → List (Placed O) → List ℕ → Type 0
+GoFromSources {O} es left layout = (e : Link O) → In e (forest es) → In e.number layout → (In e.number (numbers left) → ⊥) → IsCreate e
