@@ -1,5 +1,5 @@
 -- A drop moves no data.
-use Rattle.std.proofs.Common.{◌≡◌, ℕ, List, [], Bool, false, inl, inr, sym, ap, ◌∙◌, subst, map}
+use Rattle.std.proofs.Common.{◌≡◌, ℕ, List, [], refl, Bool, false, inl, inr, sym, ap, ◌∙◌, subst, map}
 use Rattle.std.proofs.lemmas.Bool.{cond-false, cond-true}
 use Rattle.version_graph.specs.Sets.{In}
 use Rattle.version_graph.specs.Tables.{table_numbers}
@@ -12,7 +12,7 @@ use Rattle.version_graph.proofs.StayLemmas.{edges_stay}
 use Rattle.version_graph.proofs.TableLemmas.{in_filter}
 use Rattle.version_graph.proofs.WalkLaws.{Of, all_of, is_forest}
 use Rattle.op_law.specs.Meaning.{Meaning}
-use Rattle.layout_rules.specs.Layouts.{IsStored, IsTaken}
+use Rattle.layout_rules.specs.Layouts.{IsCreate, IsStored, IsTaken, IsValid}
 use Rattle.version_model.specs.States.{State, headings}
 use Rattle.version_model.specs.Sound.{IsSound}
 use Rattle.version_model.specs.Steps.{IsRelated, pair_in, way}
@@ -23,8 +23,8 @@ use Rattle.version_model.proofs.CrossingLemmas.{is_within, targets_linked}
 use Rattle.version_model.proofs.DropLemmas.{drop_keeps, fewer_links}
 use Rattle.version_model.proofs.HeadingLemmas.{in_or_not}
 use Rattle.db_state.specs.Parts.{Parts, Stands, StandsOver, stored_way}
-use Rattle.db_state.specs.Changes.{GoFromSources, staying_parts}
-use Rattle.db_state.proofs.LinkLemmas.{filter_in, in_or_out, link_number, not_in_false, number_lives, same_link, same_maker, same_test, target_link, target_listed}
+use Rattle.db_state.specs.Changes.{GoFromSources, LeavesTo, staying_parts}
+use Rattle.db_state.proofs.LinkLemmas.{filter_in, in_or_out, link_number, not_in_false, number_lives, same_link, same_maker, same_test, source_made, target_link, target_listed}
 use Rattle.db_state.proofs.CanonicalLemmas.{either_way}
 use Rattle.db_state.proofs.GrowLemmas.{either_of}
 
@@ -124,3 +124,37 @@ module _ {O : Type 0} (meaning : O → Meaning) (es : List (Placed O)) (needed :
       memories = λ n none. cond-false (is_in n (numbers left)) (parts.memory n) [] (not_in_false n (numbers left) none);
     };
   }
+
+-- ---- before a drop
+
+module _ {O : Type 0} (es : List (Placed O)) (needed : List ℕ) (edges : AreEdges es) (layout new : List ℕ) (valid : IsValid (forest es) layout) (leaves : LeavesTo es (staying needed es) layout new) where
+  goes : GoFromSources es (staying needed es) new
+  goes e i a out = ((leaves e.number).0 a).1 e i refl out
+
+  -- who made a source table of what is left in the layout is left in it
+  maker_left : (e m : Link O) (t : ℕ) → In e (forest es) → In e.number new → In t e.sources → In m (forest es) → In t m.targets → In m.number (numbers (staying needed es))
+  maker_left e m t i a b j k =
+      elim (in_or_out e.number (numbers (staying needed es))) as (λ _. In m.number (numbers (staying needed es))) [
+        | inl n ↦
+            let left = staying needed es in
+            let links = is_forest left (edges_stay es needed edges) in
+            let g = number_lives left e.number n in
+            let same = same_link (forest es) e g.0 (is_forest es edges) i (fewer_links es needed g.0 g.1) g.2 in
+            let h = target_link (forest left) t (source_made (forest left) g.0 t links g.1 (subst (λ (y : Link O). In t y.sources) same b)) in
+            subst (λ (y : Link O). In y.number (numbers left)) (same_maker (forest es) h.0 m t (is_forest es edges) (fewer_links es needed h.0 h.1) j h.2 k) (link_number left h.0 h.1)
+        | inr out ↦ absurd (subst (λ (l : List ℕ). In t l) (goes e i a out) b)
+      ]
+
+  -- OPERATORS THAT ARE DROPPED CAN GO TO THEIR SOURCE SIDE
+  pub leaving_valid : IsValid (forest es) new × GoFromSources es (staying needed es) new
+  leaving_valid = (
+    record {
+      live = λ n i. valid.live n ((leaves n).0 i).0;
+      creates = λ e i none. (leaves e.number).1 (valid.creates e i none, (λ f j same out. subst (λ (y : Link O). IsCreate y) (same_link (forest es) e f (is_forest es edges) i j same) none));
+      makers = λ e i a t b.
+          let m = valid.makers e i ((leaves e.number).0 a).0 t b in
+          (m.0, m.1, (leaves m.0.number).1 (m.2, (λ f j same out. absurd (out (maker_left e m.0 t i a b m.1 m.3)))), m.3);
+      once = λ e f i j a b share. valid.once e f i j ((leaves e.number).0 a).0 ((leaves f.number).0 b).0 share;
+    },
+    goes,
+  )

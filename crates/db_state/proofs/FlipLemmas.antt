@@ -1,9 +1,8 @@
 -- A flip into a valid layout leaves the state.
-use Rattle.std.specs.Prelude.{◌↔◌, ◌==◌}
-use Rattle.std.proofs.Common.{◌≡◌, ℕ, zero, suc, List, [], ◌∷◌, Bool, true, false, not, inl, inr, refl, sym, ap, ◌∙◌, subst, map}
-use Rattle.std.proofs.lemmas.Bool.{cases_eq, cond-false, cond-true, eq-eqb, ne_eqb}
-use Rattle.row_store.specs.Rows.{Rows}
-use Rattle.version_graph.specs.Sets.{Distinct, In}
+use Rattle.std.specs.Prelude.{◌↔◌}
+use Rattle.std.proofs.Common.{◌≡◌, ℕ, zero, suc, List, [], Bool, true, false, not, inl, inr, refl, sym, ap, ◌∙◌, subst, map}
+use Rattle.std.proofs.lemmas.Bool.{cases_eq}
+use Rattle.version_graph.specs.Sets.{In}
 use Rattle.version_graph.specs.Edges.{AreEdges, is_in, numbers}
 use Rattle.version_graph.specs.Forest.{Crossing, Link, crossing, forest}
 use Rattle.version_graph.specs.declared.parts.Placed.{Placed}
@@ -18,12 +17,12 @@ use Rattle.layout_rules.specs.Moves.{Flips, PutsIn, TakesOut}
 use Rattle.version_model.specs.Put.{put}
 use Rattle.version_model.specs.States.{State, headings}
 use Rattle.version_model.specs.Steps.{pair_in, way}
-use Rattle.version_model.proofs.PutLemmas.{AsMany, map_same, put_else, put_here, put_one, put_other}
+use Rattle.version_model.proofs.PutLemmas.{map_same, put_else, put_one, put_other}
 use Rattle.db_state.specs.Parts.{Parts, Stands, StandsOver, aux_of, stored_way}
 use Rattle.db_state.specs.Reading.{ReadsSources, far_read}
 use Rattle.db_state.specs.Flips.{MovesParts, Turns, flipped, none_for, pair_read}
 use Rattle.db_state.proofs.LinkLemmas.{apart_at, in_or_out, link_number, not_in_false, same_link, same_maker, same_test}
-use Rattle.db_state.proofs.ReadLemmas.{IsRead, far_right, read_at}
+use Rattle.db_state.proofs.ReadLemmas.{IsRead, far_right, put_in, read_at}
 use Rattle.db_state.proofs.CanonicalLemmas.{either_way}
 
 -- ---- layouts that differ at one operator
@@ -109,30 +108,6 @@ other_aux : {O : Type 0} (meaning : O → Meaning) (s : State) (x : Bool) (e : L
 other_aux meaning s false e = refl
 other_aux meaning s true e = refl
 
-distinct_at : {O : Type 0} (es : List (Link O)) (e : Link O) (x : Bool) → IsForest es → In e es → Distinct (crossing x e).far
-distinct_at [] e x links i = absurd i
-distinct_at {O} (f ∷ es) e x links (inl same) = subst (λ (y : Link O). Distinct (crossing x y).far) (sym same) (elim x as (λ b. Distinct (crossing b f).far) [ true ↦ links.0.sources | false ↦ links.0.targets ])
-distinct_at (f ∷ es) e x links (inr i) = distinct_at es e x links.1 i
-
-pub as_many_map : {A : Type 0} (f : ℕ → A) (ks : List ℕ) → AsMany ks (map f ks)
-as_many_map f [] = tt
-as_many_map f (k ∷ ks) = as_many_map f ks
-
-pub same_map : {A : Type 0} (f g : ℕ → A) (ks : List ℕ) → map f ks ≡ map g ks → (n : ℕ) → In n ks → f n ≡ g n
-same_map f g [] h n i = absurd i
-same_map f g (k ∷ ks) h n (inl e) = subst (λ (x : ℕ). f x ≡ g x) (sym e) (cc)
-same_map f g (k ∷ ks) h n (inr i) = same_map f g ks (cc) n i
-
--- tables that are put away have no rows
-put_away : (rows : ℕ → Rows) (ks : List ℕ) (t : ℕ) → In t ks → put rows ks (none_for ks) t ≡ []
-put_away rows [] t i = absurd i
-put_away rows (k ∷ ks) t i =
-    elim (cases_eq t k) as (λ _. put rows (k ∷ ks) (none_for (k ∷ ks)) t ≡ []) [
-      | inl same ↦ cond-true (t == k) [] (put rows ks (none_for ks) t) (eq-eqb t k same)
-      | inr other ↦ cond-false (t == k) [] (put rows ks (none_for ks) t) (ne_eqb t k other)
-          ∙ put_away rows ks t (elim i as (λ _. In t ks) [ inl same ↦ absurd (other same) | inr j ↦ j ])
-    ]
-
 -- ---- the parts
 
 module _ {O : Type 0} (meaning : O → Meaning) (laws : (o : O) → Laws (meaning o)) (reads : ReadsSources meaning) (es : List (Placed O)) (edges : AreEdges es) (parts : Parts) (valid : IsValid (forest es) parts.layout)
@@ -178,8 +153,7 @@ module _ {O : Type 0} (meaning : O → Meaning) (laws : (o : O) → Laws (meanin
   far_put : (t : ℕ) → In t here.far → after.stored t ≡ s.tables t
   far_put t i =
       let before = put parts.stored here.near (none_for here.near) in
-      let long = subst (λ (ts : Tables). AsMany here.far ts) (sym far_is) (as_many_map s.tables here.far) in
-      same_map after.stored s.tables here.far (put_here before here.far (far_read meaning parts here parts.stored) (distinct_at (forest es) e x links at) long ∙ far_is) t i
+      ap (λ (vs : Tables). put before here.far vs t) far_is ∙ put_in before s.tables here.far t i
 
   -- the near side isn't stored after
   near_gone : Turns e.number parts.layout new → (t : ℕ) → In t here.near → IsStored (forest es) new t → ⊥
@@ -217,7 +191,7 @@ module _ {O : Type 0} (meaning : O → Meaning) (laws : (o : O) → Laws (meanin
   stored_none t none =
       let out : In t here.far → ⊥ = λ i. none (far_stored t i) in
       elim (in_or_out t here.near) as (λ _. after.stored t ≡ []) [
-        | inl i ↦ put_other (put parts.stored here.near (none_for here.near)) here.far (far_read meaning parts here parts.stored) t out ∙ put_away parts.stored here.near t i
+        | inl i ↦ put_other (put parts.stored here.near (none_for here.near)) here.far (far_read meaning parts here parts.stored) t out ∙ put_in parts.stored (λ n. []) here.near t i
         | inr o ↦ away t out o ∙ st.no_more.stored t (λ k. none (old_stored t k o))
       ]
 

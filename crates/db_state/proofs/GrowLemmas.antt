@@ -19,7 +19,7 @@ use Rattle.version_model.specs.States.{State, empty_at, headings}
 use Rattle.version_model.specs.Sound.{IsSound}
 use Rattle.version_model.specs.Steps.{IsRelated, mapped, pair_in, way}
 use Rattle.version_model.specs.Evolving.{with_link}
-use Rattle.version_model.proofs.PutLemmas.{put_else, put_here, put_one, put_other}
+use Rattle.version_model.proofs.PutLemmas.{put_else, put_one, put_other}
 use Rattle.version_model.proofs.RunLemmas.{leaves_pair}
 use Rattle.version_model.proofs.EvolveLemmas.{MayGrow, first_edges, link_sound, rest_may}
 use Rattle.db_state.specs.Parts.{Parts, Stands, StandsOver, aux_of, stored_way}
@@ -27,7 +27,7 @@ use Rattle.db_state.specs.Changes.{with_parts}
 use Rattle.db_state.specs.Laws.{GrownStand}
 use Rattle.db_state.proofs.LinkLemmas.{in_or_out, link_number, made_split, not_in_false, same_test, stored_here, taken_split, target_listed}
 use Rattle.db_state.proofs.CanonicalLemmas.{either_way}
-use Rattle.db_state.proofs.FlipLemmas.{as_many_map, same_map}
+use Rattle.db_state.proofs.ReadLemmas.{put_in}
 
 -- ---- the layout with one operator more
 
@@ -149,7 +149,7 @@ module _ {O : Type 0} (meaning : O → Meaning) (laws : (o : O) → Laws (meanin
   now_new : (t : ℕ) → In t new.tables → (b : Bool) → create ≡ b → (IsStored (forest (new ∷ es)) now.layout t → now.stored t ≡ next.tables t) × ((IsStored (forest (new ∷ es)) now.layout t → ⊥) → now.stored t ≡ [])
   now_new t i true is =
       let put_is = ap (λ (b : Bool). (with_parts meaning parts next (link es new) b).stored t) is in
-      let there = same_map (with_parts meaning parts next (link es new) true).stored next.tables new.tables (put_here parts.stored new.tables (map next.tables new.tables) fit.targets (as_many_map next.tables new.tables)) t i in
+      let there = put_in parts.stored next.tables new.tables t i in
       let at = in_of_test new.number now.layout (side_is parts.layout new.number create out_before ∙ is) in
       ((λ k. put_is ∙ there), (λ none. absurd (none (stored_here (link es new) (forest es) now.layout t fit older at i))))
   now_new t i false is =

@@ -1,7 +1,7 @@
 -- Two passes read everything back.
 use Rattle.std.specs.Prelude.{◌==◌}
 use Rattle.std.proofs.Common.{◌≡◌, ℕ, List, [], ◌∷◌, Bool, true, false, cond, inl, inr, refl, sym, ap, ◌∙◌, subst, map}
-use Rattle.std.proofs.lemmas.Bool.{eqb-true, eqb-false}
+use Rattle.std.proofs.lemmas.Bool.{cases_eq, cond-false, cond-true, eq-eqb, ne_eqb}
 use Rattle.row_store.specs.Rows.{Rows}
 use Rattle.version_graph.specs.Sets.{In, Each}
 use Rattle.version_graph.specs.Tables.{table_numbers}
@@ -17,13 +17,22 @@ use Rattle.layout_rules.specs.Layouts.{IsMade, IsStored, IsValid}
 use Rattle.version_model.specs.Put.{put}
 use Rattle.version_model.specs.States.{State, headings}
 use Rattle.version_model.specs.Steps.{IsRelated, pair_in, way}
-use Rattle.version_model.proofs.PutLemmas.{map_same}
+use Rattle.version_model.proofs.PutLemmas.{map_same, put_other}
 use Rattle.version_model.proofs.RunLemmas.{way_laws}
 use Rattle.version_model.proofs.CrossingLemmas.{targets_linked}
 use Rattle.db_state.specs.Parts.{Parts, Stands, StandsOver, stored_way}
 use Rattle.db_state.specs.Laws.{SameOf}
 use Rattle.db_state.specs.Reading.{ReadsSources, far_read, reach, read_all, read_down, read_up}
 use Rattle.db_state.proofs.LinkLemmas.{in_or_out, made_split, map_none, not_in_of_false, number_lives, stored_here, stored_more}
+
+-- a function's values are read back where they were put
+pub put_in : {A : Type 0} (rows f : ℕ → A) (ks : List ℕ) (t : ℕ) → In t ks → put rows ks (map f ks) t ≡ f t
+put_in rows f [] t i = absurd i
+put_in rows f (k ∷ ks) t i =
+    elim (cases_eq t k) as (λ _. put rows (k ∷ ks) (map f (k ∷ ks)) t ≡ f t) [
+      | inl same ↦ cond-true (t == k) (f k) (put rows ks (map f ks) t) (eq-eqb t k same) ∙ ap f (sym same)
+      | inr other ↦ cond-false (t == k) (f k) (put rows ks (map f ks) t) (ne_eqb t k other) ∙ put_in rows f ks t (elim i as (λ _. In t ks) [ inl same ↦ absurd (other same) | inr j ↦ j ])
+    ]
 
 -- the far side of a crossing can be read from what is stored
 pub record IsRead {O : Type 0} (meaning : O → Meaning) (heading : ℕ → Heading) (parts : Parts) (s : State) (p : Crossing O) : Type 0 where
@@ -43,18 +52,14 @@ module _ {O : Type 0} (meaning : O → Meaning) (laws : (o : O) → Laws (meanin
       let memory : parts.memory p.number ≡ s.memory p.number = st.stands.memory in
       cc
 
-  put_one_right : (rows : ℕ → Rows) (k : ℕ) (ks : List ℕ) (t : ℕ) (b : Bool) → (t == k) ≡ b → (Right rows t → Right (put rows ks (map s.tables ks)) t) × (In t ks → Right (put rows ks (map s.tables ks)) t)
-      → (Right rows t → cond b (s.tables k) (put rows ks (map s.tables ks) t) ≡ s.tables t) × (In t (k ∷ ks) → cond b (s.tables k) (put rows ks (map s.tables ks) t) ≡ s.tables t)
-  put_one_right rows k ks t true is h = let same : s.tables k ≡ s.tables t = ap s.tables (sym (eqb-true t k is)) in ((λ _. same), (λ _. same))
-  put_one_right rows k ks t false is h = (h.0, (λ i. elim i as (λ _. Right (put rows ks (map s.tables ks)) t) [ inl e ↦ absurd (eqb-false t k is e) | inr j ↦ h.1 j ]))
+  still_right : (rows : ℕ → Rows) (ks : List ℕ) (t : ℕ) → Right rows t → Right (put rows ks (map s.tables ks)) t
+  still_right rows ks t h = elim (in_or_out t ks) as (λ _. Right (put rows ks (map s.tables ks)) t) [ inl i ↦ put_in rows s.tables ks t i | inr o ↦ put_other rows ks (map s.tables ks) t o ∙ h ]
 
-  -- putting right tables keeps what is right, and makes them right
-  put_rights : (rows : ℕ → Rows) (ks : List ℕ) (t : ℕ) → (Right rows t → Right (put rows ks (map s.tables ks)) t) × (In t ks → Right (put rows ks (map s.tables ks)) t)
-  put_rights rows [] t = ((λ h. h), (λ i. absurd i))
-  put_rights rows (k ∷ ks) t = put_one_right rows k ks t (t == k) refl (put_rights rows ks t)
-
+  -- reading the far side keeps what is right, and makes it right
   reach_right : (p : Crossing O) → IsRead meaning heading parts s p → (rows : ℕ → Rows) → ((t : ℕ) → In t p.near → Right rows t) → (t : ℕ) → (Right rows t → Right (reach meaning parts p rows) t) × (In t p.far → Right (reach meaning parts p rows) t)
-  reach_right p st rows h t = subst (λ (vs : Tables). (Right rows t → Right (put rows p.far vs) t) × (In t p.far → Right (put rows p.far vs) t)) (sym (far_right p st rows h)) (put_rights rows p.far t)
+  reach_right p st rows h t =
+      subst (λ (vs : Tables). (Right rows t → Right (put rows p.far vs) t) × (In t p.far → Right (put rows p.far vs) t)) (sym (far_right p st rows h))
+      (still_right rows p.far t, put_in rows s.tables p.far t)
 
   -- ---- down
 

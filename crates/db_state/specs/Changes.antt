@@ -1,5 +1,5 @@
 -- What is stored after evolutions and drops. Neither moves data.
-use Rattle.std.specs.Prelude.{ℕ, ◌+◌, Bool, cond, List, [], ◌∷◌, ◌++◌, filter, length, map, if◌then◌else◌}
+use Rattle.std.specs.Prelude.{◌≡◌, ◌↔◌, ℕ, ◌+◌, Bool, cond, List, [], ◌∷◌, ◌++◌, filter, length, map, if◌then◌else◌}
 use Rattle.version_graph.specs.Sets.{In}
 use Rattle.version_graph.specs.Tables.{table_numbers}
 use Rattle.version_graph.specs.Edges.{is_in, made, numbers}
@@ -44,3 +44,7 @@ staying_parts es parts = record {
 -- each operator that doesn't stay is stored on its source side, or is a CREATE TABLE
 abbrev pub GoFromSources : {O : Type 0} → List (Placed O) → List (Placed O) → List ℕ → Type 0
 GoFromSources {O} es left layout = (e : Link O) → In e (forest es) → In e.number layout → (In e.number (numbers left) → ⊥) → IsCreate e
+
+-- the second layout is the first without the operators that don't stay, but with the CREATE TABLE operators among them
+abbrev pub LeavesTo : {O : Type 0} → List (Placed O) → List (Placed O) → List ℕ → List ℕ → Type 0
+LeavesTo {O} es left layout new = (n : ℕ) → In n new ↔ (In n layout × ((e : Link O) → In e (forest es) → n ≡ e.number → (In n (numbers left) → ⊥) → IsCreate e))

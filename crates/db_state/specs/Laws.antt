@@ -21,7 +21,7 @@ use Rattle.db_state.specs.Parts.{Parts, Stands, stored_way}
 use Rattle.db_state.specs.Reading.{far_read, read_all}
 use Rattle.db_state.specs.Canonical.{SameStored, parts_of}
 use Rattle.db_state.specs.Flips.{MovesParts, Turns, flipped}
-use Rattle.db_state.specs.Changes.{GoFromSources, grown_parts, staying_parts}
+use Rattle.db_state.specs.Changes.{GoFromSources, LeavesTo, grown_parts, staying_parts}
 
 -- two states have the same tables and memories of these edges
 pub record SameOf {O : Type 0} (es : List (Placed O)) (a b : State) : Type 0 where
@@ -73,3 +73,7 @@ EvolutionsStand {O} meaning = (es : List (Placed O)) (parent operator table : �
 abbrev pub DropsStand : {O : Type 0} → (O → Meaning) → Type 0
 DropsStand {O} meaning = (es : List (Placed O)) (needed : List ℕ) (s : State) → AreEdges es → IsSound meaning es s → (parts : Parts) → GoFromSources es (staying needed es) parts.layout → Stands meaning es parts s
     → Stands meaning (staying needed es) (staying_parts (staying needed es) parts) (staying_state (staying needed es) s)
+
+-- operators that are dropped from a valid layout can go to their source side: that layout is valid too
+abbrev pub LeavingStaysValid : Type 0 → Type 0
+LeavingStaysValid O = (es : List (Placed O)) (needed : List ℕ) → AreEdges es → (layout new : List ℕ) → IsValid (forest es) layout → LeavesTo es (staying needed es) layout new → IsValid (forest es) new × GoFromSources es (staying needed es) new

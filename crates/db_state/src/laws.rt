@@ -1,5 +1,5 @@
 //! Laws of what is stored. The functions do nothing: their contracts are the laws.
-ghost use Rattle.db_state.specs.Laws.{DropsStand, EvolutionsStand, FlipsLeave, MovesLeave, PartsAreOne, ReadsBack, ReadsOver, SoundStands, StandsForOne};
+ghost use Rattle.db_state.specs.Laws.{DropsStand, EvolutionsStand, FlipsLeave, LeavingStaysValid, MovesLeave, PartsAreOne, ReadsBack, ReadsOver, SoundStands, StandsForOne};
 ghost use Rattle.db_state.specs.Reading.{ReadsSources};
 
 use layout_rules::moves_stay_valid;
@@ -34,8 +34,10 @@ pub fn moves_leave_the_state<O: Operator>()
     moves_stay_valid::<O>()
 }
 
-/// An evolution and a drop move no data: what is stored stands for the state after it.
+/// An evolution moves no data. A drop moves none where the operators that go are stored on their
+/// source side, and a move to a valid layout brings them there.
 pub fn changes_move_no_data<O: Operator>()
     ensures evolved { EvolutionsStand O.meaning }
+    ensures leaving { LeavingStaysValid O }
     ensures dropped { DropsStand O.meaning }
 {}

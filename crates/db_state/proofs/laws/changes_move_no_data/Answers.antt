@@ -3,7 +3,7 @@ use Rattle.version_graph.specs.Sets.{In}
 use Rattle.version_graph.specs.Edges.{numbers}
 use Rattle.db_state.proofs.LinkLemmas.{link_number}
 use Rattle.db_state.proofs.GrowLemmas.{grown_stand}
-use Rattle.db_state.proofs.DropLemmas.{drop_stands}
+use Rattle.db_state.proofs.DropLemmas.{drop_stands, leaving_valid}
 use Rattle.db_state.proofs.laws.changes_move_no_data.Goals as goal
 
 pub returns-clause-evolved : goal.returns-clause-evolved
@@ -13,3 +13,6 @@ returns-clause-evolved g c es parent operator table edges s all sound built part
 
 pub returns-clause-dropped : goal.returns-clause-dropped
 returns-clause-dropped g c es needed s edges sound parts go st = drop_stands g.O.Operator.meaning es needed s edges sound parts go st
+
+pub returns-clause-leaving : goal.returns-clause-leaving
+returns-clause-leaving g c es needed edges layout new valid leaves = leaving_valid es needed edges layout new valid leaves
