@@ -1,8 +1,8 @@
 -- What is stored of a state stands for it, and nothing else does.
 use Rattle.std.specs.Prelude.{◌⊎◌, ◌==◌, ◌&&◌, ◌||◌}
 use Rattle.std.specs.List.{list_any}
-use Rattle.std.proofs.Common.{◌≡◌, ℕ, List, [], ◌∷◌, Bool, true, false, cond, not, inl, inr, refl, sym, ap, ◌∙◌, subst, arith}
-use Rattle.std.proofs.lemmas.Bool.{and_from, cond-true, cond-false, eq-eqb, ne_eqb, false≢true}
+use Rattle.std.proofs.Common.{◌≡◌, ℕ, List, [], ◌∷◌, Bool, true, false, not, inl, inr, refl, sym, ap, ◌∙◌, subst, arith}
+use Rattle.std.proofs.lemmas.Bool.{and_from, cond-true, cond-false, eq-eqb, ne_eqb, false≢true, false_from_ne_true}
 use Rattle.version_graph.specs.Sets.{In}
 use Rattle.version_graph.specs.Edges.{AreEdges, is_in, numbers}
 use Rattle.version_graph.specs.Forest.{Link, crossing, forest, link}
@@ -60,10 +60,7 @@ module _ {O : Type 0} (es : List (Link O)) (layout : List ℕ) (t : ℕ) where
   stored_true : IsStored es layout t → stores ≡ true
   stored_true k =
       and_from (is_made es layout t) (not (is_taken es layout t)) (side_true (λ (e : Link O). e.targets) es layout t k.made)
-      ((elim (is_taken es layout t) as (λ b. is_taken es layout t ≡ b → not b ≡ true) [
-        | true ↦ λ is. absurd (k.free (side_found (λ (e : Link O). e.sources) es layout t is))
-        | false ↦ λ is. refl
-      ]) refl)
+      (ap not (false_from_ne_true (is_taken es layout t) (λ is. k.free (side_found (λ (e : Link O). e.sources) es layout t is))))
 
   stored_found : stores ≡ true → IsStored es layout t
   stored_found h =
@@ -85,11 +82,7 @@ module _ {O : Type 0} (es : List (Link O)) (layout : List ℕ) (t : ℕ) where
   stored_is s k = cond-true stores (s.tables t) [] (stored_true k)
 
   stored_none : (s : State) → (IsStored es layout t → ⊥) → stored_of es layout s t ≡ []
-  stored_none s none =
-      (elim stores as (λ b. stores ≡ b → cond b (s.tables t) [] ≡ []) [
-        | true ↦ λ is. absurd (none (stored_found is))
-        | false ↦ λ is. refl
-      ]) refl
+  stored_none s none = cond-false stores (s.tables t) [] (false_from_ne_true stores (λ is. none (stored_found is)))
 
 -- ---- the parts of a state
 

@@ -73,9 +73,6 @@ module _ {O : Type 0} (meaning : O → Meaning) (es : List (Placed O)) (needed :
 
   -- ---- stored tables
 
-  in_left : (t : ℕ) → IsStored (forest left) now.layout t → In t (table_numbers (made left))
-  in_left t k = subst (λ (l : List ℕ). In t l) (targets_linked left left_edges) (target_listed (forest left) k.made.0 t k.made.1 k.made.3)
-
   -- who takes a table of what stays stays, or is no operator of the layout
   taker_stays : (t : ℕ) → IsTaken (forest es) parts.layout t → IsTaken (forest left) now.layout t
   taker_stays t j =
@@ -104,7 +101,7 @@ module _ {O : Type 0} (meaning : O → Meaning) (es : List (Placed O)) (needed :
 
   stored_is : (t : ℕ) → IsStored (forest left) now.layout t → now.stored t ≡ next.tables t
   stored_is t k =
-      let i = in_left t k in
+      let i = subst (λ (l : List ℕ). In t l) (targets_linked left left_edges) (target_listed (forest left) k.made.0 t k.made.1 k.made.3) in
       cond-true (is_in t (table_numbers (made left))) (parts.stored t) [] (is_in_true t (table_numbers (made left)) i) ∙ st.stored t (stored_before t k) ∙ sym (keeps.tables t i)
 
   stored_none : (t : ℕ) → (IsStored (forest left) now.layout t → ⊥) → now.stored t ≡ []

@@ -216,9 +216,6 @@ module _ {O : Type 0} (meaning : O → Meaning) (laws : (o : O) → Laws (meanin
         | inr other ↦ over_other f i other
       ]
 
-  lives_here : In e.number (numbers es)
-  lives_here = link_number es e at
-
   -- A FLIP INTO A VALID LAYOUT LEAVES THE STATE
   pub flip_stands : Stands meaning es after s
   flip_stands = record {
@@ -226,7 +223,7 @@ module _ {O : Type 0} (meaning : O → Meaning) (laws : (o : O) → Laws (meanin
     stored = stored_is;
     no_more = record {
       stored = stored_none;
-      aux = λ n none. put_else parts.aux e.number ((way x (meaning e.operator)).aux_at_target (pair_read meaning parts e)) n (λ same. none (subst (λ (k : ℕ). In k (numbers es)) (sym same) lives_here)) ∙ st.no_more.aux n none;
+      aux = λ n none. put_else parts.aux e.number ((way x (meaning e.operator)).aux_at_target (pair_read meaning parts e)) n (λ same. none (subst (λ (k : ℕ). In k (numbers es)) (sym same) (link_number es e at))) ∙ st.no_more.aux n none;
       memories = st.no_more.memories;
     };
   }

@@ -25,7 +25,7 @@ use Rattle.version_model.proofs.EvolveLemmas.{MayGrow, first_edges, link_sound, 
 use Rattle.db_state.specs.Parts.{Parts, Stands, StandsOver, aux_of, stored_way}
 use Rattle.db_state.specs.Changes.{with_parts}
 use Rattle.db_state.specs.Laws.{GrownStand}
-use Rattle.db_state.proofs.LinkLemmas.{in_or_out, link_number, made_split, not_in_false, same_test, stored_here, taken_split, target_listed}
+use Rattle.db_state.proofs.LinkLemmas.{in_or_out, link_number, not_in_false, same_test, split, stored_here, target_listed}
 use Rattle.db_state.proofs.CanonicalLemmas.{either_way}
 use Rattle.db_state.proofs.ReadLemmas.{put_in}
 
@@ -115,7 +115,7 @@ module _ {O : Type 0} (meaning : O → Meaning) (laws : (o : O) → Laws (meanin
 
   stored_before : (t : ℕ) → (In t new.tables → ⊥) → IsStored (forest (new ∷ es)) now.layout t → IsStored (forest es) parts.layout t
   stored_before t none k =
-      let m = elim (made_split (link es new) (forest es) now.layout t k.made) as (λ _. IsMade (forest es) now.layout t) [ inl j ↦ absurd (none j.1) | inr j ↦ j ] in
+      let m = elim (split (λ (y : Link O). y.targets) (link es new) (forest es) now.layout t k.made) as (λ _. IsMade (forest es) now.layout t) [ inl j ↦ absurd (none j.1) | inr j ↦ j ] in
       record {
         made = (m.0, m.1, in_before m.0 m.1 m.2, m.3);
         free = λ j. k.free (j.0, inr j.1, in_now j.0.number j.2, j.3);
@@ -124,7 +124,7 @@ module _ {O : Type 0} (meaning : O → Meaning) (laws : (o : O) → Laws (meanin
   stored_now : (t : ℕ) → IsStored (forest es) parts.layout t → IsStored (forest (new ∷ es)) now.layout t
   stored_now t k = record {
     made = (k.made.0, inr k.made.1, in_now k.made.0.number k.made.2, k.made.3);
-    free = λ j. elim (taken_split (link es new) (forest es) now.layout t j) as (λ _. ⊥) [
+    free = λ j. elim (split (λ (y : Link O). y.sources) (link es new) (forest es) now.layout t j) as (λ _. ⊥) [
       | inl i ↦ takes_none create refl i.0 i.1
       | inr i ↦ k.free (i.0, i.1, in_before i.0 i.1 i.2, i.3)
     ];
@@ -155,7 +155,7 @@ module _ {O : Type 0} (meaning : O → Meaning) (laws : (o : O) → Laws (meanin
   now_new t i false is =
       let unmade : IsStored (forest es) parts.layout t → ⊥ = λ k. fit.fresh t i (target_listed (forest es) k.made.0 t k.made.1 k.made.3) in
       let none_before = ap (λ (b : Bool). (with_parts meaning parts next (link es new) b).stored t) is ∙ st.no_more.stored t unmade in (
-        (λ k. absurd (elim (made_split (link es new) (forest es) now.layout t k.made) as (λ _. ⊥) [
+        (λ k. absurd (elim (split (λ (y : Link O). y.targets) (link es new) (forest es) now.layout t k.made) as (λ _. ⊥) [
           | inl j ↦ false≢true (sym is ∙ sym (side_is parts.layout new.number create out_before) ∙ is_in_true new.number now.layout j.0)
           | inr j ↦ fit.fresh t i (target_listed (forest es) j.0 t j.1 j.3)
         ])),

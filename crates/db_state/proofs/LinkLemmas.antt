@@ -1,7 +1,7 @@
 -- Links of a forest by themselves, and which tables a layout stores.
 use Rattle.std.specs.Prelude.{◌⊎◌, ◌↔◌}
 use Rattle.std.proofs.Common.{◌≡◌, ℕ, List, [], ◌∷◌, Bool, true, false, inl, inr, refl, sym, ap, ◌∙◌, subst, map, arith, cond, filter}
-use Rattle.std.proofs.lemmas.Bool.{cond-true, false≢true}
+use Rattle.std.proofs.lemmas.Bool.{cond-true, false_from_ne_true, false≢true}
 use Rattle.version_graph.specs.Sets.{In}
 use Rattle.version_graph.specs.Edges.{is_in, numbers}
 use Rattle.version_graph.specs.Forest.{Link, forest, link}
@@ -9,7 +9,7 @@ use Rattle.version_graph.specs.declared.parts.Placed.{Placed}
 use Rattle.version_graph.proofs.SetLemmas.{in_append, in_left, in_of_test, in_right, is_in_true}
 use Rattle.version_graph.proofs.WalkLaws.{Fits, IsForest, link_numbers, link_targets, sources_older, targets_apart}
 use Rattle.version_model.proofs.HeadingLemmas.{in_or_not}
-use Rattle.layout_rules.specs.Layouts.{IsMade, IsStored, IsTaken, Lives}
+use Rattle.layout_rules.specs.Layouts.{IsStored, Lives}
 
 pub in_or_out : (n : ℕ) (ks : List ℕ) → In n ks ⊎ (In n ks → ⊥)
 in_or_out n ks = in_or_not n ks (In n ks ⊎ (In n ks → ⊥)) (λ i. inl i) (λ o. inr o)
@@ -17,11 +17,7 @@ in_or_out n ks = in_or_not n ks (In n ks ⊎ (In n ks → ⊥)) (λ i. inl i) (�
 -- ---- tests
 
 pub not_in_false : (n : ℕ) (ks : List ℕ) → (In n ks → ⊥) → is_in n ks ≡ false
-not_in_false n ks out =
-    (elim (is_in n ks) as (λ b. is_in n ks ≡ b → b ≡ false) [
-      | true ↦ λ is. absurd (out (in_of_test n ks is))
-      | false ↦ λ is. refl
-    ]) refl
+not_in_false n ks out = false_from_ne_true (is_in n ks) (λ is. out (in_of_test n ks is))
 
 pub not_in_of_false : (n : ℕ) (ks : List ℕ) → is_in n ks ≡ false → In n ks → ⊥
 not_in_of_false n ks is i = false≢true (sym is ∙ is_in_true n ks i)
@@ -102,17 +98,11 @@ module _ {O : Type 0} where
 
   -- ---- stored tables
 
-  pub made_split : (e : Link O) (es : List (Link O)) (layout : List ℕ) (t : ℕ) → IsMade (e ∷ es) layout t → (In e.number layout × In t e.targets) ⊎ IsMade es layout t
-  made_split e es layout t m =
-      elim m.1 as (λ _. (In e.number layout × In t e.targets) ⊎ IsMade es layout t) [
-        | inl same ↦ inl (subst (λ (y : Link O). In y.number layout) same m.2, subst (λ (y : Link O). In t y.targets) same m.3)
-        | inr j ↦ inr (m.0, j, m.2, m.3)
-      ]
-
-  pub taken_split : (e : Link O) (es : List (Link O)) (layout : List ℕ) (t : ℕ) → IsTaken (e ∷ es) layout t → (In e.number layout × In t e.sources) ⊎ IsTaken es layout t
-  taken_split e es layout t m =
-      elim m.1 as (λ _. (In e.number layout × In t e.sources) ⊎ IsTaken es layout t) [
-        | inl same ↦ inl (subst (λ (y : Link O). In y.number layout) same m.2, subst (λ (y : Link O). In t y.sources) same m.3)
+  -- an operator of the layout with the table on this side is the newest one or an older one
+  pub split : (side : Link O → List ℕ) (e : Link O) (es : List (Link O)) (layout : List ℕ) (t : ℕ) → (f : Link O) × In f (e ∷ es) × In f.number layout × In t (side f) → (In e.number layout × In t (side e)) ⊎ ((f : Link O) × In f es × In f.number layout × In t (side f))
+  split side e es layout t m =
+      elim m.1 as (λ _. (In e.number layout × In t (side e)) ⊎ ((f : Link O) × In f es × In f.number layout × In t (side f))) [
+        | inl same ↦ inl (subst (λ (y : Link O). In y.number layout) same m.2, subst (λ (y : Link O). In t (side y)) same m.3)
         | inr j ↦ inr (m.0, j, m.2, m.3)
       ]
 
@@ -120,14 +110,14 @@ module _ {O : Type 0} where
   pub stored_here : (e : Link O) (es : List (Link O)) (layout : List ℕ) (t : ℕ) → Fits es e → IsForest es → In e.number layout → In t e.targets → IsStored (e ∷ es) layout t
   stored_here e es layout t fit forest a i = record {
     made = (e, inl refl, a, i);
-    free = λ k. elim (taken_split e es layout t k) as (λ _. ⊥) [ inl j ↦ targets_apart es e fit t i j.1 | inr j ↦ fit.fresh t i (source_made es j.0 t forest j.1 j.3) ];
+    free = λ k. elim (split (λ (y : Link O). y.sources) e es layout t k) as (λ _. ⊥) [ inl j ↦ targets_apart es e fit t i j.1 | inr j ↦ fit.fresh t i (source_made es j.0 t forest j.1 j.3) ];
   }
 
   -- what older operators store stays stored where the newest one doesn't take it
   pub stored_more : (e : Link O) (es : List (Link O)) (layout : List ℕ) (t : ℕ) → IsStored es layout t → (In e.number layout → In t e.sources → ⊥) → IsStored (e ∷ es) layout t
   stored_more e es layout t k spares = record {
     made = (k.made.0, inr k.made.1, k.made.2, k.made.3);
-    free = λ j. elim (taken_split e es layout t j) as (λ _. ⊥) [ inl i ↦ spares i.0 i.1 | inr i ↦ k.free i ];
+    free = λ j. elim (split (λ (y : Link O). y.sources) e es layout t j) as (λ _. ⊥) [ inl i ↦ spares i.0 i.1 | inr i ↦ k.free i ];
   }
 
   -- ---- numbers of edges are those of their links

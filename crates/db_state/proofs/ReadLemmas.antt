@@ -23,7 +23,7 @@ use Rattle.version_model.proofs.CrossingLemmas.{targets_linked}
 use Rattle.db_state.specs.Parts.{Parts, Stands, StandsOver, stored_way}
 use Rattle.db_state.specs.Laws.{SameOf}
 use Rattle.db_state.specs.Reading.{ReadsSources, far_read, reach, read_all, read_down, read_up}
-use Rattle.db_state.proofs.LinkLemmas.{in_or_out, made_split, map_none, not_in_of_false, number_lives, stored_here, stored_more}
+use Rattle.db_state.proofs.LinkLemmas.{in_or_out, map_none, not_in_of_false, number_lives, split, stored_here, stored_more}
 
 -- a function's values are read back where they were put
 pub put_in : {A : Type 0} (rows f : ℕ → A) (ks : List ℕ) (t : ℕ) → In t ks → put rows ks (map f ks) t ≡ f t
@@ -80,11 +80,11 @@ module _ {O : Type 0} (meaning : O → Meaning) (laws : (o : O) → Laws (meanin
       let right = reach_right (crossing true e) st rows targets in
       let older : EndsRight es next = λ t k. elim (in_or_out t e.sources) as (λ _. Right next t) [ inl i ↦ (right t).1 i | inr o ↦ (right t).0 (ends t (stored_more e es parts.layout t k (λ _ i. o i))) ] in
       let rest = ih next older in
-      λ t. ((λ h. (rest t).0 ((right t).0 h)), (λ k. elim (made_split e es parts.layout t k) as (λ _. Right (read_down meaning parts es next) t) [ inl h ↦ (rest t).0 ((right t).0 (targets t h.1)) | inr h ↦ (rest t).1 h ]))
+      λ t. ((λ h. (rest t).0 ((right t).0 h)), (λ k. elim (split (λ (y : Link O). y.targets) e es parts.layout t k) as (λ _. Right (read_down meaning parts es next) t) [ inl h ↦ (rest t).0 ((right t).0 (targets t h.1)) | inr h ↦ (rest t).1 h ]))
   down_one e es false is fit forest st rows ends ih =
       let older : EndsRight es rows = λ t k. ends t (stored_more e es parts.layout t k (λ a _. not_in_of_false e.number parts.layout is a)) in
       let rest = ih rows older in
-      λ t. ((rest t).0, (λ k. elim (made_split e es parts.layout t k) as (λ _. Right (read_down meaning parts es rows) t) [ inl h ↦ absurd (not_in_of_false e.number parts.layout is h.0) | inr h ↦ (rest t).1 h ]))
+      λ t. ((rest t).0, (λ k. elim (split (λ (y : Link O). y.targets) e es parts.layout t k) as (λ _. Right (read_down meaning parts es rows) t) [ inl h ↦ absurd (not_in_of_false e.number parts.layout is h.0) | inr h ↦ (rest t).1 h ]))
 
   abbrev pub AreRead : List (Link O) → Type 0
   AreRead es = Each (λ e. IsRead meaning heading parts s (stored_way parts.layout e)) es
