@@ -19,7 +19,8 @@ use Rattle.version_model.specs.Steps.{IsRelated}
 use Rattle.version_model.proofs.HeadingLemmas.{in_or_not}
 use Rattle.db_state.specs.Parts.{Parts, Stands, StandsOver, aux_of, stored_way}
 use Rattle.db_state.specs.Canonical.{SameStored, auxes_of, is_made, is_taken, parts_of, stored_of}
-use Rattle.db_state.proofs.LinkLemmas.{number_listed, number_lives, same_test}
+use Rattle.layout_rules.proofs.LinkLemmas.{number_listed}
+use Rattle.db_state.proofs.LinkLemmas.{number_lives, same_test}
 
 -- ---- the tests of stored tables
 

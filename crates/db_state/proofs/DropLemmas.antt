@@ -24,7 +24,8 @@ use Rattle.version_model.proofs.DropLemmas.{drop_keeps, fewer_links}
 use Rattle.version_model.proofs.HeadingLemmas.{in_or_not}
 use Rattle.db_state.specs.Parts.{Parts, Stands, StandsOver, stored_way}
 use Rattle.db_state.specs.Changes.{GoFromSources, LeavesTo, staying_parts}
-use Rattle.db_state.proofs.LinkLemmas.{filter_in, in_or_out, link_number, not_in_false, number_lives, same_link, same_maker, same_test, source_made, target_link, target_listed}
+use Rattle.layout_rules.proofs.LinkLemmas.{in_or_out, same_link, same_maker, source_made, target_link, target_listed}
+use Rattle.db_state.proofs.LinkLemmas.{filter_in, link_number, not_in_false, number_lives, same_test}
 use Rattle.db_state.proofs.CanonicalLemmas.{either_way}
 use Rattle.db_state.proofs.GrowLemmas.{either_of}
 

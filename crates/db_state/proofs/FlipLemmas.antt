@@ -21,7 +21,8 @@ use Rattle.version_model.proofs.PutLemmas.{map_same, put_else, put_one, put_othe
 use Rattle.db_state.specs.Parts.{Parts, Stands, StandsOver, aux_of, stored_way}
 use Rattle.db_state.specs.Reading.{ReadsSources, far_read}
 use Rattle.db_state.specs.Flips.{MovesParts, Turns, flipped, none_for, pair_read}
-use Rattle.db_state.proofs.LinkLemmas.{apart_at, in_or_out, link_number, not_in_false, same_link, same_maker, same_test}
+use Rattle.layout_rules.proofs.LinkLemmas.{in_or_out, same_link, same_maker}
+use Rattle.db_state.proofs.LinkLemmas.{apart_at, link_number, not_in_false, same_test}
 use Rattle.db_state.proofs.ReadLemmas.{IsRead, far_right, put_in, read_at}
 use Rattle.db_state.proofs.CanonicalLemmas.{either_way}
 

@@ -25,7 +25,8 @@ use Rattle.version_model.proofs.EvolveLemmas.{MayGrow, first_edges, link_sound, 
 use Rattle.db_state.specs.Parts.{Parts, Stands, StandsOver, aux_of, stored_way}
 use Rattle.db_state.specs.Changes.{with_parts}
 use Rattle.db_state.specs.Laws.{GrownStand}
-use Rattle.db_state.proofs.LinkLemmas.{in_or_out, link_number, not_in_false, same_test, split, stored_here, target_listed}
+use Rattle.layout_rules.proofs.LinkLemmas.{in_or_out, target_listed}
+use Rattle.db_state.proofs.LinkLemmas.{link_number, not_in_false, same_test, split, stored_here}
 use Rattle.db_state.proofs.CanonicalLemmas.{either_way}
 use Rattle.db_state.proofs.ReadLemmas.{put_in}
 

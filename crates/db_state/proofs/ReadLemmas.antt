@@ -23,7 +23,8 @@ use Rattle.version_model.proofs.CrossingLemmas.{targets_linked}
 use Rattle.db_state.specs.Parts.{Parts, Stands, StandsOver, stored_way}
 use Rattle.db_state.specs.Laws.{SameOf}
 use Rattle.db_state.specs.Reading.{ReadsSources, far_read, reach, read_all, read_down, read_up}
-use Rattle.db_state.proofs.LinkLemmas.{in_or_out, map_none, not_in_of_false, number_lives, split, stored_here, stored_more}
+use Rattle.layout_rules.proofs.LinkLemmas.{in_or_out}
+use Rattle.db_state.proofs.LinkLemmas.{map_none, not_in_of_false, number_lives, split, stored_here, stored_more}
 
 -- a function's values are read back where they were put
 pub put_in : {A : Type 0} (rows f : ℕ → A) (ks : List ℕ) (t : ℕ) → In t ks → put rows ks (map f ks) t ≡ f t

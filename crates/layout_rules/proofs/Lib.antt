@@ -1,4 +1,4 @@
-mod LinkLemmas
+pub mod LinkLemmas
 mod MoveLemmas
 mod ChangeLemmas
 mod TreeLemmas
