@@ -12,6 +12,7 @@ use Rattle.version_graph.proofs.WalkLaws.{IsForest, is_forest}
 use Rattle.op_law.specs.Tables.{Heading}
 use Rattle.op_law.specs.Meaning.{Meaning}
 use Rattle.layout_rules.specs.Layouts.{IsStored}
+use Rattle.layout_rules.proofs.ChangeLemmas.{number_lives}
 use Rattle.layout_rules.specs.Moves.{SameOperators}
 use Rattle.version_model.specs.States.{State, headings}
 use Rattle.version_model.specs.Sound.{IsSound}
@@ -20,7 +21,7 @@ use Rattle.version_model.proofs.HeadingLemmas.{in_or_not}
 use Rattle.db_state.specs.Parts.{Parts, Stands, StandsOver, aux_of, stored_way}
 use Rattle.db_state.specs.Canonical.{SameStored, auxes_of, is_made, is_taken, parts_of, stored_of}
 use Rattle.layout_rules.proofs.LinkLemmas.{number_listed}
-use Rattle.db_state.proofs.LinkLemmas.{number_lives, same_test}
+use Rattle.db_state.proofs.LinkLemmas.{same_test}
 
 -- ---- the tests of stored tables
 

@@ -13,6 +13,7 @@ use Rattle.version_graph.proofs.TableLemmas.{in_filter}
 use Rattle.version_graph.proofs.WalkLaws.{Of, all_of, is_forest}
 use Rattle.op_law.specs.Meaning.{Meaning}
 use Rattle.layout_rules.specs.Layouts.{IsCreate, IsStored, IsTaken, IsValid}
+use Rattle.layout_rules.proofs.ChangeLemmas.{filter_in, link_number, number_lives}
 use Rattle.version_model.specs.States.{State, headings}
 use Rattle.version_model.specs.Sound.{IsSound}
 use Rattle.version_model.specs.Steps.{IsRelated, pair_in, way}
@@ -25,7 +26,7 @@ use Rattle.version_model.proofs.HeadingLemmas.{in_or_not}
 use Rattle.db_state.specs.Parts.{Parts, Stands, StandsOver, stored_way}
 use Rattle.db_state.specs.Changes.{GoFromSources, LeavesTo, staying_parts}
 use Rattle.layout_rules.proofs.LinkLemmas.{in_or_out, same_link, same_maker, source_made, target_link, target_listed}
-use Rattle.db_state.proofs.LinkLemmas.{filter_in, link_number, not_in_false, number_lives, same_test}
+use Rattle.db_state.proofs.LinkLemmas.{not_in_false, same_test}
 use Rattle.db_state.proofs.CanonicalLemmas.{either_way}
 use Rattle.db_state.proofs.GrowLemmas.{either_of}
 

@@ -12,6 +12,7 @@ use Rattle.op_law.specs.Tables.{Tables}
 use Rattle.op_law.specs.Meaning.{Meaning, PairState}
 use Rattle.op_law.specs.Laws.{Laws}
 use Rattle.layout_rules.specs.Layouts.{IsMade, IsStored, IsValid}
+use Rattle.layout_rules.proofs.ChangeLemmas.{link_number}
 use Rattle.layout_rules.specs.Laws.{MovesStayValid}
 use Rattle.layout_rules.specs.Moves.{Flips, PutsIn, TakesOut}
 use Rattle.version_model.specs.Put.{put}
@@ -22,7 +23,7 @@ use Rattle.db_state.specs.Parts.{Parts, Stands, StandsOver, aux_of, stored_way}
 use Rattle.db_state.specs.Reading.{ReadsSources, far_read}
 use Rattle.db_state.specs.Flips.{MovesParts, Turns, flipped, none_for, pair_read}
 use Rattle.layout_rules.proofs.LinkLemmas.{in_or_out, same_link, same_maker}
-use Rattle.db_state.proofs.LinkLemmas.{apart_at, link_number, not_in_false, same_test}
+use Rattle.db_state.proofs.LinkLemmas.{apart_at, not_in_false, same_test}
 use Rattle.db_state.proofs.ReadLemmas.{IsRead, far_right, put_in, read_at}
 use Rattle.db_state.proofs.CanonicalLemmas.{either_way}
 

@@ -1,10 +1,9 @@
 -- An evolution moves no data.
-use Rattle.std.proofs.Common.{◌≡◌, ℕ, ◌+◌, List, [], ◌∷◌, ◌++◌, Bool, true, false, cond, inl, inr, refl, sym, ap, ◌∙◌, subst, map, length, arith, append_assoc}
+use Rattle.std.proofs.Common.{◌≡◌, ℕ, ◌+◌, List, [], ◌∷◌, ◌++◌, Bool, true, false, cond, inl, inr, refl, sym, ap, ◌∙◌, subst, map, length, arith}
 use Rattle.std.proofs.lemmas.Bool.{cases_eq, false≢true}
 use Rattle.std.proofs.lemmas.List.{append-nil}
 use Rattle.version_graph.specs.Sets.{In, Within}
-use Rattle.version_graph.specs.Tables.{table_numbers, taken}
-use Rattle.version_graph.specs.Edges.{AreEdges, is_in, numbers, working}
+use Rattle.version_graph.specs.Edges.{AreEdges, is_in, numbers}
 use Rattle.version_graph.specs.Evolve.{placed_next}
 use Rattle.version_graph.specs.Forest.{Link, crossing, forest, link}
 use Rattle.version_graph.specs.declared.parts.Edge.{Edge}
@@ -14,6 +13,7 @@ use Rattle.version_graph.proofs.WalkLaws.{Fits, IsForest, Of, all_of, is_forest,
 use Rattle.op_law.specs.Meaning.{Meaning, PairState}
 use Rattle.op_law.specs.Laws.{Laws}
 use Rattle.layout_rules.specs.Changes.{creates_next, is_empty}
+use Rattle.layout_rules.proofs.ChangeLemmas.{joined, no_name, link_number}
 use Rattle.layout_rules.specs.Layouts.{IsMade, IsStored}
 use Rattle.version_model.specs.States.{State, empty_at, headings}
 use Rattle.version_model.specs.Sound.{IsSound}
@@ -26,7 +26,7 @@ use Rattle.db_state.specs.Parts.{Parts, Stands, StandsOver, aux_of, stored_way}
 use Rattle.db_state.specs.Changes.{with_parts}
 use Rattle.db_state.specs.Laws.{GrownStand}
 use Rattle.layout_rules.proofs.LinkLemmas.{in_or_out, target_listed}
-use Rattle.db_state.proofs.LinkLemmas.{link_number, not_in_false, same_test, split, stored_here}
+use Rattle.db_state.proofs.LinkLemmas.{not_in_false, same_test, split, stored_here}
 use Rattle.db_state.proofs.CanonicalLemmas.{either_way}
 use Rattle.db_state.proofs.ReadLemmas.{put_in}
 
@@ -42,10 +42,6 @@ older_in layout n m false other i = subst (λ (l : List ℕ). In m l) (append-ni
 side_is : (layout : List ℕ) (n : ℕ) (create : Bool) → (In n layout → ⊥) → is_in n (more_layout layout n create) ≡ create
 side_is layout n true out = is_in_true n (layout ++ n ∷ []) (in_right n layout (n ∷ []) (inl refl))
 side_is layout n false out = not_in_false n (layout ++ []) (λ i. out (subst (λ (l : List ℕ). In n l) (append-nil layout) i))
-
-joined : (layout rest : List ℕ) (n : ℕ) (b : Bool) → (layout ++ cond b (n ∷ []) []) ++ rest ≡ layout ++ cond b (n ∷ rest) rest
-joined layout rest n true = append_assoc layout (n ∷ []) rest
-joined layout rest n false = ap (λ (l : List ℕ). l ++ rest) (append-nil layout)
 
 pub either_of : {O : Type 0} (x : Bool) (es : List (Link O)) (f : Link O) → Of es (crossing false f) → Of es (crossing x f)
 either_of false es f o = o
@@ -199,11 +195,6 @@ module _ {O : Type 0} (meaning : O → Meaning) (laws : (o : O) → Laws (meanin
 -- ---- an evolution
 
 module _ {O : Type 0} (meaning : O → Meaning) (laws : (o : O) → Laws (meaning o)) where
-  -- an operator that names no sources has none
-  none_named : (es : List (Placed O)) (e : Placed O) (names : List (List ℕ)) → e.edge.sources ≡ names → is_empty names ≡ true → (link es e).sources ≡ []
-  none_named es e [] is none = ap (λ (l : List (List ℕ)). table_numbers (taken (working es e.parent) l)) is
-  none_named es e (name ∷ names) is none = absurd (false≢true none)
-
   -- AN EVOLUTION MOVES NO DATA
   pub grown_stand : (es : List (Placed O)) (parent operator table : ℕ) (edges : List (Edge O)) (s : State) (n : ℕ) → MayGrow meaning es parent operator table edges s n → (parts : Parts) → Within parts.layout (numbers es) → Stands meaning es parts s
       → GrownStand meaning es parent operator table edges s parts
@@ -214,7 +205,7 @@ module _ {O : Type 0} (meaning : O → Meaning) (laws : (o : O) → Laws (meanin
       let here = first_edges meaning laws es parent operator table e edges s n may in
       let closed = (laws e.operator).0.closed_more n s.next may.drawn may.built.1 in
       let create = is_empty e.sources in
-      let is_create : create ≡ true → (link es new).sources ≡ [] = none_named es new e.sources refl in
+      let is_create : create ≡ true → (link es new).sources ≡ [] = no_name es new e.sources refl in
       let grown_once = with_parts meaning parts next (link es new) create in
       let rest = grown_stand (new ∷ es) (operator + 1) (operator + 1) (table + length e.targets) edges next n (rest_may meaning laws es parent operator table e edges s n may) grown_once
       (link_live meaning laws es new here s may.sound may.built.0 closed parts live st create is_create) (link_stands meaning laws es new here s may.sound may.built.0 closed parts live st create is_create) in

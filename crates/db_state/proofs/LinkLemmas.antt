@@ -1,7 +1,7 @@
 -- Which tables a layout stores, by the links of a forest.
 use Rattle.std.specs.Prelude.{◌⊎◌, ◌↔◌}
-use Rattle.std.proofs.Common.{◌≡◌, ℕ, List, [], ◌∷◌, Bool, true, false, inl, inr, refl, sym, ap, ◌∙◌, subst, map, cond, filter}
-use Rattle.std.proofs.lemmas.Bool.{cond-true, false_from_ne_true, false≢true}
+use Rattle.std.proofs.Common.{◌≡◌, ℕ, List, [], ◌∷◌, false, inl, inr, refl, sym, ap, ◌∙◌, subst, map}
+use Rattle.std.proofs.lemmas.Bool.{false_from_ne_true, false≢true}
 use Rattle.version_graph.specs.Sets.{In}
 use Rattle.version_graph.specs.Edges.{is_in, numbers}
 use Rattle.version_graph.specs.Forest.{Link, forest, link}
@@ -26,13 +26,6 @@ same_test n ks ls both =
     in_or_not n ls (is_in n ks ≡ is_in n ls)
     (λ i. is_in_true n ks (both.1 i) ∙ sym (is_in_true n ls i))
     (λ o. not_in_false n ks (λ i. o (both.0 i)) ∙ sym (not_in_false n ls o))
-
-pub filter_in : (test : ℕ → Bool) (n : ℕ) (ns : List ℕ) → In n ns → test n ≡ true → In n (filter test ns)
-filter_in test n [] i is = i
-filter_in test n (k ∷ ns) (inl same) is =
-    subst (λ (l : List ℕ). In n l) (sym (cond-true (test k) (k ∷ filter test ns) (filter test ns) (ap test (sym same) ∙ is))) (inl same)
-filter_in test n (k ∷ ns) (inr i) is =
-    elim (test k) as (λ b. In n (cond b (k ∷ filter test ns) (filter test ns))) [ true ↦ inr (filter_in test n ns i is) | false ↦ filter_in test n ns i is ]
 
 pub map_none : {X Y : Type 0} (f : X → Y) (xs : List X) → map f xs ≡ [] → xs ≡ []
 map_none f [] none = refl
@@ -68,15 +61,3 @@ module _ {O : Type 0} where
     made = (k.made.0, inr k.made.1, k.made.2, k.made.3);
     free = λ j. elim (split (λ (y : Link O). y.sources) e es layout t j) as (λ _. ⊥) [ inl i ↦ spares i.0 i.1 | inr i ↦ k.free i ];
   }
-
-  -- ---- numbers of edges are those of their links
-
-  pub number_lives : (es : List (Placed O)) (n : ℕ) → In n (numbers es) → Lives (forest es) n
-  number_lives [] n i = absurd i
-  number_lives (e ∷ es) n (inl same) = (link es e, inl refl, same)
-  number_lives (e ∷ es) n (inr i) = let l = number_lives es n i in (l.0, inr l.1, l.2)
-
-  pub link_number : (es : List (Placed O)) (f : Link O) → In f (forest es) → In f.number (numbers es)
-  link_number [] f i = i
-  link_number (e ∷ es) f (inl same) = inl (ap (λ (y : Link O). y.number) same)
-  link_number (e ∷ es) f (inr i) = inr (link_number es f i)

@@ -14,6 +14,7 @@ use Rattle.op_law.specs.Tables.{Heading, Tables}
 use Rattle.op_law.specs.Meaning.{Meaning}
 use Rattle.op_law.specs.Laws.{Laws}
 use Rattle.layout_rules.specs.Layouts.{IsMade, IsStored, IsValid}
+use Rattle.layout_rules.proofs.ChangeLemmas.{number_lives}
 use Rattle.version_model.specs.Put.{put}
 use Rattle.version_model.specs.States.{State, headings}
 use Rattle.version_model.specs.Steps.{IsRelated, pair_in, way}
@@ -24,7 +25,7 @@ use Rattle.db_state.specs.Parts.{Parts, Stands, StandsOver, stored_way}
 use Rattle.db_state.specs.Laws.{SameOf}
 use Rattle.db_state.specs.Reading.{ReadsSources, far_read, reach, read_all, read_down, read_up}
 use Rattle.layout_rules.proofs.LinkLemmas.{in_or_out}
-use Rattle.db_state.proofs.LinkLemmas.{map_none, not_in_of_false, number_lives, split, stored_here, stored_more}
+use Rattle.db_state.proofs.LinkLemmas.{map_none, not_in_of_false, split, stored_here, stored_more}
 
 -- a function's values are read back where they were put
 pub put_in : {A : Type 0} (rows f : ℕ → A) (ks : List ℕ) (t : ℕ) → In t ks → put rows ks (map f ks) t ≡ f t

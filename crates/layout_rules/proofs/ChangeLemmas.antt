@@ -32,7 +32,7 @@ a_source set name names known none =
     let clash : u.0.number ∷ table_numbers (taken set names) ≡ [] = ap (λ (o : Option TableVersion). table_numbers (option_to_list o ++ taken set names)) (sym u.1) ∙ none in
     cc
 
-joined : (layout rest : List ℕ) (n : ℕ) (b : Bool) → (layout ++ cond b (n ∷ []) []) ++ rest ≡ layout ++ cond b (n ∷ rest) rest
+pub joined : (layout rest : List ℕ) (n : ℕ) (b : Bool) → (layout ++ cond b (n ∷ []) []) ++ rest ≡ layout ++ cond b (n ∷ rest) rest
 joined layout rest n true = append_assoc layout (n ∷ []) rest
 joined layout rest n false = ap (λ (l : List ℕ). l ++ rest) (append-nil layout)
 
@@ -98,7 +98,7 @@ module _ {O : Type 0} where
   -- ---- an evolution
 
   -- an edge without sources has a link without sources, and no other has
-  no_name : (es : List (Placed O)) (e : Placed O) (names : List (List ℕ)) → e.edge.sources ≡ names → is_empty names ≡ true → IsCreate (link es e)
+  pub no_name : (es : List (Placed O)) (e : Placed O) (names : List (List ℕ)) → e.edge.sources ≡ names → is_empty names ≡ true → IsCreate (link es e)
   no_name es e [] is none = ap (λ (l : List (List ℕ)). table_numbers (taken (working es e.parent) l)) is
   no_name es e (name ∷ names) is none = absurd (false≢true none)
 

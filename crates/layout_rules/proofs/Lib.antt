@@ -1,6 +1,6 @@
 pub mod LinkLemmas
 mod MoveLemmas
-mod ChangeLemmas
+pub mod ChangeLemmas
 mod TreeLemmas
 mod NeededLemmas
 mod LookupLemmas
