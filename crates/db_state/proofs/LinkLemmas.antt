@@ -1,15 +1,14 @@
 -- Which tables a layout stores, by the links of a forest.
 use Rattle.std.specs.Prelude.{◌⊎◌, ◌↔◌}
-use Rattle.std.proofs.Common.{◌≡◌, ℕ, List, [], ◌∷◌, false, inl, inr, refl, sym, ap, ◌∙◌, subst, map}
+use Rattle.std.proofs.Common.{◌≡◌, ℕ, List, [], ◌∷◌, false, inl, inr, refl, sym, ◌∙◌, subst, map}
 use Rattle.std.proofs.lemmas.Bool.{false_from_ne_true, false≢true}
 use Rattle.version_graph.specs.Sets.{In}
-use Rattle.version_graph.specs.Edges.{is_in, numbers}
-use Rattle.version_graph.specs.Forest.{Link, forest, link}
-use Rattle.version_graph.specs.declared.parts.Placed.{Placed}
+use Rattle.version_graph.specs.Edges.{is_in}
+use Rattle.version_graph.specs.Forest.{Link, forest}
 use Rattle.version_graph.proofs.SetLemmas.{in_of_test, is_in_true}
 use Rattle.version_graph.proofs.WalkLaws.{Fits, IsForest, targets_apart}
 use Rattle.version_model.proofs.HeadingLemmas.{in_or_not}
-use Rattle.layout_rules.specs.Layouts.{IsStored, Lives}
+use Rattle.layout_rules.specs.Layouts.{IsStored}
 use Rattle.layout_rules.proofs.LinkLemmas.{source_made}
 
 -- ---- tests

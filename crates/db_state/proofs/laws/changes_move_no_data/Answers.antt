@@ -1,7 +1,7 @@
 use Rattle.std.proofs.Common.{ℕ, arith, subst, sym}
 use Rattle.version_graph.specs.Sets.{In}
 use Rattle.version_graph.specs.Edges.{numbers}
-use Rattle.db_state.proofs.LinkLemmas.{link_number}
+use Rattle.layout_rules.proofs.ChangeLemmas.{link_number}
 use Rattle.db_state.proofs.GrowLemmas.{grown_stand}
 use Rattle.db_state.proofs.DropLemmas.{drop_stands, leaving_valid}
 use Rattle.db_state.proofs.laws.changes_move_no_data.Goals as goal
