@@ -26,8 +26,8 @@ pub fn flips_leave_the_state<O: Operator>()
     ensures { ReadsSources O.meaning → FlipsLeave O.meaning }
 {}
 
-/// So does a whole move: where it leads back to the operators of the first layout, everything that
-/// is stored is again what it was.
+/// So does a whole move. Where it leads back to the operators of the first layout, the law before
+/// the last one says that everything stored is again what it was.
 pub fn moves_leave_the_state<O: Operator>()
     ensures { ReadsSources O.meaning → MovesLeave O.meaning }
 {
