@@ -1,6 +1,2 @@
-mod LinkLemmas
-mod ReadLemmas
-mod CanonicalLemmas
-mod FlipLemmas
-mod GrowLemmas
-mod DropLemmas
+mod FieldLemmas
+mod EmptyLemmas

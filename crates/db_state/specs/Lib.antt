@@ -1,6 +1,3 @@
-pub mod Parts
-pub mod Reading
-pub mod Canonical
-pub mod Flips
-pub mod Changes
-pub mod Laws
+pub mod Fields
+pub mod Covered
+pub mod Calls

@@ -1,17 +1,22 @@
-//! What is stored of a database under a layout: definitions and laws, without code.
+//! A database under a layout: what it stores, and reading it.
 //!
-//! What is stored (`specs/Parts.antt`) are the layout, the rows of the tables that it stores, and
-//! the auxiliary tables and the memory of each operator. That these parts stand for a state of the
-//! model without layout is said operator by operator. Two passes read every table back
-//! (`specs/Reading.antt`), so the parts stand for one state alone; and a state and a layout have one
-//! list of parts (`specs/Canonical.antt`). A flip and a whole move leave the state
-//! (`specs/Flips.antt`), and evolutions and drops move no data (`specs/Changes.antt`). The crate
-//! knows operators by their laws alone, and that the source of each is read back from its target.
+//! To the crates above it promises that a `Db` keeps *canonical storage* (`specs/Fields.antt`): its
+//! layout is valid, and the tables, auxiliary tables and memories that it keeps are exactly those of
+//! one sound state of the model without layout. `read_table` and `row_at` give that state's table
+//! and row from the tables on the way to storage alone. The crates above change a database by
+//! `take_parts` and `put_parts` alone, so each of them proves that it leaves canonical storage. The
+//! crate knows operators by their laws alone, and nothing of names in statements.
 #![tactic(auto)]
 
-mod laws;
+mod auxes;
+mod db;
+mod parts;
+mod read;
+mod table;
 
-pub use laws::{
-    changes_move_no_data, flips_leave_the_state, moves_leave_the_state, parts_have_one_state,
-    sound_states_have_parts,
-};
+pub use auxes::auxes_in;
+pub use db::{Db, put_parts, take_parts};
+pub use parts::Parts;
+pub use read::read_over;
+pub use table::{read_table, row_at};
+pub use version_model::Numbered;

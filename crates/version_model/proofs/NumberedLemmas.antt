@@ -1,7 +1,7 @@
 -- Values under numbers, one of which is replaced, or put behind the others.
 use Rattle.std.specs.Prelude.{nat_lt}
 use Rattle.std.specs.List.{find, position, position_or_len}
-use Rattle.std.proofs.Common.{◌≡◌, if◌then◌else◌, ℕ, zero, suc, ◌+◌, ◌==◌, List, [], ◌∷◌, ◌++◌, Bool, true, false, not, cond, length, Option, Some, None, option_map, slice_index_or, slice_set, refl, ap, sym, ◌∙◌, arith}
+use Rattle.std.proofs.Common.{◌≡◌, if◌then◌else◌, ℕ, zero, suc, ◌+◌, ◌==◌, List, [], ◌∷◌, ◌++◌, Bool, true, false, not, cond, length, map, Option, Some, None, option_map, slice_index_or, slice_set, refl, ap, sym, ◌∙◌, arith}
 use Rattle.std.proofs.lemmas.Bool.Decides.{nat_tests}
 use Rattle.std.proofs.lemmas.Bool.{eqb-true, eqb-false, false≢true}
 use Rattle.version_model.specs.Kept.{value_of, latest_of, renewed}
@@ -170,3 +170,9 @@ module _ {T : Type 0} where
       renew_twice o (if n == c.number then Some c.value else None) (latest_of rest n)
       ∙ ap (λ (p : Option T). renewed o p) (sym (value_append (reverse rest) c n))
       ∙ ap (λ (l : List (Numbered T)). renewed o (value_of l n)) (sym (reverse-append (c ∷ []) rest))
+
+-- another value under a number leaves the numbers
+pub numbers_set : {T : Type 0} (items : List (Numbered T)) (at : ℕ) (value : T) (d : Numbered T) → map (λ (i : Numbered T). i.number) (slice_set items at (record { number = (slice_index_or items at d).number; value = value })) ≡ map (λ (i : Numbered T). i.number) items
+numbers_set [] at value d = refl
+numbers_set (x ∷ xs) zero value d = refl
+numbers_set {T} (x ∷ xs) (suc at) value d = ap (λ (l : List ℕ). x.number ∷ l) (numbers_set xs at value d)

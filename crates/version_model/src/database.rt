@@ -11,7 +11,7 @@ ghost use Rattle.version_model.specs.Databases.{dropped_database, empty_database
 
 use crate::Numbered;
 use crate::evolve::{as_refusal, keep_newer};
-use crate::live::{keep_live_memories, keep_live_tables};
+use crate::live::{keep_live_operators, keep_live_tables};
 use crate::numbered::{replace_all, value_of};
 use crate::progress::{Before, Made};
 use crate::write::{Written, write_rows};
@@ -172,6 +172,6 @@ impl<O: Operator + Drop> PlainDatabase<O> {
     {
         self.graph.drop_version(name);
         keep_live_tables(&self.graph, &mut self.tables);
-        keep_live_memories(&self.graph, &mut self.memories);
+        keep_live_operators(&self.graph, &mut self.memories);
     }
 }

@@ -1,11 +1,9 @@
-//! Only the tables and memories of what lives stay.
+//! Only values of what lives stay.
 ghost use Rattle.std.specs.Prelude.{◌≡◌, filter};
 ghost use Rattle.version_graph.specs.Tables.{table_numbers};
 ghost use Rattle.version_graph.specs.Edges.{is_in, made, numbers};
 
 use crate::Numbered;
-use id_memory::PairMemory;
-use row_store::Table;
 use version_graph::Graph;
 
 fn is_live_table<O>(graph: &Graph<O>, number: u32) -> bool
@@ -20,20 +18,20 @@ fn is_live_operator<O>(graph: &Graph<O>, number: u32) -> bool
     graph.edge(number).is_some()
 }
 
-/// Lets the tables go that no live operator made. It takes no memory, and time in the number of
-/// live tables, for each table.
-pub fn keep_live_tables<O>(graph: &Graph<O>, tables: &mut Vec<Numbered<Table>>)
-    ensures { tables.new.items
-        ≡ filter (λ table. is_in table.number (table_numbers (made graph.now.edges))) tables.old.items }
+/// Lets the values go that stand under the number of no live table. It takes no memory, and time in
+/// the number of live tables, for each value.
+pub fn keep_live_tables<O, T: Drop>(graph: &Graph<O>, values: &mut Vec<Numbered<T>>)
+    ensures { values.new.items
+        ≡ filter (λ item. is_in item.number (table_numbers (made graph.now.edges))) values.old.items }
 {
-    tables.retain(|table| is_live_table(graph, table.number));
+    values.retain(|item| is_live_table(graph, item.number));
 }
 
-/// Lets the memories go that are no live operator's. It takes no memory, and time in the number of
-/// live operators, for each memory.
-pub fn keep_live_memories<O>(graph: &Graph<O>, memories: &mut Vec<Numbered<PairMemory>>)
-    ensures { memories.new.items
-        ≡ filter (λ memory. is_in memory.number (numbers graph.now.edges)) memories.old.items }
+/// Lets the values go that stand under the number of no live operator. It takes no memory, and time
+/// in the number of live operators, for each value.
+pub fn keep_live_operators<O, T: Drop>(graph: &Graph<O>, values: &mut Vec<Numbered<T>>)
+    ensures { values.new.items
+        ≡ filter (λ item. is_in item.number (numbers graph.now.edges)) values.old.items }
 {
-    memories.retain(|memory| is_live_operator(graph, memory.number));
+    values.retain(|item| is_live_operator(graph, item.number));
 }

@@ -1,5 +1,5 @@
 //! Values under the numbers of tables or operators.
-ghost use Rattle.std.specs.Prelude.{◌≡◌, ℕ, ◌==◌, Some, None, if◌then◌else◌};
+ghost use Rattle.std.specs.Prelude.{◌≡◌, ℕ, ◌==◌, Some, None, map, if◌then◌else◌};
 ghost use Rattle.std.specs.List.{find, position};
 ghost use Rattle.std.specs.Option.{option_copied};
 ghost use mathlib.Core.List.{reverse};
@@ -54,8 +54,9 @@ fn place_of<T>(items: &[Numbered<T>], number: u32) -> Option<usize>
 
 /// Puts another value under a number, where there is one. It takes no memory.
 pub fn replace<T: Drop>(items: &mut Vec<Numbered<T>>, item: Numbered<T>)
-    ensures { (n : ℕ) → value_of_lem items.new.items n
+    ensures values { (n : ℕ) → value_of_lem items.new.items n
         ≡ renewed (value_of_lem items.old.items n) (if n == item.number then Some item.value else None) }
+    ensures numbers { map (λ item. item.number) items.new.items ≡ map (λ item. item.number) items.old.items }
 {
     let Numbered { number, value } = item;
     if let Some(at) = place_of(items.as_slice(), number) {
@@ -66,8 +67,9 @@ pub fn replace<T: Drop>(items: &mut Vec<Numbered<T>>, item: Numbered<T>)
 /// Puts newer values under their numbers, where there are such, the last ones last. It takes no
 /// memory.
 pub fn replace_all<T: Drop>(items: &mut Vec<Numbered<T>>, newer: List<Numbered<T>>)
-    ensures { (n : ℕ) → value_of_lem items.new.items n
+    ensures values { (n : ℕ) → value_of_lem items.new.items n
         ≡ renewed (value_of_lem items.old.items n) (latest_of_lem newer n) }
+    ensures numbers { map (λ item. item.number) items.new.items ≡ map (λ item. item.number) items.old.items }
 {
     let mut left = newer.into_vec();
     left.as_mut_slice().reverse();

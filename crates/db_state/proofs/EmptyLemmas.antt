@@ -1,0 +1,63 @@
+-- The database without versions.
+use Rattle.std.proofs.Common.{◌≡◌, ℕ, List, [], inl, inr, refl, sym, ap, ◌∙◌, subst, arith}
+use Rattle.id_memory.specs.States.{CounterState, MemoryState}
+use Rattle.row_store.specs.States.{TableState}
+use Rattle.version_graph.specs.Edges.{Drawn}
+use Rattle.op_law.specs.Laws.{Laws}
+use Rattle.op_law.specs.Meaning.{Meaning}
+use Rattle.op_law.specs.declared.side.Aux.{Aux}
+use Rattle.layout_rules.specs.declared.layout.Layout.{Layout}
+use Rattle.version_model.specs.States.{State, empty_at}
+use Rattle.version_model.specs.Databases.{empty_database}
+use Rattle.version_model.specs.Kept.{Database}
+use Rattle.version_model.specs.declared.numbered.Numbered.{Numbered}
+use Rattle.version_graph.proofs.EvolveLemmas.{drawn_is}
+use Rattle.version_model.proofs.EvolveLemmas.{empty_sound}
+use Rattle.storage_law.specs.Reading.{ReadsSources}
+use Rattle.db_state.specs.Fields.{IsDatabase, database_of, state_of}
+use Rattle.db_state.specs.declared.parts.Parts.{Parts}
+use Rattle.db_state.proofs.FieldLemmas.{IsShaped, Store, is_database}
+
+-- the fields without anything
+abbrev bare : {O : Type 0} → ℕ → Parts O
+bare limit = record {
+  graph = record { edges = []; versions = []; last_operator = 0; last_table = 0 };
+  layout = record { operators = [] };
+  stored = [];
+  aux = [];
+  memories = [];
+  ids = record { next = 1; limit = limit };
+}
+
+bare_shaped : {O : Type 0} (limit : ℕ) → IsShaped (bare {O} limit)
+bare_shaped limit = record {
+  graph = record { edges = tt; few = omega arith; operators = tt; tables = tt; named = tt; names_once = tt; sets_once = tt };
+  finished = tt;
+  sides = tt;
+  valid = record { live = λ n i. absurd i; creates = λ e i none. absurd i; makers = λ e i a t b. absurd i; once = λ e f i j a b s. absurd i };
+  ascending = tt;
+  tables_ascending = tt;
+  auxes = refl;
+  memories = refl;
+}
+
+bare_store : {O : Type 0} (meaning : O → Meaning) (limit : ℕ) → Store meaning (bare {O} limit) (empty_at 1)
+bare_store meaning limit = record {
+  tables = λ t. ((λ i. absurd i), (λ k. absurd k.made.1));
+  rows = λ t k. refl;
+  auxes = λ n i. absurd i;
+  aux = λ e i. absurd i;
+  memories = λ n i. absurd i;
+  memory = λ e i. absurd i;
+  next = refl;
+}
+
+pub empty_is : {O : Type 0} (meaning : O → Meaning) → ((o : O) → Laws (meaning o)) → ReadsSources meaning → (limit : ℕ) (p : Parts O) → p.graph.edges ≡ [] → p.graph.versions ≡ [] → p.graph.last_operator ≡ 0 → p.graph.last_table ≡ 0 → p.layout.operators ≡ [] → p.stored ≡ [] → p.aux ≡ [] → p.memories ≡ [] → p.ids ≡ record { next = 1; limit = limit }
+    → IsDatabase meaning p × (database_of meaning p ≡ empty_database limit)
+empty_is {O} meaning laws reads limit p edges versions operator table operators stored aux memories ids =
+    let start : Parts O = bare limit in
+    let graph : start.graph ≡ p.graph = drawn_is (sym edges) (sym versions) (sym operator) (sym table) in
+    let same : start ≡ p = cc in
+    let made = is_database meaning laws reads start (empty_at 1) (bare_shaped limit) (empty_sound meaning 1 (omega arith)) (bare_store meaning limit) in
+    let d : database_of meaning start ≡ empty_database limit = ap (λ (s : State). record { graph = start.graph; state = s; limit = limit }) made.1 in
+    subst (λ (x : Parts O). IsDatabase meaning x × (database_of meaning x ≡ empty_database limit)) same (made.0, d)

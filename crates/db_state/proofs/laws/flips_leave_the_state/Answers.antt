@@ -1,5 +1,0 @@
-use Rattle.db_state.proofs.FlipLemmas.{flip_stands}
-use Rattle.db_state.proofs.laws.flips_leave_the_state.Goals as goal
-
-pub returns : goal.returns
-returns g c reads es edges parts valid e at new turns valid_new s st = flip_stands g.O.Operator.meaning g.met.O.Operator.laws reads es edges parts valid e at new turns valid_new s st

@@ -1,0 +1,31 @@
+-- What the calls suppose and ensure.
+use Rattle.std.specs.Prelude.{◌≡◌, ℕ, false, List, map}
+use Rattle.version_graph.specs.Sets.{In}
+use Rattle.version_graph.specs.Forest.{Link, crossing, forest}
+use Rattle.version_graph.specs.declared.parts.Placed.{Placed}
+use Rattle.op_law.specs.Tables.{Tables}
+use Rattle.op_law.specs.Calls.{tables_of}
+use Rattle.op_law.specs.Meaning.{Meaning}
+use Rattle.op_law.specs.declared.side.Aux.{Aux}
+use Rattle.version_model.specs.Kept.{HasSides}
+use Rattle.version_model.specs.States.{State, headings}
+use Rattle.version_model.specs.Steps.{IsRelated}
+use Rattle.version_model.specs.declared.numbered.Numbered.{Numbered}
+use Rattle.storage_law.specs.Storage.{aux_of, stored_way}
+
+-- the live operator has at most two tables on either side, and relates both in the state
+pub record IsRelatedAt {O : Type 0} (meaning : O → Meaning) (es : List (Placed O)) (s : State) (n : ℕ) : Type 0 where
+  pub over : Link O
+  pub lives : In over (forest es)
+  pub number : over.number ≡ n
+  pub sides : HasSides over
+  pub related : IsRelated meaning (headings es) s (crossing false over)
+
+-- the auxiliary tables of the operator in the state, under the layout
+abbrev pub IsAuxOf : {O : Type 0} → (O → Meaning) → List (Placed O) → List ℕ → State → ℕ → Tables → Type 0
+IsAuxOf {O} meaning es layout s n tables = (e : Link O) → In e (forest es) → e.number ≡ n → tables ≡ aux_of meaning s (stored_way layout e)
+
+-- they are given for each of these operators
+pub record AreAuxesOf {O : Type 0} (meaning : O → Meaning) (es : List (Placed O)) (layout : List ℕ) (s : State) (ns : List ℕ) (auxes : List (Numbered Aux)) : Type 0 where
+  pub numbers : map (λ (i : Numbered Aux). i.number) auxes ≡ ns
+  pub values : (i : Numbered Aux) → In i auxes → IsAuxOf meaning es layout s i.number (tables_of i.value)

@@ -1,0 +1,6 @@
+mod LinkLemmas
+mod ReadLemmas
+mod CanonicalLemmas
+mod FlipLemmas
+mod GrowLemmas
+mod DropLemmas
