@@ -2,17 +2,20 @@
 use Rattle.std.specs.Prelude.{◌≡◌, ℕ, ◌==◌, ◌&&◌, Bool, true, false, not, List, length, Ok, Err, if◌then◌else◌}
 use Rattle.std.specs.List.{list_all}
 use Rattle.par_base.specs.declared.refusal.Refusal.TheVariants.{NotBuilt}
-use Rattle.bidel_parser.specs.Views.{OpView, StatementView, CreateVersion, DropVersion, Insert, Update, Delete, Select}
+use Rattle.bidel_parser.specs.Views.{OpView, StatementView, CreateVersion, DropVersion, Insert, Update, Delete, Select, Materialize, ShowLayout}
 use Rattle.version_graph.specs.Sets.{In}
 use Rattle.version_graph.specs.Tables.{table_numbers}
 use Rattle.version_graph.specs.Edges.{working}
+use Rattle.layout_rules.specs.Changes.{layout_after}
 use Rattle.op_any.specs.Checks.{Checked, ◌then◌}
 use Rattle.op_any.specs.Build.{is_built as is_built_operator}
 use Rattle.engine_statements.specs.State.{State}
 use Rattle.engine_statements.specs.Statements.{Planned, planned_insert, planned_update, planned_delete, acted_select, wrote}
 use Rattle.engine_statements.specs.declared.reply.Reply.{Reply}
-use Rattle.engine_statements.specs.declared.reply.Reply.TheVariants.{Done}
+use Rattle.engine_statements.specs.declared.reply.Reply.TheVariants.{Done, Moved, Layout}
 use Rattle.engine_versions.specs.Evolve.{created, dropped_version}
+use Rattle.engine_layouts.specs.Laid.{Laid, materialized}
+use Rattle.engine_layouts.specs.Shown.{shown_operators, shown_tables}
 
 -- the operators of a new version, of which a script has at least one, are all built
 abbrev pub are_built : List OpView → Bool
@@ -26,7 +29,11 @@ is_built (Insert t rows) = true
 is_built (Update t assignments filter) = true
 is_built (Delete t filter) = true
 is_built (Select t items filter csv) = not csv
+is_built (Materialize named in_steps) = not in_steps
+is_built ShowLayout = true
 is_built _ = false
+
+-- ---- THE MODEL WITHOUT LAYOUT: what a statement on the data answers and leaves
 
 -- what an INSERT, UPDATE or DELETE makes of its version's table; no other statement writes rows
 abbrev pub planned : State → StatementView → Checked Planned
@@ -35,15 +42,27 @@ planned s (Update t assignments filter) = planned_update s t assignments filter
 planned s (Delete t filter) = planned_delete s t filter
 planned s _ = Err NotBuilt
 
--- a statement that is carried out
-abbrev pub acted : State → StatementView → Checked (Reply × State)
-acted s (CreateVersion name from operators) = created s name from operators then λ next. Ok (Done, next)
-acted s (DropVersion name) = dropped_version s name then λ next. Ok (Done, next)
-acted s (Select t items filter csv) = acted_select s t items filter
-acted s statement = planned s statement then λ p. wrote s p
+-- a statement on the data
+abbrev pub acted_data : State → StatementView → Checked (Reply × State)
+acted_data s (CreateVersion name from operators) = created s name from operators then λ next. Ok (Done, next)
+acted_data s (DropVersion name) = dropped_version s name then λ next. Ok (Done, next)
+acted_data s (Select t items filter csv) = acted_select s t items filter
+acted_data s statement = planned s statement then λ p. wrote s p
+
+-- ---- with the layout beside it
+
+-- the layout follows the graph, and tells nothing to the model
+abbrev pub with_data : Laid → Reply × State → Reply × Laid
+with_data s answer = (answer.0, record { data = answer.1; layout = layout_after s.layout s.data.graph answer.1.graph })
+
+-- a statement that is carried out: MATERIALIZE changes the layout alone, SHOW LAYOUT nothing, and every other one the data, whatever the layout
+abbrev pub acted : Laid → StatementView → Checked (Reply × Laid)
+acted s (Materialize named in_steps) = materialized s named then λ m. Ok (Moved m.0, m.1)
+acted s ShowLayout = Ok (Layout (shown_tables s) (shown_operators s), s)
+acted s statement = acted_data s.data statement then λ answer. Ok (with_data s answer)
 
 -- one event; every other form is refused before all other checks of its statement
-abbrev pub act : State → StatementView → Checked (Reply × State)
+abbrev pub act : Laid → StatementView → Checked (Reply × Laid)
 act s statement = if is_built statement then acted s statement else Err NotBuilt
 
 -- EACH VERSION IS AN ORDINARY DATABASE FOR ITS OWN WRITES: the written table has the rows that the statement makes, and no other table of its version changes

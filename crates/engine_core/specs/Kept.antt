@@ -1,24 +1,35 @@
 -- The state that the engine stands for, and what its calls answer.
-use Rattle.std.specs.Prelude.{◌≡◌, ℕ, Result, Ok, Err, ⊤}
+use Rattle.std.specs.Prelude.{◌≡◌, ℕ, List, [], Result, Ok, Err, ⊤}
 use Rattle.par_base.specs.declared.fault.Fault.{Fault}
 use Rattle.par_base.specs.declared.fault.Fault.TheVariants.{Refused, Memory}
 use Rattle.par_base.specs.declared.refusal.Refusal.{Refusal}
-use Rattle.op_any.specs.Operators.{AnyView}
-use Rattle.version_model.specs.Kept.{Kept, database_of}
+use Rattle.op_any.specs.Operators.{AnyView, any_meaning}
 use Rattle.version_model.specs.Databases.{empty_database}
+use Rattle.layout_rules.specs.Changes.{layout_after}
+use Rattle.db_state.specs.Fields.{database_of}
+use Rattle.db_state.specs.declared.parts.Parts.{Parts}
 use Rattle.engine_statements.specs.State.{State}
 use Rattle.engine_statements.specs.declared.reply.Reply.{Reply}
+use Rattle.engine_layouts.specs.Laid.{Laid, laid_of}
 
--- the database that the engine keeps
-abbrev pub state_of : Kept AnyView → State
-state_of k = database_of k
+-- the database that the engine keeps, with its layout
+abbrev pub state_of : Parts AnyView → Laid
+state_of k = laid_of k
+
+-- the database without its layout
+abbrev pub data_of : Parts AnyView → State
+data_of k = database_of any_meaning k
 
 -- the state without versions, with the greatest identifier that may be drawn
-abbrev pub empty_state : ℕ → State
-empty_state limit = empty_database limit
+abbrev pub empty_state : ℕ → Laid
+empty_state limit = record { data = empty_database limit; layout = [] }
 
 -- the call answers and leaves what the model does: the reply and the next state, or the refusal, unless memory ran out
-abbrev pub Answers : Result (Reply × State) Refusal → Result Reply (Fault Refusal) → State → Type 0
+abbrev pub Answers : {S : Type 0} → Result (Reply × S) Refusal → Result Reply (Fault Refusal) → S → Type 0
 Answers model (Ok reply) next = model ≡ Ok (reply, next)
 Answers model (Err (Refused r)) next = model ≡ Err r
 Answers model (Err Memory) next = ⊤
+
+-- the layout follows the graph
+abbrev pub Follows : Parts AnyView → Parts AnyView → Type 0
+Follows old new = new.layout.operators ≡ layout_after old.layout.operators old.graph new.graph

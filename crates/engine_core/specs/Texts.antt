@@ -1,12 +1,14 @@
 -- The lines of replies and of refusals.
-use Rattle.std.specs.Prelude.{◌++◌, ℕ, List, [], ◌∷◌, codes, decimal, flat_map, length}
+use Rattle.std.specs.Prelude.{◌++◌, ℕ, Bool, true, false, List, [], ◌∷◌, codes, decimal, flat_map, length}
 use Rattle.std.specs.List.{join_by}
 use Rattle.par_base.specs.declared.value.Value.{Value}
 use Rattle.par_base.specs.Literals.{literal_of}
 use Rattle.par_base.specs.declared.refusal.Refusal.{Refusal}
 use Rattle.par_base.specs.declared.refusal.Refusal.TheVariants.{NotBuilt, UnknownVersion, VersionExists, UnknownTable, TableExists, UnknownColumn, ColumnExists, WrongCount, UnknownId, IdsSpent, BadPartition, InvalidLayout, NoVersionInUse, TooManyOperators, TooManyColumns, ColumnsDiffer, SameTable, NothingPending}
 use Rattle.engine_statements.specs.declared.reply.Reply.{Reply}
-use Rattle.engine_statements.specs.declared.reply.Reply.TheVariants.{Done, Inserted, Updated, Deleted, Rows}
+use Rattle.engine_statements.specs.declared.reply.StoredOperator.{StoredOperator}
+use Rattle.engine_statements.specs.declared.reply.StoredTable.{StoredTable}
+use Rattle.engine_statements.specs.declared.reply.Reply.TheVariants.{Done, Inserted, Updated, Deleted, Rows, Moved, Layout}
 
 -- a text with its line feed
 abbrev pub line : List ℕ → List ℕ
@@ -24,6 +26,22 @@ row_text row = join_by literal_of (codes "|") row
 abbrev pub rows_lines : List (List ℕ) → List (List Value) → List ℕ
 rows_lines header rows = line (header_text header) ++ flat_map (λ row. line (row_text row)) rows ++ line (codes "rows " ++ decimal (length rows))
 
+-- `table 1 task rows 4`
+abbrev pub table_text : StoredTable → List ℕ
+table_text t = codes "table " ++ decimal t.number ++ codes " " ++ t.name ++ codes " rows " ++ decimal t.rows
+
+abbrev pub side_word : Bool → List ℕ
+side_word true = codes "target"
+side_word false = codes "source"
+
+-- `operator 2 split source aux 0`
+abbrev pub operator_text : StoredOperator → List ℕ
+operator_text o = codes "operator " ++ decimal o.number ++ codes " " ++ o.kind ++ codes " " ++ side_word o.on_target ++ codes " aux " ++ decimal o.entries
+
+-- a line for each stored table and each operator
+abbrev pub layout_lines : List StoredTable → List StoredOperator → List ℕ
+layout_lines tables operators = flat_map (λ t. line (table_text t)) tables ++ flat_map (λ o. line (operator_text o)) operators ++ line (codes "ok")
+
 -- the lines of a reply
 unfoldable pub reply_bytes : Reply → List ℕ
 reply_bytes Done = line (codes "ok")
@@ -31,6 +49,8 @@ reply_bytes (Inserted ids) = line (codes "inserted " ++ decimal (length ids) ++ 
 reply_bytes (Updated count) = line (codes "updated " ++ decimal count)
 reply_bytes (Deleted count) = line (codes "deleted " ++ decimal count)
 reply_bytes (Rows header rows csv) = rows_lines header rows
+reply_bytes (Moved count) = line (codes "moved " ++ decimal count)
+reply_bytes (Layout tables operators) = layout_lines tables operators
 
 -- the line of a refusal: `refused`, its number and its text
 unfoldable pub refusal_bytes : Refusal → List ℕ

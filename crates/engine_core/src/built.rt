@@ -30,6 +30,8 @@ pub fn is_built(statement: &Statement) -> bool
         | Statement::Update { .. }
         | Statement::Delete { .. } => true,
         Statement::Select { csv, .. } => !*csv,
+        Statement::Materialize { in_steps, .. } => !*in_steps,
+        Statement::ShowLayout => true,
         _ => false,
     }
 }

@@ -8,39 +8,44 @@ ghost use Rattle.version_graph.specs.Edges.{IsGraph};
 ghost use Rattle.op_any.specs.Checks.{◌then◌, Gives};
 ghost use Rattle.op_any.specs.Operators.{any_meaning};
 ghost use Rattle.version_model.specs.Sound.{IsSound};
+ghost use Rattle.db_state.specs.Fields.{IsDatabase};
 ghost use Rattle.engine_statements.specs.Statements.{Planned, wrote};
 ghost use Rattle.engine_statements.specs.Replies.{IsReply};
 ghost use Rattle.engine_statements.specs.Calls.{planned_view, IsTaken};
 ghost use Rattle.engine_versions.specs.Evolve.{created};
-ghost use Rattle.engine_core.specs.Act.{act, acted, are_built, is_built as is_built_statement, planned, IsOrdinary};
-ghost use Rattle.engine_core.specs.Kept.{Answers, state_of, empty_state};
+ghost use Rattle.engine_layouts.specs.Laid.{materialized};
+ghost use Rattle.engine_core.specs.Act.{act, acted, acted_data, are_built, is_built as is_built_statement, planned, IsOrdinary};
+ghost use Rattle.engine_core.specs.Kept.{data_of, empty_state, state_of, Answers, Follows};
 
 use crate::built::is_built;
 use crate::spent::{counter_at, refused};
+use crate::writing::write_through;
 use bidel_parser::{OpText, Statement};
+use db_state::Db;
+use engine_layouts::{materialize, show_layout};
 use engine_statements::{Reply, WritePlan, plan_delete, plan_insert, plan_update, select_rows};
 use engine_versions::{create_version, drop_version};
 use expr_lang::Steps;
 use op_any::AnyOp;
-use par_base::{Fault, Limits, Name, Refusal};
+use par_base::{Fault, Limits, Name, Refusal, Target};
 use std::alloc::Global;
 use std::marker::Model;
 use std::sync::ledger::Ledger;
-use version_model::{PlainDatabase, Written};
+use version_model::Written;
 
-/// A database with all its versions.
+/// A database with all its versions, under a layout.
 #[derive(Drop)]
 pub struct Engine {
-    database: PlainDatabase<AnyOp>,
+    database: Db<AnyOp>,
 }
 
 impl Model for Engine {
-    ghost use Rattle.version_model.specs.Kept.{Kept};
     ghost use Rattle.op_any.specs.Operators.{AnyView};
     ghost use Rattle.op_any.specs.Codes.{coded_any};
     ghost use Rattle.std.specs.Coded.{codes};
+    ghost use Rattle.db_state.specs.declared.parts.Parts.{Parts};
 
-    ghost Value = { Kept AnyView };
+    ghost Value = { Parts AnyView };
 
     ghost coded = { Prim.hlevel (codes, coded_any) };
 
@@ -53,7 +58,7 @@ impl Engine {
         ensures { state_of result ≡ empty_state limits.max_id }
     {
         Engine {
-            database: PlainDatabase::new(alloc, limits.max_id),
+            database: Db::new(alloc, limits.max_id),
         }
     }
 
@@ -76,8 +81,8 @@ impl Engine {
             (state_of self.new) }
         ensures same { OnErr result (state_of self.new ≡ state_of self.old) }
         ensures reply { IfOk result IsReply }
-        ensures ordinary { (p : Planned) → planned (state_of self.old) (statement_view statement) ≡ Ok p
-            → OnOk result (IsOrdinary (state_of self.old) p (state_of self.new)) }
+        ensures ordinary { (p : Planned) → planned (data_of self.old) (statement_view statement) ≡ Ok p
+            → OnOk result (IsOrdinary (data_of self.old) p (data_of self.new)) }
     {
         let _session = session;
         if !is_built(&statement) {
@@ -89,8 +94,9 @@ impl Engine {
     /// In every database each operator relates its source and its target tables, so that all versions
     /// show one state of the data. It does nothing: its contract is the law.
     pub fn versions_always_agree(&self)
-        ensures agree { IsSound any_meaning self.now.graph.edges (state_of self.now).state }
+        ensures agree { IsSound any_meaning self.now.graph.edges (data_of self.now).state }
         ensures graph { IsGraph self.now.graph }
+        ensures stored { IsDatabase any_meaning self.now }
     {
         let _graph = self.database.graph();
     }
@@ -108,9 +114,51 @@ impl Engine {
             (state_of self.new) }
         ensures same { OnErr result (state_of self.new ≡ state_of self.old) }
         ensures reply { IfOk result IsReply }
-        ensures ordinary { (p : Planned) → planned (state_of self.old) (statement_view statement.now) ≡ Ok p
-            → OnOk result (IsOrdinary (state_of self.old) p (state_of self.new)) }
+        ensures ordinary { (p : Planned) → planned (data_of self.old) (statement_view statement.now) ≡ Ok p
+            → OnOk result (IsOrdinary (data_of self.old) p (data_of self.new)) }
     {
+        match statement {
+            Statement::Materialize { named, .. } => self.move_data(alloc, named.as_slice(), steps),
+            Statement::ShowLayout => Ok(show_layout(alloc, &self.database)?),
+            _ => self.change_data(alloc, statement, steps),
+        }
+    }
+
+    // Carries out a MATERIALIZE.
+    fn move_data<L: Ledger>(
+        &mut self,
+        alloc: Global,
+        named: &[Target],
+        steps: &mut Steps<L>,
+    ) -> Result<Reply, Fault<Refusal>>
+        ensures answers { Answers (materialized (state_of self.old) named.now
+            then λ m. Ok (Reply.Moved m.0, m.1)) result (state_of self.new) }
+        ensures same { OnErr result (state_of self.new ≡ state_of self.old) }
+        ensures reply { IfOk result IsReply }
+    {
+        let count = materialize(alloc, &mut self.database, named, steps)?;
+        Ok(Reply::Moved { count })
+    }
+
+    // Carries out a statement on the data.
+    fn change_data<L: Ledger>(
+        &mut self,
+        alloc: Global,
+        statement: &Statement,
+        steps: &mut Steps<L>,
+    ) -> Result<Reply, Fault<Refusal>>
+        requires texts { TextsWithin text_limit (statement_view statement.now) }
+        requires built { is_built_statement (statement_view statement.now) ≡ true }
+        ensures answers { Answers (acted_data (data_of self.old) (statement_view statement.now)) result
+            (data_of self.new) }
+        ensures same { OnErr result (data_of self.new ≡ data_of self.old) }
+        ensures layout { Follows self.old self.new }
+        ensures reply { IfOk result IsReply }
+        ensures ordinary { (p : Planned) → planned (data_of self.old) (statement_view statement.now) ≡ Ok p
+            → OnOk result (IsOrdinary (data_of self.old) p (data_of self.new)) }
+    {
+        // That the layout stays where the graph does rests on it.
+        self.versions_always_agree();
         match statement {
             Statement::CreateVersion {
                 name,
@@ -118,7 +166,7 @@ impl Engine {
                 operators,
             } => self.create(alloc, name, from, operators.as_slice(), steps),
             Statement::DropVersion { name } => {
-                drop_version(alloc, &mut self.database, name)?;
+                drop_version(alloc, &mut self.database, name, steps)?;
                 Ok(Reply::Done)
             }
             Statement::Select {
@@ -142,9 +190,10 @@ impl Engine {
     ) -> Result<Reply, Fault<Refusal>>
         requires texts { All (OpTexts (λ bytes. length bytes ≤ text_limit)) (map op_view operators.now) }
         requires built { are_built (map op_view operators.now) ≡ true }
-        ensures answers { Answers ((created (state_of self.old) name.now from.now (map op_view operators.now))
-            then λ next. Ok (Reply.Done, next)) result (state_of self.new) }
-        ensures same { OnErr result (state_of self.new ≡ state_of self.old) }
+        ensures answers { Answers ((created (data_of self.old) name.now from.now (map op_view operators.now))
+            then λ next. Ok (Reply.Done, next)) result (data_of self.new) }
+        ensures same { OnErr result (data_of self.new ≡ data_of self.old) }
+        ensures layout { Follows self.old self.new }
         ensures reply { IfOk result IsReply }
     {
         let name = name.copy(alloc)?;
@@ -167,12 +216,13 @@ impl Engine {
         steps: &mut Steps<L>,
     ) -> Result<Reply, Fault<Refusal>>
         requires texts { TextsWithin text_limit (statement_view statement.now) }
-        ensures answers { Answers ((planned (state_of self.old) (statement_view statement.now))
-            then λ p. wrote (state_of self.old) p) result (state_of self.new) }
-        ensures same { OnErr result (state_of self.new ≡ state_of self.old) }
+        ensures answers { Answers ((planned (data_of self.old) (statement_view statement.now))
+            then λ p. wrote (data_of self.old) p) result (data_of self.new) }
+        ensures same { OnErr result (data_of self.new ≡ data_of self.old) }
+        ensures layout { Follows self.old self.new }
         ensures reply { IfOk result IsReply }
-        ensures ordinary { (p : Planned) → planned (state_of self.old) (statement_view statement.now) ≡ Ok p
-            → OnOk result (IsOrdinary (state_of self.old) p (state_of self.new)) }
+        ensures ordinary { (p : Planned) → planned (data_of self.old) (statement_view statement.now) ≡ Ok p
+            → OnOk result (IsOrdinary (data_of self.old) p (data_of self.new)) }
     {
         let plan = self.plan(alloc, statement, steps)?;
         self.write(alloc, plan, steps)
@@ -187,12 +237,12 @@ impl Engine {
     ) -> Result<WritePlan, Fault<Refusal>>
         requires texts { TextsWithin text_limit (statement_view statement.now) }
         ensures gives { Gives (planned_view self.now.graph.edges) result
-            (planned (state_of self.now) (statement_view statement.now)) }
+            (planned (data_of self.now) (statement_view statement.now)) }
         ensures taken { IfOk result (IsTaken self.now) }
     {
         match statement {
             Statement::Insert { table, rows } => {
-                plan_insert(alloc, &self.database, table, rows.as_slice())
+                plan_insert(alloc, &self.database, table, rows.as_slice(), steps)
             }
             Statement::Update {
                 table,
@@ -221,12 +271,13 @@ impl Engine {
         steps: &mut Steps<L>,
     ) -> Result<Reply, Fault<Refusal>>
         requires { IsTaken self.old plan }
-        ensures answers { Answers (wrote (state_of self.old) (planned_view self.old.graph.edges plan)) result
-            (state_of self.new) }
-        ensures same { OnErr result (state_of self.new ≡ state_of self.old) }
+        ensures answers { Answers (wrote (data_of self.old) (planned_view self.old.graph.edges plan)) result
+            (data_of self.new) }
+        ensures same { OnErr result (data_of self.new ≡ data_of self.old) }
+        ensures layout { Follows self.old self.new }
         ensures reply { IsReply plan.reply → IfOk result IsReply }
-        ensures ordinary { OnOk result (IsOrdinary (state_of self.old) (planned_view self.old.graph.edges plan)
-            (state_of self.new)) }
+        ensures ordinary { OnOk result (IsOrdinary (data_of self.old) (planned_view self.old.graph.edges plan)
+            (data_of self.new)) }
     {
         // What follows in the other versions rests on it.
         self.versions_always_agree();
@@ -244,7 +295,7 @@ impl Engine {
             rows,
             ids,
         };
-        match self.database.write(alloc, written, steps) {
+        match write_through(alloc, &mut self.database, written, steps) {
             Ok(()) => Ok(reply),
             Err(Fault::Refused(spent)) => Err(refused(spent)),
             Err(Fault::Memory) => Err(Fault::Memory),

@@ -14,6 +14,7 @@ mod engine;
 mod refusal_line;
 mod reply_lines;
 mod spent;
+mod writing;
 
 pub use engine::Engine;
 pub use refusal_line::refusal_text;

@@ -2,10 +2,10 @@
 //!
 //! Header and rows are added to one string, each by a function that ends its own line.
 ghost use Rattle.std.specs.Prelude.{◌≡◌, ◌++◌, codes, decimal, flat_map, string_bytes, IfOk, OnOk};
-ghost use Rattle.engine_core.specs.Texts.{reply_bytes, rows_lines, header_text, row_text, line};
+ghost use Rattle.engine_core.specs.Texts.{header_text, layout_lines, line, operator_text, reply_bytes, row_text, rows_lines, side_word as side_word_lem, table_text};
 ghost use Rattle.par_base.specs.Literals.{literal_of};
 
-use engine_statements::Reply;
+use engine_statements::{Reply, StoredOperator, StoredTable};
 use par_base::{Memory, Name, Row, Text, Value, literal_text};
 use std::alloc::Global;
 
@@ -25,6 +25,10 @@ pub fn reply_text(alloc: Global, reply: &Reply) -> Result<Text, Memory>
             rows,
             csv: _,
         } => rows_text(alloc, header.as_slice(), rows.as_slice()),
+        Reply::Moved { count } => counted_text(alloc, "moved", *count),
+        Reply::Layout { tables, operators } => {
+            layout_text(alloc, tables.as_slice(), operators.as_slice())
+        }
     }
 }
 
@@ -125,5 +129,70 @@ fn push_value(alloc: Global, text: &mut String, value: &Value) -> Result<(), Mem
 {
     let literal = literal_text(alloc, value)?;
     text.push_str(literal.as_str())?;
+    Ok(())
+}
+
+fn layout_text(
+    alloc: Global,
+    tables: &[StoredTable],
+    operators: &[StoredOperator],
+) -> Result<Text, Memory>
+    ensures { IfOk result (λ text. text ≡ layout_lines tables.now operators.now) }
+{
+    let mut text = String::new(alloc);
+    push_tables(&mut text, tables)?;
+    push_operators(&mut text, operators)?;
+    text.push_str("ok\n")?;
+    Ok(Text::from_string(text))
+}
+
+// Adds the line of each stored table.
+fn push_tables(text: &mut String, tables: &[StoredTable]) -> Result<(), Memory>
+    ensures { OnOk result (string_bytes text.new
+        ≡ string_bytes text.old ++ flat_map (λ table. line (table_text table)) tables.now) }
+{
+    for table in tables {
+        push_table(text, table)?;
+    }
+    Ok(())
+}
+
+fn push_table(text: &mut String, table: &StoredTable) -> Result<(), Memory>
+    ensures { OnOk result (string_bytes text.new ≡ string_bytes text.old ++ line (table_text table.now)) }
+{
+    let number = table.number;
+    let rows = table.rows;
+    write!(text, "table {number} {} rows {rows}\n", table.name.as_str())?;
+    Ok(())
+}
+
+// Adds the line of each operator.
+fn push_operators(text: &mut String, operators: &[StoredOperator]) -> Result<(), Memory>
+    ensures { OnOk result (string_bytes text.new
+        ≡ string_bytes text.old ++ flat_map (λ operator. line (operator_text operator)) operators.now) }
+{
+    for operator in operators {
+        push_operator(text, operator)?;
+    }
+    Ok(())
+}
+
+fn side_word(on_target: bool) -> &'static str
+    ensures { result.now ≡ side_word_lem on_target }
+{
+    if on_target { "target" } else { "source" }
+}
+
+fn push_operator(text: &mut String, operator: &StoredOperator) -> Result<(), Memory>
+    ensures { OnOk result (string_bytes text.new ≡ string_bytes text.old ++ line (operator_text operator.now)) }
+{
+    let number = operator.number;
+    let side = side_word(operator.on_target);
+    let entries = operator.entries;
+    write!(
+        text,
+        "operator {number} {} {side} aux {entries}\n",
+        operator.kind.as_str()
+    )?;
     Ok(())
 }

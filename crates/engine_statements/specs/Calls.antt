@@ -7,17 +7,19 @@ use Rattle.expr_lang.specs.Terms.{Term, expr_term}
 use Rattle.bidel_parser.specs.Views.{AssignmentView}
 use Rattle.version_graph.specs.Sets.{In}
 use Rattle.version_graph.specs.Tables.{TableVersion, table_numbers}
-use Rattle.version_graph.specs.Edges.{numbers, working, heading_of}
+use Rattle.version_graph.specs.Edges.{heading_of, made, numbers, working}
 use Rattle.version_graph.specs.declared.parts.Heading.{Heading}
 use Rattle.version_graph.specs.declared.parts.Placed.{Placed}
-use Rattle.op_any.specs.Operators.{AnyView}
+use Rattle.op_any.specs.Operators.{AnyView, any_meaning}
 use Rattle.op_any.specs.Texts.{ValueFits, TermFits}
 use Rattle.ordinary_table.specs.Laws.{IsTable}
-use Rattle.version_model.specs.Kept.{Kept, state_of}
+use Rattle.db_state.specs.Fields.{state_of}
+use Rattle.db_state.specs.declared.parts.Parts.{Parts}
 use Rattle.version_model.specs.Writes.{MayWrite}
 use Rattle.engine_statements.specs.Found.{Found}
 use Rattle.engine_statements.specs.Statements.{Planned}
 use Rattle.engine_statements.specs.declared.found.FoundTable.{FoundTable}
+use Rattle.engine_statements.specs.declared.found.NamedTable.{NamedTable}
 use Rattle.engine_statements.specs.declared.write_plan.WritePlan.{WritePlan}
 
 -- ---- tables
@@ -30,13 +32,23 @@ found_view f = record { set = f.set; table = record { number = f.number; heading
 abbrev pub table_of : ℕ → TableVersion → Found
 table_of set t = record { set = set; table = t }
 
+-- a table of this working set, by its number
+abbrev pub named_view : ℕ → NamedTable → Found
+named_view set n = record { set = set; table = record { number = n.number; heading = n.heading.now } }
+
+-- a table of the working set, with its heading
+pub record IsNamedIn (es : List (Placed AnyView)) (set : ℕ) (n : NamedTable) : Type 0 where
+  pub held : In n.number (table_numbers (working es set))
+  pub made : In n.number (table_numbers (made es))
+  pub heading : heading_of es n.number ≡ Some n.heading.now
+
 -- a live table of a live working set, with its heading and its rows, as it may stand
-pub record IsTableOf (k : Kept AnyView) (f : FoundTable) : Type 0 where
+pub record IsTableOf (k : Parts AnyView) (f : FoundTable) : Type 0 where
   pub lives : In f.set (numbers k.graph.edges)
   pub held : In f.number (table_numbers (working k.graph.edges f.set))
   pub heading : heading_of k.graph.edges f.number ≡ Some f.heading.now
-  pub rows : f.table.now.rows ≡ (state_of k).tables f.number
-  pub stands : IsTable (length f.heading.now.columns) k.ids.next f.table.now.rows
+  pub rows : f.table.rows ≡ (state_of any_meaning k).tables f.number
+  pub stands : IsTable (length f.heading.now.columns) k.ids.next f.table.rows
 
 -- ---- expressions
 
@@ -70,6 +82,6 @@ planned_view es w = record {
 }
 
 -- a database takes the write
-pub record IsTaken (k : Kept AnyView) (w : WritePlan) : Type 0 where
+pub record IsTaken (k : Parts AnyView) (w : WritePlan) : Type 0 where
   pub lives : In w.set (numbers k.graph.edges)
-  pub may : MayWrite k.graph.edges (state_of k) w.set w.table w.rows.rows w.next
+  pub may : MayWrite k.graph.edges (state_of any_meaning k) w.set w.table w.rows.rows w.next

@@ -3,7 +3,7 @@ use Rattle.std.specs.Prelude.{◌≡◌, ℕ, List, length, ⊤}
 use Rattle.std.specs.List.{All}
 use Rattle.par_base.specs.declared.value.Value.{Value}
 use Rattle.engine_statements.specs.declared.reply.Reply.{Reply}
-use Rattle.engine_statements.specs.declared.reply.Reply.TheVariants.{Done, Inserted, Updated, Deleted, Rows}
+use Rattle.engine_statements.specs.declared.reply.Reply.TheVariants.{Done, Inserted, Updated, Deleted, Rows, Moved, Layout}
 
 -- each row has one value for each name of the header
 abbrev pub HasWidth : List (List ℕ) → List (List Value) → Type 0
@@ -16,3 +16,5 @@ IsReply (Inserted ids) = ⊤
 IsReply (Updated count) = ⊤
 IsReply (Deleted count) = ⊤
 IsReply (Rows header rows csv) = HasWidth header rows
+IsReply (Moved count) = ⊤
+IsReply (Layout tables operators) = ⊤

@@ -2,7 +2,8 @@
 ghost use Rattle.std.specs.Prelude.{◌≡◌, IfOk};
 ghost use Rattle.bidel_parser.specs.Views.{filter_view};
 ghost use Rattle.op_any.specs.Checks.{Gives};
-ghost use Rattle.version_model.specs.Kept.{database_of};
+ghost use Rattle.op_any.specs.Operators.{any_meaning};
+ghost use Rattle.db_state.specs.Fields.{database_of};
 ghost use Rattle.engine_statements.specs.Statements.{planned_delete};
 ghost use Rattle.engine_statements.specs.Calls.{planned_view, IsTaken};
 
@@ -11,34 +12,34 @@ use crate::found::find_table;
 use crate::ids::check_condition_ids;
 use crate::{Reply, WritePlan};
 use bidel_parser::TableName;
+use db_state::Db;
 use expr_lang::{ExprText, Steps};
 use op_any::AnyOp;
 use ordinary_table::{Changed, delete_rows};
 use par_base::{Fault, Refusal};
 use std::alloc::Global;
 use std::sync::ledger::Ledger;
-use version_model::PlainDatabase;
 
 /// What a DELETE makes of its table, or the first of its checks that refuses it.
 ///
 /// It takes time in the number of values of the table: the rows that stay are copied.
 pub fn plan_delete<L: Ledger>(
     alloc: Global,
-    database: &PlainDatabase<AnyOp>,
+    database: &Db<AnyOp>,
     name: &TableName,
     filter: &Option<ExprText>,
     steps: &mut Steps<L>,
 ) -> Result<WritePlan, Fault<Refusal>>
     ensures gives { Gives (planned_view database.now.graph.edges) result
-        (planned_delete (database_of database.now) name.now (filter_view filter.now)) }
+        (planned_delete (database_of any_meaning database.now) name.now (filter_view filter.now)) }
     ensures taken { IfOk result (IsTaken database.now) }
 {
-    let found = find_table(alloc, database, name)?;
+    let found = find_table(alloc, database, name, steps)?;
     let next = database.ids().next();
     let shown = shown_names(alloc, found.heading.columns.as_slice())?;
     let condition = find_condition(alloc, shown.as_slice(), filter)?;
     check_condition_ids(filter, next)?;
-    let changed = delete_rows(alloc, found.table, condition.as_ref(), steps)?;
+    let changed = delete_rows(alloc, &found.table, condition.as_ref(), steps)?;
     let Changed { table, chosen } = changed;
     Ok(WritePlan {
         set: found.set,

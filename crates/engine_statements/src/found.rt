@@ -7,17 +7,20 @@ ghost use Rattle.version_graph.specs.Tables.{table_named};
 ghost use Rattle.version_graph.specs.Edges.{AreEdges, numbers, set_named, working};
 ghost use Rattle.version_graph.specs.Kept.{has_name as has_name_lem, number_named};
 ghost use Rattle.op_any.specs.Checks.{Gives};
-ghost use Rattle.version_model.specs.Kept.{database_of};
+ghost use Rattle.op_any.specs.Operators.{any_meaning};
+ghost use Rattle.db_state.specs.Fields.{database_of};
 ghost use Rattle.engine_statements.specs.Found.{found, known_version, set_of};
-ghost use Rattle.engine_statements.specs.Calls.{found_view, table_of, IsTableOf};
+ghost use Rattle.engine_statements.specs.Calls.{found_view, named_view, table_of, IsNamedIn, IsTableOf};
 
 use bidel_parser::TableName;
+use db_state::{Db, read_table};
+use expr_lang::Steps;
 use op_any::AnyOp;
-use par_base::{Fault, Name, Refusal};
+use par_base::{Fault, Memory, Name, Refusal};
 use row_store::Table;
 use std::alloc::Global;
+use std::sync::ledger::Ledger;
 use version_graph::{Graph, Heading};
-use version_model::PlainDatabase;
 
 /// A table of a version, where it stands.
 #[derive(Drop)]
@@ -27,7 +30,14 @@ pub struct FoundTable<'a> {
     /// The table's number.
     pub number: u32,
     pub heading: &'a Heading,
-    pub table: &'a Table,
+    pub table: Table,
+}
+
+/// The number and the heading of a table of a version.
+#[derive(Drop)]
+pub struct NamedTable<'a> {
+    pub number: u32,
+    pub heading: &'a Heading,
 }
 
 /// The working set of a version, or the refusal. It takes one comparison for each version.
@@ -44,10 +54,10 @@ pub fn known_set(alloc: Global, graph: &Graph<AnyOp>, name: &Name) -> Result<u32
 
 fn find_set(
     alloc: Global,
-    database: &PlainDatabase<AnyOp>,
+    database: &Db<AnyOp>,
     version: &Option<Name>,
 ) -> Result<u32, Fault<Refusal>>
-    ensures gives { Gives (λ set. set) result (set_of (database_of database.now) version.now) }
+    ensures gives { Gives (λ set. set) result (set_of (database_of any_meaning database.now) version.now) }
     ensures lives { IfOk result (λ set. In set (numbers database.now.graph.edges)) }
 {
     match version {
@@ -90,17 +100,36 @@ fn number_in(graph: &Graph<AnyOp>, set: u32, name: &Name) -> Option<u32>
 }
 
 /// The table of a live working set with this name.
-fn table_in<'a>(database: &'a PlainDatabase<AnyOp>, set: u32, name: &Name) -> Option<FoundTable<'a>>
+fn table_in<'a>(database: &'a Db<AnyOp>, set: u32, name: &Name) -> Option<NamedTable<'a>>
     requires { In set (numbers database.now.graph.edges) }
-    ensures found { option_map found_view result
+    ensures found { option_map (named_view set) result
         ≡ option_map (table_of set) (table_named (working database.entry.now.graph.edges set) name.now) }
-    ensures there { IfSome result (IsTableOf database.entry.now) }
+    ensures there { IfSome result (IsNamedIn database.entry.now.graph.edges set) }
 {
     let graph = database.graph();
     let number = number_in(graph, set, name)?;
     let heading = graph.heading(number)?;
-    let table = database.table(number)?;
-    Some(FoundTable {
+    Some(NamedTable { number, heading })
+}
+
+// The table with its rows.
+fn read_found<'a, L: Ledger>(
+    alloc: Global,
+    database: &'a Db<AnyOp>,
+    set: u32,
+    named: NamedTable<'a>,
+    steps: &mut Steps<L>,
+) -> Result<FoundTable<'a>, Memory>
+    requires lives { In set (numbers database.now.graph.edges) }
+    requires named { IsNamedIn database.now.graph.edges set named }
+    ensures found { IfOk result (λ found. found_view found ≡ named_view set named) }
+    ensures there { IfOk result (IsTableOf database.entry.now) }
+{
+    // That its rows may stand rests on it.
+    let _graph = database.graph();
+    let NamedTable { number, heading } = named;
+    let table = read_table(alloc, database, number, steps)?;
+    Ok(FoundTable {
         set,
         number,
         heading,
@@ -108,19 +137,21 @@ fn table_in<'a>(database: &'a PlainDatabase<AnyOp>, set: u32, name: &Name) -> Op
     })
 }
 
-/// The table that a statement names, or the refusal. It copies no rows. It takes one comparison for
-/// each version and time in the number of live tables, for each table of the version.
-pub fn find_table<'a>(
+/// The table that a statement names, with a copy of its rows as they are read from what is stored, or
+/// the refusal. It takes one comparison for each version, time in the number of live tables for each
+/// table of the version, and the time of reading.
+pub fn find_table<'a, L: Ledger>(
     alloc: Global,
-    database: &'a PlainDatabase<AnyOp>,
+    database: &'a Db<AnyOp>,
     name: &TableName,
+    steps: &mut Steps<L>,
 ) -> Result<FoundTable<'a>, Fault<Refusal>>
-    ensures gives { Gives found_view result (found (database_of database.entry.now) name.now) }
+    ensures gives { Gives found_view result (found (database_of any_meaning database.entry.now) name.now) }
     ensures there { IfOk result (IsTableOf database.entry.now) }
 {
     let set = find_set(alloc, database, &name.version)?;
     match table_in(database, set, &name.table) {
-        Some(found) => Ok(found),
+        Some(named) => Ok(read_found(alloc, database, set, named, steps)?),
         None => Err(Fault::Refused(Refusal::UnknownTable {
             table: name.table.copy(alloc)?,
         })),

@@ -2,7 +2,8 @@
 ghost use Rattle.std.specs.Prelude.{◌≡◌, ◌+◌, ◌≤◌, ◌^◌, IfOk, length};
 ghost use Rattle.std.specs.List.{All};
 ghost use Rattle.op_any.specs.Checks.{Gives};
-ghost use Rattle.version_model.specs.Kept.{database_of};
+ghost use Rattle.op_any.specs.Operators.{any_meaning};
+ghost use Rattle.db_state.specs.Fields.{database_of};
 ghost use Rattle.ordinary_table.specs.Written.{numbered};
 ghost use Rattle.engine_statements.specs.Statements.{ids_of, planned_insert};
 ghost use Rattle.engine_statements.specs.Calls.{planned_view, IsTaken, RowFits};
@@ -12,11 +13,13 @@ use crate::found::find_table;
 use crate::ids::check_row_ids;
 use crate::{Reply, WritePlan};
 use bidel_parser::TableName;
+use db_state::Db;
+use expr_lang::Steps;
 use op_any::AnyOp;
 use ordinary_table::insert_rows;
 use par_base::{Fault, List, Memory, Refusal, Row};
 use std::alloc::Global;
-use version_model::PlainDatabase;
+use std::sync::ledger::Ledger;
 
 /// The next identifier behind those of the rows. So many rows that it doesn't fit in 64 bits don't
 /// fit in memory beside their copies either.
@@ -45,23 +48,24 @@ fn drawn(alloc: Global, next: u64, rows: &[Row]) -> Result<List<u64>, Memory>
 /// What an INSERT makes of its table, or the first of its checks that refuses it.
 ///
 /// It takes time in the number of values of the table and of the new rows: the table is copied.
-pub fn plan_insert(
+pub fn plan_insert<L: Ledger>(
     alloc: Global,
-    database: &PlainDatabase<AnyOp>,
+    database: &Db<AnyOp>,
     name: &TableName,
     rows: &[Row],
+    steps: &mut Steps<L>,
 ) -> Result<WritePlan, Fault<Refusal>>
     requires { All RowFits rows.now }
     ensures gives { Gives (planned_view database.now.graph.edges) result
-        (planned_insert (database_of database.now) name.now rows.now) }
+        (planned_insert (database_of any_meaning database.now) name.now rows.now) }
     ensures taken { IfOk result (IsTaken database.now) }
 {
-    let found = find_table(alloc, database, name)?;
+    let found = find_table(alloc, database, name, steps)?;
     let next = database.ids().next();
     check_counts(rows, found.heading.columns.len())?;
     check_row_ids(rows, next)?;
     let end = next_after(next, rows)?;
-    let written = insert_rows(alloc, found.table, rows, next)?;
+    let written = insert_rows(alloc, &found.table, rows, next)?;
     let ids = drawn(alloc, next, rows)?;
     Ok(WritePlan {
         set: found.set,

@@ -24,7 +24,7 @@ pub use delete::plan_delete;
 pub use found::{FoundTable, find_table, known_set};
 pub use insert::plan_insert;
 pub use laws::each_version_is_ordinary;
-pub use reply::Reply;
+pub use reply::{Reply, StoredOperator, StoredTable};
 pub use select::select_rows;
 pub use update::plan_update;
 pub use write_plan::WritePlan;

@@ -2,7 +2,8 @@
 ghost use Rattle.std.specs.Prelude.{◌≡◌, IfOk};
 ghost use Rattle.bidel_parser.specs.Views.{filter_view};
 ghost use Rattle.op_any.specs.Checks.{Gives};
-ghost use Rattle.version_model.specs.Kept.{database_of};
+ghost use Rattle.op_any.specs.Operators.{any_meaning};
+ghost use Rattle.db_state.specs.Fields.{database_of};
 ghost use Rattle.engine_statements.specs.Statements.{acted_select};
 ghost use Rattle.engine_statements.specs.Replies.{IsReply};
 
@@ -12,12 +13,12 @@ use crate::found::find_table;
 use crate::ids::check_condition_ids;
 use crate::items::{find_places, header};
 use bidel_parser::TableName;
+use db_state::Db;
 use expr_lang::{ExprText, Steps};
 use op_any::AnyOp;
 use par_base::{Fault, List, Name, Refusal};
 use std::alloc::Global;
 use std::sync::ledger::Ledger;
-use version_model::PlainDatabase;
 
 /// The rows that a SELECT asks for, under the listed names, or the first of its checks that refuses
 /// it. It changes nothing.
@@ -25,24 +26,24 @@ use version_model::PlainDatabase;
 /// It takes time in the number of values of the table and of the answer.
 pub fn select_rows<L: Ledger>(
     alloc: Global,
-    database: &PlainDatabase<AnyOp>,
+    database: &Db<AnyOp>,
     name: &TableName,
     items: &Option<List<Name>>,
     filter: &Option<ExprText>,
     steps: &mut Steps<L>,
 ) -> Result<Reply, Fault<Refusal>>
-    ensures gives { Gives (λ reply. (reply, database_of database.now)) result
-        (acted_select (database_of database.now) name.now items.now (filter_view filter.now)) }
+    ensures gives { Gives (λ reply. (reply, database_of any_meaning database.now)) result
+        (acted_select (database_of any_meaning database.now) name.now items.now (filter_view filter.now)) }
     ensures reply { IfOk result IsReply }
 {
-    let found = find_table(alloc, database, name)?;
+    let found = find_table(alloc, database, name, steps)?;
     let shown = shown_names(alloc, found.heading.columns.as_slice())?;
     let places = find_places(alloc, shown.as_slice(), items)?;
     let condition = find_condition(alloc, shown.as_slice(), filter)?;
     check_condition_ids(filter, database.ids().next())?;
     let rows = ordinary_table::select_rows(
         alloc,
-        found.table,
+        &found.table,
         places.as_slice(),
         condition.as_ref(),
         steps,

@@ -3,7 +3,8 @@ ghost use Rattle.std.specs.Prelude.{◌≡◌, IfOk, map};
 ghost use Rattle.std.specs.List.{All};
 ghost use Rattle.bidel_parser.specs.Views.{assignment_view, filter_view};
 ghost use Rattle.op_any.specs.Checks.{Gives};
-ghost use Rattle.version_model.specs.Kept.{database_of};
+ghost use Rattle.op_any.specs.Operators.{any_meaning};
+ghost use Rattle.db_state.specs.Fields.{database_of};
 ghost use Rattle.engine_statements.specs.Statements.{planned_update};
 ghost use Rattle.engine_statements.specs.Calls.{planned_view, AssignmentFits, IsTaken};
 
@@ -12,13 +13,13 @@ use crate::found::find_table;
 use crate::ids::check_update_ids;
 use crate::{Reply, WritePlan};
 use bidel_parser::{Assignment, TableName};
+use db_state::Db;
 use expr_lang::{ExprText, Steps};
 use op_any::AnyOp;
 use ordinary_table::{Changed, update_rows};
 use par_base::{Fault, Refusal};
 use std::alloc::Global;
 use std::sync::ledger::Ledger;
-use version_model::PlainDatabase;
 
 /// What an UPDATE makes of its table, or the first of its checks that refuses it. All SETs see the
 /// row as it was.
@@ -27,7 +28,7 @@ use version_model::PlainDatabase;
 /// number of pairs of SETs.
 pub fn plan_update<L: Ledger>(
     alloc: Global,
-    database: &PlainDatabase<AnyOp>,
+    database: &Db<AnyOp>,
     name: &TableName,
     assignments: &[Assignment],
     filter: &Option<ExprText>,
@@ -35,11 +36,11 @@ pub fn plan_update<L: Ledger>(
 ) -> Result<WritePlan, Fault<Refusal>>
     requires { All AssignmentFits (map assignment_view assignments.now) }
     ensures gives { Gives (planned_view database.now.graph.edges) result
-        (planned_update (database_of database.now) name.now
+        (planned_update (database_of any_meaning database.now) name.now
         (map assignment_view assignments.now) (filter_view filter.now)) }
     ensures taken { IfOk result (IsTaken database.now) }
 {
-    let found = find_table(alloc, database, name)?;
+    let found = find_table(alloc, database, name, steps)?;
     let next = database.ids().next();
     let columns = found.heading.columns.as_slice();
     let shown = shown_names(alloc, columns)?;
@@ -49,7 +50,7 @@ pub fn plan_update<L: Ledger>(
     check_update_ids(assignments, filter, next)?;
     let changed = update_rows(
         alloc,
-        found.table,
+        &found.table,
         sets.as_slice(),
         condition.as_ref(),
         steps,

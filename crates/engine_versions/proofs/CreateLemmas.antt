@@ -19,7 +19,7 @@ use Rattle.op_law.specs.Calls.{first_refused}
 use Rattle.op_any.specs.Checks.{◌then◌, Gives}
 use Rattle.op_any.specs.Operators.{AnyView, any_meaning}
 use Rattle.op_any.specs.Texts.{TextsFit}
-use Rattle.version_model.specs.Kept.{Kept}
+use Rattle.db_state.specs.declared.parts.Parts.{Parts}
 use Rattle.version_model.specs.Evolving.{AreBuilt, grown_state}
 use Rattle.version_model.specs.Databases.{counter_of, evolved_state, start_in, Evolves, MayEvolveTo, RefusesEvolution}
 use Rattle.engine_statements.specs.State.{State}
@@ -52,7 +52,7 @@ pub record Passes (g : Drawn AnyView) (next : ℕ) (name : List ℕ) (from : Opt
   pub built : edges_on (headings_of (working g.edges set)) (counts_of g) next texts ≡ Ok edges
 
 -- they pass on the database whose graph and counter were lent
-pub passes_there : (k : Kept AnyView) (g : Drawn AnyView) (ids : CounterState) (next : ℕ) (name : List ℕ) (from : Option (List ℕ)) (texts : List OpView) (set : ℕ) (edges : List (Edge AnyView))
+pub passes_there : (k : Parts AnyView) (g : Drawn AnyView) (ids : CounterState) (next : ℕ) (name : List ℕ) (from : Option (List ℕ)) (texts : List OpView) (set : ℕ) (edges : List (Edge AnyView))
     → g ≡ k.graph → ids ≡ k.ids → next ≡ ids.next → Passes g next name from texts set edges → Passes k.graph k.ids.next name from texts set edges
 passes_there k g ids next name from texts set edges graph counter is passes =
     subst (λ (n : ℕ). Passes k.graph n name from texts set edges) (is ∙ ap (λ (i : CounterState). i.next) counter)

@@ -6,11 +6,15 @@ ghost use Rattle.version_graph.specs.Sets.{Each};
 ghost use Rattle.version_graph.specs.Edges.{set_named};
 ghost use Rattle.op_any.specs.Checks.{Gives};
 ghost use Rattle.op_any.specs.Texts.{TextsFit};
-ghost use Rattle.version_model.specs.Kept.{database_of};
+ghost use Rattle.op_any.specs.Operators.{any_meaning};
+ghost use Rattle.layout_rules.specs.Changes.{layout_after};
+ghost use Rattle.db_state.specs.Fields.{database_of};
 ghost use Rattle.engine_versions.specs.Evolve.{created, start_at, unused};
 
 use crate::edges::build_edges;
 use bidel_parser::OpText;
+use db_evolution::evolve_db;
+use db_state::Db;
 use engine_statements::known_set;
 use expr_lang::Steps;
 use op_any::AnyOp;
@@ -18,7 +22,6 @@ use par_base::{Fault, Name, Refusal};
 use std::alloc::Global;
 use std::sync::ledger::Ledger;
 use version_graph::Graph;
-use version_model::PlainDatabase;
 
 // The working set from which an evolution starts.
 fn find_start(
@@ -54,7 +57,7 @@ fn check_unused(alloc: Global, graph: &Graph<AnyOp>, name: &Name) -> Result<(), 
 /// and in the number of values of the sources and targets of the new operators.
 pub fn create_version<L: Ledger>(
     alloc: Global,
-    database: &mut PlainDatabase<AnyOp>,
+    database: &mut Db<AnyOp>,
     name: Name,
     from: Option<&Name>,
     texts: &[OpText],
@@ -62,13 +65,15 @@ pub fn create_version<L: Ledger>(
 ) -> Result<(), Fault<Refusal>>
     requires some { 0 < length texts.now }
     requires fit { Each TextsFit (map op_view texts.now) }
-    ensures gives { Gives (λ _. database_of database.new) result
-        (created (database_of database.old) name (option_copied from.entry) (map op_view texts.now)) }
-    ensures same { OnErr result (database_of database.new ≡ database_of database.old) }
+    ensures gives { Gives (λ _. database_of any_meaning database.new) result
+        (created (database_of any_meaning database.old) name (option_copied from.entry) (map op_view texts.now)) }
+    ensures same { OnErr result (database_of any_meaning database.new ≡ database_of any_meaning database.old) }
+    ensures layout { database.new.layout.operators
+        ≡ layout_after database.old.layout.operators database.old.graph database.new.graph }
 {
     let graph = database.graph();
     let set = find_start(alloc, graph, from)?;
     check_unused(alloc, graph, &name)?;
     let edges = build_edges(alloc, graph, set, database.ids().next(), texts)?;
-    database.evolve(alloc, name, from, edges, steps)
+    evolve_db(alloc, database, name, from, edges, steps)
 }

@@ -1,28 +1,36 @@
 //! DROP SCHEMA VERSION.
 ghost use Rattle.std.specs.Prelude.{◌≡◌, OnErr};
 ghost use Rattle.op_any.specs.Checks.{Gives};
-ghost use Rattle.version_model.specs.Kept.{database_of};
+ghost use Rattle.op_any.specs.Operators.{any_meaning};
+ghost use Rattle.layout_rules.specs.Changes.{layout_after};
+ghost use Rattle.db_state.specs.Fields.{database_of};
 ghost use Rattle.engine_versions.specs.Evolve.{dropped_version};
 
-use engine_statements::known_set;
+use db_state::Db;
+use expr_lang::Steps;
+use migration::drop_db;
 use op_any::AnyOp;
 use par_base::{Fault, Name, Refusal};
 use std::alloc::Global;
-use version_model::PlainDatabase;
+use std::sync::ledger::Ledger;
 
 /// Takes the name of a live version away, and with it each operator that no name needs any longer,
-/// its tables and its memory; or refuses an unknown name. It takes time in the square of the number
-/// of live operators and of live tables, and memory for the refusal alone.
-pub fn drop_version(
+/// its tables and its memory; or refuses an unknown name. After an error the database is as before.
+///
+/// Data that is stored on the target side of an operator that goes is moved to its source side. It
+/// takes the time of that move, and time in the square of the number of live operators and of live
+/// tables.
+pub fn drop_version<L: Ledger>(
     alloc: Global,
-    database: &mut PlainDatabase<AnyOp>,
+    database: &mut Db<AnyOp>,
     name: &Name,
+    steps: &mut Steps<L>,
 ) -> Result<(), Fault<Refusal>>
-    ensures gives { Gives (λ _. database_of database.new) result
-        (dropped_version (database_of database.old) name.now) }
-    ensures same { OnErr result (database_of database.new ≡ database_of database.old) }
+    ensures gives { Gives (λ _. database_of any_meaning database.new) result
+        (dropped_version (database_of any_meaning database.old) name.now) }
+    ensures same { OnErr result (database_of any_meaning database.new ≡ database_of any_meaning database.old) }
+    ensures layout { database.new.layout.operators
+        ≡ layout_after database.old.layout.operators database.old.graph database.new.graph }
 {
-    let _set = known_set(alloc, database.graph(), name)?;
-    database.drop_version(name);
-    Ok(())
+    drop_db(alloc, database, name, steps)
 }

@@ -7,7 +7,7 @@ use Rattle.std.specs.Io.KnownBytes.{Appends}
 use Rattle.std.proofs.KnownBytes.{Appends-nil, Appends-trans}
 use Rattle.bidel_lex.specs.declared.tokens.Token.{Token}
 use Rattle.bidel_parser.specs.Views.{StatementView}
-use Rattle.engine_statements.specs.State.{State}
+use Rattle.engine_layouts.specs.Laid.{Laid}
 use Rattle.engine_core.specs.Kept.{empty_state}
 use Rattle.inverda_run.specs.declared.tokens.Tail.{Tail}
 use Rattle.inverda_run.specs.Tails.{AreAll}
@@ -46,7 +46,7 @@ puts_none held held' xs same = (0, subst (λ (h : Option (List ℕ)). Appends he
 -- what the statements put begins what those put that begin with them
 out_more : (held held' : Option (List ℕ)) (sts all rest : List StatementView) → all ≡ sts ++ rest → PutsFront held held' (out_of sts) → PutsFront held held' (out_of all)
 out_more held held' sts all rest same p =
-    let s0 : State = empty_state max_id in
+    let s0 : Laid = empty_state max_id in
     subst (PutsFront held held') (sym (ap (out s0) same ∙ out-append s0 sts rest)) (puts_more held held' (out s0 sts) (out (state_behind s0 sts) rest) p)
 
 -- what was put for the statements begins what the run puts where nothing fails

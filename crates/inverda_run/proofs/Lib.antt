@@ -11,3 +11,4 @@ pub mod RunLemmas
 pub mod EndLemmas
 pub mod TextLemmas
 pub mod TextLimits
+pub mod MoveLemmas

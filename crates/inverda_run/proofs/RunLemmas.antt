@@ -6,7 +6,7 @@ use Rattle.std.proofs.KnownBytes.{Appends-nil, Appends-trans}
 use Rattle.bidel_lex.specs.declared.tokens.Token.{Token}
 use Rattle.bidel_parser.specs.Views.{StatementView}
 use Rattle.bidel_parser.specs.Parsing.{start_of}
-use Rattle.engine_statements.specs.State.{State}
+use Rattle.engine_layouts.specs.Laid.{Laid}
 use Rattle.engine_core.specs.Kept.{empty_state}
 use Rattle.engine_core.specs.Act.{act}
 use Rattle.inverda_run.specs.declared.tokens.Tail.{Tail}
@@ -21,7 +21,7 @@ use Rattle.inverda_run.proofs.FrontLemmas.{puts_all, puts_behind}
 use Rattle.inverda_run.proofs.OutputLemmas.{state_behind, state_behind-more, out-more}
 
 -- so many first tokens are statements, which brought the state about, and their lines were put
-pub record RanSoFar (bytes : List ℕ) (tail : Tail) (tokens : List Token) (held held' : Option (List ℕ)) (s : State) (done : ℕ) : Type 0 where
+pub record RanSoFar (bytes : List ℕ) (tail : Tail) (tokens : List Token) (held held' : Option (List ℕ)) (s : Laid) (done : ℕ) : Type 0 where
   pub statements : List StatementView
   pub leads : Leads bytes tail tokens statements done
   pub within : done ≤ length tokens
@@ -29,7 +29,7 @@ pub record RanSoFar (bytes : List ℕ) (tail : Tail) (tokens : List Token) (held
   pub state : s ≡ state_behind (empty_state max_id) statements
 
 -- before the first statement
-pub ran_none : (bytes : List ℕ) (tail : Tail) (tokens : List Token) (held : Option (List ℕ)) (s : State) → s ≡ empty_state max_id
+pub ran_none : (bytes : List ℕ) (tail : Tail) (tokens : List Token) (held : Option (List ℕ)) (s : Laid) → s ≡ empty_state max_id
     → RanSoFar bytes tail tokens held held s 0
 unfolding state_behind out
 ran_none bytes tail tokens held s h = record {
@@ -41,21 +41,21 @@ ran_none bytes tail tokens held s h = record {
 }
 
 -- after one more
-pub ran_more : (bytes : List ℕ) (tail : Tail) (tokens : List Token) (held mid held' : Option (List ℕ)) (s s' : State) (done used : ℕ)
+pub ran_more : (bytes : List ℕ) (tail : Tail) (tokens : List Token) (held mid held' : Option (List ℕ)) (s s' : Laid) (done used : ℕ)
     → RanSoFar bytes tail tokens held mid s done → RunsOne bytes tail (drop done tokens) mid held' s s' used
     → RanSoFar bytes tail tokens held held' s' (done + used)
 ran_more bytes tail tokens held mid held' s s' done used r one =
     let sts = r.statements in
     let st = one.statement in
     let s0 = empty_state max_id in
-    let text : text_of (act s st) ≡ text_of (act (state_behind s0 sts) st) = ap (λ (x : State). text_of (act x st)) r.state in
+    let text : text_of (act s st) ≡ text_of (act (state_behind s0 sts) st) = ap (λ (x : Laid). text_of (act x st)) r.state in
     record {
       statements = sts ++ st ∷ [];
       leads = leads_more bytes tail tokens sts done st used r.leads one.front one.short;
       within = omega (arith, r.within, front_within bytes _ (drop done tokens) st used one.front, length-drop done tokens);
       put = subst (Appends held held') (ap (λ (l : List ℕ). out s0 sts ++ l) text ∙ sym (out-more s0 sts st))
           (Appends-trans held mid held' (out s0 sts) (text_of (act s st)) r.put one.put);
-      state = one.next ∙ ap (λ (x : State). next_state x (act x st)) r.state ∙ sym (state_behind-more s0 sts st);
+      state = one.next ∙ ap (λ (x : Laid). next_state x (act x st)) r.state ∙ sym (state_behind-more s0 sts st);
     }
 
 -- what stands behind the tokens that are left stands behind all
@@ -83,7 +83,7 @@ stands_up bytes tail tokens sts used Open within l h = record {
 }
 
 -- at what is no statement that is known to end
-pub ran_stops : (bytes : List ℕ) (tail : Tail) (tokens : List Token) (held mid held' : Option (List ℕ)) (s : State) (done : ℕ) (o : Outcome)
+pub ran_stops : (bytes : List ℕ) (tail : Tail) (tokens : List Token) (held mid held' : Option (List ℕ)) (s : Laid) (done : ℕ) (o : Outcome)
     → RanSoFar bytes tail tokens held mid s done → StandsBehind bytes tail (drop done tokens) 0 o × (held' ≡ mid) → RunsTo bytes tail tokens held held' o
 ran_stops bytes tail tokens held mid held' s done o r stop = record {
   statements = r.statements;
@@ -94,7 +94,7 @@ ran_stops bytes tail tokens held mid held' s done o r stop = record {
 }
 
 -- where memory ran out
-pub ran_front : (bytes : List ℕ) (tail : Tail) (tokens : List Token) (held mid held' : Option (List ℕ)) (s : State) (done : ℕ)
+pub ran_front : (bytes : List ℕ) (tail : Tail) (tokens : List Token) (held mid held' : Option (List ℕ)) (s : Laid) (done : ℕ)
     → RanSoFar bytes tail tokens held mid s done → held' ≡ mid → RunsFront bytes tail tokens held held'
 ran_front bytes tail tokens held mid held' s done r same = record {
   statements = r.statements;
@@ -104,13 +104,13 @@ ran_front bytes tail tokens held mid held' s done r same = record {
 }
 
 -- where the sink failed
-pub ran_part : (bytes : List ℕ) (tail : Tail) (tokens : List Token) (held mid held' : Option (List ℕ)) (s : State) (done : ℕ)
+pub ran_part : (bytes : List ℕ) (tail : Tail) (tokens : List Token) (held mid held' : Option (List ℕ)) (s : Laid) (done : ℕ)
     → RanSoFar bytes tail tokens held mid s done → RunsPart bytes tail (drop done tokens) mid held' s → RunsFront bytes tail tokens held held'
 ran_part bytes tail tokens held mid held' s done r part =
     let sts = r.statements in
     let st = part.statement in
     let s0 = empty_state max_id in
-    let text : text_of (act s st) ≡ text_of (act (state_behind s0 sts) st) = ap (λ (x : State). text_of (act x st)) r.state in
+    let text : text_of (act s st) ≡ text_of (act (state_behind s0 sts) st) = ap (λ (x : Laid). text_of (act x st)) r.state in
     record {
       statements = sts ++ st ∷ [];
       used = done + part.used;

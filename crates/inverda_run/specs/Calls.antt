@@ -6,7 +6,7 @@ use Rattle.bidel_lex.specs.declared.tokens.Token.{Token}
 use Rattle.bidel_expr.specs.Lexemes.{lexemes}
 use Rattle.bidel_parser.specs.Views.{StatementView, statement_view}
 use Rattle.bidel_parser.specs.Parsing.{IsFront}
-use Rattle.engine_statements.specs.State.{State}
+use Rattle.engine_layouts.specs.Laid.{Laid}
 use Rattle.engine_core.specs.Act.{act}
 use Rattle.engine_core.specs.Texts.{line}
 use Rattle.inverda_run.specs.Tails.{is_over}
@@ -42,7 +42,7 @@ Finds bytes tail tokens (found.Whole statement used) = IsFront (is_over tail.las
 Finds bytes tail tokens (found.Stops stop) = StandsBehind bytes tail tokens 0 (outcome_of stop)
 
 -- a statement at the front of the tokens was carried out, and the lines that answer it were put
-pub record RunsOne (bytes : List ℕ) (tail : Tail) (tokens : List Token) (held held' : Option (List ℕ)) (s s' : State) (used : ℕ) : Type 0 where
+pub record RunsOne (bytes : List ℕ) (tail : Tail) (tokens : List Token) (held held' : Option (List ℕ)) (s s' : Laid) (used : ℕ) : Type 0 where
   pub statement : StatementView
   pub front : IsFront (is_over tail.last) (lexemes bytes tokens) statement used
   pub short : ¬ IsLong bytes tail tokens
@@ -50,7 +50,7 @@ pub record RunsOne (bytes : List ℕ) (tail : Tail) (tokens : List Token) (held 
   pub next : s' ≡ next_state s (act s statement)
 
 -- a statement at the front of the tokens was carried out, and a front of the lines that answer it was put
-pub record RunsPart (bytes : List ℕ) (tail : Tail) (tokens : List Token) (held held' : Option (List ℕ)) (s : State) : Type 0 where
+pub record RunsPart (bytes : List ℕ) (tail : Tail) (tokens : List Token) (held held' : Option (List ℕ)) (s : Laid) : Type 0 where
   pub statement : StatementView
   pub used : ℕ
   pub front : IsFront (is_over tail.last) (lexemes bytes tokens) statement used
@@ -59,7 +59,7 @@ pub record RunsPart (bytes : List ℕ) (tail : Tail) (tokens : List Token) (held
 
 -- what a turn behind so many tokens leaves: the sink's bytes and count of faults, and the engine's state, before and now; behind no
 -- tokens at all, it finds what stands there
-abbrev pub Turns : List ℕ → Tail → List Token → Option (List ℕ) → Option (List ℕ) → ℕ → ℕ → State → State → Turn → Type 0
+abbrev pub Turns : List ℕ → Tail → List Token → Option (List ℕ) → Option (List ℕ) → ℕ → ℕ → Laid → Laid → Turn → Type 0
 Turns bytes tail tokens held held' was is s s' (turn.Ran used) = RunsOne bytes tail tokens held held' s s' used
 Turns bytes tail tokens held held' was is s s' (turn.Stops stop) = StandsBehind bytes tail tokens 0 (outcome_of stop) × (held' ≡ held)
 Turns bytes tail tokens held held' was is s s' turn.Memory = held' ≡ held

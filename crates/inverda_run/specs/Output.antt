@@ -1,7 +1,7 @@
 -- What a script's statements write.
 use Rattle.std.specs.Prelude.{◌++◌, ◌-◌, ◌^◌, ℕ, List, [], ◌∷◌, Ok, Err}
 use Rattle.bidel_parser.specs.Views.{StatementView}
-use Rattle.engine_statements.specs.State.{State}
+use Rattle.engine_layouts.specs.Laid.{Laid}
 use Rattle.op_any.specs.Checks.{Checked}
 use Rattle.engine_core.specs.Act.{act}
 use Rattle.engine_core.specs.Kept.{empty_state}
@@ -9,17 +9,17 @@ use Rattle.engine_core.specs.Texts.{reply_bytes, refusal_bytes}
 use Rattle.engine_statements.specs.declared.reply.Reply.{Reply}
 
 -- the lines that answer a statement
-abbrev pub text_of : Checked (Reply × State) → List ℕ
+abbrev pub text_of : Checked (Reply × Laid) → List ℕ
 text_of (Ok answer) = reply_bytes answer.0
 text_of (Err refusal) = refusal_bytes refusal
 
 -- the next state; a refused statement leaves the state as it is
-abbrev pub next_state : State → Checked (Reply × State) → State
+abbrev pub next_state : Laid → Checked (Reply × Laid) → Laid
 next_state s (Ok answer) = answer.1
 next_state s (Err refusal) = s
 
 -- the lines that answer the statements, one after the other
-unfoldable pub out : State → List StatementView → List ℕ
+unfoldable pub out : Laid → List StatementView → List ℕ
 out s [] = []
 out s (statement ∷ statements) = text_of (act s statement) ++ out (next_state s (act s statement)) statements
 

@@ -1,4 +1,5 @@
 //! Laws of scripts, each the contract of a function that does nothing.
+ghost use Rattle.inverda_run.specs.Moves.{MovesChangeNoReply};
 ghost use Rattle.inverda_run.specs.Script.{FaultIsNoScript, OneComes, OneScript, OverIsScript};
 ghost use Rattle.inverda_run.specs.Statuses.{OneText};
 ghost use Rattle.inverda_run.specs.Tails.{TokensAreKnown};
@@ -31,4 +32,10 @@ pub fn text_is_one()
 /// Exactly so many first bytes show a token as it is said to be known by.
 pub fn tokens_are_known()
     ensures { TokensAreKnown }
+{}
+
+/// With every MATERIALIZE struck out of a script, all other statements but SHOW LAYOUT have the same
+/// lines.
+pub fn moves_change_no_reply()
+    ensures { MovesChangeNoReply }
 {}

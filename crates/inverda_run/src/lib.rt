@@ -12,8 +12,9 @@
 //! alone; that where source and sink don't fail and memory suffices, the bytes decide the status; and
 //! that a run which memory or the sink ends has put a front of what it puts otherwise (`Begun`). The
 //! laws say that bytes fix one list of statements with one outcome behind them, and that their run
-//! puts one text where nothing fails; and which first bytes show a token, by which the limit of a
-//! statement is said. The crate knows nothing of files, options or sessions yet: with
+//! puts one text where nothing fails; which first bytes show a token, by which the limit of a
+//! statement is said; and that with every MATERIALIZE struck out all other statements but SHOW LAYOUT
+//! have the same lines (`specs/Moves.antt`). The crate knows nothing of files, options or sessions yet: with
 //! any word it only says that the words are bad.
 #![tactic(auto)]
 
@@ -30,6 +31,7 @@ mod top;
 mod turn;
 
 pub use laws::{
-    fault_is_no_script, over_is_script, run_is_one, script_is_one, text_is_one, tokens_are_known,
+    fault_is_no_script, moves_change_no_reply, over_is_script, run_is_one, script_is_one,
+    text_is_one, tokens_are_known,
 };
 pub use top::inverda;

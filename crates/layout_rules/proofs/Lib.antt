@@ -9,3 +9,5 @@ mod DownLemmas
 mod CloseLemmas
 mod WayLemmas
 mod WayPassLemmas
+pub mod AfterLemmas
+mod ClosedLemmas

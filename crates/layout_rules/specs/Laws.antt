@@ -2,6 +2,7 @@
 use Rattle.std.specs.Prelude.{◌⊎◌, ℕ, List}
 use Rattle.version_graph.specs.Sets.{In}
 use Rattle.version_graph.specs.Edges.{AreEdges, Drawn, IsGraph}
+use Rattle.par_base.specs.declared.limits.Target.{Target}
 use Rattle.version_graph.specs.Evolve.{evolved}
 use Rattle.version_graph.specs.Dropped.{dropped}
 use Rattle.version_graph.specs.Forest.{Link, forest}
@@ -11,6 +12,7 @@ use Rattle.layout_rules.specs.Layouts.{IsValid}
 use Rattle.layout_rules.specs.Closing.{HasNeeded, IsClosed, IsNeeded, NoneIsShared}
 use Rattle.layout_rules.specs.Moves.{IsDown, IsUp, Moves, SameOperators}
 use Rattle.layout_rules.specs.Changes.{dropped_layout, evolved_layout}
+use Rattle.layout_rules.specs.Closed.{IsClosing, closing}
 
 -- towards a valid goal each flip from a valid layout leads to a valid one, and so does a whole move
 abbrev pub MovesStayValid : Type 0 → Type 0
@@ -37,3 +39,7 @@ NeededIsLeast O = (es : List (Placed O)) → AreEdges es → (trees tables : Lis
 -- where no table is shared, closing a valid layout leaves a valid one
 abbrev pub ClosingStaysValid : Type 0 → Type 0
 ClosingStaysValid O = (es : List (Placed O)) → AreEdges es → (trees tables layout new : List ℕ) → IsValid (forest es) layout → IsClosed (forest es) trees tables layout new → NoneIsShared (forest es) trees tables → IsValid (forest es) new
+
+-- what closing gives, or its refusal, is as it is told by sets
+abbrev pub ClosingIsRight : Type 0 → Type 0
+ClosingIsRight O = (g : Drawn O) → AreEdges g.edges → (layout : List ℕ) (named : List Target) → IsClosing g layout named (closing g layout named)

@@ -9,3 +9,4 @@ pub mod Calls
 pub mod Reached
 pub mod Ways
 pub mod Laws
+pub mod Closed

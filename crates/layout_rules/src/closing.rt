@@ -4,6 +4,7 @@ ghost use Rattle.version_graph.specs.Edges.{set_named};
 ghost use Rattle.version_graph.specs.Forest.{forest, tree};
 ghost use Rattle.layout_rules.specs.Closing.{named_trees as named_trees_lem, Closes};
 ghost use Rattle.layout_rules.specs.Calls.{KnowsTables, StoresAll};
+ghost use Rattle.layout_rules.specs.Closed.{closing, GivesLayout};
 ghost use Rattle.layout_rules.specs.Lookups.{stores_found};
 
 use crate::Layout;
@@ -94,7 +95,8 @@ pub fn close<O>(
     layout: &Layout,
     named: &[Target],
 ) -> Result<Layout, Fault<Refusal>>
-    ensures { Closes graph.now layout.now.operators named.now result }
+    ensures closes { Closes graph.now layout.now.operators named.now result }
+    ensures computed { GivesLayout (closing graph.now layout.now.operators named.now) result }
 {
     let tables = known_tables(alloc, graph, named)?;
     let trees = named_trees(alloc, graph, named)?;

@@ -23,7 +23,7 @@ mod validity;
 mod way;
 
 pub use closing::close;
-pub use laws::{changes_stay_valid, closing_stays_valid, moves_stay_valid};
+pub use laws::{changes_stay_valid, closing_is_right, closing_stays_valid, moves_stay_valid};
 pub use layout::Layout;
 pub use storing::stored_tables;
 pub use validity::is_valid;

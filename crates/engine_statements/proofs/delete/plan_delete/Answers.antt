@@ -27,5 +27,5 @@ returns-clause-taken g c =
     let width = length f.heading.now.columns in
     let table = c.in_ok-found.ensures.there in
     let next = c.next-next.ensures.value ∙ ap (λ (i : CounterState). i.next) c.ids.ensures in
-    let stands = subst (λ (rows : Rows). IsTable width k.ids.next rows) (sym c.in_ok-changed.ensures.rows) (delete_keeps width k.ids.next f.table.now.rows (condition_of c.as_ref.result) table.stands) in
+    let stands = subst (λ (rows : Rows). IsTable width k.ids.next rows) (sym c.in_ok-changed.ensures.rows) (delete_keeps width k.ids.next f.table.rows (condition_of c.as_ref.result) table.stands) in
     record { lives = table.lives; may = may_get_same k f c.in_ok-changed.changed.table.rows c.next-next.result table next stands }

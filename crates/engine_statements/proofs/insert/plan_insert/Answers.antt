@@ -10,7 +10,7 @@ use Rattle.engine_statements.proofs.insert.plan_insert.Goals as goal
 
 pub insert_rows-requires-clause-below : goal.insert_rows-requires-clause-below
 insert_rows-requires-clause-below c =
-    let rows = c.in_ok-found.found.table.now.rows in
+    let rows = c.in_ok-found.found.table.rows in
     let next = c.next-next.ensures.value ∙ ap (λ (i : CounterState). i.next) c.ids.ensures in
     subst (λ (n : ℕ). AreBelow rows n) (sym next) (sound_below c.args.database.now.ids.next rows c.in_ok-found.ensures.there.stands.sound)
 

@@ -27,6 +27,6 @@ returns-clause-reply g c =
     let names = c.in_ok-shown.ensures ∙ ap shown_names c.as_slice.ensures in
     let many = header_many columns c.args.items.now c.in_ok-places.places (c.in_ok-places.ensures columns (c.as_slice-2.ensures ∙ names)) in
     let header = ap length (c.in_ok-header.ensures columns (c.as_slice-5.ensures ∙ names)) in
-    let wide = selected_wide c.in_ok-found.found.table.now.rows c.as_slice-4.result.now (condition_of c.as_ref.result) in
+    let wide = selected_wide c.in_ok-found.found.table.rows c.as_slice-4.result.now (condition_of c.as_ref.result) in
     let all = subst (λ (rows : List (List Value)). All (λ row. length row ≡ length c.as_slice-4.result.now) rows) (sym c.in_ok-rows.ensures.ok) wide in
     λ k d within. all k d within ∙ ap length c.as_slice-4.ensures ∙ many ∙ sym header

@@ -34,7 +34,7 @@ returns-clause-taken g c =
     let table = c.in_ok-found.ensures.there in
     let next = c.next-next.ensures.value ∙ ap (λ (i : CounterState). i.next) c.ids.ensures in
     let known = subst (λ (names : List (List ℕ)). known_sets names assignments ≡ Ok (sets_of c.in_ok-sets.sets)) c.as_slice-columns.ensures c.in_ok-sets.ensures in
-    let rows = c.in_ok-changed.ensures.rows ∙ ap (λ (sets : List SetTo). updated f.table.now.rows (sets_of sets) condition) c.as_slice-3.ensures in
+    let rows = c.in_ok-changed.ensures.rows ∙ ap (λ (sets : List SetTo). updated f.table.rows (sets_of sets) condition) c.as_slice-3.ensures in
     record {
       lives = table.lives;
       may = update_taken k f assignments (condition_list (filter_view c.args.filter.now)) (sets_of c.in_ok-sets.sets) condition c.next-next.result c.in_ok-changed.changed.table.rows tt table next known c.in_ok-check_update_ids.ensures c.requires rows;

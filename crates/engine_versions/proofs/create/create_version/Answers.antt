@@ -2,12 +2,13 @@ use Rattle.std.proofs.Common.{◌<◌, ℕ, map, sym, subst}
 use Rattle.std.specs.Option.{option_copied}
 use Rattle.std.proofs.lemmas.List.{length-map}
 use Rattle.bidel_parser.specs.Views.{op_view}
-use Rattle.version_model.specs.Kept.{database_of}
+use Rattle.op_any.specs.Operators.{any_meaning}
+use Rattle.db_state.specs.Fields.{database_of}
 use Rattle.engine_versions.proofs.CreateLemmas.{gives_then, may, passes_there, some_built}
 use Rattle.engine_versions.proofs.create.create_version.Goals as goal
 
-pub evolve-requires-clause-some : goal.evolve-requires-clause-some
-evolve-requires-clause-some g c =
+pub evolve_db-requires-clause-some : goal.evolve_db-requires-clause-some
+evolve_db-requires-clause-some g c =
     let k = c.args.database.now in
     let from = option_copied c.args.from in
     let texts = map op_view c.args.texts.now in
@@ -16,10 +17,10 @@ evolve-requires-clause-some g c =
     c.graph-graph.ensures.graph c.ids.ensures c.next.ensures.value
     (record { start = c.in_ok-set.ensures; free = c.in_ok-check_unused.ensures; built = c.in_ok-edges.ensures }) in
     let some = subst (λ (n : ℕ). 0 < n) (sym (length-map c.args.texts.now op_view)) c.requires.some in
-    some_built (database_of k) c.args.name from texts c.in_ok-set.set c.in_ok-edges.edges c.graph-graph.ensures.kept.graph passes some c.requires.fit
+    some_built (database_of any_meaning k) c.args.name from texts c.in_ok-set.set c.in_ok-edges.edges c.graph-graph.ensures.kept.graph passes some c.requires.fit
 
-pub evolve-requires-clause-may : goal.evolve-requires-clause-may
-evolve-requires-clause-may g c =
+pub evolve_db-requires-clause-may : goal.evolve_db-requires-clause-may
+evolve_db-requires-clause-may g c =
     let k = c.args.database.now in
     let from = option_copied c.args.from in
     let texts = map op_view c.args.texts.now in
@@ -28,7 +29,7 @@ evolve-requires-clause-may g c =
     c.graph-graph.ensures.graph c.ids.ensures c.next.ensures.value
     (record { start = c.in_ok-set.ensures; free = c.in_ok-check_unused.ensures; built = c.in_ok-edges.ensures }) in
     let some = subst (λ (n : ℕ). 0 < n) (sym (length-map c.args.texts.now op_view)) c.requires.some in
-    may (database_of k) c.args.name from texts c.in_ok-set.set c.in_ok-edges.edges c.graph-graph.ensures.kept.graph passes some c.requires.fit
+    may (database_of any_meaning k) c.args.name from texts c.in_ok-set.set c.in_ok-edges.edges c.graph-graph.ensures.kept.graph passes some c.requires.fit
 
 pub returns-clause-gives : goal.returns-clause-gives
 returns-clause-gives g c =
@@ -40,4 +41,4 @@ returns-clause-gives g c =
     c.graph-graph.ensures.graph c.ids.ensures c.next.ensures.value
     (record { start = c.in_ok-set.ensures; free = c.in_ok-check_unused.ensures; built = c.in_ok-edges.ensures }) in
     let some = subst (λ (n : ℕ). 0 < n) (sym (length-map c.args.texts.now op_view)) c.requires.some in
-    gives_then (database_of k) c.args.name from texts c.in_ok-set.set c.in_ok-edges.edges c.graph-graph.ensures.kept.graph passes some c.requires.fit c.evolve.result (database_of c.evolve.new.self) c.evolve.ensures
+    gives_then (database_of any_meaning k) c.args.name from texts c.in_ok-set.set c.in_ok-edges.edges c.graph-graph.ensures.kept.graph passes some c.requires.fit c.evolve_db.result (database_of any_meaning c.evolve_db.new.db) c.evolve_db.ensures.evolves

@@ -1,0 +1,39 @@
+//! A write of rows, whatever is stored.
+ghost use Rattle.std.specs.Prelude.{◌≡◌, ◌≤◌};
+ghost use Rattle.version_graph.specs.Sets.{In};
+ghost use Rattle.version_graph.specs.Edges.{numbers};
+ghost use Rattle.op_law.specs.Calls.{first_refused};
+ghost use Rattle.op_any.specs.Operators.{any_meaning};
+ghost use Rattle.version_model.specs.Writes.{MayWrite};
+ghost use Rattle.version_model.specs.Databases.{Writes};
+ghost use Rattle.db_state.specs.Fields.{database_of};
+
+use db_state::Db;
+use expr_lang::Steps;
+use op_any::AnyOp;
+use par_base::{Fault, IdsSpent};
+use std::alloc::Global;
+use std::sync::ledger::Ledger;
+use version_model::Written;
+use write_propagation::{commit, plan};
+
+/// Gives a table of a live working set other rows, and carries the change along the walk.
+pub fn write_through<L: Ledger>(
+    alloc: Global,
+    database: &mut Db<AnyOp>,
+    written: Written,
+    steps: &mut Steps<L>,
+) -> Result<(), Fault<IdsSpent>>
+    requires lives { In written.set (numbers database.old.graph.edges) }
+    requires may { MayWrite database.old.graph.edges (database_of any_meaning database.old).state
+        written.set written.table written.rows.rows written.ids.next }
+    requires drawn { written.ids.next ≤ first_refused database.old.ids }
+    requires limit { written.ids.limit ≡ database.old.ids.limit }
+    ensures writes { Writes any_meaning (database_of any_meaning database.old) written.set written.table written.rows.rows
+        written.ids.next result (database_of any_meaning database.new) }
+    ensures layout { database.new.layout ≡ database.old.layout }
+{
+    let plan = plan(alloc, database, written, steps)?;
+    commit(alloc, database, plan);
+    Ok(())
+}
