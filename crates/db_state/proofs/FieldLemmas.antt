@@ -29,6 +29,7 @@ use Rattle.version_model.specs.States.{State, headings}
 use Rattle.version_model.specs.Steps.{IsRelated}
 use Rattle.version_model.specs.declared.numbered.Numbered.{Numbered}
 use Rattle.version_model.proofs.HeadingLemmas.{in_or_not}
+use Rattle.version_model.proofs.ProgressLemmas.{state_is as same_state}
 use Rattle.storage_law.specs.Storage.{HasNoMore, Stands, StandsOver, Storage, aux_of, stored_way}
 use Rattle.storage_law.specs.Reading.{ReadsSources, read_all}
 use Rattle.storage_law.proofs.CanonicalLemmas.{either_way}
@@ -55,14 +56,11 @@ pub record Store {O : Type 0} (meaning : O → Meaning) (p : Parts O) (s : State
   pub next : p.ids.next ≡ s.next
 
 module _ {O : Type 0} (meaning : O → Meaning) (p : Parts O) (s : State) (sound : IsSound meaning p.graph.edges s) (store : Store meaning p s) where
-  abbrev es : List (Placed O)
-  es = p.graph.edges
-
   -- they stand for it
   pub they_stand : Stands meaning p.graph.edges (storage_in p) s
   they_stand = record {
-    edges = each_of (λ (e : Link O). StandsOver meaning (headings es) (storage_in p) s (stored_way p.layout.operators e)) (forest es) (λ e i. record {
-      related = either_way meaning (headings es) s false (is_in e.number p.layout.operators) e (each_at (λ (f : Link O). IsRelated meaning (headings es) s (crossing false f)) (forest es) e i sound.related);
+    edges = each_of (λ (e : Link O). StandsOver meaning (headings p.graph.edges) (storage_in p) s (stored_way p.layout.operators e)) (forest p.graph.edges) (λ e i. record {
+      related = either_way meaning (headings p.graph.edges) s false (is_in e.number p.layout.operators) e (each_at (λ (f : Link O). IsRelated meaning (headings p.graph.edges) s (crossing false f)) (forest p.graph.edges) e i sound.related);
       aux = store.aux e i;
       memory = store.memory e i;
     });
@@ -96,11 +94,7 @@ module _ {O : Type 0} (meaning : O → Meaning) (laws : (o : O) → Laws (meanin
       (λ none. stands.no_more.memories n none ∙ sym (sound.alone.memories n none))
 
   pub state_is : state_of meaning p ≡ s
-  state_is =
-      let t : (state_of meaning p).tables ≡ s.tables = fun_ext tables_same in
-      let m : (state_of meaning p).memory ≡ s.memory = fun_ext memory_same in
-      let n : (state_of meaning p).next ≡ s.next = next in
-      cc
+  state_is = same_state _ _ _ _ _ _ (fun_ext tables_same) (fun_ext memory_same) next
 
 -- what else is asked of fields
 pub record IsShaped {O : Type 0} (p : Parts O) : Type 0 where
@@ -117,8 +111,7 @@ pub record IsShaped {O : Type 0} (p : Parts O) : Type 0 where
 pub is_database : {O : Type 0} (meaning : O → Meaning) → ((o : O) → Laws (meaning o)) → ReadsSources meaning → (p : Parts O) (s : State) → IsShaped p → IsSound meaning p.graph.edges s → Store meaning p s → IsDatabase meaning p × (state_of meaning p ≡ s)
 is_database {O} meaning laws reads p s shaped sound store =
     let stands = they_stand meaning p s sound store in
-    let is = state_is meaning laws reads p s shaped.graph shaped.valid sound stands store.next in
-    (
+    let is = state_is meaning laws reads p s shaped.graph shaped.valid sound stands store.next in (
       record {
         reads = reads;
         graph = shaped.graph;

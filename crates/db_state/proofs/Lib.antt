@@ -1,2 +1,3 @@
 mod FieldLemmas
 mod EmptyLemmas
+mod AuxLemmas

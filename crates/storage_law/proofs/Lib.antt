@@ -1,6 +1,6 @@
-mod LinkLemmas
-mod ReadLemmas
-mod CanonicalLemmas
+pub mod LinkLemmas
+pub mod ReadLemmas
+pub mod CanonicalLemmas
 mod FlipLemmas
 mod GrowLemmas
 mod DropLemmas

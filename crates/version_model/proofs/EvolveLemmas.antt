@@ -38,11 +38,12 @@ empty_sound {O} meaning n drawn = record {
   drawn = drawn;
 }
 
-empty_map : (n : ℕ) (heading : ℕ → Heading) (ks : List ℕ) → empty_tables (map heading ks) ≡ map (empty_at n).tables ks
+-- tables without rows, for each heading
+pub empty_map : (n : ℕ) (heading : ℕ → Heading) (ks : List ℕ) → empty_tables (map heading ks) ≡ map (empty_at n).tables ks
 empty_map n heading [] = refl
 empty_map n heading (k ∷ ks) = ap (λ (ts : Tables). [] ∷ ts) (empty_map n heading ks)
 
-empty_are : (n : ℕ) (heading : ℕ → Heading) (ks : List ℕ) → AreTablesOf (map heading ks) (map (empty_at n).tables ks)
+pub empty_are : (n : ℕ) (heading : ℕ → Heading) (ks : List ℕ) → AreTablesOf (map heading ks) (map (empty_at n).tables ks)
 empty_are n heading [] = tt
 empty_are n heading (k ∷ ks) = ((tt, tt), empty_are n heading ks)
 

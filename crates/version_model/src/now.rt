@@ -28,7 +28,8 @@ fn table_now<'a>(
     }
 }
 
-fn copy_now(
+/// A copy of the table of a number: the one that was made last, else the one that is kept.
+pub fn copy_now(
     alloc: Global,
     kept: &[Numbered<Table>],
     made: &[Numbered<Table>],
@@ -70,6 +71,21 @@ pub fn memory_at(
     match value_of(kept, number) {
         Some(memory) => memory.copy(),
         None => Ok(PairMemory::new(alloc)),
+    }
+}
+
+/// A copy of the memory of a number: the one that was made last, else the one that is kept.
+pub fn memory_now(
+    alloc: Global,
+    kept: &[Numbered<PairMemory>],
+    made: &[Numbered<PairMemory>],
+    number: u32,
+) -> Result<PairMemory, Memory>
+    ensures { IfOk result (λ memory. memory.entries ≡ pairs_now kept.now made.now number) }
+{
+    match latest_of(made, number) {
+        Some(memory) => memory.copy(),
+        None => memory_at(alloc, kept, number),
     }
 }
 

@@ -5,8 +5,8 @@ use Rattle.version_model.specs.declared.numbered.Numbered.{Numbered}
 use Rattle.version_model.proofs.NumberedLemmas.{numbers_set, renewed_there, renewed_nowhere}
 use Rattle.version_model.proofs.numbered.replace.Goals as goal
 
-pub returns-values-in-Some : goal.returns-values-in-Some
-returns-values-in-Some g c n =
+pub returns-in-Some-clause-values : goal.returns-in-Some-clause-values
+returns-in-Some-clause-values g c n =
     let items = c.args.items.now.items in
     let d = c.index_mut.result.now in
     let k = c.args.item.number in
@@ -14,14 +14,14 @@ returns-values-in-Some g c n =
     ap (λ (x : Numbered _). value_of (slice_set items c.in-Some.at (record { number = x.number; value = c.args.item.value })) n) c.index_mut.ensures.value
     ∙ renewed_there items k c.in-Some.at c.args.item.value d found n
 
-pub returns-values-in_default : goal.returns-values-in_default
-returns-values-in_default g c n =
+pub returns-in_default-clause-values : goal.returns-in_default-clause-values
+returns-in_default-clause-values g c n =
     let k = c.args.item.number in
     let found = ap (λ (l : List (Numbered _)). position (λ (i : Numbered _). k == i.number) l) (sym c.as_slice.ensures.value) ∙ sym c.place_of.ensures ∙ c.in_default.is in
     renewed_nowhere c.args.items.now.items k c.args.item.value found n
 
-pub returns-numbers-in-Some : goal.returns-numbers-in-Some
-returns-numbers-in-Some g c =
+pub returns-in-Some-clause-numbers : goal.returns-in-Some-clause-numbers
+returns-in-Some-clause-numbers g c =
     let items = c.args.items.now.items in
     let d = c.index_mut.result.now in
     ap (λ (x : Numbered _). map (λ (i : Numbered _). i.number) (slice_set items c.in-Some.at (record { number = x.number; value = c.args.item.value }))) c.index_mut.ensures.value
