@@ -1,3 +1,4 @@
 mod FieldLemmas
 mod EmptyLemmas
 mod AuxLemmas
+mod OnceLemmas

@@ -1,3 +1,4 @@
 pub mod Fields
 pub mod Covered
 pub mod Calls
+pub mod Laws

@@ -10,12 +10,14 @@
 
 mod auxes;
 mod db;
+mod laws;
 mod parts;
 mod read;
 mod table;
 
 pub use auxes::auxes_in;
 pub use db::{Db, put_parts, take_parts};
+pub use laws::states_are_stored_once;
 pub use parts::Parts;
 pub use read::read_over;
 pub use table::{read_table, row_at};

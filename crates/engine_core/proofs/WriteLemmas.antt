@@ -5,11 +5,15 @@ use Rattle.std.proofs.lemmas.Bool.{le-ltb, lt-ltb}
 use Rattle.par_base.specs.declared.fault.Fault.TheVariants.{Refused}
 use Rattle.par_base.specs.declared.refusal.IdsSpent.{IdsSpent as Spent}
 use Rattle.par_base.specs.declared.refusal.Refusal.TheVariants.{IdsSpent}
-use Rattle.version_graph.specs.Edges.{AreEdges}
+use Rattle.version_graph.specs.Edges.{AreEdges, Drawn}
+use Rattle.layout_rules.specs.Changes.{layout_after}
+use Rattle.layout_rules.specs.declared.layout.Layout.{Layout}
+use Rattle.layout_rules.proofs.AfterLemmas.{same_layout}
 use Rattle.op_law.specs.Calls.{first_refused}
 use Rattle.op_any.specs.Checks.{◌then◌}
 use Rattle.op_any.specs.Operators.{AnyView, any_laws, any_meaning}
-use Rattle.version_model.specs.Kept.{Kept, database_of, state_of}
+use Rattle.db_state.specs.Fields.{IsDatabase, database_of, state_of}
+use Rattle.db_state.specs.declared.parts.Parts.{Parts}
 use Rattle.version_model.specs.Sound.{IsSound}
 use Rattle.version_model.specs.Databases.{Writes}
 use Rattle.version_model.specs.Laws.{WriteIsOrdinary}
@@ -19,10 +23,11 @@ use Rattle.engine_statements.specs.Statements.{Planned, state_with, wrote}
 use Rattle.engine_statements.specs.Calls.{planned_view, IsTaken}
 use Rattle.engine_statements.specs.declared.write_plan.WritePlan.{WritePlan}
 use Rattle.engine_core.specs.Act.{IsOrdinary}
+use Rattle.engine_core.specs.Kept.{Follows}
 
-module _ (k : Kept AnyView) (w : WritePlan) (edges : AreEdges k.graph.edges) (sound : IsSound any_meaning k.graph.edges (state_of k)) (taken : IsTaken k w) where
+module _ (k : Parts AnyView) (w : WritePlan) (edges : AreEdges k.graph.edges) (sound : IsSound any_meaning k.graph.edges (state_of any_meaning k)) (taken : IsTaken k w) where
   abbrev d : State
-  d = database_of k
+  d = database_of any_meaning k
 
   abbrev p : Planned
   p = planned_view k.graph.edges w
@@ -55,3 +60,9 @@ module _ (k : Kept AnyView) (w : WritePlan) (edges : AreEdges k.graph.edges) (so
   pub ordinary_then : (new : State) → Writes any_meaning d w.set w.table w.rows.rows w.next (Ok tt) new → IsOrdinary d p new
   ordinary_then new e =
       subst (λ (s : State). IsOrdinary d p s) (sym e.1) (record { written = ordinary.table; others = ordinary.others; versions = refl })
+
+-- the layout follows the graph where both stay
+pub both_stay : (k n : Parts AnyView) → IsDatabase any_meaning k → n.graph ≡ k.graph → n.layout ≡ k.layout → Follows k n
+both_stay k n is graph layout =
+    let here : k.layout.operators ≡ layout_after k.layout.operators k.graph k.graph = sym (same_layout k.graph is.graph k.layout.operators is.valid) in
+    ap (λ (l : Layout). l.operators) layout ∙ here ∙ ap (λ (g : Drawn AnyView). layout_after k.layout.operators k.graph g) (sym graph)

@@ -8,7 +8,8 @@ ghost use Rattle.version_graph.specs.Edges.{IsGraph};
 ghost use Rattle.op_any.specs.Checks.{◌then◌, Gives};
 ghost use Rattle.op_any.specs.Operators.{any_meaning};
 ghost use Rattle.version_model.specs.Sound.{IsSound};
-ghost use Rattle.db_state.specs.Fields.{IsDatabase};
+ghost use Rattle.storage_law.specs.Canonical.{SameStored};
+ghost use Rattle.db_state.specs.Fields.{storage_in, IsDatabase};
 ghost use Rattle.engine_statements.specs.Statements.{Planned, wrote};
 ghost use Rattle.engine_statements.specs.Replies.{IsReply};
 ghost use Rattle.engine_statements.specs.Calls.{planned_view, IsTaken};
@@ -21,7 +22,7 @@ use crate::built::is_built;
 use crate::spent::{counter_at, refused};
 use crate::writing::write_through;
 use bidel_parser::{OpText, Statement};
-use db_state::Db;
+use db_state::{Db, states_are_stored_once};
 use engine_layouts::{materialize, show_layout};
 use engine_statements::{Reply, WritePlan, plan_delete, plan_insert, plan_update, select_rows};
 use engine_versions::{create_version, drop_version};
@@ -99,6 +100,17 @@ impl Engine {
         ensures stored { IsDatabase any_meaning self.now }
     {
         let _graph = self.database.graph();
+    }
+
+    /// Engines of one state store the same: a move that brings the layout back, and any script that
+    /// brings back state and layout, brings back every stored table, auxiliary table and memory. It
+    /// does nothing: its contract is the law.
+    pub fn storage_comes_back(&self, other: &Engine)
+        ensures { state_of self.now ≡ state_of other.now → SameStored (storage_in self.now) (storage_in other.now) }
+    {
+        states_are_stored_once::<AnyOp>();
+        let _graph = self.database.graph();
+        let _other = other.database.graph();
     }
 
     // Carries out a statement of a form that is built.

@@ -122,7 +122,7 @@ fn read_found<'a, L: Ledger>(
 ) -> Result<FoundTable<'a>, Memory>
     requires lives { In set (numbers database.now.graph.edges) }
     requires named { IsNamedIn database.now.graph.edges set named }
-    ensures found { IfOk result (λ found. found_view found ≡ named_view set named) }
+    ensures found { IfOk result (λ found. found_view found ≡ named_view set named.entry) }
     ensures there { IfOk result (IsTableOf database.entry.now) }
 {
     // That its rows may stand rests on it.

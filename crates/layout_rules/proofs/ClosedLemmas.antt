@@ -1,5 +1,5 @@
 -- What closing gives is what its passes find.
-use Rattle.std.specs.Prelude.{Option, Some, None, is_some, option_map, option_and_then, Result, Ok, Err}
+use Rattle.std.specs.Prelude.{◌&&◌, Option, Some, None, is_some, option_map, option_and_then, Result, Ok, Err}
 use Rattle.std.specs.List.{find, list_all}
 use Rattle.std.specs.Option.{IsSome}
 use Rattle.std.proofs.Common.{◌≡◌, ℕ, List, [], ◌∷◌, ◌++◌, Bool, true, false, not, cond, filter, refl, sym, ap, ◌∙◌, subst}
@@ -23,7 +23,7 @@ use Rattle.layout_rules.proofs.CloseLemmas.{close_done, close_shared, close_unkn
 none_fails : {X : Type 0} (test : X → Bool) (xs : List X) → list_all test xs ≡ true → find (λ x. not (test x)) xs ≡ None
 none_fails test [] h = refl
 none_fails {X} test (x ∷ xs) h =
-    (elim (test x) as (λ b. cond b (list_all test xs) false ≡ true → cond (not b) (Some x) (find (λ x. not (test x)) xs) ≡ None) [
+    (elim (test x) as (λ b. (b && list_all test xs) ≡ true → cond (not b) (Some x) (find (λ x. not (test x)) xs) ≡ None) [
       | true ↦ λ k. none_fails test xs k
       | false ↦ λ k. absurd (false≢true k)
     ]) h
@@ -85,7 +85,7 @@ fails_at {X} test (y ∷ ys) x found =
     (elim (test y) as (λ b. test y ≡ b → cond (not b) (Some y) (find (λ z. not (test z)) ys) ≡ Some x → (before : List X) × (after : List X) × (y ∷ ys ≡ before ++ x ∷ after) × (list_all test before ≡ true) × (test x ≡ false)) [
       | true ↦ λ is f.
           let r = fails_at test ys x f in
-          (y ∷ r.0, r.1, ap (λ (l : List X). y ∷ l) r.2, ap (λ (b : Bool). cond b (list_all test r.0) false) is ∙ r.3, r.4)
+          (y ∷ r.0, r.1, ap (λ (l : List X). y ∷ l) r.2, ap (λ (b : Bool). b && list_all test r.0) is ∙ r.3, r.4)
       | false ↦ λ is f.
           let same : y ≡ x = cc in
           ([], ys, ap (λ (z : X). z ∷ ys) same, refl, ap test (sym same) ∙ is)
@@ -94,7 +94,7 @@ fails_at {X} test (y ∷ ys) x found =
 none_fail : {X : Type 0} (test : X → Bool) (xs : List X) → find (λ y. not (test y)) xs ≡ None → list_all test xs ≡ true
 none_fail test [] none = refl
 none_fail {X} test (y ∷ ys) none =
-    (elim (test y) as (λ b. cond (not b) (Some y) (find (λ z. not (test z)) ys) ≡ None → cond b (list_all test ys) false ≡ true) [
+    (elim (test y) as (λ b. cond (not b) (Some y) (find (λ z. not (test z)) ys) ≡ None → (b && list_all test ys) ≡ true) [
       | true ↦ λ n. none_fail test ys n
       | false ↦ λ n. absurd (let no : ⊥ = cc in no)
     ]) none

@@ -15,6 +15,8 @@ mod faults;
 #[cfg(test)]
 mod limits;
 #[cfg(test)]
+mod moves;
+#[cfg(test)]
 mod not_built;
 #[cfg(test)]
 mod references;

@@ -99,6 +99,17 @@ pub fn expect_replies(
     expect_run(rt, alloc, script, &Ends::sure(), 0, written)
 }
 
+/// Runs a script where nothing fails, and gives its replies.
+pub fn answered(rt: &impl Abort, alloc: Global, script: &str) -> Result<String, Fail> {
+    let bytes = Vec::from_slice(alloc, script.as_bytes())?;
+    let mut source = MemorySource::new(bytes, PIECE, Vec::new(alloc));
+    let mut sink = MemorySink::new(alloc, ROOM, 5, Vec::new(alloc))?;
+    let mut files = SureFiles::new(alloc);
+    let ended = inverda(alloc, &[], &mut source, &mut sink, &mut files);
+    assert_eq!(rt; ended, 0, "of {script}");
+    Ok(String::from_utf8_lossy(alloc, sink.bytes())?)
+}
+
 /// Runs each case for itself behind a front: its statements, whose replies are its lines.
 pub fn expect_each(
     rt: &impl Abort,

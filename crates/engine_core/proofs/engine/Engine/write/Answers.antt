@@ -5,7 +5,8 @@ use Rattle.par_base.specs.declared.refusal.Refusal.TheVariants.{IdsSpent}
 use Rattle.op_law.specs.Calls.{first_refused}
 use Rattle.id_memory.specs.States.{CounterState}
 use Rattle.op_any.specs.Operators.{AnyView, any_meaning}
-use Rattle.version_model.specs.Kept.{Kept, database_of}
+use Rattle.db_state.specs.Fields.{database_of}
+use Rattle.db_state.specs.declared.parts.Parts.{Parts}
 use Rattle.version_model.specs.Databases.{Writes}
 use Rattle.engine_core.proofs.WriteLemmas.{above_already, ordinary_then, written_then}
 use Rattle.engine_core.proofs.engine.Engine.write.Goals as goal
@@ -15,7 +16,7 @@ returns-in_err-ids-clause-answers g c =
     let k = c.args.self.now in
     let w = c.args.plan in
     let p = err_from_is_err_and c.from_residual.result c.from_residual.ensures.1 in
-    let e = subst (λ (x : Kept AnyView). (first_refused x.ids < w.next) × (c.in_err-ids.field-0.0 ≡ Refused (IdsSpent (first_refused x.ids) x.ids.limit))) c.self.view_is
+    let e = subst (λ (x : Parts AnyView). (first_refused x.ids < w.next) × (c.in_err-ids.field-0.0 ≡ Refused (IdsSpent (first_refused x.ids) x.ids.limit))) c.self.view_is
     (subst (λ (i : CounterState). (first_refused i < w.next) × (c.in_err-ids.field-0.0 ≡ Refused (IdsSpent (first_refused i) i.limit))) c.ids.ensures c.in_err-ids.ensures.err) in
     rw (p.1, p.2, e.1) (above_already k w c.versions_always_agree.ensures.graph.edges c.versions_always_agree.ensures.agree c.requires e.0)
 
@@ -24,15 +25,15 @@ returns-in-Ok-clause-answers g c =
     let k = c.args.self.now in
     let w = c.args.plan in
     let next : c.in_ok-ids.ids.next ≡ w.next = ap (λ i. i.next) c.in_ok-ids.ensures.ok.0 in
-    let e = subst (λ (x : Kept AnyView). Writes any_meaning (database_of x) w.set w.table w.rows.rows w.next (Ok tt) (database_of c.write.new.self)) c.self.view_is
-    (subst (λ n. Writes any_meaning (database_of c.self.inside.database) w.set w.table w.rows.rows n (Ok tt) (database_of c.write.new.self)) next c.in-Ok.ensures) in
-    written_then k w c.versions_always_agree.ensures.graph.edges c.versions_always_agree.ensures.agree c.requires (database_of c.write.new.self) e
+    let e = subst (λ (x : Parts AnyView). Writes any_meaning (database_of any_meaning x) w.set w.table w.rows.rows w.next (Ok tt) (database_of any_meaning c.write_through.new.database)) c.self.view_is
+    (subst (λ n. Writes any_meaning (database_of any_meaning c.self.inside.database) w.set w.table w.rows.rows n (Ok tt) (database_of any_meaning c.write_through.new.database)) next c.in-Ok.ensures.writes) in
+    written_then k w c.versions_always_agree.ensures.graph.edges c.versions_always_agree.ensures.agree c.requires (database_of any_meaning c.write_through.new.database) e
 
 pub returns-in-Ok-clause-ordinary : goal.returns-in-Ok-clause-ordinary
 returns-in-Ok-clause-ordinary g c =
     let k = c.args.self.now in
     let w = c.args.plan in
     let next : c.in_ok-ids.ids.next ≡ w.next = ap (λ i. i.next) c.in_ok-ids.ensures.ok.0 in
-    let e = subst (λ (x : Kept AnyView). Writes any_meaning (database_of x) w.set w.table w.rows.rows w.next (Ok tt) (database_of c.write.new.self)) c.self.view_is
-    (subst (λ n. Writes any_meaning (database_of c.self.inside.database) w.set w.table w.rows.rows n (Ok tt) (database_of c.write.new.self)) next c.in-Ok.ensures) in
-    ordinary_then k w c.versions_always_agree.ensures.graph.edges c.versions_always_agree.ensures.agree c.requires (database_of c.write.new.self) e
+    let e = subst (λ (x : Parts AnyView). Writes any_meaning (database_of any_meaning x) w.set w.table w.rows.rows w.next (Ok tt) (database_of any_meaning c.write_through.new.database)) c.self.view_is
+    (subst (λ n. Writes any_meaning (database_of any_meaning c.self.inside.database) w.set w.table w.rows.rows n (Ok tt) (database_of any_meaning c.write_through.new.database)) next c.in-Ok.ensures.writes) in
+    ordinary_then k w c.versions_always_agree.ensures.graph.edges c.versions_always_agree.ensures.agree c.requires (database_of any_meaning c.write_through.new.database) e
