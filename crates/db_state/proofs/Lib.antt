@@ -1,3 +1,8 @@
 mod FieldLemmas
 mod EmptyLemmas
 mod AuxLemmas
+mod PassLemmas
+mod WayLemmas
+mod CrossLemmas
+mod PlaceLemmas
+mod StoredLemmas
