@@ -2,3 +2,8 @@ mod FieldLemmas
 mod EmptyLemmas
 mod AuxLemmas
 mod OnceLemmas
+mod PassLemmas
+mod WayLemmas
+mod CrossLemmas
+mod PlaceLemmas
+mod StoredLemmas

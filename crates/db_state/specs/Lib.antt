@@ -1,4 +1,5 @@
 pub mod Fields
 pub mod Covered
+pub mod Passes
 pub mod Calls
 pub mod Laws

@@ -2,12 +2,12 @@ pub mod LinkLemmas
 mod MoveLemmas
 pub mod ChangeLemmas
 mod TreeLemmas
-mod NeededLemmas
-mod LookupLemmas
+pub mod NeededLemmas
+pub mod LookupLemmas
 mod PassLemmas
-mod DownLemmas
+pub mod DownLemmas
 mod CloseLemmas
-mod WayLemmas
+pub mod WayLemmas
 mod WayPassLemmas
 pub mod AfterLemmas
 mod ClosedLemmas
