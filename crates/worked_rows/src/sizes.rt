@@ -284,6 +284,27 @@ p|b\n#5000|2\n#9999|3\n#10000|3\nrows 3\ndeleted 9997\np|a\n#5000|1\n#9999|2\n#1
 }
 
 #[test]
+fn ten_thousand_rows_move_through_ten_operators_and_back(rt: HostRuntime) -> Result<(), Fail> {
+    let alloc = rt.alloc();
+    let more = ", (1)".repeat(alloc, 9_999)?;
+    let shown = "SELECT * FROM v.t WHERE p >= #9999; SELECT * FROM w.u WHERE p >= #9999; ";
+    let script = format!(in alloc;
+        "CREATE SCHEMA VERSION v WITH CREATE TABLE t(a); INSERT INTO v.t VALUES (1){more};
+CREATE SCHEMA VERSION w FROM v WITH ADD COLUMN b AS a + 1 INTO t; RENAME COLUMN a IN t TO c;
+  DROP COLUMN c FROM t DEFAULT b - 1; SPLIT TABLE t INTO r WITH b < 5, s WITH b >= 4;
+  MERGE TABLE r (b < 5), s (b >= 5) INTO t; ADD COLUMN d AS b * 2 INTO t; RENAME TABLE t INTO u;
+  DROP COLUMN d FROM u DEFAULT 0; ADD COLUMN e AS 3 INTO u; RENAME COLUMN e IN u TO f;
+MATERIALIZE w; {shown}UPDATE w.u SET b = 7 WHERE p = #10000; MATERIALIZE v; {shown}"
+    )?;
+    let first = inserted(alloc, 10_000)?;
+    let replies = format!(in alloc;
+        "ok\n{first}\nok\nmoved 10\np|a\n#9999|1\n#10000|1\nrows 2\np|b|f\n#9999|2|3\n#10000|2|3\nrows 2
+updated 1\nmoved 10\np|a\n#9999|1\n#10000|1\nrows 2\np|b|f\n#9999|2|3\n#10000|7|3\nrows 2\n"
+    )?;
+    expect_replies(&rt, alloc, script.as_str(), replies.as_str())
+}
+
+#[test]
 fn lists_are_as_long_as_a_statement(rt: HostRuntime) -> Result<(), Fail> {
     let alloc = rt.alloc();
     let names = ", a".repeat(alloc, 10_000)?;

@@ -9,13 +9,13 @@ use Rattle.engine_statements.proofs.TakenLemmas.{insert_taken}
 use Rattle.engine_statements.proofs.insert.plan_insert.Goals as goal
 
 pub insert_rows-requires-clause-below : goal.insert_rows-requires-clause-below
-insert_rows-requires-clause-below c =
+insert_rows-requires-clause-below g c =
     let rows = c.in_ok-found.found.table.rows in
     let next = c.next-next.ensures.value ∙ ap (λ (i : CounterState). i.next) c.ids.ensures in
     subst (λ (n : ℕ). AreBelow rows n) (sym next) (sound_below c.args.database.now.ids.next rows c.in_ok-found.ensures.there.stands.sound)
 
 pub returns-clause-taken : goal.returns-clause-taken
-returns-clause-taken c =
+returns-clause-taken g c =
     let k = c.args.database.now in
     let f = c.in_ok-found.found in
     let rows = c.args.rows.now in
