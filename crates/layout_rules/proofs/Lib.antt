@@ -4,7 +4,7 @@ pub mod ChangeLemmas
 mod TreeLemmas
 pub mod NeededLemmas
 pub mod LookupLemmas
-mod PassLemmas
+pub mod PassLemmas
 pub mod DownLemmas
 mod CloseLemmas
 pub mod WayLemmas
