@@ -1,3 +1,3 @@
-mod FieldLemmas
+pub mod FieldLemmas
 mod EmptyLemmas
 mod AuxLemmas
