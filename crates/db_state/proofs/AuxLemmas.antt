@@ -1,7 +1,7 @@
 -- The auxiliary tables of live operators.
-use Rattle.std.proofs.Common.{◌≡◌, ℕ, ◌+◌, ◌<◌, ◌≤◌, take, get_or, List, [], ◌∷◌, ◌++◌, length, Bool, true, false, map, Option, Some, None, inl, inr, refl, sym, ap, ◌∙◌, subst}
+use Rattle.std.proofs.Common.{◌≡◌, ℕ, ◌+◌, ◌<◌, ◌≤◌, take, get_or, List, [], ◌∷◌, ◌++◌, length, Bool, true, false, map, Option, Some, None, inl, inr, sym, ap, ◌∙◌, subst}
 use Rattle.std.proofs.lemmas.List.{map-append, take_all, take_more}
-use Rattle.version_graph.specs.Sets.{In, Each}
+use Rattle.version_graph.specs.Sets.{In}
 use Rattle.version_graph.specs.Edges.{AreEdges, edge_of, is_in, sources_at}
 use Rattle.version_graph.specs.Forest.{Crossing, Link, crossing, forest, told}
 use Rattle.version_graph.specs.declared.parts.Placed.{Placed}
@@ -25,7 +25,7 @@ use Rattle.db_state.specs.Calls.{AreAuxesOf, IsAuxOf, IsRelatedAt}
 
 module _ {O : Type 0} (es : List (Placed O)) (edges : AreEdges es) where
   -- a live operator is crossed either way
-  crosses : (e : Link O) → In e (forest es) → (back : Bool) → IsCrossing es (crossing back e)
+  pub crosses : (e : Link O) → In e (forest es) → (back : Bool) → IsCrossing es (crossing back e)
   crosses e i back =
       let both = each_at (λ (f : Link O). IsCrossing es (crossing true f) × IsCrossing es (crossing false f)) (forest es) e i (crossings_live es edges) in
       elim back as (λ b. IsCrossing es (crossing b e)) [ true ↦ both.0 | false ↦ both.1 ]

@@ -1,5 +1,5 @@
 -- The database without versions.
-use Rattle.std.proofs.Common.{◌≡◌, ℕ, List, [], inl, inr, refl, sym, ap, ◌∙◌, subst, arith}
+use Rattle.std.proofs.Common.{◌≡◌, ℕ, List, [], refl, sym, ap, ◌∙◌, subst, arith}
 use Rattle.id_memory.specs.States.{CounterState, MemoryState}
 use Rattle.row_store.specs.States.{TableState}
 use Rattle.version_graph.specs.Edges.{Drawn}
@@ -9,12 +9,11 @@ use Rattle.op_law.specs.declared.side.Aux.{Aux}
 use Rattle.layout_rules.specs.declared.layout.Layout.{Layout}
 use Rattle.version_model.specs.States.{State, empty_at}
 use Rattle.version_model.specs.Databases.{empty_database}
-use Rattle.version_model.specs.Kept.{Database}
 use Rattle.version_model.specs.declared.numbered.Numbered.{Numbered}
 use Rattle.version_graph.proofs.EvolveLemmas.{drawn_is}
 use Rattle.version_model.proofs.EvolveLemmas.{empty_sound}
 use Rattle.storage_law.specs.Reading.{ReadsSources}
-use Rattle.db_state.specs.Fields.{IsDatabase, database_of, state_of}
+use Rattle.db_state.specs.Fields.{IsDatabase, database_of}
 use Rattle.db_state.specs.declared.parts.Parts.{Parts}
 use Rattle.db_state.proofs.FieldLemmas.{IsShaped, Store, is_database}
 

@@ -1,28 +1,23 @@
 -- Fields that store a sound state are a database, and stand for that state.
-use Rattle.std.specs.Prelude.{◌↔◌, if◌then◌else◌}
+use Rattle.std.specs.Prelude.{◌↔◌}
 use Rattle.std.specs.List.{find}
 use Rattle.std.specs.Option.{option_map_or}
-use Rattle.std.proofs.Common.{◌≡◌, ℕ, ◌==◌, List, [], ◌∷◌, true, false, cond, map, Option, Some, None, option_map, inl, inr, refl, sym, ap, ◌∙◌, subst}
+use Rattle.std.proofs.Common.{◌≡◌, ℕ, ◌==◌, List, [], ◌∷◌, false, Option, Some, None, option_map, inl, inr, refl, sym, ap, ◌∙◌, subst}
 use Rattle.std.proofs.Math.Path.{fun_ext}
-use Rattle.std.proofs.lemmas.Bool.{cases_eq, cond-false, cond-true, ne_eqb}
+use Rattle.std.proofs.lemmas.Bool.{cond-false, cond-true, ne_eqb}
 use mathlib.Core.List.{reverse}
-use Rattle.row_store.specs.Rows.{Rows}
-use Rattle.id_memory.specs.Pairs.{Pairs}
 use Rattle.version_graph.specs.Sets.{In, Each}
 use Rattle.version_graph.specs.Tables.{table_numbers}
 use Rattle.version_graph.specs.Edges.{IsGraph, Rises, is_in, made, numbers}
 use Rattle.version_graph.specs.Finished.{IsFinished}
 use Rattle.version_graph.specs.Forest.{Link, crossing, forest}
 use Rattle.version_graph.specs.declared.parts.Placed.{Placed}
-use Rattle.version_graph.proofs.SetLemmas.{each_at, each_of, in_of_test, is_in_true}
-use Rattle.op_law.specs.Tables.{Tables}
+use Rattle.version_graph.proofs.SetLemmas.{each_at, each_of, is_in_true}
 use Rattle.op_law.specs.Calls.{tables_of}
 use Rattle.op_law.specs.Laws.{Laws}
 use Rattle.op_law.specs.Meaning.{Meaning}
-use Rattle.op_law.specs.declared.side.Aux.{Aux}
 use Rattle.layout_rules.specs.Layouts.{IsStored, IsValid}
 use Rattle.layout_rules.proofs.ChangeLemmas.{number_lives}
-use Rattle.layout_rules.proofs.LinkLemmas.{number_listed}
 use Rattle.version_model.specs.Kept.{HasSides, pairs_at, rows_at, value_of}
 use Rattle.version_model.specs.Sound.{IsSound}
 use Rattle.version_model.specs.States.{State, headings}
@@ -30,7 +25,7 @@ use Rattle.version_model.specs.Steps.{IsRelated}
 use Rattle.version_model.specs.declared.numbered.Numbered.{Numbered}
 use Rattle.version_model.proofs.HeadingLemmas.{in_or_not}
 use Rattle.version_model.proofs.ProgressLemmas.{state_is as same_state}
-use Rattle.storage_law.specs.Storage.{HasNoMore, Stands, StandsOver, Storage, aux_of, stored_way}
+use Rattle.storage_law.specs.Storage.{Stands, StandsOver, aux_of, stored_way}
 use Rattle.storage_law.specs.Reading.{ReadsSources, read_all}
 use Rattle.storage_law.proofs.CanonicalLemmas.{either_way}
 use Rattle.storage_law.proofs.LinkLemmas.{not_in_false}

@@ -1,5 +1,5 @@
 -- Operators from which tables are read.
-use Rattle.std.specs.Prelude.{◌≡◌, ℕ, List}
+use Rattle.std.specs.Prelude.{ℕ, List}
 use Rattle.version_graph.specs.Sets.{In}
 use Rattle.version_graph.specs.Forest.{Link}
 use Rattle.layout_rules.specs.Ways.{ReadsOver}

@@ -1,3 +1,4 @@
 pub mod Fields
 pub mod Covered
+pub mod Passes
 pub mod Calls

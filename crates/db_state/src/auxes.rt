@@ -2,7 +2,7 @@
 ghost use Rattle.std.specs.Prelude.{◌≡◌, ◌≤◌, Some, length, IfOk};
 ghost use Rattle.std.specs.Option.{option_map};
 ghost use Rattle.version_graph.specs.Sets.{In, Each};
-ghost use Rattle.version_graph.specs.Edges.{AreEdges, is_in};
+ghost use Rattle.version_graph.specs.Edges.{AreEdges};
 ghost use Rattle.version_graph.specs.Forest.{forest, Link};
 ghost use Rattle.op_law.specs.Calls.{seen, tables_of};
 ghost use Rattle.op_law.specs.Premises.{SomePair};
@@ -12,20 +12,13 @@ ghost use Rattle.storage_law.specs.Storage.{stored_way as stored_way_lem};
 ghost use Rattle.db_state.specs.Calls.{AreAuxesOf, IsAuxOf, IsRelatedAt};
 
 use expr_lang::Steps;
-use layout_rules::Layout;
+use layout_rules::{Layout, holds};
 use op_law::{Aux, Operator, Pair};
 use par_base::{List, Memory};
 use std::alloc::Global;
-use std::iter::Iterator;
 use std::sync::ledger::Ledger;
 use version_graph::{Graph, Step};
 use version_model::{Before, Made, Numbered, Way, memory_now, side_now, way_of};
-
-fn holds(numbers: &[u32], number: u32) -> bool
-    ensures { result ≡ is_in number numbers.now }
-{
-    numbers.iter().any(|other| number == *other)
-}
 
 fn stored_way<'a, O>(graph: &'a Graph<O>, layout: &Layout, number: u32) -> Option<Way<'a, O>>
     requires { AreEdges graph.now.edges }

@@ -1,8 +1,10 @@
 //! The type of databases.
-ghost use Rattle.std.specs.Prelude.{◌≡◌, [], ◌<◌, ◌^◌};
+ghost use Rattle.std.specs.Prelude.{◌≡◌, [], ◌<◌, ◌^◌, IfSome};
+ghost use Rattle.std.specs.Option.{option_copied};
+ghost use Rattle.version_model.specs.Kept.{value_of as value_of_lem};
 ghost use Rattle.version_model.specs.Databases.{empty_database};
 ghost use Rattle.storage_law.specs.Reading.{ReadsSources};
-ghost use Rattle.db_state.specs.Fields.{database_of, IsDatabase};
+ghost use Rattle.db_state.specs.Fields.{database_of, state_of, IsDatabase};
 
 use crate::Parts;
 use id_memory::{IdCounter, PairMemory};
@@ -14,7 +16,7 @@ use std::alloc::Global;
 use std::marker::Model;
 use std::mem;
 use version_graph::Graph;
-use version_model::Numbered;
+use version_model::{Numbered, value_of};
 
 /// A database with all its versions: a layout, a table for each table version that the layout
 /// stores, and auxiliary tables and a memory for each operator.
@@ -93,6 +95,15 @@ impl<O: Operator> Db<O> {
         ensures { result.now ≡ self.now.stored }
     {
         self.stored.as_slice()
+    }
+
+    /// The stored table of a number, where there is one. It takes one comparison for each stored
+    /// table before it.
+    pub fn stored_table(&self, table: u32) -> Option<&Table>
+        ensures table { option_copied result ≡ value_of_lem self.now.stored table }
+        ensures rows { IfSome result (λ stored. stored.now.rows ≡ (state_of O.meaning self.now).tables table) }
+    {
+        value_of(self.stored.as_slice(), table)
     }
 
     /// The auxiliary tables of each live operator, by ascending number.

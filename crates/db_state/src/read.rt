@@ -1,23 +1,162 @@
-//! Reading the tables that some operators give back.
-ghost use Rattle.std.specs.Prelude.{◌≡◌, ℕ, IfOk};
+//! Reading the tables that some operators give back, in two passes: down over those of the layout,
+//! the newest first, and then up over the others, the oldest first. Each gives the tables of the
+//! side on which it isn't stored.
+ghost use Rattle.std.specs.Prelude.{◌≡◌, ℕ, IfOk, OnOk};
 ghost use Rattle.version_graph.specs.Sets.{In};
 ghost use Rattle.version_graph.specs.Tables.{table_numbers};
 ghost use Rattle.version_graph.specs.Edges.{made as made_lem};
 ghost use Rattle.version_graph.specs.Forest.{forest};
+ghost use Rattle.op_law.specs.Calls.{tables_of};
+ghost use Rattle.op_law.specs.Premises.{SomeStored};
 ghost use Rattle.version_model.specs.Kept.{rows_now};
+ghost use Rattle.version_model.specs.Steps.{way};
 ghost use Rattle.db_state.specs.Fields.{state_of};
 ghost use Rattle.db_state.specs.Covered.{Covers, CoversItself};
+ghost use Rattle.db_state.specs.Passes.{is_passed as is_passed_lem, AreRead, Crosses, IsDown, MayCross, MayPass, Passes};
 
 use crate::Db;
 use expr_lang::Steps;
-use op_law::Operator;
+use id_memory::PairMemory;
+use layout_rules::holds;
+use op_law::{Aux, Operator, Side};
 use par_base::{List, Memory};
 use row_store::Table;
 use std::alloc::Global;
 use std::sync::ledger::Ledger;
-use version_model::Numbered;
+use version_graph::Step;
+use version_model::{Numbered, Way, put_side, side_now, value_of, way_of};
 
-/// The far tables of these operators, read from what is stored.
+/// Over which operators a pass goes: backward over those of the layout, or forward over others.
+#[derive(Clone, Copy)]
+struct Pass<'a> {
+    operators: &'a [u32],
+    backward: bool,
+}
+
+fn read_far<O: Operator, L: Ledger>(
+    alloc: Global,
+    over: &Way<'_, O>,
+    near: &Side,
+    aux: &Aux,
+    memory: &PairMemory,
+    steps: &mut Steps<L>,
+) -> Result<Side, Memory>
+    requires { SomeStored (way over.now.backward (O.meaning over.now.operator.now)) near.now (tables_of aux.now) memory.now.entries }
+    ensures { IfOk result (λ side. side ≡ (way over.now.backward (O.meaning over.now.operator.now)).read_target
+        near.now (tables_of aux.now) memory.now.entries) }
+{
+    if over.backward {
+        over.operator.read_source(alloc, near, aux, memory, steps)
+    } else {
+        over.operator.read_target(alloc, near, aux, memory, steps)
+    }
+}
+
+fn cross<O: Operator, L: Ledger>(
+    alloc: Global,
+    db: &Db<O>,
+    step: Step,
+    made: &mut List<Numbered<Table>>,
+    steps: &mut Steps<L>,
+) -> Result<(), Memory>
+    requires { MayCross O.meaning db.now made.old step }
+    ensures { OnOk result (Crosses O.meaning db.now made.old made.new step) }
+{
+    let Some(over) = way_of(db.graph(), step) else {
+        unreachable!()
+    };
+    let Some(aux) = value_of(db.aux(), step.operator) else {
+        unreachable!()
+    };
+    let Some(memory) = value_of(db.memories(), step.operator) else {
+        unreachable!()
+    };
+    let near = side_now(alloc, db.stored(), made.as_slice(), over.near)?;
+    let far = read_far(alloc, &over, &near, aux, memory, steps)?;
+    put_side(made, over.far, far)?;
+    Ok(())
+}
+
+fn is_passed(layout: &[u32], pass: Pass<'_>, number: u32) -> bool
+    ensures { result ≡ is_passed_lem layout.now pass.entry.operators.now pass.entry.backward number }
+{
+    let is_stored = if pass.backward {
+        holds(layout, number)
+    } else {
+        !holds(layout, number)
+    };
+    holds(pass.operators, number) && is_stored
+}
+
+fn pass_at<O: Operator, L: Ledger>(
+    alloc: Global,
+    db: &Db<O>,
+    pass: Pass<'_>,
+    place: usize,
+    made: &mut List<Numbered<Table>>,
+    steps: &mut Steps<L>,
+) -> Result<(), Memory>
+    requires { MayPass O.meaning db.now pass place made.old }
+    ensures { OnOk result (Passes O.meaning db.now pass.entry place made.old made.new) }
+{
+    let Some(placed) = db.graph().edge_at(place) else {
+        return Ok(());
+    };
+    if is_passed(db.layout().operators.as_slice(), pass, placed.number) {
+        let step = Step {
+            operator: placed.number,
+            backward: pass.backward,
+        };
+        cross(alloc, db, step, made, steps)?;
+    }
+    Ok(())
+}
+
+fn pass_down<O: Operator, L: Ledger>(
+    alloc: Global,
+    db: &Db<O>,
+    operators: &[u32],
+    steps: &mut Steps<L>,
+) -> Result<List<Numbered<Table>>, Memory>
+    requires { CoversItself (forest db.now.graph.edges) db.now.layout.operators operators.now }
+    ensures { IfOk result (IsDown O.meaning db.now operators.now) }
+{
+    let pass = Pass {
+        operators,
+        backward: true,
+    };
+    let mut made = List::new(alloc);
+    let mut left = db.graph().live_operators();
+    while left > 0 {
+        left -= 1;
+        pass_at(alloc, db, pass, left, &mut made, steps)?;
+    }
+    Ok(made)
+}
+
+fn pass_up<O: Operator, L: Ledger>(
+    alloc: Global,
+    db: &Db<O>,
+    operators: &[u32],
+    made: &mut List<Numbered<Table>>,
+    steps: &mut Steps<L>,
+) -> Result<(), Memory>
+    requires covers { CoversItself (forest db.now.graph.edges) db.now.layout.operators operators.now }
+    requires down { IsDown O.meaning db.now operators.now made.old }
+    ensures { OnOk result (AreRead O.meaning db.now operators.now made.new) }
+{
+    let pass = Pass {
+        operators,
+        backward: false,
+    };
+    for place in 0..db.graph().live_operators() {
+        pass_at(alloc, db, pass, place, made, steps)?;
+    }
+    Ok(())
+}
+
+/// The far tables of these operators, read from what is stored. It copies the near tables of each,
+/// and takes time in the number of live operators for each.
 pub fn read_over<O: Operator, L: Ledger>(
     alloc: Global,
     db: &Db<O>,
@@ -29,5 +168,7 @@ pub fn read_over<O: Operator, L: Ledger>(
         → Covers (forest db.now.graph.edges) db.now.layout.operators operators.now t
         → rows_now db.now.stored read t ≡ (state_of O.meaning db.now).tables t) }
 {
-    Err(Memory)
+    let mut made = pass_down(alloc, db, operators, steps)?;
+    pass_up(alloc, db, operators, &mut made, steps)?;
+    Ok(made)
 }

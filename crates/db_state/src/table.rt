@@ -1,21 +1,63 @@
 //! One table, and one row.
-ghost use Rattle.std.specs.Prelude.{◌≡◌, IfOk};
+ghost use Rattle.std.specs.Prelude.{◌≡◌, [], None, IfOk};
 ghost use Rattle.version_graph.specs.Sets.{In};
 ghost use Rattle.version_graph.specs.Tables.{table_numbers};
 ghost use Rattle.version_graph.specs.Edges.{made as made_lem};
 ghost use Rattle.row_store.specs.Rows.{row_of};
+ghost use Rattle.version_model.specs.Kept.{rows_now, value_of};
 ghost use Rattle.db_state.specs.Fields.{state_of};
 
 use crate::Db;
+use crate::read::read_over;
 use expr_lang::Steps;
+use layout_rules::way_to_storage;
 use op_law::Operator;
-use par_base::{Memory, Row};
+use par_base::{List, Memory, Row};
 use row_store::Table;
 use std::alloc::Global;
 use std::sync::ledger::Ledger;
+use version_model::Numbered;
+
+// The last table of a number is the newest one. It is taken without a copy.
+fn take_latest(alloc: Global, tables: List<Numbered<Table>>, number: u32) -> Table
+    ensures { result.rows ≡ rows_now [] tables number }
+{
+    let mut left = tables;
+    while let Some(item) = left.pop() {
+        if item.number == number {
+            return item.value;
+        }
+    }
+    Table::new(alloc)
+}
+
+fn read_along_way<O: Operator, L: Ledger>(
+    alloc: Global,
+    db: &Db<O>,
+    table: u32,
+    steps: &mut Steps<L>,
+) -> Result<Table, Memory>
+    requires lives { In table (table_numbers (made_lem db.now.graph.edges)) }
+    requires unstored { value_of db.now.stored table ≡ None }
+    ensures { IfOk result (λ read. read.rows ≡ (state_of O.meaning db.now).tables table) }
+{
+    let operators = way_to_storage(alloc, db.graph(), db.layout(), table)?;
+    let read = read_over(alloc, db, operators.as_slice(), steps)?;
+    Ok(take_latest(alloc, read, table))
+}
+
+fn copy_row(alloc: Global, table: &Table, id: u64) -> Result<Option<Row>, Memory>
+    ensures { IfOk result (λ row. row ≡ row_of table.now.rows id) }
+{
+    match table.get(id) {
+        Some(row) => Ok(Some(row.copy(alloc)?)),
+        None => Ok(None),
+    }
+}
 
 /// A live table, read along its way to storage alone. Of a stored table the rows are copied and
-/// nothing else.
+/// nothing else. Else it takes time in the square of the number of live operators and of live
+/// tables, and copies the near tables of each operator on the way.
 pub fn read_table<O: Operator, L: Ledger>(
     alloc: Global,
     db: &Db<O>,
@@ -25,7 +67,10 @@ pub fn read_table<O: Operator, L: Ledger>(
     requires { In table (table_numbers (made_lem db.now.graph.edges)) }
     ensures { IfOk result (λ read. read.rows ≡ (state_of O.meaning db.now).tables table) }
 {
-    Err(Memory)
+    match db.stored_table(table) {
+        Some(stored) => stored.copy(),
+        None => read_along_way(alloc, db, table, steps),
+    }
 }
 
 /// The row of an identifier in a live table, where there is one. Of a stored table it is copied and
@@ -40,5 +85,11 @@ pub fn row_at<O: Operator, L: Ledger>(
     requires { In table (table_numbers (made_lem db.now.graph.edges)) }
     ensures { IfOk result (λ row. row ≡ row_of ((state_of O.meaning db.now).tables table) id) }
 {
-    Err(Memory)
+    match db.stored_table(table) {
+        Some(stored) => copy_row(alloc, stored, id),
+        None => {
+            let read = read_along_way(alloc, db, table, steps)?;
+            copy_row(alloc, &read, id)
+        }
+    }
 }

@@ -89,7 +89,7 @@ module _ {O : Type 0} where
   below_next es i None got = ap (λ (l : List (Link O)). reverse l) (take_next (reverse (forest es)) i None got ∙ append-nil (take i (reverse (forest es))))
   below_next es i (Some f) got = ap (λ (l : List (Link O)). reverse l) (take_next (reverse (forest es)) i (Some f) got) ∙ reverse-append (take i (reverse (forest es))) (f ∷ [])
 
-  forest_end : (xs ys : List (Link O)) → IsForest (xs ++ ys) → IsForest ys
+  pub forest_end : (xs ys : List (Link O)) → IsForest (xs ++ ys) → IsForest ys
   forest_end [] ys h = h
   forest_end (x ∷ xs) ys h = forest_end xs ys h.1
 

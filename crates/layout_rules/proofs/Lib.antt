@@ -2,10 +2,10 @@ pub mod LinkLemmas
 mod MoveLemmas
 pub mod ChangeLemmas
 mod TreeLemmas
-mod NeededLemmas
-mod LookupLemmas
+pub mod NeededLemmas
+pub mod LookupLemmas
 mod PassLemmas
-mod DownLemmas
+pub mod DownLemmas
 mod CloseLemmas
-mod WayLemmas
+pub mod WayLemmas
 mod WayPassLemmas

@@ -155,7 +155,7 @@ module _ {O : Type 0} (es : List (Link O)) (forest : IsForest es) (layout : List
   reached = down_from layout es (up_from layout es (t ∷ []))
 
   -- one table further
-  reads_on : (k : ℕ) (a b : ℕ) (e : Link O) (c : ℕ) → Reads es layout k a b → In e es → ReadsFrom es layout b e c → Reads es layout (suc k) a c
+  pub reads_on : (k : ℕ) (a b : ℕ) (e : Link O) (c : ℕ) → Reads es layout k a b → In e es → ReadsFrom es layout b e c → Reads es layout (suc k) a c
   reads_on zero a b e c same i from = (e, c, i, subst (λ (x : ℕ). ReadsFrom es layout x e c) (sym same) from, refl)
   reads_on (suc k) a b e c r i from = (r.0, r.1, r.2, r.3, reads_on k r.1 b e c r.4 i from)
 

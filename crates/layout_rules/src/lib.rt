@@ -25,6 +25,6 @@ mod way;
 pub use closing::close;
 pub use laws::{changes_stay_valid, closing_stays_valid, moves_stay_valid};
 pub use layout::Layout;
-pub use storing::stored_tables;
+pub use storing::{holds, stored_tables};
 pub use validity::is_valid;
 pub use way::way_to_storage;

@@ -54,7 +54,7 @@ module _ {O : Type 0} (meaning : O → Meaning) (laws : (o : O) → Laws (meanin
       let memory : storage.memory p.number ≡ s.memory p.number = st.stands.memory in
       cc
 
-  still_right : (rows : ℕ → Rows) (ks : List ℕ) (t : ℕ) → Right rows t → Right (put rows ks (map s.tables ks)) t
+  pub still_right : (rows : ℕ → Rows) (ks : List ℕ) (t : ℕ) → Right rows t → Right (put rows ks (map s.tables ks)) t
   still_right rows ks t h = elim (in_or_out t ks) as (λ _. Right (put rows ks (map s.tables ks)) t) [ inl i ↦ put_in rows s.tables ks t i | inr o ↦ put_other rows ks (map s.tables ks) t o ∙ h ]
 
   -- reading the far side keeps what is right, and makes it right

@@ -1,6 +1,6 @@
-use Rattle.std.proofs.Common.{◌≡◌, ℕ, List, Some, None, ap, sym, ◌∙◌}
+use Rattle.std.proofs.Common.{◌≡◌, Some, None}
 use Rattle.version_model.specs.Calls.{crossing_of, made_state}
-use Rattle.db_state.proofs.AuxLemmas.{aux_found, far_few, near_few, some_pair}
+use Rattle.db_state.proofs.AuxLemmas.{far_few, near_few, some_pair}
 use Rattle.db_state.proofs.auxes.aux_in.Goals as goal
 
 pub unreachable-requires : goal.unreachable-requires

@@ -1,0 +1,146 @@
+-- Crossing an operator from its stored side reads the tables of its other side.
+use Rattle.std.specs.Prelude.{◌≤◌}
+use Rattle.std.specs.Option.{option_copied, option_map_or}
+use Rattle.std.proofs.Common.{◌≡◌, ℕ, List, [], ◌∷◌, Bool, Bor, map, length, Option, Some, None, inl, inr, refl, sym, ap, ◌∙◌, subst}
+use Rattle.std.proofs.lemmas.Bool.{cases_eq, eq-eqb, ne_eqb}
+use Rattle.std.proofs.lemmas.List.{length-map}
+use mathlib.Core.List.{reverse}
+use Rattle.row_store.specs.Rows.{Rows}
+use Rattle.row_store.specs.States.{TableState}
+use Rattle.id_memory.specs.Pairs.{Pairs}
+use Rattle.id_memory.specs.States.{MemoryState}
+use Rattle.version_graph.specs.Sets.{In}
+use Rattle.version_graph.specs.Edges.{Drawn, numbers}
+use Rattle.version_graph.specs.Forest.{Crossing, Link, crossing, forest, told}
+use Rattle.version_graph.specs.declared.parts.Placed.{Placed}
+use Rattle.version_graph.proofs.SetLemmas.{each_at}
+use Rattle.version_graph.proofs.WalkLemmas.{in_reverse}
+use Rattle.op_law.specs.Tables.{Tables}
+use Rattle.op_law.specs.Calls.{tables_of}
+use Rattle.op_law.specs.Laws.{Laws}
+use Rattle.op_law.specs.Meaning.{Meaning}
+use Rattle.op_law.specs.Premises.{SomeStored}
+use Rattle.op_law.specs.declared.side.Aux.{Aux}
+use Rattle.layout_rules.proofs.LinkLemmas.{number_listed}
+use Rattle.version_graph.specs.declared.parts.Step.{Step}
+use Rattle.version_model.specs.Calls.{IsCrossing, IsTold}
+use Rattle.version_model.specs.Kept.{HasSides, pairs_at, rows_now, value_of}
+use Rattle.version_model.specs.Put.{put}
+use Rattle.version_model.specs.States.{State, headings}
+use Rattle.version_model.specs.Steps.{way}
+use Rattle.version_model.specs.declared.numbered.Numbered.{Numbered}
+use Rattle.version_model.proofs.CarryLemmas.{told_is}
+use Rattle.version_model.proofs.CrossingLemmas.{numbers_linked}
+use Rattle.version_model.proofs.NumberedLemmas.{looked, value_of_first}
+use Rattle.version_model.proofs.PutLemmas.{map_same}
+use Rattle.storage_law.specs.Storage.{aux_of, stored_way}
+use Rattle.storage_law.proofs.ReadLemmas.{IsRead, far_right, put_in, read_at, still_right}
+use Rattle.db_state.specs.Fields.{IsDatabase, auxes_at, numbers_in, state_of, storage_in}
+use Rattle.db_state.specs.Passes.{Settles}
+use Rattle.db_state.specs.declared.parts.Parts.{Parts}
+use Rattle.db_state.proofs.AuxLemmas.{few_on}
+
+-- a value stands under a number that is listed
+pub some_at : {T : Type 0} (items : List (Numbered T)) (n : ℕ) → In n (numbers_in items) → value_of items n ≡ None → ⊥
+some_at [] n i none = i
+some_at {T} (x ∷ xs) n i none =
+    elim (cases_eq n x.number) as (λ _. ⊥) [
+      | inl same ↦ (
+          let clash : Some x.value ≡ None = sym (value_of_first x xs n ∙ ap (λ (b : Bool). looked b x (value_of xs n)) (eq-eqb n x.number same)) ∙ none in
+          cc)
+      | inr other ↦ some_at xs n (elim i as (λ _. In n (numbers_in xs)) [ inl same ↦ absurd (other same) | inr j ↦ j ])
+          (sym (value_of_first x xs n ∙ ap (λ (b : Bool). looked b x (value_of xs n)) (ne_eqb n x.number other)) ∙ none)
+    ]
+
+module _ {O : Type 0} (meaning : O → Meaning) (p : Parts O) (is : IsDatabase meaning p) where
+  abbrev es : List (Placed O)
+  es = p.graph.edges
+
+  -- a live operator has auxiliary tables and a memory
+  lives : (e : Link O) → In e (forest es) → In e.number (reverse (numbers es))
+  lives e at = in_reverse e.number (numbers es) (subst (λ (l : List ℕ). In e.number l) (numbers_linked es) (number_listed (forest es) e at))
+
+  pub has_aux : (e : Link O) → In e (forest es) → (n : ℕ) → e.number ≡ n → None ≡ value_of p.aux n → ⊥
+  has_aux e at n same none = some_at p.aux n (subst (λ (k : ℕ). In k (numbers_in p.aux)) same (subst (λ (l : List ℕ). In e.number l) (sym is.auxes) (lives e at))) (sym none)
+
+  pub has_memory : (e : Link O) → In e (forest es) → (n : ℕ) → e.number ≡ n → None ≡ value_of p.memories n → ⊥
+  has_memory e at n same none = some_at p.memories n (subst (λ (k : ℕ). In k (numbers_in p.memories)) same (subst (λ (l : List ℕ). In e.number l) (sym is.memories) (lives e at))) (sym none)
+
+  -- an operator has at most two tables on the side from which it is crossed
+  pub near_within : (back : Bool) (e : Link O) → In e (forest es) → length (crossing back e).near ≤ 2
+  near_within back e at = (few_on e (each_at HasSides (forest es) e at is.sides) back).0
+
+module _ {O : Type 0} (meaning : O → Meaning) (laws : (o : O) → Laws (meaning o)) (p : Parts O) (is : IsDatabase meaning p) where
+  abbrev s : State
+  s = state_of meaning p
+
+  module _ (e : Link O) (at : In e (forest p.graph.edges)) (q : Crossing O) (over : q ≡ stored_way p.layout.operators e) (rows : ℕ → Rows) (right : (t : ℕ) → In t (stored_way p.layout.operators e).near → rows t ≡ s.tables t)
+      (near : Tables) (n : ℕ) (number : e.number ≡ n) (aux : Aux) (memory : MemoryState) (near_is : near ≡ map rows q.near) (aux_is : Some aux ≡ value_of p.aux n) (memory_is : Some memory ≡ value_of p.memories n) where
+    read : IsRead meaning (headings p.graph.edges) (storage_in p) s q
+    read = subst (λ (x : Crossing O). IsRead meaning (headings p.graph.edges) (storage_in p) s x) (sym over) (read_at meaning laws is.reads p.graph.edges (storage_in p) is.valid s is.stands e at)
+
+    right_near : (t : ℕ) → In t q.near → rows t ≡ s.tables t
+    right_near t i = right t (subst (λ (x : Crossing O). In t x.near) over i)
+
+    q_number : n ≡ q.number
+    q_number = sym number ∙ sym (ap (λ (x : Crossing O). x.number) over)
+
+    aux_at : tables_of aux ≡ (storage_in p).aux q.number
+    aux_at = ap (λ (o : Option Aux). option_map_or tables_of o []) aux_is ∙ ap (λ (k : ℕ). auxes_at p.aux k) q_number
+
+    memory_at : memory.entries ≡ (storage_in p).memory q.number
+    memory_at = ap (λ (o : Option MemoryState). option_map_or (λ (m : MemoryState). m.entries) o []) memory_is ∙ ap (λ (k : ℕ). pairs_at p.memories k) q_number
+
+    near_at : near ≡ map s.tables q.near
+    near_at = near_is ∙ map_same rows s.tables q.near right_near
+
+    -- they are of the pair in the state
+    pub may_read : SomeStored (way q.backward (meaning q.operator)) near (tables_of aux) memory.entries
+    may_read =
+        let m = way q.backward (meaning q.operator) in
+        let a : tables_of aux ≡ aux_of meaning s q = aux_at ∙ read.stands.aux in
+        let k : memory.entries ≡ s.memory q.number = memory_at ∙ read.stands.memory in
+        let of_state : SomeStored m (map s.tables q.near) (aux_of meaning s q) (s.memory q.number) = record {
+          hs = map (headings p.graph.edges) q.near;
+          ht = map (headings p.graph.edges) q.far;
+          far = map s.tables q.far;
+          belongs = record { pair = read.stands.related; aux_is = refl };
+        } in
+        subst (λ (x : Tables). SomeStored m x (tables_of aux) memory.entries) (sym near_at)
+        (subst (λ (x : Tables). SomeStored m (map s.tables q.near) x memory.entries) (sym a)
+        (subst (λ (x : Pairs). SomeStored m (map s.tables q.near) (aux_of meaning s q) x) (sym k) of_state))
+
+    pub far_is : (far : Tables) → far ≡ (way q.backward (meaning q.operator)).read_target near (tables_of aux) memory.entries → far ≡ map s.tables q.far
+    far_is far is_read =
+        let m = way q.backward (meaning q.operator) in
+        is_read ∙ ap (λ (x : Tables). m.read_target x (tables_of aux) memory.entries) near_is
+        ∙ ap (λ (x : Tables). m.read_target (map rows q.near) x memory.entries) aux_at
+        ∙ ap (λ (x : Pairs). m.read_target (map rows q.near) ((storage_in p).aux q.number) x) memory_at
+        ∙ far_right meaning laws (headings p.graph.edges) (storage_in p) s q read rows right_near
+
+    pub far_long : (far : Tables) → far ≡ (way q.backward (meaning q.operator)).read_target near (tables_of aux) memory.entries → length far ≡ length q.far
+    far_long far is_read = ap (λ (l : Tables). length l) (far_is far is_read) ∙ length-map q.far s.tables
+
+    pub settles : (far : Tables) (new : ℕ → Rows) → far ≡ (way q.backward (meaning q.operator)).read_target near (tables_of aux) memory.entries → new ≡ put rows q.far far → Settles s.tables q.far rows new
+    settles far new is_read made =
+        let full : new ≡ put rows q.far (map s.tables q.far) = made ∙ ap (λ (l : Tables). put rows q.far l) (far_is far is_read) in
+        record {
+          kept = λ t h. ap (λ (f : ℕ → Rows). f t) full ∙ still_right meaning laws (headings p.graph.edges) (storage_in p) s rows q.far t h;
+          right = λ t i. ap (λ (f : ℕ → Rows). f t) full ∙ put_in rows s.tables q.far t i;
+        }
+
+-- a value that isn't there
+pub none_kept : {T : Type 0} (o : Option (Bor T)) (items kept : List (Numbered T)) (n : ℕ) → o ≡ None → option_copied o ≡ value_of items n → items ≡ kept → None ≡ value_of kept n
+none_kept o items kept n none found same = ap (λ x. option_copied x) (sym none) ∙ found ∙ ap (λ l. value_of l n) same
+
+-- ---- what the calls before a reading gave
+
+-- a step tells of one crossing
+pub same_crossing : {O : Type 0} (g h : Drawn O) → g ≡ h → (step : Step) (q r : Crossing O) → IsTold g.edges step (Some q) → IsCrossing h.edges r → told r ≡ step → q ≡ r
+same_crossing {O} g h same step q r tells crosses is = told_is h.edges step r q crosses is (subst (λ (d : Drawn O). IsTold d.edges step (Some q)) same tells)
+
+pub some_kept : {T : Type 0} (x : T) (items kept : List (Numbered T)) (n : ℕ) → Some x ≡ value_of items n → items ≡ kept → Some x ≡ value_of kept n
+some_kept x items kept n found same = found ∙ ap (λ l. value_of l n) same
+
+pub near_kept : (stored kept made now : List (Numbered TableState)) (near : Tables) (ks : List ℕ) → near ≡ map (rows_now stored made) ks → stored ≡ kept → made ≡ now → near ≡ map (rows_now kept now) ks
+near_kept stored kept made now near ks is same equal = is ∙ ap (λ l. map (rows_now l made) ks) same ∙ ap (λ l. map (rows_now kept l) ks) equal

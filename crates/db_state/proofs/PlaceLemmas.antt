@@ -1,0 +1,177 @@
+-- One operator of a pass, by its place.
+use Rattle.std.specs.Prelude.{◌<◌, ◌≤◌, slice_get}
+use Rattle.std.proofs.Common.{◌≡◌, ℕ, ◌+◌, List, [], ◌∷◌, ◌++◌, Bool, true, false, not, cond, drop, length, take, Option, Some, None, refl, sym, ap, ◌∙◌, subst, arith}
+use Rattle.std.proofs.lemmas.Bool.{cond-false, cond-true, false≢true}
+use Rattle.std.proofs.lemmas.List.{reverse-append, reverse-reverse, take-append-drop}
+use mathlib.Core.List.{reverse}
+use Rattle.row_store.specs.Rows.{Rows}
+use Rattle.version_graph.specs.Sets.{In}
+use Rattle.version_graph.specs.Edges.{AreEdges, Drawn, is_in}
+use Rattle.version_graph.specs.Forest.{Link, crossing, forest}
+use Rattle.version_graph.specs.declared.parts.Placed.{Placed}
+use Rattle.version_graph.proofs.SetLemmas.{in_of_test, is_in_true}
+use Rattle.version_graph.proofs.WalkLaws.{is_forest}
+use Rattle.layout_rules.specs.declared.layout.Layout.{Layout}
+use Rattle.layout_rules.proofs.DownLemmas.{Beside, below, below_all, below_next, below_past, beside, link_listed}
+use Rattle.layout_rules.proofs.LookupLemmas.{and_true, not_off, not_on}
+use Rattle.layout_rules.proofs.NeededLemmas.{both_true}
+use Rattle.op_law.specs.Meaning.{Meaning}
+use Rattle.row_store.specs.States.{TableState}
+use Rattle.version_model.specs.Kept.{rows_now}
+use Rattle.version_model.specs.Making.{ascending}
+use Rattle.version_model.specs.declared.numbered.Numbered.{Numbered}
+use Rattle.version_model.proofs.AscendingLemmas.{edge_there, some_there}
+use Rattle.version_model.proofs.CarryLemmas.{some_is}
+use Rattle.version_model.proofs.CrossingLemmas.{targets_linked}
+use Rattle.version_model.proofs.MakingLemmas.{stands_at}
+use Rattle.db_state.specs.Fields.{IsDatabase, state_of}
+use Rattle.db_state.specs.declared.parts.Parts.{Parts}
+use Rattle.db_state.specs.declared.read.Pass.{Pass}
+use Rattle.db_state.specs.Covered.{CoversItself}
+use Rattle.db_state.specs.Passes.{AreRead, Crosses, IsDown, IsDownTo, IsUpTo, MayCross, MayPass, Passes, Settles, is_passed}
+use Rattle.db_state.proofs.AuxLemmas.{crosses}
+use Rattle.db_state.proofs.PassLemmas.{all_right, down_step, near_down, near_up, up_step}
+
+module _ {O : Type 0} (es : List (Placed O)) (edges : AreEdges es) (layout ns : List ℕ) (covers : CoversItself (forest es) layout ns) (tables : ℕ → Rows) where
+  abbrev newer : ℕ → List (Link O)
+  newer i = reverse (drop i (ascending es))
+
+  split : (i : ℕ) → forest es ≡ newer i ++ below es i
+  split i = sym (reverse-reverse (forest es)) ∙ sym (ap (λ (l : List (Link O)). reverse l) (take-append-drop i (ascending es))) ∙ reverse-append (take i (ascending es)) (drop i (ascending es))
+
+  next : (i : ℕ) (f : Link O) → slice_get (ascending es) i ≡ Some f → below es (i + 1) ≡ f ∷ below es i
+  next i f here = below_next es i (Some f) (sym here)
+
+  split_at : (i : ℕ) (f : Link O) → slice_get (ascending es) i ≡ Some f → forest es ≡ newer (i + 1) ++ f ∷ below es i
+  split_at i f here = split (i + 1) ∙ ap (λ (l : List (Link O)). newer (i + 1) ++ l) (next i f here)
+
+  listed : (i : ℕ) (f : Link O) → slice_get (ascending es) i ≡ Some f → In f (forest es)
+  listed i f here = link_listed es i f (sym here)
+
+  -- ---- what a pass does with an operator
+
+  abbrev Goes : Bool → ℕ → (ℕ → Rows) → (ℕ → Rows) → Type 0
+  Goes back i rows new = (f : Link O) → slice_get (ascending es) i ≡ Some f → Settles tables (cond (is_passed layout ns back f.number) (crossing back f).far []) rows new
+
+  abbrev MayGo : Bool → ℕ → (ℕ → Rows) → Type 0
+  MayGo back i rows = (f : Link O) → slice_get (ascending es) i ≡ Some f → is_passed layout ns back f.number ≡ true → (t : ℕ) → In t (crossing back f).near → rows t ≡ tables t
+
+  pub may_down : (i : ℕ) (rows : ℕ → Rows) → IsDownTo (forest es) layout ns tables (below es (i + 1)) rows → MayGo true i rows
+  may_down i rows down f here passed t j =
+      let tests = both_true (is_in f.number ns) (is_in f.number layout) passed in
+      near_down (forest es) (is_forest es edges) layout ns covers tables (newer (i + 1)) f (below es i) (split_at i f here) rows (subst (λ (l : List (Link O)). IsDownTo (forest es) layout ns tables l rows) (next i f here) down)
+      (listed i f here) (in_of_test f.number layout tests.1) (in_of_test f.number ns tests.0) t j
+
+  pub goes_down : (i : ℕ) → i < length (ascending es) → (rows new : ℕ → Rows) → IsDownTo (forest es) layout ns tables (below es (i + 1)) rows → Goes true i rows new → IsDownTo (forest es) layout ns tables (below es i) new
+  goes_down i within rows new down goes =
+      let got = stands_at (ascending es) i within in
+      let f = got.0 in
+      down_step (forest es) (is_forest es edges) layout ns covers tables f (below es i) rows new (cond (is_passed layout ns true f.number) f.sources []) (listed i f got.1) (subst (λ (l : List (Link O)). IsDownTo (forest es) layout ns tables l rows) (next i f got.1) down)
+      (goes f got.1) (λ has mine. cond-true (is_passed layout ns true f.number) f.sources [] (and_true (is_in f.number ns) (is_in f.number layout) (is_in_true f.number ns mine) (is_in_true f.number layout has)))
+
+  pub may_up : (i : ℕ) (rows : ℕ → Rows) → IsUpTo (forest es) layout ns tables (below es i) rows → MayGo false i rows
+  may_up i rows up f here passed t j =
+      let tests = both_true (is_in f.number ns) (not (is_in f.number layout)) passed in
+      near_up (forest es) (is_forest es edges) layout ns covers tables (newer (i + 1)) f (below es i) (split_at i f here) rows up (listed i f here) (λ has. not_off (is_in f.number layout) tests.1 (is_in_true f.number layout has)) (in_of_test f.number ns tests.0) t j
+
+  pub goes_up : (i : ℕ) → i < length (ascending es) → (rows new : ℕ → Rows) → IsUpTo (forest es) layout ns tables (below es i) rows → Goes false i rows new → IsUpTo (forest es) layout ns tables (below es (i + 1)) new
+  goes_up i within rows new up goes =
+      let got = stands_at (ascending es) i within in
+      let f = got.0 in
+      subst (λ (l : List (Link O)). IsUpTo (forest es) layout ns tables l new) (sym (next i f got.1))
+      (up_step (forest es) (is_forest es edges) layout ns covers tables f (below es i) rows new (cond (is_passed layout ns false f.number) f.targets []) up (goes f got.1)
+      (λ off mine. cond-true (is_passed layout ns false f.number) f.targets [] (and_true (is_in f.number ns) (not (is_in f.number layout)) (is_in_true f.number ns mine) (not_on (is_in f.number layout) (λ is. off (in_of_test f.number layout is))))))
+
+-- ---- what the call at a place supposes and ensures
+
+stored_side : (b back : Bool) → cond back b (not b) ≡ true → b ≡ back
+stored_side true true h = refl
+stored_side false false h = refl
+stored_side true false h = absurd (false≢true h)
+stored_side false true h = absurd (false≢true h)
+
+-- the link at the place of an edge
+link_at : {O : Type 0} (es : List (Placed O)) (i : ℕ) (e : Placed O) → Some e ≡ slice_get (reverse es) i → (f : Link O) × (slice_get (ascending es) i ≡ Some f) × (e.number ≡ f.number)
+link_at {O} es i e found = one (slice_get (ascending es) i) refl (subst (λ (o : Option (Placed O)). Beside o (slice_get (ascending es) i)) (sym found) (beside es i))
+  where
+    one : (q : Option (Link O)) → slice_get (ascending es) i ≡ q → Beside (Some e) q → (f : Link O) × (slice_get (ascending es) i ≡ Some f) × (e.number ≡ f.number)
+    one None got both = absurd both
+    one (Some f) got both = (f, got, both.0)
+
+-- an edge is found in a graph that is the same
+pub found_in : {O : Type 0} (g h : Drawn O) → g ≡ h → (i : ℕ) (o : Option (Placed O)) → o ≡ slice_get (reverse g.edges) i → o ≡ slice_get (reverse h.edges) i
+found_in {O} g h same i o found = found ∙ ap (λ (d : Drawn O). slice_get (reverse d.edges) i) same
+
+-- the test is that in a layout that is the same
+pub tested : (l layout : Layout) → l ≡ layout → (operators : List ℕ) → operators ≡ l.operators → (pass : Pass) (n : ℕ) (result b : Bool) → result ≡ is_passed operators pass.operators.now pass.backward n → result ≡ b → is_passed layout.operators pass.operators.now pass.backward n ≡ b
+tested l layout same operators stays pass n result b is gives =
+    let there : operators ≡ layout.operators = stays ∙ ap (λ (x : Layout). x.operators) same in
+    ap (λ (ks : List ℕ). is_passed ks pass.operators.now pass.backward n) (sym there) ∙ sym is ∙ gives
+
+module _ {O : Type 0} (meaning : O → Meaning) (p : Parts O) (is : IsDatabase meaning p) (pass : Pass) (i : ℕ) (made : List (Numbered TableState)) where
+  abbrev test : ℕ → Bool
+  test n = is_passed p.layout.operators pass.operators.now pass.backward n
+
+  -- nothing stands at the place
+  pub passes_nothing : None ≡ slice_get (reverse p.graph.edges) i → Passes meaning p pass i made made
+  passes_nothing none f here = absurd (some_there p.graph.edges i f here none)
+
+  module _ (e : Placed O) (found : Some e ≡ slice_get (reverse p.graph.edges) i) where
+    same_number : (f : Link O) → slice_get (ascending p.graph.edges) i ≡ Some f → e.number ≡ f.number
+    same_number f here =
+        let there = edge_there p.graph.edges i f (Some e) here found in
+        let same : e ≡ there.0 = some_is e there.0 there.1 in
+        ap (λ (x : Placed O). x.number) same ∙ there.2
+
+    pub may_cross : MayPass meaning p pass i made → test e.number ≡ true → MayCross meaning p made (record { operator = e.number; backward = pass.backward })
+    may_cross may passed =
+        let l = link_at p.graph.edges i e found in
+        let f = l.0 in
+        let mine : test f.number ≡ true = subst (λ (n : ℕ). test n ≡ true) l.2 passed in
+        let has = is_in f.number p.layout.operators in
+        let back : has ≡ pass.backward = stored_side has pass.backward (both_true (is_in f.number pass.operators.now) (cond pass.backward has (not has)) mine).1 in
+        let at = link_listed p.graph.edges i f (sym l.1) in
+        record {
+          over = f;
+          lives = at;
+          crosses = crosses p.graph.edges is.graph.edges f at has;
+          tells = ap (λ (n : ℕ). record { operator = n; backward = has }) (sym l.2) ∙ ap (λ (b : Bool). record { operator = e.number; backward = b }) back;
+          near = λ t j. may f l.1 mine t (subst (λ (b : Bool). In t (crossing b f).near) back j);
+        }
+
+    pub passes_over : (new : List (Numbered TableState)) → test e.number ≡ true → Crosses meaning p made new (record { operator = e.number; backward = pass.backward }) → Passes meaning p pass i made new
+    passes_over new passed crossed f here =
+        let number = same_number f here in
+        let at = link_listed p.graph.edges i f (sym here) in
+        subst (λ (l : List ℕ). Settles (state_of meaning p).tables l (rows_now p.stored made) (rows_now p.stored new)) (sym (cond-true (test f.number) (crossing pass.backward f).far [] (subst (λ (n : ℕ). test n ≡ true) number passed)))
+        (crossed (crossing pass.backward f) (crosses p.graph.edges is.graph.edges f at pass.backward) (ap (λ (n : ℕ). record { operator = n; backward = pass.backward }) (sym number)))
+
+    pub passes_by : test e.number ≡ false → Passes meaning p pass i made made
+    passes_by off f here =
+        subst (λ (l : List ℕ). Settles (state_of meaning p).tables l (rows_now p.stored made) (rows_now p.stored made)) (sym (cond-false (test f.number) (crossing pass.backward f).far [] (subst (λ (n : ℕ). test n ≡ false) (same_number f here) off)))
+        (record { kept = λ t h. h; right = λ t j. absurd j })
+
+-- ---- the ends of the passes
+
+module _ {O : Type 0} (meaning : O → Meaning) (p : Parts O) (is : IsDatabase meaning p) (ns : List ℕ) where
+  -- nothing was read yet
+  pub down_start : (left : ℕ) → left ≡ length p.graph.edges → (made : List (Numbered TableState)) → made ≡ [] → IsDownTo (forest p.graph.edges) p.layout.operators ns (state_of meaning p).tables (below p.graph.edges left) (rows_now p.stored made)
+  down_start left count made none =
+      let start : IsDownTo (forest p.graph.edges) p.layout.operators ns (state_of meaning p).tables (forest p.graph.edges) (rows_now p.stored []) = record {
+        stored = λ t k. is.stands.stored t k;
+        sources = λ f i out. absurd (out i);
+      } in
+      subst (λ (l : List (Link O)). IsDownTo (forest p.graph.edges) p.layout.operators ns (state_of meaning p).tables l (rows_now p.stored made)) (sym (below_all p.graph.edges left count))
+      (subst (λ (m : List (Numbered TableState)). IsDownTo (forest p.graph.edges) p.layout.operators ns (state_of meaning p).tables (forest p.graph.edges) (rows_now p.stored m)) (sym none) start)
+
+  -- no operator is left
+  pub down_end : (left : ℕ) → left ≤ 0 → (made : List (Numbered TableState)) → IsDownTo (forest p.graph.edges) p.layout.operators ns (state_of meaning p).tables (below p.graph.edges left) (rows_now p.stored made) → IsDown meaning p ns made
+  down_end left none made down =
+      let zero_left : left ≡ 0 = omega (arith, none) in
+      subst (λ (n : ℕ). IsDownTo (forest p.graph.edges) p.layout.operators ns (state_of meaning p).tables (below p.graph.edges n) (rows_now p.stored made)) zero_left down
+
+  -- all operators were passed
+  pub up_end : (i count : ℕ) → count ≡ length p.graph.edges → count ≤ i → (made : List (Numbered TableState)) → IsUpTo (forest p.graph.edges) p.layout.operators ns (state_of meaning p).tables (below p.graph.edges i) (rows_now p.stored made) → AreRead meaning p ns made
+  up_end i count is_count past made up t j covered =
+      let all = subst (λ (l : List (Link O)). IsUpTo (forest p.graph.edges) p.layout.operators ns (state_of meaning p).tables l (rows_now p.stored made)) (below_past p.graph.edges i count is_count past) up in
+      all_right (forest p.graph.edges) p.layout.operators ns (state_of meaning p).tables (rows_now p.stored made) all t (subst (λ (l : List ℕ). In t l) (sym (targets_linked p.graph.edges is.graph.edges)) j) covered

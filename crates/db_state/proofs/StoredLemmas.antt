@@ -1,0 +1,32 @@
+-- Stored tables, and those that were read beside them.
+use Rattle.std.specs.Prelude.{IfSome}
+use Rattle.std.specs.Option.{option_copied, option_map_or}
+use Rattle.std.proofs.Common.{◌≡◌, ℕ, List, [], Bor, Option, Some, None, inl, inr, ap, ◌∙◌}
+use Rattle.row_store.specs.States.{TableState}
+use Rattle.version_graph.specs.Sets.{In}
+use Rattle.op_law.specs.Meaning.{Meaning}
+use Rattle.layout_rules.proofs.LinkLemmas.{in_or_out}
+use Rattle.version_model.specs.Kept.{latest_of, newer_rows, rows_at, rows_now, value_of}
+use Rattle.version_model.specs.declared.numbered.Numbered.{Numbered}
+use Rattle.db_state.specs.Fields.{IsDatabase, numbers_in, state_of}
+use Rattle.db_state.specs.declared.parts.Parts.{Parts}
+use Rattle.db_state.proofs.FieldLemmas.{none_at}
+
+-- the number of a value is listed
+in_numbers : {T : Type 0} (items : List (Numbered T)) (n : ℕ) (x : T) → Some x ≡ value_of items n → In n (numbers_in items)
+in_numbers items n x found =
+    elim (in_or_out n (numbers_in items)) as (λ _. In n (numbers_in items)) [
+      | inl i ↦ i
+      | inr out ↦ (let clash : Some x ≡ None = found ∙ none_at items n out in absurd (let no : ⊥ = cc in no))
+    ]
+
+-- a stored table has the rows of the state
+pub lent_right : {O : Type 0} (meaning : O → Meaning) (p : Parts O) → IsDatabase meaning p → (t : ℕ) (o : Option (Bor TableState)) → option_copied o ≡ value_of p.stored t → IfSome o (λ (b : Bor TableState). b.now.rows ≡ (state_of meaning p).tables t)
+lent_right {O} meaning p is t None found = tt
+lent_right {O} meaning p is t (Some b) found =
+    let stored : rows_at p.stored t ≡ (state_of meaning p).tables t = is.stands.stored t ((is.tables t).0 (in_numbers p.stored t b.now found)) in
+    ap (λ (o : Option TableState). option_map_or (λ (x : TableState). x.rows) o []) found ∙ stored
+
+-- a table that isn't stored is among those that were read
+pub unstored_rows : (stored read : List (Numbered TableState)) (t : ℕ) → value_of stored t ≡ None → rows_now stored read t ≡ rows_now [] read t
+unstored_rows stored read t none = ap (λ (o : Option TableState). newer_rows (latest_of read t) (option_map_or (λ (x : TableState). x.rows) o [])) none

@@ -1,0 +1,40 @@
+-- The operators on the way to storage cover the table, and themselves.
+use Rattle.std.specs.Prelude.{◌↔◌}
+use Rattle.std.proofs.Common.{◌≡◌, ℕ, zero, suc, List, inl, inr, refl, sym, subst}
+use Rattle.std.proofs.lemmas.Bool.{cond-false, cond-true}
+use Rattle.version_graph.specs.Sets.{In}
+use Rattle.version_graph.specs.Edges.{is_in}
+use Rattle.version_graph.specs.Forest.{Link, forest}
+use Rattle.version_graph.specs.declared.parts.Placed.{Placed}
+use Rattle.version_graph.proofs.SetLemmas.{is_in_true}
+use Rattle.version_graph.proofs.WalkLaws.{IsForest}
+use Rattle.layout_rules.specs.Layouts.{IsValid}
+use Rattle.layout_rules.specs.Ways.{IsOnWay, ReadsFrom, ReadsOver}
+use Rattle.layout_rules.proofs.LinkLemmas.{same_link}
+use Rattle.layout_rules.proofs.WayLemmas.{reads_on}
+use Rattle.storage_law.specs.Storage.{stored_way}
+use Rattle.storage_law.proofs.LinkLemmas.{not_in_false}
+use Rattle.db_state.specs.Covered.{Covers, CoversItself}
+
+module _ {O : Type 0} (es : List (Link O)) (forest : IsForest es) (layout : List ℕ) (valid : IsValid es layout) (table : ℕ) where
+  -- a table that is read over an operator is read from those that the operator keeps
+  from_near : (t : ℕ) (e : Link O) → ReadsOver es layout t e → (u : ℕ) → In u (stored_way layout e).near → ReadsFrom es layout t e u
+  from_near t e (inl up) u i = inl (up, subst (λ (l : List ℕ). In u l) (cond-false (is_in e.number layout) e.targets e.sources (not_in_false e.number layout up.1)) i)
+  from_near t e (inr down) u i = inr (down, subst (λ (l : List ℕ). In u l) (cond-true (is_in e.number layout) e.targets e.sources (is_in_true e.number layout down.2)) i)
+
+  pub way_covers : (ns : List ℕ) → ((n : ℕ) → IsOnWay es layout table n → In n ns) → Covers es layout ns table
+  way_covers ns all e at over = all e.number (zero, table, e, refl, at, over, refl)
+
+  pub way_covers_itself : (ns : List ℕ) → ((n : ℕ) → In n ns → IsOnWay es layout table n) → ((n : ℕ) → IsOnWay es layout table n → In n ns) → CoversItself es layout ns
+  way_covers_itself ns on all e at mine t i f there over =
+      let w = on e.number mine in
+      let is : w.2 ≡ e = same_link es w.2 e forest w.4 at (sym w.6) in
+      let from : ReadsFrom es layout w.1 w.2 t = from_near w.1 w.2 w.5 t (subst (λ (y : Link O). In t (stored_way layout y).near) (sym is) i) in
+      all f.number (suc w.0, t, f, reads_on es forest layout valid table w.0 table w.1 w.2 t w.3 w.4 from, there, over, refl)
+
+-- the listed way is that in a graph and a layout that are the same
+pub way_listed : {O : Type 0} (es fs : List (Placed O)) (layout operators : List ℕ) (table : ℕ) (made ns : List ℕ) → fs ≡ es → operators ≡ layout → ns ≡ made → ((n : ℕ) → In n made ↔ IsOnWay (forest fs) operators table n) → (n : ℕ) → In n ns ↔ IsOnWay (forest es) layout table n
+way_listed {O} es fs layout operators table made ns same stays is way n =
+    subst (λ (l : List ℕ). In n l ↔ IsOnWay (forest es) layout table n) (sym is)
+    (subst (λ (l : List ℕ). In n made ↔ IsOnWay (forest es) l table n) stays
+    (subst (λ (l : List (Placed O)). In n made ↔ IsOnWay (forest l) operators table n) same (way n)))
