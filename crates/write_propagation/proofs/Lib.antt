@@ -1,0 +1,6 @@
+mod ItemLemmas
+mod WholeLemmas
+mod CutLemmas
+mod CopyLemmas
+mod PlanLemmas
+mod ChangeLemmas

@@ -1,0 +1,108 @@
+-- Values under numbers, and newer ones over them.
+use Rattle.std.specs.Option.{option_map_or}
+use Rattle.std.proofs.Common.{◌≡◌, ℕ, ◌==◌, List, [], ◌∷◌, true, false, map, Option, Some, None, inl, inr, refl, sym, ap, ◌∙◌, subst}
+use Rattle.std.proofs.lemmas.Bool.{eq-eqb, eqb-true}
+use Rattle.std.proofs.lemmas.List.{reverse-reverse}
+use mathlib.Core.List.{reverse}
+use Rattle.version_graph.specs.Sets.{In}
+use Rattle.version_graph.proofs.SetLemmas.{in_map, origin}
+use Rattle.version_graph.proofs.WalkLemmas.{in_reverse}
+use Rattle.version_model.specs.Kept.{latest_of, renewed, value_of}
+use Rattle.version_model.specs.declared.numbered.Numbered.{Numbered}
+use Rattle.version_model.proofs.NumberedLemmas.{looked, value_of_first}
+use Rattle.db_state.specs.Fields.{numbers_in}
+use Rattle.db_state.proofs.FieldLemmas.{none_at}
+
+-- what was turned twice is as it was
+pub in_turned : {X : Type 0} (x : X) (xs : List X) → In x (reverse xs) → In x xs
+in_turned {X} x xs i = subst (λ (l : List X). In x l) (reverse-reverse xs) (in_reverse x (reverse xs) i)
+
+module _ {T : Type 0} where
+  -- the value under a listed number is that of an item
+  pub item_at : (items : List (Numbered T)) (n : ℕ) → In n (numbers_in items) → (i : Numbered T) × In i items × (value_of items n ≡ Some i.value) × (i.number ≡ n)
+  item_at [] n h = absurd h
+  item_at (x ∷ xs) n h =
+      (elim (n == x.number) as (λ b. (n == x.number) ≡ b → (i : Numbered T) × In i (x ∷ xs) × (value_of (x ∷ xs) n ≡ Some i.value) × (i.number ≡ n)) [
+        | true ↦ λ is. (x, inl refl, value_of_first x xs n ∙ ap (λ b. looked b x (value_of xs n)) is, sym (eqb-true n x.number is))
+        | false ↦ λ is.
+            let later : In n (numbers_in xs) = elim h as (λ _. In n (numbers_in xs)) [ inl same ↦ (let clash : true ≡ false = sym (eq-eqb n x.number same) ∙ is in absurd (let none : ⊥ = cc in none)) | inr k ↦ k ] in
+            let m = item_at xs n later in
+            (m.0, inr m.1, value_of_first x xs n ∙ ap (λ b. looked b x (value_of xs n)) is ∙ m.2, m.3)
+      ]) refl
+
+  -- and so is the last one
+  pub latest_at : (items : List (Numbered T)) (n : ℕ) → In n (numbers_in items) → (i : Numbered T) × In i items × (latest_of items n ≡ Some i.value) × (i.number ≡ n)
+  latest_at items n h =
+      let o = origin (λ (i : Numbered T). i.number) n items h in
+      let there : In n (numbers_in (reverse items)) = subst (λ (k : ℕ). In k (numbers_in (reverse items))) (sym o.2) (in_map (λ (i : Numbered T). i.number) o.0 (reverse items) (in_reverse o.0 items o.1)) in
+      let m = item_at (reverse items) n there in
+      (m.0, in_turned m.0 items m.1, m.2, m.3)
+
+  pub latest_none : (items : List (Numbered T)) (n : ℕ) → (In n (numbers_in items) → ⊥) → latest_of items n ≡ None
+  latest_none items n none =
+      none_at (reverse items) n (λ h.
+      let o = origin (λ (i : Numbered T). i.number) n (reverse items) h in
+      none (subst (λ (k : ℕ). In k (numbers_in items)) (sym o.2) (in_map (λ (i : Numbered T). i.number) o.0 items (in_turned o.0 items o.1))))
+
+-- ---- what is seen of the values
+
+module _ {T V : Type 0} (see : T → V) where
+  -- each value is seen beside its number
+  abbrev told : List (Numbered T) → List (ℕ × V)
+  told items = map (λ (i : Numbered T). (i.number, see i.value)) items
+
+  abbrev held : (ℕ → V) → List ℕ → List (ℕ × V)
+  held f ns = map (λ n. (n, f n)) ns
+
+  module _ (f : ℕ → V) where
+    pub told_numbers : (items : List (Numbered T)) (ns : List ℕ) → told items ≡ held f ns → numbers_in items ≡ ns
+    told_numbers [] [] is = refl
+    told_numbers [] (n ∷ ns) is = absurd (let none : ⊥ = cc in none)
+    told_numbers (x ∷ xs) [] is = absurd (let none : ⊥ = cc in none)
+    told_numbers (x ∷ xs) (n ∷ ns) is =
+        let head : (x.number, see x.value) ≡ (n, f n) = cc in
+        let tail : told xs ≡ held f ns = cc in
+        let first : x.number ≡ n = ap (λ (p : ℕ × V). p.0) head in
+        ap (λ (k : ℕ). k ∷ numbers_in xs) first ∙ ap (λ (l : List ℕ). n ∷ l) (told_numbers xs ns tail)
+
+    pub told_values : (items : List (Numbered T)) (ns : List ℕ) → told items ≡ held f ns → (i : Numbered T) → In i items → see i.value ≡ f i.number
+    told_values [] ns is i h = absurd h
+    told_values (x ∷ xs) [] is i h = absurd (let none : ⊥ = cc in none)
+    told_values (x ∷ xs) (n ∷ ns) is i (inl same) =
+        let head : (x.number, see x.value) ≡ (n, f n) = cc in
+        subst (λ (y : Numbered T). see y.value ≡ f y.number) (sym same) (ap (λ (p : ℕ × V). p.1) head ∙ ap f (sym (ap (λ (p : ℕ × V). p.0) head)))
+    told_values (x ∷ xs) (n ∷ ns) is i (inr h) =
+        let tail : told xs ≡ held f ns = cc in
+        told_values xs ns tail i h
+
+    -- the last value of a listed number
+    pub latest_told : (items : List (Numbered T)) (ns : List ℕ) → told items ≡ held f ns → (n : ℕ) → In n ns → (y : T) × (latest_of items n ≡ Some y) × (see y ≡ f n)
+    latest_told items ns is n h =
+        let m = latest_at items n (subst (λ (l : List ℕ). In n l) (sym (told_numbers items ns is)) h) in
+        (m.0.value, m.2, told_values items ns is m.0 m.1 ∙ ap f m.3)
+
+    pub latest_untold : (items : List (Numbered T)) (ns : List ℕ) → told items ≡ held f ns → (n : ℕ) → (In n ns → ⊥) → latest_of items n ≡ None
+    latest_untold items ns is n none = latest_none items n (λ h. none (subst (λ (l : List ℕ). In n l) (told_numbers items ns is) h))
+
+    -- the first value of a listed number, and of another one
+    pub seen_told : (items : List (Numbered T)) (ns : List ℕ) → told items ≡ held f ns → (n : ℕ) → In n ns → (none : V) → option_map_or see (value_of items n) none ≡ f n
+    seen_told items ns is n h none =
+        let m = item_at items n (subst (λ (l : List ℕ). In n l) (sym (told_numbers items ns is)) h) in
+        ap (λ (o : Option T). option_map_or see o none) m.2 ∙ told_values items ns is m.0 m.1 ∙ ap f m.3
+
+    pub seen_untold : (items : List (Numbered T)) (ns : List ℕ) → told items ≡ held f ns → (n : ℕ) → (In n ns → ⊥) → (none : V) → option_map_or see (value_of items n) none ≡ none
+    seen_untold items ns is n out none = ap (λ (o : Option T). option_map_or see o none) (none_at items n (λ h. out (subst (λ (l : List ℕ). In n l) (told_numbers items ns is) h)))
+
+  -- a newer value stands where there was one, and otherwise the older one
+  module _ (none : V) (old new newer : List (Numbered T)) (n : ℕ) (is : value_of new n ≡ renewed (value_of old n) (latest_of newer n)) where
+    pub reads_newer : In n (numbers_in old) → (y : T) → latest_of newer n ≡ Some y → option_map_or see (value_of new n) none ≡ see y
+    reads_newer h y last =
+        let m = item_at old n h in
+        ap (λ (o : Option T). option_map_or see o none) (is ∙ ap (λ (o : Option T). renewed o (latest_of newer n)) m.2 ∙ ap (λ (o : Option T). renewed (Some m.0.value) o) last)
+
+    pub reads_older : latest_of newer n ≡ None → option_map_or see (value_of new n) none ≡ option_map_or see (value_of old n) none
+    reads_older last = ap (λ (o : Option T). option_map_or see o none) (is ∙ ap (λ (o : Option T). renewed (value_of old n) o) last ∙ kept (value_of old n))
+      where
+        kept : (o : Option T) → renewed o None ≡ o
+        kept None = refl
+        kept (Some x) = refl

@@ -1,0 +1,27 @@
+use Rattle.std.proofs.Common.{ℕ, List, [], sym, ap, ◌∙◌, subst}
+use Rattle.row_store.specs.States.{TableState}
+use Rattle.id_memory.specs.States.{MemoryState}
+use Rattle.version_graph.specs.Forest.{forest}
+use Rattle.version_model.specs.Kept.{pairs_now, rows_now}
+use Rattle.version_model.specs.declared.numbered.Numbered.{Numbered}
+use Rattle.db_state.specs.Covered.{Covers, CoversItself}
+use Rattle.write_propagation.specs.Calls.{beside}
+use Rattle.write_propagation.proofs.CopyLemmas.{copies_tree, covers_itself}
+use Rattle.write_propagation.proofs.copies.copy_tree.Goals as goal
+
+pub read_over-requires : goal.read_over-requires
+read_over-requires g c =
+    let d = c.args.db.now in
+    subst (λ (ns : List ℕ). CoversItself (forest d.graph.edges) d.layout.operators ns) (sym c.as_slice.ensures) (covers_itself g.O.Operator.meaning d c.args.tree.now c.requires)
+
+pub returns : goal.returns
+returns g c =
+    let d = c.args.db.now in
+    let tree = c.args.tree.now in
+    let read = c.in_ok-read.read in
+    let copied =
+    c.in_ok-tables.ensures ∙ ap (λ (l : List (Numbered TableState)). beside (rows_now l c.as_slice-2.result.now) c.as_slice-3.result.now) c.stored.ensures
+    ∙ ap (λ (l : List (Numbered TableState)). beside (rows_now d.stored l) c.as_slice-3.result.now) c.as_slice-2.ensures ∙ ap (λ (l : List ℕ). beside (rows_now d.stored read) l) c.as_slice-3.ensures in
+    let held = c.in_ok-memories.ensures ∙ ap (λ (l : List (Numbered MemoryState)). beside (pairs_now l []) c.as_slice-4.result.now) c.memories.ensures ∙ ap (λ (l : List ℕ). beside (pairs_now d.memories []) l) c.as_slice-4.ensures in
+    copies_tree g.O.Operator.meaning d tree c.requires read c.in_ok-tables.tables c.in_ok-memories.memories
+    (λ t live over. c.in_ok-read.ensures t live (subst (λ (ns : List ℕ). Covers (forest d.graph.edges) d.layout.operators ns t) (sym c.as_slice.ensures) over)) copied held

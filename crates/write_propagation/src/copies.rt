@@ -1,0 +1,104 @@
+//! Copies of the tables and memories of a tree.
+ghost use Rattle.std.specs.Prelude.{◌≡◌, filter, is_some, IfOk};
+ghost use Rattle.version_graph.specs.Forest.{forest};
+ghost use Rattle.version_model.specs.Kept.{rows_now, pairs_now, value_of as value_of_lem};
+ghost use Rattle.db_state.specs.Fields.{IsDatabase};
+ghost use Rattle.write_propagation.specs.Trees.{IsWhole};
+ghost use Rattle.write_propagation.specs.Calls.{beside, told_pairs, told_rows, CopiesTree};
+
+use crate::tree::Tree;
+use db_state::{Db, read_over};
+use expr_lang::Steps;
+use id_memory::PairMemory;
+use op_law::Operator;
+use par_base::{List, Memory};
+use row_store::Table;
+use std::alloc::Global;
+use std::sync::ledger::Ledger;
+use version_model::{Numbered, copy_now, memory_now, value_of};
+
+/// The tables and memories of a tree, as they are read.
+#[derive(Drop)]
+pub struct Copies {
+    pub tables: List<Numbered<Table>>,
+    pub memories: List<Numbered<PairMemory>>,
+}
+
+/// Copies of the tables of these numbers: those that were made last, else those that are kept.
+pub fn copy_tables(
+    alloc: Global,
+    kept: &[Numbered<Table>],
+    made: &[Numbered<Table>],
+    numbers: &[u32],
+) -> Result<List<Numbered<Table>>, Memory>
+    ensures { IfOk result (λ copies. told_rows copies ≡ beside (rows_now kept.now made.now) numbers.now) }
+{
+    let mut copies = List::new(alloc);
+    for number in numbers {
+        let value = copy_now(alloc, kept, made, *number)?;
+        copies.push(Numbered {
+            number: *number,
+            value,
+        })?;
+    }
+    Ok(copies)
+}
+
+/// Copies of the memories of these numbers, likewise.
+pub fn copy_memories(
+    alloc: Global,
+    kept: &[Numbered<PairMemory>],
+    made: &[Numbered<PairMemory>],
+    numbers: &[u32],
+) -> Result<List<Numbered<PairMemory>>, Memory>
+    ensures { IfOk result (λ copies. told_pairs copies ≡ beside (pairs_now kept.now made.now) numbers.now) }
+{
+    let mut copies = List::new(alloc);
+    for number in numbers {
+        let value = memory_now(alloc, kept, made, *number)?;
+        copies.push(Numbered {
+            number: *number,
+            value,
+        })?;
+    }
+    Ok(copies)
+}
+
+fn is_kept(kept: &[Numbered<Table>], number: u32) -> bool
+    ensures { result ≡ is_some (value_of_lem kept.now number) }
+{
+    value_of(kept, number).is_some()
+}
+
+/// Those of the numbers under which tables are kept.
+pub fn kept_of(
+    alloc: Global,
+    kept: &[Numbered<Table>],
+    numbers: &[u32],
+) -> Result<List<u32>, Memory>
+    ensures { IfOk result (λ made. made ≡ filter (λ number. is_some (value_of_lem kept.now number)) numbers.now) }
+{
+    let mut made = List::new(alloc);
+    for table in numbers {
+        if is_kept(kept, *table) {
+            made.push(*table)?;
+        }
+    }
+    Ok(made)
+}
+
+/// The tables of a tree, read from what is stored, and its memories.
+pub fn copy_tree<O: Operator, L: Ledger>(
+    alloc: Global,
+    db: &Db<O>,
+    tree: &Tree,
+    steps: &mut Steps<L>,
+) -> Result<Copies, Memory>
+    requires { IsWhole db.now.graph.edges tree.now }
+    ensures { IfOk result (CopiesTree O.meaning db.now tree.now) }
+{
+    let read = read_over(alloc, db, tree.operators.as_slice(), steps)?;
+    let tables = copy_tables(alloc, db.stored(), read.as_slice(), tree.tables.as_slice())?;
+    let memories = copy_memories(alloc, db.memories(), &[], tree.operators.as_slice())?;
+    Ok(Copies { tables, memories })
+}
