@@ -56,13 +56,15 @@ module _ {O : Type 0} (meaning : O → Meaning) (p : Parts O) (is : IsDatabase m
   abbrev es : List (Placed O)
   es = p.graph.edges
 
-  -- a live operator has auxiliary tables and a memory
+  -- a live operator is among those that have auxiliary tables and memories
   lives : (e : Link O) → In e (forest es) → In e.number (reverse (numbers es))
   lives e at = in_reverse e.number (numbers es) (subst (λ (l : List ℕ). In e.number l) (numbers_linked es) (number_listed (forest es) e at))
 
+  -- so it has auxiliary tables
   pub has_aux : (e : Link O) → In e (forest es) → (n : ℕ) → e.number ≡ n → None ≡ value_of p.aux n → ⊥
   has_aux e at n same none = some_at p.aux n (subst (λ (k : ℕ). In k (numbers_in p.aux)) same (subst (λ (l : List ℕ). In e.number l) (sym is.auxes) (lives e at))) (sym none)
 
+  -- and a memory
   pub has_memory : (e : Link O) → In e (forest es) → (n : ℕ) → e.number ≡ n → None ≡ value_of p.memories n → ⊥
   has_memory e at n same none = some_at p.memories n (subst (λ (k : ℕ). In k (numbers_in p.memories)) same (subst (λ (l : List ℕ). In e.number l) (sym is.memories) (lives e at))) (sym none)
 
@@ -76,15 +78,19 @@ module _ {O : Type 0} (meaning : O → Meaning) (laws : (o : O) → Laws (meanin
 
   module _ (e : Link O) (at : In e (forest p.graph.edges)) (q : Crossing O) (over : q ≡ stored_way p.layout.operators e) (rows : ℕ → Rows) (right : (t : ℕ) → In t (stored_way p.layout.operators e).near → rows t ≡ s.tables t)
       (near : Tables) (n : ℕ) (number : e.number ≡ n) (aux : Aux) (memory : MemoryState) (near_is : near ≡ map rows q.near) (aux_is : Some aux ≡ value_of p.aux n) (memory_is : Some memory ≡ value_of p.memories n) where
+    -- the other side can be read
     read : IsRead meaning (headings p.graph.edges) (storage_in p) s q
     read = subst (λ (x : Crossing O). IsRead meaning (headings p.graph.edges) (storage_in p) s x) (sym over) (read_at meaning laws is.reads p.graph.edges (storage_in p) is.valid s is.stands e at)
 
+    -- the near tables are those of the state
     right_near : (t : ℕ) → In t q.near → rows t ≡ s.tables t
     right_near t i = right t (subst (λ (x : Crossing O). In t x.near) over i)
 
+    -- the number is the operator's
     q_number : n ≡ q.number
     q_number = sym number ∙ sym (ap (λ (x : Crossing O). x.number) over)
 
+    -- what was found is what is stored of the operator
     aux_at : tables_of aux ≡ (storage_in p).aux q.number
     aux_at = ap (λ (o : Option Aux). option_map_or tables_of o []) aux_is ∙ ap (λ (k : ℕ). auxes_at p.aux k) q_number
 
@@ -94,7 +100,7 @@ module _ {O : Type 0} (meaning : O → Meaning) (laws : (o : O) → Laws (meanin
     near_at : near ≡ map s.tables q.near
     near_at = near_is ∙ map_same rows s.tables q.near right_near
 
-    -- they are of the pair in the state
+    -- the near tables, the auxiliary tables and the memory are of the pair in the state
     pub may_read : SomeStored (way q.backward (meaning q.operator)) near (tables_of aux) memory.entries
     may_read =
         let m = way q.backward (meaning q.operator) in
@@ -110,6 +116,7 @@ module _ {O : Type 0} (meaning : O → Meaning) (laws : (o : O) → Laws (meanin
         (subst (λ (x : Tables). SomeStored m (map s.tables q.near) x memory.entries) (sym a)
         (subst (λ (x : Pairs). SomeStored m (map s.tables q.near) (aux_of meaning s q) x) (sym k) of_state))
 
+    -- what is read from them are the far tables of the state
     pub far_is : (far : Tables) → far ≡ (way q.backward (meaning q.operator)).read_target near (tables_of aux) memory.entries → far ≡ map s.tables q.far
     far_is far is_read =
         let m = way q.backward (meaning q.operator) in
@@ -118,9 +125,11 @@ module _ {O : Type 0} (meaning : O → Meaning) (laws : (o : O) → Laws (meanin
         ∙ ap (λ (x : Pairs). m.read_target (map rows q.near) ((storage_in p).aux q.number) x) memory_at
         ∙ far_right meaning laws (headings p.graph.edges) (storage_in p) s q read rows right_near
 
+    -- one for each number
     pub far_long : (far : Tables) → far ≡ (way q.backward (meaning q.operator)).read_target near (tables_of aux) memory.entries → length far ≡ length q.far
     far_long far is_read = ap (λ (l : Tables). length l) (far_is far is_read) ∙ length-map q.far s.tables
 
+    -- so putting them makes the far tables right
     pub settles : (far : Tables) (new : ℕ → Rows) → far ≡ (way q.backward (meaning q.operator)).read_target near (tables_of aux) memory.entries → new ≡ put rows q.far far → Settles s.tables q.far rows new
     settles far new is_read made =
         let full : new ≡ put rows q.far (map s.tables q.far) = made ∙ ap (λ (l : Tables). put rows q.far l) (far_is far is_read) in
@@ -139,8 +148,10 @@ none_kept o items kept n none found same = ap (λ x. option_copied x) (sym none)
 pub same_crossing : {O : Type 0} (g h : Drawn O) → g ≡ h → (step : Step) (q r : Crossing O) → IsTold g.edges step (Some q) → IsCrossing h.edges r → told r ≡ step → q ≡ r
 same_crossing {O} g h same step q r tells crosses is = told_is h.edges step r q crosses is (subst (λ (d : Drawn O). IsTold d.edges step (Some q)) same tells)
 
+-- a value that is there
 pub some_kept : {T : Type 0} (x : T) (items kept : List (Numbered T)) (n : ℕ) → Some x ≡ value_of items n → items ≡ kept → Some x ≡ value_of kept n
 some_kept x items kept n found same = found ∙ ap (λ l. value_of l n) same
 
+-- the near tables as they are now
 pub near_kept : (stored kept made now : List (Numbered TableState)) (near : Tables) (ks : List ℕ) → near ≡ map (rows_now stored made) ks → stored ≡ kept → made ≡ now → near ≡ map (rows_now kept now) ks
 near_kept stored kept made now near ks is same equal = is ∙ ap (λ l. map (rows_now l made) ks) same ∙ ap (λ l. map (rows_now kept l) ks) equal

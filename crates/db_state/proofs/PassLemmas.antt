@@ -35,10 +35,11 @@ module _ {O : Type 0} where
 
   -- ---- the order of operators
 
-  -- what stands behind an operator is older, and all older ones stand there
+  -- what stands behind an operator is older
   behind_older : (xs : List (Link O)) (e : Link O) (fs : List (Link O)) → IsForest (xs ++ e ∷ fs) → (g : Link O) → In g fs → g.number < e.number
   behind_older xs e fs forest g i = (forest_end xs (e ∷ fs) forest).0.newest g.number (inr (number_listed fs g i))
 
+  -- all older ones stand behind it
   older_behind : (xs : List (Link O)) (e : Link O) (fs : List (Link O)) → IsForest (xs ++ e ∷ fs) → (g : Link O) → In g (xs ++ e ∷ fs) → g.number < e.number → In g fs
   older_behind [] e fs forest g (inl same) less = let n = ap (λ (y : Link O). y.number) same in absurd (omega (arith, n, less))
   older_behind [] e fs forest g (inr i) less = i
@@ -52,9 +53,11 @@ module _ {O : Type 0} (es : List (Link O)) (forest : IsForest es) (layout ns : L
   abbrev Right : (ℕ → Rows) → ℕ → Type 0
   Right rows t = rows t ≡ tables t
 
+  -- an operator of the layout keeps its targets
   near_in : (e : Link O) (t : ℕ) → In e.number layout → In t e.targets → In t (stored_way layout e).near
   near_in e t has i = subst (λ (l : List ℕ). In t l) (sym (cond-true (is_in e.number layout) e.targets e.sources (is_in_true e.number layout has))) i
 
+  -- another one keeps its sources
   near_out : (e : Link O) (t : ℕ) → (In e.number layout → ⊥) → In t e.sources → In t (stored_way layout e).near
   near_out e t off i = subst (λ (l : List ℕ). In t l) (sym (cond-false (is_in e.number layout) e.targets e.sources (not_in_false e.number layout off))) i
 
@@ -112,6 +115,7 @@ module _ {O : Type 0} (es : List (Link O)) (forest : IsForest es) (layout ns : L
             up.targets g.0 older out (over g.0 g.1 (inl (g.2, out))) t g.2
       ]
 
+  -- the next operator up was passed, where it is to be
   pub up_step : (e : Link O) (fs : List (Link O)) (rows new : ℕ → Rows) (reached : List ℕ) → IsUpTo es layout ns tables fs rows → Settles tables reached rows new → ((In e.number layout → ⊥) → In e.number ns → reached ≡ e.targets) → IsUpTo es layout ns tables (e ∷ fs) new
   up_step e fs rows new reached up settles passed = record {
     made = λ t m c. settles.kept t (up.made t m c);

@@ -36,32 +36,40 @@ module _ {O : Type 0} (es : List (Placed O)) (edges : AreEdges es) (layout ns : 
   abbrev newer : ℕ → List (Link O)
   newer i = reverse (drop i (ascending es))
 
+  -- the operators from a place on, and those below it
   split : (i : ℕ) → forest es ≡ newer i ++ below es i
   split i = sym (reverse-reverse (forest es)) ∙ sym (ap (λ (l : List (Link O)). reverse l) (take-append-drop i (ascending es))) ∙ reverse-append (take i (ascending es)) (drop i (ascending es))
 
+  -- the operator at a place stands before those below it
   next : (i : ℕ) (f : Link O) → slice_get (ascending es) i ≡ Some f → below es (i + 1) ≡ f ∷ below es i
   next i f here = below_next es i (Some f) (sym here)
 
+  -- the operators around a place
   split_at : (i : ℕ) (f : Link O) → slice_get (ascending es) i ≡ Some f → forest es ≡ newer (i + 1) ++ f ∷ below es i
   split_at i f here = split (i + 1) ∙ ap (λ (l : List (Link O)). newer (i + 1) ++ l) (next i f here)
 
+  -- it lives
   listed : (i : ℕ) (f : Link O) → slice_get (ascending es) i ≡ Some f → In f (forest es)
   listed i f here = link_listed es i f (sym here)
 
   -- ---- what a pass does with an operator
 
+  -- its far tables were read, where the pass goes over it
   abbrev Goes : Bool → ℕ → (ℕ → Rows) → (ℕ → Rows) → Type 0
   Goes back i rows new = (f : Link O) → slice_get (ascending es) i ≡ Some f → Settles tables (cond (is_passed layout ns back f.number) (crossing back f).far []) rows new
 
+  -- its near tables are right, where the pass goes over it
   abbrev MayGo : Bool → ℕ → (ℕ → Rows) → Type 0
   MayGo back i rows = (f : Link O) → slice_get (ascending es) i ≡ Some f → is_passed layout ns back f.number ≡ true → (t : ℕ) → In t (crossing back f).near → rows t ≡ tables t
 
+  -- the pass down may go over the next operator
   pub may_down : (i : ℕ) (rows : ℕ → Rows) → IsDownTo (forest es) layout ns tables (below es (i + 1)) rows → MayGo true i rows
   may_down i rows down f here passed t j =
       let tests = both_true (is_in f.number ns) (is_in f.number layout) passed in
       near_down (forest es) (is_forest es edges) layout ns covers tables (newer (i + 1)) f (below es i) (split_at i f here) rows (subst (λ (l : List (Link O)). IsDownTo (forest es) layout ns tables l rows) (next i f here) down)
       (listed i f here) (in_of_test f.number layout tests.1) (in_of_test f.number ns tests.0) t j
 
+  -- and then fewer are left
   pub goes_down : (i : ℕ) → i < length (ascending es) → (rows new : ℕ → Rows) → IsDownTo (forest es) layout ns tables (below es (i + 1)) rows → Goes true i rows new → IsDownTo (forest es) layout ns tables (below es i) new
   goes_down i within rows new down goes =
       let got = stands_at (ascending es) i within in
@@ -69,11 +77,13 @@ module _ {O : Type 0} (es : List (Placed O)) (edges : AreEdges es) (layout ns : 
       down_step (forest es) (is_forest es edges) layout ns covers tables f (below es i) rows new (cond (is_passed layout ns true f.number) f.sources []) (listed i f got.1) (subst (λ (l : List (Link O)). IsDownTo (forest es) layout ns tables l rows) (next i f got.1) down)
       (goes f got.1) (λ has mine. cond-true (is_passed layout ns true f.number) f.sources [] (and_true (is_in f.number ns) (is_in f.number layout) (is_in_true f.number ns mine) (is_in_true f.number layout has)))
 
+  -- the pass up may go over the next operator
   pub may_up : (i : ℕ) (rows : ℕ → Rows) → IsUpTo (forest es) layout ns tables (below es i) rows → MayGo false i rows
   may_up i rows up f here passed t j =
       let tests = both_true (is_in f.number ns) (not (is_in f.number layout)) passed in
       near_up (forest es) (is_forest es edges) layout ns covers tables (newer (i + 1)) f (below es i) (split_at i f here) rows up (listed i f here) (λ has. not_off (is_in f.number layout) tests.1 (is_in_true f.number layout has)) (in_of_test f.number ns tests.0) t j
 
+  -- and then more are behind
   pub goes_up : (i : ℕ) → i < length (ascending es) → (rows new : ℕ → Rows) → IsUpTo (forest es) layout ns tables (below es i) rows → Goes false i rows new → IsUpTo (forest es) layout ns tables (below es (i + 1)) new
   goes_up i within rows new up goes =
       let got = stands_at (ascending es) i within in
@@ -84,6 +94,7 @@ module _ {O : Type 0} (es : List (Placed O)) (edges : AreEdges es) (layout ns : 
 
 -- ---- what the call at a place supposes and ensures
 
+-- the stored side of an operator is that from which its pass comes
 stored_side : (b back : Bool) → cond back b (not b) ≡ true → b ≡ back
 stored_side true true h = refl
 stored_side false false h = refl
@@ -117,12 +128,14 @@ module _ {O : Type 0} (meaning : O → Meaning) (p : Parts O) (is : IsDatabase m
   passes_nothing none f here = absurd (some_there p.graph.edges i f here none)
 
   module _ (e : Placed O) (found : Some e ≡ slice_get (reverse p.graph.edges) i) where
+    -- the link at the place has the edge's number
     same_number : (f : Link O) → slice_get (ascending p.graph.edges) i ≡ Some f → e.number ≡ f.number
     same_number f here =
         let there = edge_there p.graph.edges i f (Some e) here found in
         let same : e ≡ there.0 = some_is e there.0 there.1 in
         ap (λ (x : Placed O). x.number) same ∙ there.2
 
+    -- the operator may be crossed
     pub may_cross : MayPass meaning p pass i made → test e.number ≡ true → MayCross meaning p made (record { operator = e.number; backward = pass.backward })
     may_cross may passed =
         let l = link_at p.graph.edges i e found in
@@ -139,6 +152,7 @@ module _ {O : Type 0} (meaning : O → Meaning) (p : Parts O) (is : IsDatabase m
           near = λ t j. may f l.1 mine t (subst (λ (b : Bool). In t (crossing b f).near) back j);
         }
 
+    -- the pass went over it
     pub passes_over : (new : List (Numbered TableState)) → test e.number ≡ true → Crosses meaning p made new (record { operator = e.number; backward = pass.backward }) → Passes meaning p pass i made new
     passes_over new passed crossed f here =
         let number = same_number f here in
@@ -146,6 +160,7 @@ module _ {O : Type 0} (meaning : O → Meaning) (p : Parts O) (is : IsDatabase m
         subst (λ (l : List ℕ). Settles (state_of meaning p).tables l (rows_now p.stored made) (rows_now p.stored new)) (sym (cond-true (test f.number) (crossing pass.backward f).far [] (subst (λ (n : ℕ). test n ≡ true) number passed)))
         (crossed (crossing pass.backward f) (crosses p.graph.edges is.graph.edges f at pass.backward) (ap (λ (n : ℕ). record { operator = n; backward = pass.backward }) (sym number)))
 
+    -- the pass leaves it
     pub passes_by : test e.number ≡ false → Passes meaning p pass i made made
     passes_by off f here =
         subst (λ (l : List ℕ). Settles (state_of meaning p).tables l (rows_now p.stored made) (rows_now p.stored made)) (sym (cond-false (test f.number) (crossing pass.backward f).far [] (subst (λ (n : ℕ). test n ≡ false) (same_number f here) off)))

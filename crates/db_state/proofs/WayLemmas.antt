@@ -22,9 +22,11 @@ module _ {O : Type 0} (es : List (Link O)) (forest : IsForest es) (layout : List
   from_near t e (inl up) u i = inl (up, subst (λ (l : List ℕ). In u l) (cond-false (is_in e.number layout) e.targets e.sources (not_in_false e.number layout up.1)) i)
   from_near t e (inr down) u i = inr (down, subst (λ (l : List ℕ). In u l) (cond-true (is_in e.number layout) e.targets e.sources (is_in_true e.number layout down.2)) i)
 
+  -- the table is covered by its way
   pub way_covers : (ns : List ℕ) → ((n : ℕ) → IsOnWay es layout table n → In n ns) → Covers es layout ns table
   way_covers ns all e at over = all e.number (zero, table, e, refl, at, over, refl)
 
+  -- and so are the tables that operators of the way keep
   pub way_covers_itself : (ns : List ℕ) → ((n : ℕ) → In n ns → IsOnWay es layout table n) → ((n : ℕ) → IsOnWay es layout table n → In n ns) → CoversItself es layout ns
   way_covers_itself ns on all e at mine t i f there over =
       let w = on e.number mine in
