@@ -3,3 +3,4 @@ mod TargetLemmas
 mod EdgeLemmas
 mod BuiltLemmas
 mod CreateLemmas
+mod LayoutLemmas

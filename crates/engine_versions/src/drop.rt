@@ -32,5 +32,7 @@ pub fn drop_version<L: Ledger>(
     ensures layout { database.new.layout.operators
         ≡ layout_after database.old.layout.operators database.old.graph database.new.graph }
 {
+    // That the layout follows the graph rests on it.
+    let _graph = database.graph();
     drop_db(alloc, database, name, steps)
 }

@@ -6,7 +6,7 @@ pub mod NeededLemmas
 pub mod LookupLemmas
 pub mod PassLemmas
 pub mod DownLemmas
-mod CloseLemmas
+pub mod CloseLemmas
 pub mod WayLemmas
 mod WayPassLemmas
 pub mod AfterLemmas
