@@ -10,7 +10,7 @@ use Rattle.version_graph.specs.Forest.{Link, forest}
 use Rattle.version_graph.proofs.SetLemmas.{is_in_true}
 use Rattle.op_law.specs.Meaning.{Meaning}
 use Rattle.layout_rules.specs.Ways.{ReadsOver}
-use Rattle.version_model.specs.Kept.{pairs_at, pairs_now, rows_at, rows_now}
+use Rattle.version_model.specs.Kept.{pairs_at, rows_at, rows_now}
 use Rattle.version_model.specs.declared.numbered.Numbered.{Numbered}
 use Rattle.version_model.proofs.HeadingLemmas.{in_or_not}
 use Rattle.storage_law.specs.Storage.{stored_way}
@@ -41,7 +41,7 @@ module _ {O : Type 0} (meaning : O → Meaning) (d : Parts O) (tree : Tree) (who
 
   module _ (read tables : List (Numbered TableState)) (memories : List (Numbered MemoryState))
       (is_read : (t : ℕ) → In t (table_numbers (made_tables d.graph.edges)) → Covers (forest d.graph.edges) d.layout.operators tree.operators t → rows_now d.stored read t ≡ (state_of meaning d).tables t)
-      (copied : told_rows tables ≡ beside (rows_now d.stored read) tree.tables) (held : told_pairs memories ≡ beside (pairs_now d.memories []) tree.operators) where
+      (copied : told_rows tables ≡ beside (rows_now d.stored read) tree.tables) (held : told_pairs memories ≡ beside (pairs_at d.memories) tree.operators) where
     copied_table : (t : ℕ) → rows_at tables t ≡ (cut tree (state_of meaning d)).tables t
     copied_table t =
         let s = state_of meaning d in
@@ -53,8 +53,8 @@ module _ {O : Type 0} (meaning : O → Meaning) (d : Parts O) (tree : Tree) (who
     copied_memory n =
         let s = state_of meaning d in
         in_or_not n tree.operators (pairs_at memories n ≡ (cut tree s).memory n)
-        (λ i. seen_told (λ (x : MemoryState). x.entries) (pairs_now d.memories []) memories tree.operators held n i [] ∙ sym (cond-true (is_in n tree.operators) (s.memory n) [] (is_in_true n tree.operators i)))
-        (λ none. seen_untold (λ (x : MemoryState). x.entries) (pairs_now d.memories []) memories tree.operators held n none [] ∙ sym (cond-false (is_in n tree.operators) (s.memory n) [] (not_in_false n tree.operators none)))
+        (λ i. seen_told (λ (x : MemoryState). x.entries) (pairs_at d.memories) memories tree.operators held n i [] ∙ sym (cond-true (is_in n tree.operators) (s.memory n) [] (is_in_true n tree.operators i)))
+        (λ none. seen_untold (λ (x : MemoryState). x.entries) (pairs_at d.memories) memories tree.operators held n none [] ∙ sym (cond-false (is_in n tree.operators) (s.memory n) [] (not_in_false n tree.operators none)))
 
     pub copies_tree : CopiesTree meaning d tree (record { tables = tables; memories = memories })
     copies_tree = record { tables = copied_table; memories = copied_memory }

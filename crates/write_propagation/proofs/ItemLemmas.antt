@@ -1,14 +1,17 @@
 -- Values under numbers, and newer ones over them.
 use Rattle.std.specs.Option.{option_map_or}
-use Rattle.std.proofs.Common.{◌≡◌, ℕ, ◌==◌, List, [], ◌∷◌, true, false, map, Option, Some, None, inl, inr, refl, sym, ap, ◌∙◌, subst}
-use Rattle.std.proofs.lemmas.Bool.{eq-eqb, eqb-true}
-use Rattle.std.proofs.lemmas.List.{reverse-reverse}
+use Rattle.std.proofs.Common.{◌≡◌, ℕ, ◌==◌, List, [], ◌∷◌, ◌++◌, Bool, true, false, cond, filter, map, Option, Some, None, inl, inr, refl, sym, ap, ◌∙◌, subst}
+use Rattle.std.proofs.lemmas.Bool.{cond-false, cond-true, eq-eqb, eqb-true}
+use Rattle.std.proofs.lemmas.List.{append-nil, reverse-reverse}
+use Rattle.std.proofs.lemmas.List.Elements.{filter-append}
 use mathlib.Core.List.{reverse}
 use Rattle.version_graph.specs.Sets.{In}
 use Rattle.version_graph.proofs.SetLemmas.{in_map, origin}
 use Rattle.version_graph.proofs.WalkLemmas.{in_reverse}
 use Rattle.version_model.specs.Kept.{latest_of, renewed, value_of}
 use Rattle.version_model.specs.declared.numbered.Numbered.{Numbered}
+use Rattle.version_model.proofs.AscendingLemmas.{reverse_first}
+use Rattle.version_model.proofs.LiveLemmas.{value_passes}
 use Rattle.version_model.proofs.NumberedLemmas.{looked, value_of_first}
 use Rattle.db_state.specs.Fields.{numbers_in}
 use Rattle.db_state.proofs.FieldLemmas.{none_at}
@@ -106,3 +109,26 @@ module _ {T V : Type 0} (see : T → V) where
         kept : (o : Option T) → renewed o None ≡ o
         kept None = refl
         kept (Some x) = refl
+
+-- ---- items whose numbers pass a test
+
+module _ {T : Type 0} (test : ℕ → Bool) where
+  abbrev passing : List (Numbered T) → List (Numbered T)
+  passing items = filter (λ (i : Numbered T). test i.number) items
+
+  passing_turned : (items : List (Numbered T)) → reverse (passing items) ≡ passing (reverse items)
+  passing_turned [] = refl
+  passing_turned (x ∷ xs) =
+      let M : Bool → Type 0 = λ b. reverse (cond b (x ∷ passing xs) (passing xs)) ≡ passing (reverse xs) ++ cond b (x ∷ []) [] in
+      let both : M (test x.number) = elim (test x.number) as (λ b. M b) [
+        | true ↦ reverse_first x (passing xs) ∙ ap (λ (l : List (Numbered T)). l ++ x ∷ []) (passing_turned xs)
+        | false ↦ passing_turned xs ∙ sym (append-nil (passing (reverse xs)))
+      ] in
+      both ∙ sym (filter-append (λ (i : Numbered T). test i.number) (reverse xs) (x ∷ [])) ∙ sym (ap passing (reverse_first x xs))
+
+  -- the last value of a number that passes stays, and another number has none
+  pub latest_passes : (items : List (Numbered T)) (n : ℕ) → test n ≡ true → latest_of (filter (λ (i : Numbered T). test i.number) items) n ≡ latest_of items n
+  latest_passes items n is = ap (λ (l : List (Numbered T)). value_of l n) (passing_turned items) ∙ value_passes test (reverse items) n ∙ cond-true (test n) (value_of (reverse items) n) None is
+
+  pub latest_stops : (items : List (Numbered T)) (n : ℕ) → test n ≡ false → latest_of (filter (λ (i : Numbered T). test i.number) items) n ≡ None
+  latest_stops items n is = ap (λ (l : List (Numbered T)). value_of l n) (passing_turned items) ∙ value_passes test (reverse items) n ∙ cond-false (test n) (value_of (reverse items) n) None is

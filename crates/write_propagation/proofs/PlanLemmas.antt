@@ -1,6 +1,6 @@
 -- What a write made for a tree is the plan of the whole write.
 use Rattle.std.specs.Prelude.{filter, is_some}
-use Rattle.std.proofs.Common.{◌≡◌, ℕ, ◌<◌, ◌≤◌, List, [], Bool, true, false, Ok, Err, Option, inl, inr, refl, sym, ap, ◌∙◌, subst}
+use Rattle.std.proofs.Common.{◌≡◌, ℕ, ◌<◌, ◌≤◌, List, [], Bool, true, false, Ok, Err, Option, Some, None, inl, inr, refl, sym, ap, ◌∙◌, subst}
 use Rattle.std.proofs.Math.Path.{fun_ext}
 use mathlib.Core.List.{reverse}
 use Rattle.par_base.specs.declared.fault.Fault.{Fault}
@@ -14,7 +14,7 @@ use Rattle.version_graph.specs.Sets.{In, Each}
 use Rattle.version_graph.specs.Edges.{Drawn, Rises, is_in, numbers}
 use Rattle.version_graph.specs.Forest.{Link, crossing, forest}
 use Rattle.version_graph.specs.declared.parts.Placed.{Placed}
-use Rattle.version_graph.proofs.SetLemmas.{each_at, each_of}
+use Rattle.version_graph.proofs.SetLemmas.{each_at, each_of, is_in_true}
 use Rattle.version_graph.proofs.TableLemmas.{in_filter}
 use Rattle.version_graph.proofs.WalkLemmas.{in_reverse}
 use Rattle.op_law.specs.Tables.{Tables}
@@ -26,7 +26,7 @@ use Rattle.layout_rules.specs.Layouts.{IsStored}
 use Rattle.layout_rules.specs.declared.layout.Layout.{Layout}
 use Rattle.layout_rules.proofs.ChangeLemmas.{filter_in, link_number}
 use Rattle.version_model.specs.Calls.{MayWriteRows, WritesRows, before_state, made_state}
-use Rattle.version_model.specs.Kept.{HasSides, latest_of, pairs_at, pairs_now, renewed, rows_at, rows_now, value_of}
+use Rattle.version_model.specs.Kept.{HasSides, latest_of, newer_pairs, pairs_at, renewed, rows_at, rows_now, value_of}
 use Rattle.version_model.specs.Sound.{IsSound}
 use Rattle.version_model.specs.States.{State, headings}
 use Rattle.version_model.specs.Steps.{IsRelated, pair_in, way}
@@ -40,6 +40,7 @@ use Rattle.version_model.proofs.HeadingLemmas.{in_or_not}
 use Rattle.version_model.proofs.ProgressLemmas.{state_is}
 use Rattle.version_model.proofs.WriteLemmas.{write_is_ordinary}
 use Rattle.storage_law.specs.Storage.{StandsOver, aux_of, stored_way}
+use Rattle.storage_law.proofs.LinkLemmas.{not_in_false}
 use Rattle.db_state.specs.Calls.{IsRelatedAt}
 use Rattle.db_state.specs.Fields.{IsDatabase, auxes_at, database_of, numbers_in, state_of, storage_in}
 use Rattle.db_state.specs.declared.parts.Parts.{Parts}
@@ -51,7 +52,7 @@ use Rattle.write_propagation.specs.declared.change.Plan.{Plan}
 use Rattle.write_propagation.specs.declared.copies.Copies.{Copies}
 use Rattle.write_propagation.specs.declared.tree.Tree.{Tree}
 use Rattle.write_propagation.proofs.CutLemmas.{Agrees, cut_agrees, cut_sound, outside_memory, outside_table, same_pair, write_agrees}
-use Rattle.write_propagation.proofs.ItemLemmas.{in_turned, item_at, latest_at, latest_none, latest_told, latest_untold, reads_newer, reads_older}
+use Rattle.write_propagation.proofs.ItemLemmas.{in_turned, item_at, latest_at, latest_none, latest_passes, latest_stops, latest_told, latest_untold, reads_newer, reads_older}
 use Rattle.write_propagation.proofs.WholeLemmas.{has_held, lives, walk_inside, whole}
 
 -- what is lent for a write is the state cut down to the tree
@@ -193,17 +194,30 @@ module _ {O : Type 0} (meaning : O → Meaning) (laws : (o : O) → Laws (meanin
           let last = latest_none plan.auxes e.number (λ j. other (subst (λ (l : List ℕ). In e.number l) for.auxes.numbers j)) in
           reads_older tables_of [] d.aux aux plan.auxes e.number (aux_is e.number) last ∙ (stood e i).aux ∙ ap (seen_over e) (pair_of_others e side i other))
 
+      abbrev entries : MemoryState → Pairs
+      entries x = x.entries
+
+      -- a memory that was made, or is as it was
+      memory_of_tree : (e : Link O) → In e (forest es) → In e.number tree.operators → (o : Option MemoryState) → latest_of made.memories e.number ≡ o → latest_of plan.memories e.number ≡ o → pairs_at memories e.number ≡ end.memory e.number
+      memory_of_tree e i own o is last =
+          let n = e.number in
+          let here = listed e i (numbers_in d.memories) good.memories in
+          let there : newer_pairs o (pairs_at b.memories.now n) ≡ end.memory n = sym (ap (λ (x : Option MemoryState). newer_pairs x (pairs_at b.memories.now n)) is) ∙ ap (λ (x : State). x.memory n) made_is ∙ sym (agree.memory n own) in
+          let before : pairs_at d.memories n ≡ pairs_at b.memories.now n = (cut_agrees tree s).memory n own ∙ sym (ap (λ (x : State). x.memory n) copied) in
+          (elim o as (λ o. latest_of plan.memories n ≡ o → newer_pairs o (pairs_at b.memories.now n) ≡ end.memory n → pairs_at memories n ≡ end.memory n) [
+            | Some y ↦ λ last there. reads_newer entries [] d.memories memories plan.memories n (memory_is n) here y last ∙ there
+            | None ↦ λ last there. reads_older entries [] d.memories memories plan.memories n (memory_is n) last ∙ before ∙ there
+          ]) last there
+
       stored_memory : (e : Link O) → In e (forest es) → pairs_at memories e.number ≡ end.memory e.number
       stored_memory e i =
-          let here = listed e i (numbers_in d.memories) good.memories in
-          let see : MemoryState → Pairs = λ x. x.entries in
-          in_or_not e.number tree.operators (pairs_at memories e.number ≡ end.memory e.number)
-          (λ own.
-          let last = latest_told see (pairs_now b.memories.now made.memories) plan.memories tree.operators for.memories e.number own in
-          reads_newer see [] d.memories memories plan.memories e.number (memory_is e.number) here last.0 last.1 ∙ last.2 ∙ ap (λ (x : State). x.memory e.number) made_is ∙ sym (agree.memory e.number own))
+          let n = e.number in
+          let test : ℕ → Bool = λ k. is_in k tree.operators in
+          in_or_not n tree.operators (pairs_at memories n ≡ end.memory n)
+          (λ own. memory_of_tree e i own (latest_of made.memories n) refl (ap (λ (l : List (Numbered MemoryState)). latest_of l n) for.memories ∙ latest_passes test made.memories n (is_in_true n tree.operators own)))
           (λ other.
-          let last = latest_untold see (pairs_now b.memories.now made.memories) plan.memories tree.operators for.memories e.number other in
-          reads_older see [] d.memories memories plan.memories e.number (memory_is e.number) last ∙ sym (same_memory e.number other))
+          let last = ap (λ (l : List (Numbered MemoryState)). latest_of l n) for.memories ∙ latest_stops test made.memories n (not_in_false n tree.operators other) in
+          reads_older entries [] d.memories memories plan.memories n (memory_is n) last ∙ sym (same_memory n other))
 
       live_number : (n : ℕ) (ns ms : List ℕ) → ns ≡ ms → ms ≡ reverse (numbers es) → In n ns → In n (numbers es)
       live_number n ns ms same up i = in_turned n (numbers es) (subst (λ (l : List ℕ). In n l) (same ∙ up) i)

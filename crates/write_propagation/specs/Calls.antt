@@ -4,9 +4,10 @@ use Rattle.row_store.specs.Rows.{Rows}
 use Rattle.row_store.specs.States.{TableState}
 use Rattle.id_memory.specs.Pairs.{Pairs}
 use Rattle.id_memory.specs.States.{MemoryState}
+use Rattle.version_graph.specs.Edges.{is_in}
 use Rattle.op_law.specs.Meaning.{Meaning}
 use Rattle.version_model.specs.Calls.{made_state}
-use Rattle.version_model.specs.Kept.{pairs_at, pairs_now, rows_at, rows_now, value_of}
+use Rattle.version_model.specs.Kept.{pairs_at, rows_at, rows_now, value_of}
 use Rattle.version_model.specs.declared.numbered.Numbered.{Numbered}
 use Rattle.version_model.specs.declared.progress.Before.{Before}
 use Rattle.version_model.specs.declared.progress.Made.{Made}
@@ -39,5 +40,5 @@ pub record CopiesTree {O : Type 0} (meaning : O → Meaning) (d : Parts O) (tree
 pub record IsMadeFor {O : Type 0} (meaning : O → Meaning) (d : Parts O) (tree : Tree) (before : Before) (made : Made) (plan : Plan) : Type 0 where
   pub stored : told_rows plan.stored ≡ beside (rows_now before.tables.now made.tables) (filter (λ t. is_some (value_of d.stored t)) tree.tables)
   pub auxes : AreAuxesOf meaning d.graph.edges d.layout.operators (made_state before made) tree.operators plan.auxes
-  pub memories : told_pairs plan.memories ≡ beside (pairs_now before.memories.now made.memories) tree.operators
+  pub memories : plan.memories ≡ filter (λ i. is_in i.number tree.operators) made.memories
   pub ids : plan.ids ≡ made.ids

@@ -1,7 +1,7 @@
 //! Copies of the tables and memories of a tree.
 ghost use Rattle.std.specs.Prelude.{◌≡◌, filter, is_some, IfOk};
-ghost use Rattle.version_graph.specs.Forest.{forest};
-ghost use Rattle.version_model.specs.Kept.{rows_now, pairs_now, value_of as value_of_lem};
+ghost use Rattle.version_graph.specs.Edges.{is_in};
+ghost use Rattle.version_model.specs.Kept.{rows_now, pairs_at, value_of as value_of_lem};
 ghost use Rattle.db_state.specs.Fields.{IsDatabase};
 ghost use Rattle.write_propagation.specs.Trees.{IsWhole};
 ghost use Rattle.write_propagation.specs.Calls.{beside, told_pairs, told_rows, CopiesTree};
@@ -14,8 +14,9 @@ use op_law::Operator;
 use par_base::{List, Memory};
 use row_store::Table;
 use std::alloc::Global;
+use std::iter::Iterator;
 use std::sync::ledger::Ledger;
-use version_model::{Numbered, copy_now, memory_now, value_of};
+use version_model::{Numbered, copy_now, memory_at, value_of};
 
 /// The tables and memories of a tree, as they are read.
 #[derive(Drop)]
@@ -44,24 +45,41 @@ pub fn copy_tables(
     Ok(copies)
 }
 
-/// Copies of the memories of these numbers, likewise.
+/// Copies of the memories of these numbers.
 pub fn copy_memories(
     alloc: Global,
     kept: &[Numbered<PairMemory>],
-    made: &[Numbered<PairMemory>],
     numbers: &[u32],
 ) -> Result<List<Numbered<PairMemory>>, Memory>
-    ensures { IfOk result (λ copies. told_pairs copies ≡ beside (pairs_now kept.now made.now) numbers.now) }
+    ensures { IfOk result (λ copies. told_pairs copies ≡ beside (pairs_at kept.now) numbers.now) }
 {
     let mut copies = List::new(alloc);
     for number in numbers {
-        let value = memory_now(alloc, kept, made, *number)?;
+        let value = memory_at(alloc, kept, *number)?;
         copies.push(Numbered {
             number: *number,
             value,
         })?;
     }
     Ok(copies)
+}
+
+fn is_among(numbers: &[u32], number: u32) -> bool
+    ensures { result ≡ is_in number numbers.now }
+{
+    numbers.iter().any(|other| number == *other)
+}
+
+/// Those of the memories that stand under these numbers. It takes no memory.
+pub fn memories_of(
+    memories: List<Numbered<PairMemory>>,
+    numbers: &[u32],
+) -> List<Numbered<PairMemory>>
+    ensures { result ≡ filter (λ item. is_in item.number numbers.now) memories }
+{
+    let mut kept = memories.into_vec();
+    kept.retain(|item| is_among(numbers, item.number));
+    List::from_vec(kept)
 }
 
 fn is_kept(kept: &[Numbered<Table>], number: u32) -> bool
@@ -99,6 +117,6 @@ pub fn copy_tree<O: Operator, L: Ledger>(
 {
     let read = read_over(alloc, db, tree.operators.as_slice(), steps)?;
     let tables = copy_tables(alloc, db.stored(), read.as_slice(), tree.tables.as_slice())?;
-    let memories = copy_memories(alloc, db.memories(), &[], tree.operators.as_slice())?;
+    let memories = copy_memories(alloc, db.memories(), tree.operators.as_slice())?;
     Ok(Copies { tables, memories })
 }

@@ -11,7 +11,7 @@ ghost use Rattle.write_propagation.specs.Plans.{Plans};
 ghost use Rattle.write_propagation.specs.Calls.{IsMadeFor};
 
 use crate::change::Plan;
-use crate::copies::{copy_memories, copy_tables, copy_tree, kept_of};
+use crate::copies::{copy_tables, copy_tree, kept_of, memories_of};
 use crate::tree::{Tree, tree_of};
 use db_state::{Db, auxes_in};
 use expr_lang::Steps;
@@ -49,11 +49,10 @@ fn plan_of<O: Operator, L: Ledger>(
         made.tables.as_slice(),
         numbers.as_slice(),
     )?;
-    let memories = copy_memories(alloc, before.memories, made.memories.as_slice(), operators)?;
     Ok(Plan {
         stored,
         auxes,
-        memories,
+        memories: memories_of(made.memories, operators),
         ids: made.ids,
     })
 }

@@ -2,7 +2,7 @@ use Rattle.std.proofs.Common.{ℕ, List, [], sym, ap, ◌∙◌, subst}
 use Rattle.row_store.specs.States.{TableState}
 use Rattle.id_memory.specs.States.{MemoryState}
 use Rattle.version_graph.specs.Forest.{forest}
-use Rattle.version_model.specs.Kept.{pairs_now, rows_now}
+use Rattle.version_model.specs.Kept.{pairs_at, rows_now}
 use Rattle.version_model.specs.declared.numbered.Numbered.{Numbered}
 use Rattle.db_state.specs.Covered.{Covers, CoversItself}
 use Rattle.write_propagation.specs.Calls.{beside}
@@ -22,6 +22,6 @@ returns g c =
     let copied =
     c.in_ok-tables.ensures ∙ ap (λ (l : List (Numbered TableState)). beside (rows_now l c.as_slice-2.result.now) c.as_slice-3.result.now) c.stored.ensures
     ∙ ap (λ (l : List (Numbered TableState)). beside (rows_now d.stored l) c.as_slice-3.result.now) c.as_slice-2.ensures ∙ ap (λ (l : List ℕ). beside (rows_now d.stored read) l) c.as_slice-3.ensures in
-    let held = c.in_ok-memories.ensures ∙ ap (λ (l : List (Numbered MemoryState)). beside (pairs_now l []) c.as_slice-4.result.now) c.memories.ensures ∙ ap (λ (l : List ℕ). beside (pairs_now d.memories []) l) c.as_slice-4.ensures in
+    let held = c.in_ok-memories.ensures ∙ ap (λ (l : List (Numbered MemoryState)). beside (pairs_at l) c.as_slice-4.result.now) c.memories.ensures ∙ ap (λ (l : List ℕ). beside (pairs_at d.memories) l) c.as_slice-4.ensures in
     copies_tree g.O.Operator.meaning d tree c.requires read c.in_ok-tables.tables c.in_ok-memories.memories
     (λ t live over. c.in_ok-read.ensures t live (subst (λ (ns : List ℕ). Covers (forest d.graph.edges) d.layout.operators ns t) (sym c.as_slice.ensures) over)) copied held
