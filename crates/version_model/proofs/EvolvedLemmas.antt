@@ -86,7 +86,7 @@ module _ {O : Type 0} where
       )
 
   -- what may be made has few tables on either side
-  few_made : (meaning : O → Meaning) (s : State) (fs : List (Link O)) → MayMake meaning s fs → Each HasSides fs
+  pub few_made : (meaning : O → Meaning) (s : State) (fs : List (Link O)) → MayMake meaning s fs → Each HasSides fs
   few_made meaning s [] may = tt
   few_made meaning s (f ∷ fs) may = (may.0, few_made meaning (with_link meaning s f) fs may.3)
 
@@ -106,7 +106,7 @@ module _ {O : Type 0} (P : ℕ → Type 0) where
   numbers_more es parent operator table (e ∷ edges) old new =
       numbers_more (placed_next parent operator table e ∷ es) (operator + 1) (operator + 1) (table + length e.targets) edges (new.0, old) new.1
 
-sides_more : {O : Type 0} (es : List (Placed O)) (parent operator table : ℕ) (edges : List (Edge O)) → Each HasSides (forest es) → Each HasSides (grown_links es parent operator table edges) → Each HasSides (forest (grown es parent operator table edges))
+pub sides_more : {O : Type 0} (es : List (Placed O)) (parent operator table : ℕ) (edges : List (Edge O)) → Each HasSides (forest es) → Each HasSides (grown_links es parent operator table edges) → Each HasSides (forest (grown es parent operator table edges))
 sides_more es parent operator table [] old new = old
 sides_more es parent operator table (e ∷ edges) old new =
     sides_more (placed_next parent operator table e ∷ es) (operator + 1) (operator + 1) (table + length e.targets) edges (new.0, old) new.1
@@ -123,7 +123,7 @@ start_found : (name : List ℕ) (o : Option ℕ) (more : Option Refusal) → ref
 start_found name None more h = absurd (cc)
 start_found name (Some w) more h = refl
 
-start_known : (versions : List (List ℕ × ℕ)) (from : Option (List ℕ)) (more : Option Refusal) → refused_start from (start_of versions from) more ≡ None → start_of versions from ≡ Some (unwrap_or (start_of versions from) 0)
+pub start_known : (versions : List (List ℕ × ℕ)) (from : Option (List ℕ)) (more : Option Refusal) → refused_start from (start_of versions from) more ≡ None → start_of versions from ≡ Some (unwrap_or (start_of versions from) 0)
 start_known versions None more h = refl
 start_known versions (Some name) more h = start_found name (start_of versions (Some name)) more h
 

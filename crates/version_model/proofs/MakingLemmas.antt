@@ -220,7 +220,7 @@ module _ {O : Type 0} (meaning : O → Meaning) where
 -- ---- what is kept of it
 
 -- the first of two values that is there
-value_over : {T : Type 0} (xs ys : List (Numbered T)) (n : ℕ) → value_of (xs ++ ys) n ≡ either (value_of xs n) (value_of ys n)
+pub value_over : {T : Type 0} (xs ys : List (Numbered T)) (n : ℕ) → value_of (xs ++ ys) n ≡ either (value_of xs n) (value_of ys n)
 value_over [] ys n = refl
 value_over {T} (x ∷ xs) ys n =
     let M : Bool → Type 0 = λ b. looked b x (either (value_of xs n) (value_of ys n)) ≡ either (looked b x (value_of xs n)) (value_of ys n) in

@@ -1,0 +1,9 @@
+mod LaidLemmas
+mod AgreeLemmas
+mod FreshLemmas
+mod NewLemmas
+mod StoredLemmas
+mod SourceLemmas
+mod FilledLemmas
+mod EvolutionLemmas
+mod CallLemmas

@@ -1,0 +1,6 @@
+use Rattle.std.proofs.Common.{◌≡◌, take}
+use Rattle.db_state.specs.Fields.{numbers_in}
+use Rattle.db_evolution.proofs.fresh.auxes_for.Given as goal
+
+abbrev pub invariant-loop-number : goal.invariant-loop-number
+invariant-loop-number l = numbers_in l.made ≡ take l.number-index l.numbers

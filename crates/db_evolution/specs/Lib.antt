@@ -1,0 +1,3 @@
+pub mod Sources
+pub mod News
+pub mod Calls
