@@ -22,6 +22,7 @@ use Rattle.version_graph.specs.declared.parts.Edge.{Edge}
 use Rattle.version_graph.specs.declared.parts.Placed.{Placed}
 use Rattle.version_graph.proofs.SetLemmas.{each_at, each_of, in_append, in_left, in_right}
 use Rattle.version_graph.proofs.TableLemmas.{rises_apart}
+use Rattle.version_graph.proofs.WalkLemmas.{in_reverse}
 use Rattle.op_law.specs.Tables.{Tables}
 use Rattle.op_law.specs.Meaning.{Meaning, PairState}
 use Rattle.op_law.specs.Premises.{IsPair}
@@ -53,7 +54,7 @@ use Rattle.db_evolution.specs.News.{created_in, creates_in, newer_edges}
 use Rattle.db_evolution.specs.Sources.{AreSources}
 use Rattle.db_evolution.specs.declared.contents.Contents.{Contents}
 use Rattle.db_evolution.proofs.AgreeLemmas.{Agree, TakesAmong, links_agree, may_agree, pair_same}
-use Rattle.db_evolution.proofs.LaidLemmas.{in_reverse, of_reverse, over_newer, over_older}
+use Rattle.db_evolution.proofs.LaidLemmas.{of_reverse, over_newer, over_older}
 use Rattle.db_evolution.proofs.NewLemmas.{IsNew, created_rise, creates_are, creates_rise, grown_edges, grown_new, grown_split, created_by, new_number, newer_are, number_new, numbers_on, numbers_once, rises_on}
 use Rattle.db_evolution.proofs.SourceLemmas.{all_right, new_right}
 use Rattle.db_evolution.proofs.StoredLemmas.{new_at, old_in, older_within, stored_created, stored_split, stored_still}

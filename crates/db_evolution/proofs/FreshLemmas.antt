@@ -1,7 +1,7 @@
 -- New operators, place by place.
 use Rattle.std.specs.Prelude.{option_to_list, slice_get}
 use Rattle.std.proofs.Common.{◌≡◌, ℕ, zero, suc, ◌+◌, ◌≤◌, true, false, cond, List, [], ◌∷◌, ◌++◌, Option, drop, length, refl, sym, ap, ◌∙◌, arith}
-use Rattle.std.proofs.lemmas.List.{append-nil, append_assoc}
+use Rattle.std.proofs.lemmas.List.{append-nil, append_assoc, drop_all}
 use Rattle.version_graph.specs.Edges.{numbers}
 use Rattle.version_graph.specs.declared.parts.Placed.{Placed}
 use Rattle.layout_rules.specs.Changes.{is_empty}
@@ -18,12 +18,6 @@ drop_next : {X : Type 0} (xs : List X) (i : ℕ) (found : Option X) → found �
 drop_next {X} xs i found is =
     let next : suc i ≡ i + 1 = omega arith in
     drop_suc xs i ∙ ap (λ (o : Option X). option_to_list o ++ drop (suc i) xs) (sym is) ∙ ap (λ (n : ℕ). option_to_list found ++ drop n xs) next
-
-drop_past : {X : Type 0} (xs : List X) (i : ℕ) → length xs ≤ i → drop i xs ≡ []
-drop_past [] zero h = refl
-drop_past [] (suc i) h = refl
-drop_past (x ∷ xs) zero h = absurd (omega arith)
-drop_past (x ∷ xs) (suc i) h = drop_past xs i (omega arith)
 
 -- what is found among edges, one edge after the other
 module _ {O : Type 0} where
@@ -67,7 +61,7 @@ module _ {O : Type 0} where
   }
 
   at_end : (of : List (Placed O) → List ℕ) → of [] ≡ [] → (xs : List (Placed O)) (first place : ℕ) (old : List ℕ) → length xs ≤ place → old ++ of (drop place xs) ≡ of (drop first xs) → old ≡ of (drop first xs)
-  at_end of none xs first place old past begun = sym (append-nil old) ∙ ap (λ (l : List ℕ). old ++ l) (sym (ap of (drop_past xs place past) ∙ none)) ∙ begun
+  at_end of none xs first place old past begun = sym (append-nil old) ∙ ap (λ (l : List ℕ). old ++ l) (sym (ap of (drop_all place xs past) ∙ none)) ∙ begun
 
   -- all edges were added
   pub all_begun : (xs : List (Placed O)) (first place : ℕ) (fresh : Fresh) → length xs ≤ place → IsBegun xs first place fresh → AddsEdges (drop first xs) (record { operators = []; creates = []; tables = [] }) fresh

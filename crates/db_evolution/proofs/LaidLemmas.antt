@@ -1,10 +1,11 @@
 -- Numbered values, laid over others.
 use Rattle.std.specs.Option.{IsSome}
-use Rattle.std.proofs.Common.{◌≡◌, ℕ, ◌==◌, List, [], ◌∷◌, ◌++◌, Bool, true, false, Option, Some, None, inl, inr, refl, sym, ap, ◌∙◌, subst}
+use Rattle.std.proofs.Common.{◌≡◌, ℕ, ◌==◌, List, [], ◌∷◌, Bool, true, false, Option, Some, None, inl, inr, refl, sym, ap, ◌∙◌, subst}
 use Rattle.std.proofs.lemmas.Bool.{eq-eqb, eqb-true, false≢true}
 use mathlib.Core.List.{reverse}
 use Rattle.version_graph.specs.Sets.{In, Distinct}
-use Rattle.version_graph.proofs.SetLemmas.{in_append, in_left, in_map, in_right, origin}
+use Rattle.version_graph.proofs.SetLemmas.{in_append, in_map, origin}
+use Rattle.version_graph.proofs.WalkLemmas.{in_reverse}
 use Rattle.version_model.specs.Kept.{latest_of, renewed, value_of}
 use Rattle.version_model.specs.Making.{Has}
 use Rattle.version_model.specs.declared.numbered.Numbered.{Numbered}
@@ -15,15 +16,8 @@ use Rattle.db_state.specs.Fields.{numbers_in}
 use Rattle.db_state.proofs.FieldLemmas.{none_at}
 use Rattle.db_evolution.specs.News.{IsLaidOver}
 
--- ---- lists turned round
-
+-- an item of a list that is turned round is one of it
 module _ {X : Type 0} where
-  pub in_reverse : (x : X) (xs : List X) → In x xs → In x (reverse xs)
-  in_reverse x [] i = i
-  in_reverse x (y ∷ xs) i =
-      subst (λ (l : List X). In x l) (sym (reverse_first y xs))
-      (elim i as (λ _. In x (reverse xs ++ y ∷ [])) [ inl same ↦ in_right x (reverse xs) (y ∷ []) (inl same) | inr j ↦ in_left x (reverse xs) (y ∷ []) (in_reverse x xs j) ])
-
   pub of_reverse : (x : X) (xs : List X) → In x (reverse xs) → In x xs
   of_reverse x [] i = i
   of_reverse x (y ∷ xs) i =

@@ -1,6 +1,5 @@
 -- The sources of new operators are tables that were read, or new ones.
-use Rattle.std.specs.List.{list_any}
-use Rattle.std.specs.Prelude.{◌⊎◌, ◌||◌, option_to_list, unwrap_or, option_map}
+use Rattle.std.specs.Prelude.{◌⊎◌, option_to_list, unwrap_or, option_map}
 use Rattle.std.specs.Option.{option_map_or}
 use Rattle.std.specs.Str.{bytes_eq}
 use Rattle.std.proofs.Common.{◌≡◌, ℕ, ◌+◌, ◌==◌, Bool, true, false, not, filter, List, [], ◌∷◌, ◌++◌, Option, Some, None, length, inl, inr, refl, sym, ap, ◌∙◌, subst, arith}
@@ -21,6 +20,7 @@ use Rattle.version_graph.proofs.SetLemmas.{each_more, each_of, in_append, in_map
 use Rattle.version_graph.proofs.TableLemmas.{in_filter, numbers_made, working_made}
 use Rattle.version_graph.proofs.TakenLemmas.{found_passes, heading_known}
 use Rattle.layout_rules.proofs.ChangeLemmas.{filter_in}
+use Rattle.layout_rules.proofs.LookupLemmas.{any_true}
 use Rattle.version_model.specs.States.{State}
 use Rattle.version_model.specs.Kept.{rows_at}
 use Rattle.version_model.specs.declared.numbered.Numbered.{Numbered}
@@ -32,12 +32,6 @@ use Rattle.db_state.proofs.FieldLemmas.{none_at}
 use Rattle.db_evolution.specs.Sources.{AreRead, AreSources, first_tables, is_named, is_source}
 use Rattle.db_evolution.proofs.AgreeLemmas.{TakesAmong}
 use Rattle.db_evolution.proofs.LaidLemmas.{stands_at}
-
--- an item that passes is found
-any_true : {X : Type 0} (test : X → Bool) (xs : List X) (x : X) → In x xs → test x ≡ true → list_any test xs ≡ true
-any_true test [] x i h = absurd i
-any_true test (y ∷ xs) x (inl same) h = ap (λ (b : Bool). b || list_any test xs) (ap test (sym same) ∙ h)
-any_true test (y ∷ xs) x (inr i) h = elim (test y) as (λ b. (b || list_any test xs) ≡ true) [ true ↦ refl | false ↦ any_true test xs x i h ]
 
 -- ---- tables that were read
 
