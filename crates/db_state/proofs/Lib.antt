@@ -1,4 +1,4 @@
-mod FieldLemmas
+pub mod FieldLemmas
 mod EmptyLemmas
 mod AuxLemmas
 mod PassLemmas

@@ -4,8 +4,8 @@ pub mod ChangeLemmas
 mod TreeLemmas
 pub mod NeededLemmas
 pub mod LookupLemmas
-mod PassLemmas
+pub mod PassLemmas
 pub mod DownLemmas
-mod CloseLemmas
+pub mod CloseLemmas
 pub mod WayLemmas
 mod WayPassLemmas

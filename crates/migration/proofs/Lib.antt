@@ -1,0 +1,10 @@
+mod SideLemmas
+mod CoverLemmas
+mod ValueLemmas
+mod PlaceLemmas
+mod LeadLemmas
+mod PrepareLemmas
+mod AdoptLemmas
+mod LeaveLemmas
+mod CutLemmas
+mod CloseLemmas

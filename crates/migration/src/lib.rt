@@ -1,2 +1,23 @@
-//! To be written.
+//! Moving a database's data to another layout, and dropping versions.
+//!
+//! To the crates above it promises that a flip, a move and a drop change a database in two steps:
+//! what takes memory or may be refused is done first and leaves the database as it is, and what is
+//! done then can't fail. After a flip or a move the database has the new layout and stands for the
+//! same state (`specs/Moved.antt`); after a drop it is the model's database without the version
+//! (`specs/Answers.antt`). Only the operators that change sides have their data moved, and
+//! `adopt_move` tells how many they are. The crate knows operators by their laws alone, and nothing
+//! of names in statements, of sessions or of replies.
 #![tactic(auto)]
+
+mod dropping;
+mod flip;
+mod moved;
+mod moves;
+mod named_move;
+mod sides;
+mod storing;
+
+pub use dropping::drop_db;
+pub use flip::{adopt_flip, flipped, prepare_flip};
+pub use moved::Moved;
+pub use named_move::{adopt_move, prepare_move};

@@ -86,13 +86,13 @@ module _ {O : Type 0} (meaning : O → Meaning) (es : List (Placed O)) (needed :
         | inr out ↦ absurd (subst (λ (l : List ℕ). In t l) (go j.0 j.1 j.2 out) j.3)
       ]
 
-  stored_before : (t : ℕ) → IsStored (forest left) now.layout t → IsStored (forest es) storage.layout t
+  pub stored_before : (t : ℕ) → IsStored (forest left) now.layout t → IsStored (forest es) storage.layout t
   stored_before t k = record {
     made = (k.made.0, fewer_links es needed k.made.0 k.made.1, was k.made.0.number k.made.2, k.made.3);
     free = λ j. k.free (taker_stays t j);
   }
 
-  stored_now : (t : ℕ) → In t (table_numbers (made left)) → IsStored (forest es) storage.layout t → IsStored (forest left) now.layout t
+  pub stored_now : (t : ℕ) → In t (table_numbers (made left)) → IsStored (forest es) storage.layout t → IsStored (forest left) now.layout t
   stored_now t i k =
       let g = target_link (forest left) t (subst (λ (l : List ℕ). In t l) (sym (targets_linked left left_edges)) i) in
       let same = same_maker (forest es) g.0 k.made.0 t (is_forest es edges) (fewer_links es needed g.0 g.1) k.made.1 g.2 k.made.3 in

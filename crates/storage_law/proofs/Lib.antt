@@ -3,4 +3,4 @@ pub mod ReadLemmas
 pub mod CanonicalLemmas
 mod FlipLemmas
 mod GrowLemmas
-mod DropLemmas
+pub mod DropLemmas

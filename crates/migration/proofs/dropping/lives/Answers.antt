@@ -1,0 +1,7 @@
+use Rattle.std.specs.Prelude.{is_some}
+use Rattle.std.proofs.Common.{ap, ◌∙◌}
+use Rattle.version_model.proofs.LiveLemmas.{lent_is_some, live_operator}
+use Rattle.migration.proofs.dropping.lives.Goals as goal
+
+pub returns : goal.returns
+returns g c = c.is_some.ensures ∙ lent_is_some c.edge.result ∙ ap is_some c.edge.ensures ∙ live_operator c.args.graph.now.edges c.args.number
