@@ -1,3 +1,3 @@
-mod TextLemmas
+pub mod TextLemmas
 mod PlanLemmas
 mod WriteLemmas
