@@ -1,3 +1,4 @@
 mod TextLemmas
 mod PlanLemmas
 mod WriteLemmas
+mod LaidLemmas
