@@ -1,3 +1,4 @@
 pub mod TextLemmas
 mod PlanLemmas
 mod WriteLemmas
+mod LaidLemmas

@@ -2,7 +2,9 @@
 use Rattle.std.proofs.Common.{◌≡◌, ℕ, ◌<◌, Bool, true, false, Ok, Err, refl, sym, ap, subst, ◌∙◌, arith}
 use Rattle.std.specs.Prelude.{if◌then◌else◌}
 use Rattle.std.proofs.lemmas.Bool.{le-ltb, lt-ltb}
-use Rattle.par_base.specs.declared.fault.Fault.TheVariants.{Refused}
+use Rattle.par_base.specs.declared.fault.Fault.{Fault}
+use Rattle.par_base.specs.declared.fault.Fault.TheVariants.{Memory, Refused}
+use Rattle.row_store.specs.Rows.{Rows}
 use Rattle.par_base.specs.declared.refusal.IdsSpent.{IdsSpent as Spent}
 use Rattle.par_base.specs.declared.refusal.Refusal.TheVariants.{IdsSpent}
 use Rattle.version_graph.specs.Edges.{AreEdges, Drawn}
@@ -24,6 +26,8 @@ use Rattle.engine_statements.specs.Calls.{planned_view, IsTaken}
 use Rattle.engine_statements.specs.declared.write_plan.WritePlan.{WritePlan}
 use Rattle.engine_core.specs.Act.{IsOrdinary}
 use Rattle.engine_core.specs.Kept.{Follows}
+use Rattle.write_propagation.specs.Plans.{Fits, Plans, Puts}
+use Rattle.write_propagation.specs.declared.change.Plan.{Plan}
 
 module _ (k : Parts AnyView) (w : WritePlan) (edges : AreEdges k.graph.edges) (sound : IsSound any_meaning k.graph.edges (state_of any_meaning k)) (taken : IsTaken k w) where
   abbrev d : State
@@ -66,3 +70,14 @@ pub both_stay : (k n : Parts AnyView) → IsDatabase any_meaning k → n.graph �
 both_stay k n is graph layout =
     let here : k.layout.operators ≡ layout_after k.layout.operators k.graph k.graph = sym (same_layout k.graph is.graph k.layout.operators is.valid) in
     ap (λ (l : Layout). l.operators) layout ∙ here ∙ ap (λ (g : Drawn AnyView). layout_after k.layout.operators k.graph g) (sym graph)
+
+-- a plan that was put in is the model's write
+pub plan_writes : (k n : Parts AnyView) (plan : Plan) (w t : ℕ) (rows : Rows) (next : ℕ) → Plans any_meaning k w t rows next (Ok plan) → Puts k plan n → Writes any_meaning (database_of any_meaning k) w t rows next (Ok tt) (database_of any_meaning n)
+plan_writes k n plan w t rows next plans puts = (plans.0, (plans.1 n puts).1)
+
+pub plan_fits : (k : Parts AnyView) (plan : Plan) (w t : ℕ) (rows : Rows) (next : ℕ) → Plans any_meaning k w t rows next (Ok plan) → Fits any_meaning k plan
+plan_fits k plan w t rows next plans n puts = (plans.1 n puts).0
+
+pub plan_refused : (k : Parts AnyView) (w t : ℕ) (rows : Rows) (next : ℕ) (fault : Fault Spent) → Plans any_meaning k w t rows next (Err fault) → Writes any_meaning (database_of any_meaning k) w t rows next (Err fault) (database_of any_meaning k)
+plan_refused k w t rows next (Refused spent) plans = (plans, refl)
+plan_refused k w t rows next Memory plans = refl

@@ -53,13 +53,13 @@ acted_data s statement = planned s statement then λ p. wrote s p
 
 -- the layout follows the graph, and tells nothing to the model
 abbrev pub with_data : Laid → Reply × State → Reply × Laid
-with_data s answer = (answer.0, record { data = answer.1; layout = layout_after s.layout s.data.graph answer.1.graph })
+with_data s answer = (answer.0, record { database = answer.1; layout = layout_after s.layout s.database.graph answer.1.graph })
 
 -- a statement that is carried out: MATERIALIZE changes the layout alone, SHOW LAYOUT nothing, and every other one the data, whatever the layout
 abbrev pub acted : Laid → StatementView → Checked (Reply × Laid)
 acted s (Materialize named in_steps) = materialized s named then λ m. Ok (Moved m.0, m.1)
 acted s ShowLayout = Ok (Layout (shown_tables s) (shown_operators s), s)
-acted s statement = acted_data s.data statement then λ answer. Ok (with_data s answer)
+acted s statement = acted_data s.database statement then λ answer. Ok (with_data s answer)
 
 -- one event; every other form is refused before all other checks of its statement
 abbrev pub act : Laid → StatementView → Checked (Reply × Laid)

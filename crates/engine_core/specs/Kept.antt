@@ -22,7 +22,7 @@ data_of k = database_of any_meaning k
 
 -- the state without versions, with the greatest identifier that may be drawn
 abbrev pub empty_state : ℕ → Laid
-empty_state limit = record { data = empty_database limit; layout = [] }
+empty_state limit = record { database = empty_database limit; layout = [] }
 
 -- the call answers and leaves what the model does: the reply and the next state, or the refusal, unless memory ran out
 abbrev pub Answers : {S : Type 0} → Result (Reply × S) Refusal → Result Reply (Fault Refusal) → S → Type 0

@@ -26,8 +26,8 @@ move_refused p named Memory computes = refl
 
 pub move_made : (p n : Parts AnyView) (named : List Target) (moved : Moved) (count : ℕ) → ComputesMove p named (Ok moved) → moved.flips ≡ flip_count p.graph.edges p.layout.operators moved.layout.operators
     → database_of any_meaning n ≡ database_of any_meaning p → n.layout ≡ moved.layout → count ≡ moved.flips → Materializes (laid_of p) named (Ok count) (laid_of n)
-move_made p n named moved count computes flips data layout told =
+move_made p n named moved count computes flips same layout told =
     ap (then_laid (laid_of p)) computes
     ∙ ap (λ (k : ℕ). Ok (k, record (laid_of p) { layout = moved.layout.operators })) (sym (told ∙ flips))
-    ∙ ap (λ (d : State). Ok (count, record { data = d; layout = moved.layout.operators })) (sym data)
-    ∙ ap (λ (l : Layout). Ok (count, record { data = database_of any_meaning n; layout = l.operators })) (sym layout)
+    ∙ ap (λ (d : State). Ok (count, record { database = d; layout = moved.layout.operators })) (sym same)
+    ∙ ap (λ (l : Layout). Ok (count, record { database = database_of any_meaning n; layout = l.operators })) (sym layout)

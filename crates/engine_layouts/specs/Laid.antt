@@ -14,20 +14,20 @@ use Rattle.engine_statements.specs.State.{State}
 
 -- the model's database, which has no layout, and beside it the operators that are stored on their target side
 pub record Laid : Type 0 where
-  pub data : State
+  pub database : State
   pub layout : List ℕ
 
 abbrev pub laid_of : Parts AnyView → Laid
-laid_of p = record { data = database_of any_meaning p; layout = p.layout.operators }
+laid_of p = record { database = database_of any_meaning p; layout = p.layout.operators }
 
 -- how many operators change sides
 abbrev pub moved_count : Laid → List ℕ → ℕ
-moved_count s new = flip_count s.data.graph.edges s.layout new
+moved_count s new = flip_count s.database.graph.edges s.layout new
 
 -- MATERIALIZE changes the layout alone: to the one that stores the named tables, or it is refused
 abbrev pub materialized : Laid → List Target → Checked (ℕ × Laid)
 materialized s named =
-    closing s.data.graph s.layout named then λ new.
+    closing s.database.graph s.layout named then λ new.
     Ok (moved_count s new, record s { layout = new })
 
 -- a call answers and leaves that, or wants memory and leaves all as it was

@@ -27,7 +27,7 @@ shown_table s t = record { number = t; name = name_at s.graph.edges t; rows = le
 
 -- the stored tables by ascending number
 abbrev pub shown_tables : Laid → List StoredTable
-shown_tables s = map (shown_table s.data) (filter (is_stored s.data.graph.edges s.layout) (tables_up s.data.graph.edges))
+shown_tables s = map (shown_table s.database) (filter (is_stored s.database.graph.edges s.layout) (tables_up s.database.graph.edges))
 
 -- ---- operators
 
@@ -65,9 +65,9 @@ shown_operator s e = record {
   number = e.number;
   kind = kind_word e.operator.text;
   on_target = is_in e.number s.layout;
-  entries = row_count (aux_of any_meaning s.data.state (stored_way s.layout e));
+  entries = row_count (aux_of any_meaning s.database.state (stored_way s.layout e));
 }
 
 -- the operators by ascending number
 abbrev pub shown_operators : Laid → List StoredOperator
-shown_operators s = map (shown_operator s) (reverse (forest s.data.graph.edges))
+shown_operators s = map (shown_operator s) (reverse (forest s.database.graph.edges))

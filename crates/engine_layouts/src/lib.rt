@@ -8,8 +8,8 @@
 #![tactic(auto)]
 
 mod kinds;
-mod materialize;
+mod moving;
 mod show;
 
-pub use materialize::materialize;
+pub use moving::materialize;
 pub use show::show_layout;

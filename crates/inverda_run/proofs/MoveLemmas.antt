@@ -20,34 +20,34 @@ beside s b m = if b then (m then λ answer. Ok (with_data s answer)) else Err No
 -- the lines are the same, and the data that is left
 pub record SameBut (s t : Laid) (a b : Checked (Reply × Laid)) : Type 0 where
   pub text : text_of a ≡ text_of b
-  pub data : (next_state s a).data ≡ (next_state t b).data
+  pub database : (next_state s a).database ≡ (next_state t b).database
 
-same_beside : (s t : Laid) → s.data ≡ t.data → (b : Bool) (m : Checked (Reply × State)) → SameBut s t (beside s b m) (beside t b m)
-same_beside s t is true (Ok answer) = record { text = refl; data = refl }
-same_beside s t is true (Err r) = record { text = refl; data = is }
-same_beside s t is false m = record { text = refl; data = is }
+same_beside : (s t : Laid) → s.database ≡ t.database → (b : Bool) (m : Checked (Reply × State)) → SameBut s t (beside s b m) (beside t b m)
+same_beside s t is true (Ok answer) = record { text = refl; database = refl }
+same_beside s t is true (Err r) = record { text = refl; database = is }
+same_beside s t is false m = record { text = refl; database = is }
 
 -- whatever the layout beside it
-same_data : (s t : Laid) → s.data ≡ t.data → (b : Bool) (m : State → Checked (Reply × State)) → SameBut s t (beside s b (m s.data)) (beside t b (m t.data))
-same_data s t is b m = subst (λ (d : State). SameBut s t (beside s b (m s.data)) (beside t b (m d))) is (same_beside s t is b (m s.data))
+same_data : (s t : Laid) → s.database ≡ t.database → (b : Bool) (m : State → Checked (Reply × State)) → SameBut s t (beside s b (m s.database)) (beside t b (m t.database))
+same_data s t is b m = subst (λ (d : State). SameBut s t (beside s b (m s.database)) (beside t b (m d))) is (same_beside s t is b (m s.database))
 
-same_act : (s t : Laid) → s.data ≡ t.data → (x : StatementView) → tells_layout x ≡ false → SameBut s t (act s x) (act t x)
+same_act : (s t : Laid) → s.database ≡ t.database → (x : StatementView) → tells_layout x ≡ false → SameBut s t (act s x) (act t x)
 same_act s t is (CreateVersion name from operators) off = same_data s t is (is_built (CreateVersion name from operators)) (λ d. acted_data d (CreateVersion name from operators))
 same_act s t is (DropVersion name) off = same_data s t is true (λ d. acted_data d (DropVersion name))
 same_act s t is (Insert table rows) off = same_data s t is true (λ d. acted_data d (Insert table rows))
-same_act s t is (Import table bytes) off = record { text = refl; data = is }
+same_act s t is (Import table bytes) off = record { text = refl; database = is }
 same_act s t is (Update table assignments filter) off = same_data s t is true (λ d. acted_data d (Update table assignments filter))
 same_act s t is (Delete table filter) off = same_data s t is true (λ d. acted_data d (Delete table filter))
 same_act s t is (Select table items filter csv) off = same_data s t is (is_built (Select table items filter csv)) (λ d. acted_data d (Select table items filter csv))
 same_act s t is (Materialize named in_steps) off = absurd (let no : ⊥ = cc in no)
-same_act s t is Step off = record { text = refl; data = is }
+same_act s t is Step off = record { text = refl; database = is }
 same_act s t is ShowLayout off = absurd (let no : ⊥ = cc in no)
-same_act s t is (Use name) off = record { text = refl; data = is }
-same_act s t is (Session number) off = record { text = refl; data = is }
-same_act s t is (Advise name) off = record { text = refl; data = is }
+same_act s t is (Use name) off = record { text = refl; database = is }
+same_act s t is (Session number) off = record { text = refl; database = is }
+same_act s t is (Advise name) off = record { text = refl; database = is }
 
 -- a MATERIALIZE leaves the data
-move_leaves : (s : Laid) (b : Bool) (m : Checked (List ℕ)) → (next_state s (if b then ((m then λ new. Ok (moved_count s new, record s { layout = new })) then λ a. Ok (Moved a.0, a.1)) else Err NotBuilt)).data ≡ s.data
+move_leaves : (s : Laid) (b : Bool) (m : Checked (List ℕ)) → (next_state s (if b then ((m then λ new. Ok (moved_count s new, record s { layout = new })) then λ a. Ok (Moved a.0, a.1)) else Err NotBuilt)).database ≡ s.database
 move_leaves s true (Ok new) = refl
 move_leaves s true (Err r) = refl
 move_leaves s false m = refl
@@ -61,11 +61,11 @@ both_told s t x xs ys off same rest =
     ∙ ap (λ (more : List (List ℕ)). text_of (act t x) ∷ more) rest
     ∙ sym (ap (λ (c : Bool). cond c [] (text_of (act t x) ∷ []) ++ answers (next_state t (act t x)) ys) off)
 
-module _ (xs : List StatementView) (more : (s t : Laid) → s.data ≡ t.data → answers s xs ≡ answers t (without_moves xs)) where
-  told : (s t : Laid) → s.data ≡ t.data → (x : StatementView) → tells_layout x ≡ false → answers s (x ∷ xs) ≡ answers t (x ∷ without_moves xs)
-  told s t is x off = let same = same_act s t is x off in both_told s t x xs (without_moves xs) off same (more (next_state s (act s x)) (next_state t (act t x)) same.data)
+module _ (xs : List StatementView) (more : (s t : Laid) → s.database ≡ t.database → answers s xs ≡ answers t (without_moves xs)) where
+  told : (s t : Laid) → s.database ≡ t.database → (x : StatementView) → tells_layout x ≡ false → answers s (x ∷ xs) ≡ answers t (x ∷ without_moves xs)
+  told s t is x off = let same = same_act s t is x off in both_told s t x xs (without_moves xs) off same (more (next_state s (act s x)) (next_state t (act t x)) same.database)
 
-  one_more : (s t : Laid) → s.data ≡ t.data → (x : StatementView) → answers s (x ∷ xs) ≡ answers t (without_moves (x ∷ xs))
+  one_more : (s t : Laid) → s.database ≡ t.database → (x : StatementView) → answers s (x ∷ xs) ≡ answers t (without_moves (x ∷ xs))
   unfolding answers
   one_more s t is (CreateVersion name from operators) = told s t is (CreateVersion name from operators) refl
   one_more s t is (DropVersion name) = told s t is (DropVersion name) refl
@@ -74,7 +74,7 @@ module _ (xs : List StatementView) (more : (s t : Laid) → s.data ≡ t.data �
   one_more s t is (Update table assignments filter) = told s t is (Update table assignments filter) refl
   one_more s t is (Delete table filter) = told s t is (Delete table filter) refl
   one_more s t is (Select table items filter csv) = told s t is (Select table items filter csv) refl
-  one_more s t is (Materialize named in_steps) = more (next_state s (act s (Materialize named in_steps))) t (move_leaves s (not in_steps) (closing s.data.graph s.layout named) ∙ is)
+  one_more s t is (Materialize named in_steps) = more (next_state s (act s (Materialize named in_steps))) t (move_leaves s (not in_steps) (closing s.database.graph s.layout named) ∙ is)
   one_more s t is Step = told s t is Step refl
   one_more s t is ShowLayout = more s t is
   one_more s t is (Use name) = told s t is (Use name) refl
@@ -82,7 +82,7 @@ module _ (xs : List StatementView) (more : (s t : Laid) → s.data ≡ t.data �
   one_more s t is (Advise name) = told s t is (Advise name) refl
 
 -- ALL OTHER STATEMENTS ANSWER THE SAME
-pub same_answers : (xs : List StatementView) (s t : Laid) → s.data ≡ t.data → answers s xs ≡ answers t (without_moves xs)
+pub same_answers : (xs : List StatementView) (s t : Laid) → s.database ≡ t.database → answers s xs ≡ answers t (without_moves xs)
 unfolding answers
 same_answers [] s t is = refl
 same_answers (x ∷ xs) s t is = one_more xs (same_answers xs) s t is x

@@ -27,4 +27,4 @@ without_moves statements = filter (λ statement. not (is_move statement)) statem
 
 -- NOBODY NOTICES: all other statements answer the same, from any layout of the same data on
 abbrev pub MovesChangeNoReply : Type 0
-MovesChangeNoReply = (s t : Laid) → s.data ≡ t.data → (statements : List StatementView) → answers s statements ≡ answers t (without_moves statements)
+MovesChangeNoReply = (s t : Laid) → s.database ≡ t.database → (statements : List StatementView) → answers s statements ≡ answers t (without_moves statements)

@@ -8,4 +8,4 @@ pub returns-clause-same : goal.returns-clause-same
 returns-clause-same g c = drop_same c.args.database.now c.drop_db.new.db c.args.name.now c.drop_db.result c.drop_db.ensures
 
 pub returns-clause-layout : goal.returns-clause-layout
-returns-clause-layout g c = layout_cut c.args.database.now c.graph.ensures.kept c.drop_db.new.db c.args.name.now c.drop_db.result c.drop_db.ensures
+returns-clause-layout g c = layout_cut c.args.database.now c.graph-graph.ensures.kept c.drop_db.new.db c.args.name.now c.drop_db.result c.drop_db.ensures

@@ -1,6 +1,6 @@
 use Rattle.std.proofs.lemmas.Result.{err_from_is_err_and}
 use Rattle.engine_layouts.proofs.MoveLemmas.{move_made, move_refused}
-use Rattle.engine_layouts.proofs.materialize.materialize.Goals as goal
+use Rattle.engine_layouts.proofs.moving.materialize.Goals as goal
 
 pub returns-in_err-moved : goal.returns-in_err-moved
 returns-in_err-moved g c =

@@ -1,0 +1,64 @@
+-- A statement on the data, with the layout beside it.
+use Rattle.std.specs.Prelude.{Result, Ok, Err, OnErr}
+use Rattle.std.proofs.Common.{◌≡◌, ℕ, true, List, [], refl, sym, ap, ◌∙◌, subst}
+use Rattle.par_base.specs.declared.fault.Fault.{Fault}
+use Rattle.par_base.specs.declared.fault.Fault.TheVariants.{Refused, Memory}
+use Rattle.par_base.specs.declared.limits.Target.{Target}
+use Rattle.par_base.specs.declared.refusal.Refusal.{Refusal}
+use Rattle.version_graph.specs.Edges.{Drawn}
+use Rattle.op_any.specs.Checks.{Checked, ◌then◌}
+use Rattle.op_any.specs.Operators.{AnyView, Built, CreateTable, DropTable, Rename, AddColumn, DropColumn, Split, Merge, any_meaning, meaning_of}
+use Rattle.layout_rules.specs.Changes.{layout_after}
+use Rattle.version_model.specs.Databases.{empty_database}
+use Rattle.storage_law.specs.Reading.{ReadsSources}
+use Rattle.db_state.specs.Fields.{database_of}
+use Rattle.db_state.specs.declared.parts.Parts.{Parts}
+use Rattle.engine_statements.specs.State.{State}
+use Rattle.engine_statements.specs.declared.reply.Reply.{Reply}
+use Rattle.engine_statements.specs.declared.reply.Reply.TheVariants.{Moved}
+use Rattle.engine_layouts.specs.Laid.{Laid, Materializes, laid_of, materialized}
+use Rattle.engine_core.specs.Act.{with_data}
+use Rattle.engine_core.specs.Kept.{Answers, Follows, data_of, empty_state, state_of}
+
+-- the source of each operator is read back
+built_reads : (o : Built) → (meaning_of o).reads_source ≡ true
+built_reads CreateTable = refl
+built_reads (DropTable width) = refl
+built_reads Rename = refl
+built_reads (AddColumn place e) = refl
+built_reads (DropColumn place e) = refl
+built_reads (Split width first second) = refl
+built_reads (Merge width first second) = refl
+
+pub any_reads : ReadsSources any_meaning
+any_reads o = built_reads o.operator
+
+-- the state without versions
+pub empty_laid : (p : Parts AnyView) (limit : ℕ) → database_of any_meaning p ≡ empty_database limit → p.layout.operators ≡ [] → state_of p ≡ empty_state limit
+empty_laid p limit empty layout =
+    ap (λ (d : State). record { database = d; layout = p.layout.operators }) empty ∙ ap (λ (l : List ℕ). record { database = empty_database limit; layout = l }) layout
+
+-- ---- statements on the data
+
+-- the layout is the one that follows the graph
+laid_is : (old new : Parts AnyView) → Follows old new → record { database = data_of new; layout = layout_after old.layout.operators old.graph new.graph } ≡ state_of new
+laid_is old new follows = ap (λ (l : List ℕ). record { database = data_of new; layout = l }) (sym follows)
+
+pub answers_beside : (old new : Parts AnyView) (m : Checked (Reply × State)) (r : Result Reply (Fault Refusal)) → Answers m r (data_of new) → Follows old new
+    → Answers (m then λ answer. Ok (with_data (state_of old) answer)) r (state_of new)
+answers_beside old new m (Ok reply) answers follows =
+    ap (λ (x : Checked (Reply × State)). x then λ answer. Ok (with_data (state_of old) answer)) answers ∙ ap (λ (s : Laid). Ok (reply, s)) (laid_is old new follows)
+answers_beside old new m (Err (Refused r)) answers follows = ap (λ (x : Checked (Reply × State)). x then λ answer. Ok (with_data (state_of old) answer)) answers
+answers_beside old new m (Err Memory) answers follows = tt
+
+-- ---- moves
+
+abbrev replied : Checked (ℕ × Laid) → Checked (Reply × Laid)
+replied m = m then λ a. Ok (Moved a.0, a.1)
+
+pub move_refused : (old new : Laid) (named : List Target) (fault : Fault Refusal) → Materializes old named (Err fault) new → Answers (replied (materialized old named)) (Err fault) new × (new ≡ old)
+move_refused old new named (Refused r) moves = (ap replied moves.0, moves.1)
+move_refused old new named Memory moves = (tt, moves)
+
+pub move_answers : (old new : Laid) (named : List Target) (count : ℕ) → Materializes old named (Ok count) new → Answers (replied (materialized old named)) (Ok (Moved count)) new
+move_answers old new named count moves = ap replied moves
