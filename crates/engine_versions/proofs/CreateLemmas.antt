@@ -25,7 +25,7 @@ use Rattle.engine_statements.specs.Found.{known_version}
 use Rattle.engine_statements.specs.Statements.{enough_ids}
 use Rattle.engine_versions.specs.Evolve.{counts_of, created, edges_on, start_at, state_after, unused}
 use Rattle.engine_versions.specs.Plans.{IsPlanned, OnEach, PlansEdges}
-use Rattle.engine_versions.proofs.ChainLemmas.{then_is}
+use Rattle.engine_versions.proofs.ChainLemmas.{then_fails, then_is}
 use Rattle.engine_versions.proofs.EdgeLemmas.{few_tables, fit_in_order, headings_well, limits_kept, numbers_fit, some_edges}
 use Rattle.engine_versions.proofs.BuiltLemmas.{are_built}
 
@@ -143,16 +143,6 @@ module _ (d : State) (name : List ℕ) (from : Option (List ℕ)) (texts : List 
 -- ---- what the checks of a graph say of every database that has it
 
 module _ (g : Drawn AnyView) (next : ℕ) (name : List ℕ) (from : Option (List ℕ)) (texts : List OpView) where
-  -- no version to start from
-  pub refused_start : (r : Refusal) → start_at g.versions from ≡ Err r → OnEach g next (λ d. created d name from texts ≡ Err r)
-  refused_start r e d graph counter = then_fails (start_at d.graph.versions from) _ r (ap (λ (h : Drawn AnyView). start_at h.versions from) graph ∙ e)
-
-  -- the name of a live version
-  pub refused_name : (set : ℕ) (r : Refusal) → start_at g.versions from ≡ Ok set → unused name (set_named g.versions name) ≡ Err r → OnEach g next (λ d. created d name from texts ≡ Err r)
-  refused_name set r start e d graph counter =
-      then_is (start_at d.graph.versions from) _ set (ap (λ (h : Drawn AnyView). start_at h.versions from) graph ∙ start)
-      ∙ then_fails (unused name (set_named d.graph.versions name)) _ r (ap (λ (h : Drawn AnyView). unused name (set_named h.versions name)) graph ∙ e)
-
   refused_edges : (set : ℕ) (r : Refusal) → start_at g.versions from ≡ Ok set → unused name (set_named g.versions name) ≡ Ok tt
       → edges_on (headings_of (working g.edges set)) (counts_of g) next texts ≡ Err r → OnEach g next (λ d. created d name from texts ≡ Err r)
   refused_edges set r start free e d graph counter =
@@ -177,11 +167,7 @@ module _ (g : Drawn AnyView) (next : ℕ) (name : List ℕ) (from : Option (List
   plans_built is some fit set start free (Err (Refused r)) gives = refused_edges set r start free gives
   plans_built is some fit set start free (Err Memory) gives = tt
 
-  -- an error of the first check, or of the second
-  pub start_fails : (f : Fault Refusal) → Gives (λ (set : ℕ). set) (Err f) (start_at g.versions from) → PlansEdges g next name from texts (Err f)
-  start_fails (Refused r) e = refused_start r e
-  start_fails Memory e = tt
-
-  pub name_fails : (set : ℕ) → start_at g.versions from ≡ Ok set → (f : Fault Refusal) → Gives (λ (x : Unit {0}). x) (Err f) (unused name (set_named g.versions name)) → PlansEdges g next name from texts (Err f)
-  name_fails set start (Refused r) e = refused_name set r start e
-  name_fails set start Memory e = tt
+  -- an error is the model's, whatever is there then
+  pub edges_fail : (f : Fault Refusal) → PlansEdges g next name from texts (Err f) → (d new : State) → d.graph ≡ g → d.state.next ≡ next → Gives {X = Unit {0}} (λ _. new) (Err f) (created d name from texts)
+  edges_fail (Refused r) plans d new graph counter = plans d graph counter
+  edges_fail Memory plans d new graph counter = tt

@@ -121,7 +121,7 @@ pub fn expect_same<L: Ledger>(
         let table = before + 1;
         if is_live(twin.moved.graph(), table) {
             expect_table(rt, alloc, twin, table, steps)?;
-            compared += 1;
+            compared = compared.saturating_add(1);
         }
     }
     Ok(compared)

@@ -68,37 +68,40 @@ fn expect_moved<L: Ledger>(
 }
 
 // Moves the data of an operator to its other side, where that leaves a valid layout, and compares.
+// Answers whether it does.
 fn expect_flipped<L: Ledger>(
     rt: &impl Abort,
     alloc: Global,
     twin: &mut Twin,
     operator: u32,
     steps: &mut Steps<L>,
-) -> Result<(), Fail>
+) -> Result<bool, Fail>
     requires { IsTwin twin.old }
     ensures { OnOk result (IsTwin twin.new) }
 {
-    if twin.flip(alloc, operator, steps)? {
+    let flips = twin.flip(alloc, operator, steps)?;
+    if flips {
         expect_same(rt, alloc, twin, steps)?;
     }
-    Ok(())
+    Ok(flips)
 }
 
-// Moves the data of each operator.
+// Moves the data of each operator, and answers whether one was moved.
 fn expect_flips<L: Ledger>(
     rt: &impl Abort,
     alloc: Global,
     twin: &mut Twin,
     steps: &mut Steps<L>,
-) -> Result<(), Fail>
+) -> Result<bool, Fail>
     requires { IsTwin twin.old }
     ensures { OnOk result (IsTwin twin.new) }
 {
     let (last, _) = twin.moved.graph().last_numbers();
+    let mut flips = false;
     for before in 0..last {
-        expect_flipped(rt, alloc, twin, before + 1, steps)?;
+        flips |= expect_flipped(rt, alloc, twin, before + 1, steps)?;
     }
-    Ok(())
+    Ok(flips)
 }
 
 // Moves the data to each version in turn, from the one at a place on.
@@ -118,7 +121,7 @@ fn expect_moves<L: Ledger>(
     Ok(())
 }
 
-// One statement, compared before and after moves and flips.
+// One statement, compared before and after flips and moves. Answers whether there was a flip.
 fn expect_turn<L: Ledger>(
     rt: &impl Abort,
     alloc: Global,
@@ -126,21 +129,24 @@ fn expect_turn<L: Ledger>(
     given: Given,
     first: usize,
     steps: &mut Steps<L>,
-) -> Result<(), Fail>
+) -> Result<bool, Fail>
     requires { IsTwin twin.old }
     ensures { OnOk result (IsTwin twin.new) }
 {
     expect_done(rt, alloc, twin, given, steps)?;
     expect_same(rt, alloc, twin, steps)?;
     twin.reopen(alloc);
-    expect_flips(rt, alloc, twin, steps)?;
-    expect_moves(rt, alloc, twin, first, steps)
+    let flips = expect_flips(rt, alloc, twin, steps)?;
+    expect_moves(rt, alloc, twin, first, steps)?;
+    Ok(flips)
 }
 
-fn expect_each<L: Ledger>(
+// One run, at whose end so many tables live.
+fn expect_run<L: Ledger>(
     rt: &impl Abort,
     alloc: Global,
     script: &[Given],
+    tables: usize,
     first: usize,
     blank: Blank,
 ) -> Result<(), Fail>
@@ -150,17 +156,26 @@ fn expect_each<L: Ledger>(
 {
     let mut twin = Twin::new(alloc, LIMITS);
     let mut steps = Steps::<L>::new(blank);
+    let mut flips = false;
     for given in script {
-        expect_turn(rt, alloc, &mut twin, *given, first, &mut steps)?;
+        flips |= expect_turn(rt, alloc, &mut twin, *given, first, &mut steps)?;
     }
+    assert_eq!(rt; flips, true);
+    assert_eq!(rt; expect_same(rt, alloc, &twin, &mut steps)?, tables);
     Ok(())
 }
 
-/// Runs a script on a twin, with moves to all versions between every two statements, and once for
-/// each version that is the last one moved to.
-pub fn expect_twins(rt: &impl Abort, alloc: Global, script: &[Given]) -> Result<(), Fail> {
+/// Runs a script on a twin, with flips of all operators and moves to all versions between every two
+/// statements, and once for each version that is the last one moved to. At the end so many tables
+/// live.
+pub fn expect_twins(
+    rt: &impl Abort,
+    alloc: Global,
+    script: &[Given],
+    tables: usize,
+) -> Result<(), Fail> {
     for first in 0..VERSIONS {
-        expect_each::<Brand>(rt, alloc, script, first, Blank::new(1))?;
+        expect_run::<Brand>(rt, alloc, script, tables, first, Blank::new(1))?;
     }
     Ok(())
 }

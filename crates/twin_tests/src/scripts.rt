@@ -29,6 +29,7 @@ fn split_rows_are_the_same(rt: HostRuntime) -> Result<(), Fail> {
             ("UPDATE b.s SET x = 3;", true),
             ("DELETE FROM b.r;", true),
         ],
+        3,
     )
 }
 
@@ -63,6 +64,7 @@ fn tasks_are_the_same(rt: HostRuntime) -> Result<(), Fail> {
             ("DROP SCHEMA VERSION Do!;", true),
             ("DELETE FROM TasKy.task WHERE prio > 1;", true),
         ],
+        1,
     )
 }
 
@@ -103,5 +105,6 @@ fn merged_rows_are_the_same(rt: HostRuntime) -> Result<(), Fail> {
             ("DROP SCHEMA VERSION a;", true),
             ("INSERT INTO b.t VALUES (9, 9);", true),
         ],
+        3,
     )
 }
