@@ -2,21 +2,21 @@
 use Rattle.std.specs.Prelude.{◌<◌, ◌↔◌, Option, Some, None, option_map, option_to_list, slice_get}
 use Rattle.std.specs.List.{find}
 use Rattle.std.specs.Option.{IsSome, option_map_or}
-use Rattle.std.proofs.Common.{◌≡◌, ℕ, ◌+◌, ◌==◌, List, [], ◌∷◌, ◌++◌, cond, filter, length, map, take, inl, inr, refl, sym, ap, ◌∙◌, subst, arith}
+use Rattle.std.proofs.Common.{◌≡◌, ℕ, ◌+◌, ◌==◌, List, [], ◌∷◌, ◌++◌, cond, filter, get_or, length, map, take, inl, inr, refl, sym, ap, ◌∙◌, subst, arith}
 use Rattle.std.proofs.lemmas.Bool.{cond-false, cond-true, eq-eqb, ne_eqb}
-use Rattle.std.proofs.lemmas.List.{map-append, reverse-append}
+use Rattle.std.proofs.lemmas.List.{map-append, take_more}
 use mathlib.Core.List.{reverse}
 use Rattle.row_store.specs.Rows.{Rows}
 use Rattle.row_store.specs.States.{TableState}
 use Rattle.version_graph.specs.Sets.{In, Each}
 use Rattle.version_graph.specs.Tables.{TableVersion, table_numbers}
-use Rattle.version_graph.specs.Edges.{AreEdges, Rises, heading_of, made}
+use Rattle.version_graph.specs.Edges.{Drawn, Rises, heading_of, made}
 use Rattle.version_graph.specs.Forest.{Link, forest, link}
 use Rattle.version_graph.specs.declared.parts.Placed.{Placed}
 use Rattle.version_graph.proofs.SetLemmas.{each_at, each_of, origin}
 use Rattle.version_graph.proofs.TableLemmas.{rises_above}
 use Rattle.version_graph.proofs.TakenLemmas.{heading_known}
-use Rattle.op_law.specs.Tables.{Tables}
+use Rattle.op_law.specs.Tables.{Tables, contents}
 use Rattle.op_law.specs.declared.side.Aux.{Aux}
 use Rattle.op_any.specs.Operators.{AnyView, any_meaning}
 use Rattle.layout_rules.specs.Layouts.{IsStored}
@@ -28,6 +28,7 @@ use Rattle.version_model.specs.declared.numbered.Numbered.{Numbered}
 use Rattle.storage_law.specs.Storage.{StandsOver, aux_of, stored_way}
 use Rattle.db_state.specs.Fields.{IsDatabase, auxes_at, database_of, numbers_in, state_of, storage_in}
 use Rattle.db_state.specs.declared.parts.Parts.{Parts}
+use Rattle.engine_statements.specs.declared.reply.Reply.TheVariants.{Layout}
 use Rattle.engine_statements.specs.declared.reply.StoredOperator.{StoredOperator}
 use Rattle.engine_statements.specs.declared.reply.StoredTable.{StoredTable}
 use Rattle.engine_layouts.specs.Calls.{HasHeadings, shown_edge, shown_item}
@@ -146,3 +147,30 @@ edges_next {X} {Y} f xs i so_far more o got is m =
     let one : (p : Option X) → map f (option_to_list p) ≡ option_to_list (option_map f p) = map_one f in
     m ∙ ap (λ (l : List Y). l ++ option_to_list (option_map f o)) is
     ∙ sym (ap (map f) (take_next xs i o got) ∙ map-append f (take i xs) (option_to_list o) ∙ ap (λ (l : List Y). map f (take i xs) ++ l) (one o))
+
+-- the rows of one table more are counted
+count_last : (xs : List TableState) (t : TableState) → row_count (contents (xs ++ t ∷ [])) ≡ row_count (contents xs) + length t.rows
+count_last [] t = omega arith
+count_last (x ∷ xs) t = let rest = count_last xs t in omega (arith, rest)
+
+pub count_next : (tables : List TableState) (i : ℕ) (t : TableState) (total sum : ℕ) → i < length tables → t ≡ get_or tables i t → total ≡ row_count (contents (take i tables)) → sum ≡ total + length t.rows → sum ≡ row_count (contents (take (i + 1) tables))
+count_next tables i t total sum within is so_far more =
+    let one : take (i + 1) tables ≡ take i tables ++ t ∷ [] = take_more tables i t within ∙ ap (λ (x : TableState). take i tables ++ x ∷ []) (sym is) in
+    let all = count_last (take i tables) t in
+    let same : row_count (contents (take (i + 1) tables)) ≡ row_count (contents (take i tables ++ t ∷ [])) = ap (λ (l : List TableState). row_count (contents l)) one in
+    omega (arith, so_far, more, all, same)
+
+module _ (p : Parts AnyView) (is : IsDatabase any_meaning p) (g : Drawn AnyView) (stored : List (Numbered TableState)) (graph : g ≡ p.graph) (tables : stored ≡ p.stored) where
+  pub headings_there : HasHeadings g.edges stored
+  headings_there = subst (λ (d : Drawn AnyView). HasHeadings d.edges stored) (sym graph) (subst (λ (l : List (Numbered TableState)). HasHeadings p.graph.edges l) (sym tables) (have_headings p is))
+
+  -- what is shown is what the model's state shows
+  pub layout_shown : (layout : List ℕ) (auxes : List (Numbered Aux)) (ts : List StoredTable) (os : List StoredOperator) → layout ≡ p.layout.operators → auxes ≡ p.aux → ts ≡ map (shown_item g.edges) stored → os ≡ map (shown_edge layout auxes) (reverse g.edges)
+      → Layout ts os ≡ Layout (shown_tables (laid_of p)) (shown_operators (laid_of p))
+  layout_shown layout auxes ts os sides kept told others =
+      let one : ts ≡ shown_tables (laid_of p) =
+      told ∙ ap (λ (d : Drawn AnyView). map (shown_item d.edges) stored) graph ∙ ap (λ (l : List (Numbered TableState)). map (shown_item p.graph.edges) l) tables ∙ shown_stored p is in
+      let two : os ≡ shown_operators (laid_of p) =
+      others ∙ ap (λ (d : Drawn AnyView). map (shown_edge layout auxes) (reverse d.edges)) graph ∙ ap (λ (l : List ℕ). map (shown_edge l auxes) (reverse p.graph.edges)) sides
+      ∙ ap (λ (l : List (Numbered Aux)). map (shown_edge p.layout.operators l) (reverse p.graph.edges)) kept ∙ shown_edges p is in
+      ap (λ (l : List StoredTable). Layout l os) one ∙ ap (λ (l : List StoredOperator). Layout (shown_tables (laid_of p)) l) two
