@@ -1,2 +1,3 @@
 mod ParsingLemmas
 mod TwinLemmas
+mod TextLemmas
