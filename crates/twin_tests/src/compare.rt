@@ -8,6 +8,7 @@ use crate::Twin;
 use db_state::{read_table, row_at};
 use expr_lang::Steps;
 use layout_rules::is_valid;
+use op_any::AnyOp;
 use par_base::{Memory, Row, literal_text};
 use row_store::Table;
 use std::alloc::Global;
@@ -81,11 +82,15 @@ fn expect_table<L: Ledger>(
     }
     // No row has the next identifier.
     let next = twin.moved.ids().next();
-    assert_eq!(rt; row_at(alloc, &twin.moved, table, next, steps)?.is_some(), false, "table {table}");
+    assert_eq!(rt;
+        row_at(alloc, &twin.moved, table, next, steps)?.is_some(),
+        false,
+        "table {table}"
+    );
     Ok(())
 }
 
-fn is_live(graph: &Graph<op_any::AnyOp>, table: u32) -> bool
+fn is_live(graph: &Graph<AnyOp>, table: u32) -> bool
     ensures { result ≡ is_in table (table_numbers (made graph.now.edges)) }
 {
     graph.heading(table).is_some()
@@ -107,6 +112,21 @@ fn expect_lent(rt: &impl Abort, twin: &Twin) -> Result<(), Fail> {
     Ok(())
 }
 
+// Expects that a table is the same in both where it lives, and answers whether it does.
+fn expect_if_live<L: Ledger>(
+    rt: &impl Abort,
+    alloc: Global,
+    twin: &Twin,
+    table: u32,
+    steps: &mut Steps<L>,
+) -> Result<bool, Fail> {
+    if is_live(twin.moved.graph(), table) {
+        expect_table(rt, alloc, twin, table, steps)?;
+        return Ok(true);
+    }
+    Ok(false)
+}
+
 /// Expects that both have the same tables, row by row, and answers how many.
 pub fn expect_same<L: Ledger>(
     rt: &impl Abort,
@@ -118,9 +138,7 @@ pub fn expect_same<L: Ledger>(
     let (_, last) = twin.moved.graph().last_numbers();
     let mut compared: usize = 0;
     for before in 0..last {
-        let table = before + 1;
-        if is_live(twin.moved.graph(), table) {
-            expect_table(rt, alloc, twin, table, steps)?;
+        if expect_if_live(rt, alloc, twin, before + 1, steps)? {
             compared = compared.saturating_add(1);
         }
     }

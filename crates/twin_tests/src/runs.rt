@@ -1,12 +1,13 @@
 //! Runs of scripts on a twin, with moves between the statements.
 ghost use Rattle.std.specs.Prelude.{◌≡◌, OnOk};
-ghost use Rattle.twin_tests.specs.Twins.{IsTwin};
+ghost use Rattle.twin_tests.specs.Twins.{IsTwin, Stays};
+ghost use Rattle.twin_tests.specs.declared.kept.Twin.{Twin};
 
 use crate::Twin;
 use crate::compare::expect_same;
 use crate::parsing::statement_of;
 use expr_lang::Steps;
-use par_base::{Fault, Limits, Target};
+use par_base::{Fault, Limits, Refusal, Target};
 use std::alloc::Global;
 use std::marker::Brand;
 use std::process::Abort;
@@ -21,6 +22,31 @@ const VERSIONS: usize = 4;
 /// A statement, and whether it is carried out or refused.
 pub type Given = (&'static str, bool);
 
+// Whether a statement was carried out and not refused.
+fn told(answer: Result<(), Fault<Refusal>>) -> Result<bool, Fail>
+    ensures { (before after : Twin) → Stays answer before after → OnOk result (IsTwin after) }
+{
+    match answer {
+        Ok(()) => Ok(true),
+        Err(Fault::Refused(_)) => Ok(false),
+        Err(Fault::Memory) => Err("no memory")?,
+    }
+}
+
+// Carries out a statement, and answers whether it isn't refused.
+fn is_done<L: Ledger>(
+    alloc: Global,
+    twin: &mut Twin,
+    text: &str,
+    steps: &mut Steps<L>,
+) -> Result<bool, Fail>
+    requires { IsTwin twin.old }
+    ensures { OnOk result (IsTwin twin.new) }
+{
+    let statement = statement_of(alloc, text)?;
+    told(twin.carry_out(alloc, &statement, steps))
+}
+
 // Carries out a statement, and expects that it is done or refused.
 fn expect_done<L: Ledger>(
     rt: &impl Abort,
@@ -33,12 +59,8 @@ fn expect_done<L: Ledger>(
     ensures { OnOk result (IsTwin twin.new) }
 {
     let (text, done) = given;
-    let statement = statement_of(alloc, text)?;
-    match twin.carry_out(alloc, &statement, steps) {
-        Ok(()) => assert_eq!(rt; true, done, "{text}"),
-        Err(Fault::Refused(_)) => assert_eq!(rt; false, done, "{text}"),
-        Err(Fault::Memory) => return Err("no memory")?,
-    }
+    let answer = is_done(alloc, twin, text, steps)?;
+    assert_eq!(rt; answer, done, "{text}");
     Ok(())
 }
 
