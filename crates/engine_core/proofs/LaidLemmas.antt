@@ -1,6 +1,6 @@
 -- A statement on the data, with the layout beside it.
 use Rattle.std.specs.Prelude.{Result, Ok, Err, OnErr}
-use Rattle.std.proofs.Common.{◌≡◌, ℕ, true, List, [], refl, sym, ap, ◌∙◌, subst}
+use Rattle.std.proofs.Common.{◌≡◌, ℕ, true, false, List, [], refl, sym, ap, ◌∙◌, subst}
 use Rattle.par_base.specs.declared.fault.Fault.{Fault}
 use Rattle.par_base.specs.declared.fault.Fault.TheVariants.{Refused, Memory}
 use Rattle.par_base.specs.declared.limits.Target.{Target}
@@ -17,7 +17,8 @@ use Rattle.engine_statements.specs.State.{State}
 use Rattle.engine_statements.specs.declared.reply.Reply.{Reply}
 use Rattle.engine_statements.specs.declared.reply.Reply.TheVariants.{Moved}
 use Rattle.engine_layouts.specs.Laid.{Laid, Materializes, laid_of, materialized}
-use Rattle.engine_core.specs.Act.{with_data}
+use Rattle.bidel_parser.specs.Views.{StatementView, CreateVersion, DropVersion, Insert, Import, Update, Delete, Select, Materialize, Step, ShowLayout, Use, Session, Advise}
+use Rattle.engine_core.specs.Act.{acted, acted_data, tells_layout, with_data}
 use Rattle.engine_core.specs.Kept.{Answers, Follows, data_of, empty_state, state_of}
 
 -- the source of each operator is read back
@@ -62,3 +63,20 @@ move_refused old new named Memory moves = (tt, moves)
 
 pub move_answers : (old new : Laid) (named : List Target) (count : ℕ) → Materializes old named (Ok count) new → Answers (replied (materialized old named)) (Ok (Moved count)) new
 move_answers old new named count moves = ap replied moves
+
+-- ---- which statements are on the data
+
+pub acted_beside : (s : Laid) (x : StatementView) → tells_layout x ≡ false → acted s x ≡ (acted_data s.database x then λ answer. Ok (with_data s answer))
+acted_beside s (CreateVersion name from operators) off = refl
+acted_beside s (DropVersion name) off = refl
+acted_beside s (Insert table rows) off = refl
+acted_beside s (Import table bytes) off = refl
+acted_beside s (Update table assignments filter) off = refl
+acted_beside s (Delete table filter) off = refl
+acted_beside s (Select table items filter csv) off = refl
+acted_beside s (Materialize named in_steps) off = absurd (let no : ⊥ = cc in no)
+acted_beside s Step off = refl
+acted_beside s ShowLayout off = absurd (let no : ⊥ = cc in no)
+acted_beside s (Use name) off = refl
+acted_beside s (Session number) off = refl
+acted_beside s (Advise name) off = refl

@@ -9,9 +9,9 @@ use Rattle.engine_statements.specs.State.{State}
 use Rattle.engine_statements.specs.declared.reply.Reply.{Reply}
 use Rattle.engine_statements.specs.declared.reply.Reply.TheVariants.{Moved}
 use Rattle.engine_layouts.specs.Laid.{Laid, moved_count}
-use Rattle.engine_core.specs.Act.{act, acted_data, is_built, with_data}
+use Rattle.engine_core.specs.Act.{act, acted_data, is_built, tells_layout, with_data}
 use Rattle.inverda_run.specs.Output.{next_state, text_of}
-use Rattle.inverda_run.specs.Moves.{answers, tells_layout, without_moves}
+use Rattle.inverda_run.specs.Moves.{answers, without_moves}
 
 -- a statement on the data, beside a layout
 abbrev beside : Laid → Bool → Checked (Reply × State) → Checked (Reply × Laid)
