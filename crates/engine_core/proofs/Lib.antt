@@ -1,4 +1,4 @@
-mod TextLemmas
+pub mod TextLemmas
 mod PlanLemmas
 mod WriteLemmas
 mod LaidLemmas

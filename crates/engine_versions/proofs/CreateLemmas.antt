@@ -7,7 +7,6 @@ use Rattle.par_base.specs.declared.fault.Fault.TheVariants.{Refused, Memory}
 use Rattle.par_base.specs.declared.refusal.Refusal.{Refusal}
 use Rattle.par_base.specs.declared.refusal.Refusal.TheVariants.{IdsSpent}
 use Rattle.bidel_parser.specs.Views.{OpView}
-use Rattle.id_memory.specs.States.{CounterState}
 use Rattle.version_graph.specs.Sets.{Each}
 use Rattle.version_graph.specs.Tables.{headings_of, FitInOrder}
 use Rattle.version_graph.specs.Edges.{Drawn, IsGraph, set_named, working}
@@ -19,14 +18,14 @@ use Rattle.op_law.specs.Calls.{first_refused}
 use Rattle.op_any.specs.Checks.{◌then◌, Gives}
 use Rattle.op_any.specs.Operators.{AnyView, any_meaning}
 use Rattle.op_any.specs.Texts.{TextsFit}
-use Rattle.db_state.specs.declared.parts.Parts.{Parts}
 use Rattle.version_model.specs.Evolving.{AreBuilt, grown_state}
 use Rattle.version_model.specs.Databases.{counter_of, evolved_state, start_in, Evolves, MayEvolveTo, RefusesEvolution}
 use Rattle.engine_statements.specs.State.{State}
 use Rattle.engine_statements.specs.Found.{known_version}
 use Rattle.engine_statements.specs.Statements.{enough_ids}
 use Rattle.engine_versions.specs.Evolve.{counts_of, created, edges_on, start_at, state_after, unused}
-use Rattle.engine_versions.proofs.ChainLemmas.{then_is}
+use Rattle.engine_versions.specs.Plans.{IsPlanned, OnEach, PlansEdges}
+use Rattle.engine_versions.proofs.ChainLemmas.{then_fails, then_is}
 use Rattle.engine_versions.proofs.EdgeLemmas.{few_tables, fit_in_order, headings_well, limits_kept, numbers_fit, some_edges}
 use Rattle.engine_versions.proofs.BuiltLemmas.{are_built}
 
@@ -46,17 +45,10 @@ some_one : (m n : ℕ) → Some m ≡ Some n → m ≡ n
 some_one m n e = cc
 
 -- all checks but the last one have passed, while `next` is the next identifier
-pub record Passes (g : Drawn AnyView) (next : ℕ) (name : List ℕ) (from : Option (List ℕ)) (texts : List OpView) (set : ℕ) (edges : List (Edge AnyView)) : Type 0 where
+record Passes (g : Drawn AnyView) (next : ℕ) (name : List ℕ) (from : Option (List ℕ)) (texts : List OpView) (set : ℕ) (edges : List (Edge AnyView)) : Type 0 where
   pub start : start_at g.versions from ≡ Ok set
   pub free : unused name (set_named g.versions name) ≡ Ok tt
   pub built : edges_on (headings_of (working g.edges set)) (counts_of g) next texts ≡ Ok edges
-
--- they pass on the database whose graph and counter were lent
-pub passes_there : (k : Parts AnyView) (g : Drawn AnyView) (ids : CounterState) (next : ℕ) (name : List ℕ) (from : Option (List ℕ)) (texts : List OpView) (set : ℕ) (edges : List (Edge AnyView))
-    → g ≡ k.graph → ids ≡ k.ids → next ≡ ids.next → Passes g next name from texts set edges → Passes k.graph k.ids.next name from texts set edges
-passes_there k g ids next name from texts set edges graph counter is passes =
-    subst (λ (n : ℕ). Passes k.graph n name from texts set edges) (is ∙ ap (λ (i : CounterState). i.next) counter)
-    (subst (λ (h : Drawn AnyView). Passes h next name from texts set edges) graph passes)
 
 module _ (d : State) (name : List ℕ) (from : Option (List ℕ)) (texts : List OpView) (set : ℕ) (edges : List (Edge AnyView))
     (graph : IsGraph d.graph) (passes : Passes d.graph d.state.next name from texts set edges) (some : 0 < length texts) (fit : Each TextsFit texts)
@@ -76,7 +68,7 @@ module _ (d : State) (name : List ℕ) (from : Option (List ℕ)) (texts : List 
     none_passed : limit_passed (length d.graph.edges) d.graph.last_operator d.graph.last_table edges ≡ None
     none_passed = limits_kept (headings_of (working d.graph.edges set)) (counts_of d.graph) d.state.next texts edges built
 
-    pub some_built : 0 < length edges
+    some_built : 0 < length edges
     some_built = some_edges (headings_of (working d.graph.edges set)) (counts_of d.graph) d.state.next texts edges some built
 
     fits_there : MayEvolve d.graph from edges
@@ -94,7 +86,7 @@ module _ (d : State) (name : List ℕ) (from : Option (List ℕ)) (texts : List 
             can_evolve d.graph graph from (e ∷ es) set may starts_there (omega (arith, n.0)) (omega (arith, n.1))
 
     -- the database may evolve so
-    pub may : MayEvolveTo any_meaning d from edges
+    may : MayEvolveTo any_meaning d from edges
     may = record {
       fits = fits_there;
       few = few_tables (headings_of (working d.graph.edges set)) (counts_of d.graph) d.state.next texts edges built;
@@ -140,7 +132,42 @@ module _ (d : State) (name : List ℕ) (from : Option (List ℕ)) (texts : List 
         (lt-ltb (first_refused (counter_of d)) (state_after d name set edges).state.next above)
         ∙ ap (λ (r : Refusal). Err r) (sym why.1)
 
-    pub gives_then : (result : Result (Unit {0}) (Fault Refusal)) (new : State) → Evolves any_meaning d name from edges result new → Gives (λ _. new) result (created d name from texts)
+    gives_then : (result : Result (Unit {0}) (Fault Refusal)) (new : State) → Evolves any_meaning d name from edges result new → Gives (λ _. new) result (created d name from texts)
     gives_then (Ok done) new e = created_then new e
     gives_then (Err (Refused told)) new e = spent_then told new e
     gives_then (Err Memory) new e = tt
+
+    planned : IsPlanned d name from texts edges
+    planned = record { some = some_built; may = may; gives = gives_then }
+
+-- ---- what the checks of a graph say of every database that has it
+
+module _ (g : Drawn AnyView) (next : ℕ) (name : List ℕ) (from : Option (List ℕ)) (texts : List OpView) where
+  refused_edges : (set : ℕ) (r : Refusal) → start_at g.versions from ≡ Ok set → unused name (set_named g.versions name) ≡ Ok tt
+      → edges_on (headings_of (working g.edges set)) (counts_of g) next texts ≡ Err r → OnEach g next (λ d. created d name from texts ≡ Err r)
+  refused_edges set r start free e d graph counter =
+      let built : edges_on (headings_of (working d.graph.edges set)) (counts_of d.graph) d.state.next texts ≡ Err r =
+      ap (λ (n : ℕ). edges_on (headings_of (working d.graph.edges set)) (counts_of d.graph) n texts) counter
+      ∙ ap (λ (h : Drawn AnyView). edges_on (headings_of (working h.edges set)) (counts_of h) next texts) graph ∙ e in
+      then_is (start_at d.graph.versions from) _ set (ap (λ (h : Drawn AnyView). start_at h.versions from) graph ∙ start)
+      ∙ then_is (unused name (set_named d.graph.versions name)) _ tt (ap (λ (h : Drawn AnyView). unused name (set_named h.versions name)) graph ∙ free)
+      ∙ then_fails (edges_on (headings_of (working d.graph.edges set)) (counts_of d.graph) d.state.next texts) _ r built
+
+  planned_edges : IsGraph g → 0 < length texts → Each TextsFit texts → (set : ℕ) (edges : List (Edge AnyView)) → Passes g next name from texts set edges
+      → OnEach g next (λ d. IsPlanned d name from texts edges)
+  planned_edges is some fit set edges passes d graph counter =
+      planned d name from texts set edges (subst (λ (h : Drawn AnyView). IsGraph h) (sym graph) is)
+      (subst (λ (n : ℕ). Passes d.graph n name from texts set edges) (sym counter) (subst (λ (h : Drawn AnyView). Passes h next name from texts set edges) (sym graph) passes))
+      some fit
+
+  -- what is built, once there is a version to start from and the name is free
+  pub plans_built : IsGraph g → 0 < length texts → Each TextsFit texts → (set : ℕ) → start_at g.versions from ≡ Ok set → unused name (set_named g.versions name) ≡ Ok tt
+      → (r : Result (List (Edge AnyView)) (Fault Refusal)) → Gives (λ edges. edges) r (edges_on (headings_of (working g.edges set)) (counts_of g) next texts) → PlansEdges g next name from texts r
+  plans_built is some fit set start free (Ok edges) gives = planned_edges is some fit set edges (record { start = start; free = free; built = gives })
+  plans_built is some fit set start free (Err (Refused r)) gives = refused_edges set r start free gives
+  plans_built is some fit set start free (Err Memory) gives = tt
+
+  -- an error is the model's, whatever is there then
+  pub edges_fail : (f : Fault Refusal) → PlansEdges g next name from texts (Err f) → (d new : State) → d.graph ≡ g → d.state.next ≡ next → Gives {X = Unit {0}} (λ _. new) (Err f) (created d name from texts)
+  edges_fail (Refused r) plans d new graph counter = plans d graph counter
+  edges_fail Memory plans d new graph counter = tt

@@ -8,7 +8,6 @@ use Rattle.par_base.specs.declared.fault.Fault.TheVariants.{Refused, Memory}
 use Rattle.par_base.specs.declared.refusal.Refusal.{Refusal}
 use Rattle.par_base.specs.declared.refusal.Refusal.TheVariants.{UnknownVersion}
 use Rattle.version_graph.specs.Edges.{Drawn, set_named}
-use Rattle.version_graph.specs.Dropped.{dropped}
 use Rattle.version_graph.specs.declared.parts.Edge.{Edge}
 use Rattle.layout_rules.specs.Changes.{evolved_layout, layout_after}
 use Rattle.layout_rules.specs.declared.layout.Layout.{Layout}
@@ -16,7 +15,6 @@ use Rattle.layout_rules.proofs.AfterLemmas.{layout_dropped, layout_evolved, same
 use Rattle.op_any.specs.Checks.{◌then◌, Gives}
 use Rattle.op_any.specs.Operators.{AnyView, any_meaning}
 use Rattle.version_model.specs.Databases.{Evolves, dropped_database, start_in}
-use Rattle.version_model.specs.Kept.{Database}
 use Rattle.db_state.specs.Fields.{IsDatabase, database_of}
 use Rattle.db_state.specs.declared.parts.Parts.{Parts}
 use Rattle.migration.specs.Answers.{Drops}

@@ -1,1 +1,2 @@
 pub mod Evolve
+pub mod Plans

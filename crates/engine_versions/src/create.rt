@@ -10,6 +10,7 @@ ghost use Rattle.op_any.specs.Operators.{any_meaning};
 ghost use Rattle.layout_rules.specs.Changes.{layout_after};
 ghost use Rattle.db_state.specs.Fields.{database_of};
 ghost use Rattle.engine_versions.specs.Evolve.{created, start_at, unused};
+ghost use Rattle.engine_versions.specs.Plans.{PlansEdges};
 
 use crate::edges::build_edges;
 use bidel_parser::OpText;
@@ -18,10 +19,10 @@ use db_state::Db;
 use engine_statements::known_set;
 use expr_lang::Steps;
 use op_any::AnyOp;
-use par_base::{Fault, Name, Refusal};
+use par_base::{Fault, List, Name, Refusal};
 use std::alloc::Global;
 use std::sync::ledger::Ledger;
-use version_graph::Graph;
+use version_graph::{Edge, Graph};
 
 // The working set from which an evolution starts.
 fn find_start(
@@ -49,6 +50,31 @@ fn check_unused(alloc: Global, graph: &Graph<AnyOp>, name: &Name) -> Result<(), 
     }
 }
 
+/// The edges of the operators, each on the tables that the one before it leaves, the first on those of
+/// the version `from` or on none, while `next` is the next identifier; or the first refusal. Every
+/// database with this graph and this counter may evolve by them.
+///
+/// It takes time in the number of live tables for each operator, in the number of pairs of names, and
+/// in the length of expressions.
+pub fn plan_edges(
+    alloc: Global,
+    graph: &Graph<AnyOp>,
+    next: u64,
+    name: &Name,
+    from: Option<&Name>,
+    texts: &[OpText],
+) -> Result<List<Edge<AnyOp>>, Fault<Refusal>>
+    requires some { 0 < length texts.now }
+    requires fit { Each TextsFit (map op_view texts.now) }
+    ensures { PlansEdges graph.now next name.now (option_copied from.entry) (map op_view texts.now) result }
+{
+    // What this call promises of the graph is what each edge rests on.
+    let _live = graph.live_operators();
+    let set = find_start(alloc, graph, from)?;
+    check_unused(alloc, graph, name)?;
+    build_edges(alloc, graph, set, next, texts)
+}
+
 /// Adds the operators, each on the tables that the one before it leaves, the first on those of the
 /// version `from` or on none, and names the last one's tables; or the first refusal. After an error
 /// the database is as before.
@@ -72,8 +98,6 @@ pub fn create_version<L: Ledger>(
         ≡ layout_after database.old.layout.operators database.old.graph database.new.graph }
 {
     let graph = database.graph();
-    let set = find_start(alloc, graph, from)?;
-    check_unused(alloc, graph, &name)?;
-    let edges = build_edges(alloc, graph, set, database.ids().next(), texts)?;
+    let edges = plan_edges(alloc, graph, database.ids().next(), &name, from, texts)?;
     evolve_db(alloc, database, name, from, edges, steps)
 }

@@ -12,5 +12,5 @@ mod create;
 mod drop;
 mod edges;
 
-pub use create::create_version;
+pub use create::{create_version, plan_edges};
 pub use drop::drop_version;

@@ -1,1 +1,1 @@
-mod TokenLemmas
+pub mod TokenLemmas

@@ -1,0 +1,3 @@
+mod ParsingLemmas
+mod TwinLemmas
+mod TextLemmas
