@@ -1,6 +1,6 @@
 -- A statement on the data, with the layout beside it.
 use Rattle.std.specs.Prelude.{Result, Ok, Err, OnErr}
-use Rattle.std.proofs.Common.{◌≡◌, ℕ, Bool, true, false, List, [], refl, sym, ap, ◌∙◌, subst}
+use Rattle.std.proofs.Common.{◌≡◌, ℕ, Bool, true, false, List, [], refl, sym, ap, ◌∙◌}
 use Rattle.par_base.specs.declared.fault.Fault.{Fault}
 use Rattle.par_base.specs.declared.fault.Fault.TheVariants.{Refused, Memory}
 use Rattle.par_base.specs.declared.limits.Target.{Target}
@@ -17,7 +17,7 @@ use Rattle.db_state.specs.declared.parts.Parts.{Parts}
 use Rattle.engine_statements.specs.State.{State}
 use Rattle.engine_statements.specs.declared.reply.Reply.{Reply}
 use Rattle.engine_statements.specs.declared.reply.Reply.TheVariants.{Moved}
-use Rattle.engine_layouts.specs.Laid.{Laid, Materializes, laid_of, materialized}
+use Rattle.engine_layouts.specs.Laid.{Laid, Materializes, materialized}
 use Rattle.bidel_parser.specs.declared.statement.Statement.{Statement}
 use Rattle.bidel_parser.specs.declared.statement.Statement.TheVariants as statement
 use Rattle.bidel_parser.specs.Views.{statement_view, StatementView, CreateVersion, DropVersion, Insert, Import, Update, Delete, Select, Materialize, Step, ShowLayout, Use, Session, Advise}

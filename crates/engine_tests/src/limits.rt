@@ -76,8 +76,10 @@ fn a_refused_insert_leaves_the_other_version(rt: HostRuntime) -> Result<(), Fail
 
 #[test]
 fn a_refused_insert_changes_nothing_wherever_the_data_is(rt: HostRuntime) -> Result<(), Fail> {
-    let at_a = "table 1 t rows 1\noperator 1 create_table target aux 0\noperator 2 add_column source aux 1\nok\n";
-    let at_b = "table 2 t rows 1\noperator 1 create_table target aux 0\noperator 2 add_column target aux 0\nok\n";
+    let at_a =
+        "table 1 t rows 1\noperator 1 create_table target aux 0\noperator 2 add_column source aux 1\nok\n";
+    let at_b =
+        "table 2 t rows 1\noperator 1 create_table target aux 0\noperator 2 add_column target aux 0\nok\n";
     expect_events(
         &rt,
         rt.alloc(),

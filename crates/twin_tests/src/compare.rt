@@ -81,7 +81,11 @@ fn expect_table<L: Ledger>(
     }
     // No row has the next identifier.
     let next = twin.moved.ids().next();
-    assert_eq!(rt; row_at(alloc, &twin.moved, table, next, steps)?.is_some(), false, "table {table}");
+    assert_eq!(rt;
+        row_at(alloc, &twin.moved, table, next, steps)?.is_some(),
+        false,
+        "table {table}"
+    );
     Ok(())
 }
 
