@@ -130,7 +130,8 @@ pub fn memories_for(alloc: Global, numbers: &[u32]) -> Result<List<Numbered<Pair
     Ok(made)
 }
 
-/// The items with newer values, where both have the number. It takes no memory.
+/// The items with newer values, where both have the number. It takes no memory, and one comparison
+/// for each item before it, for each newer value.
 pub fn laid_over<T: Drop>(items: List<Numbered<T>>, newer: List<Numbered<T>>) -> List<Numbered<T>>
     ensures { IsLaidOver items newer result }
 {

@@ -1,6 +1,6 @@
 -- A statement on the data, with the layout beside it.
 use Rattle.std.specs.Prelude.{Result, Ok, Err, OnErr}
-use Rattle.std.proofs.Common.{◌≡◌, ℕ, true, List, [], refl, sym, ap, ◌∙◌, subst}
+use Rattle.std.proofs.Common.{◌≡◌, ℕ, Bool, true, false, List, [], refl, sym, ap, ◌∙◌}
 use Rattle.par_base.specs.declared.fault.Fault.{Fault}
 use Rattle.par_base.specs.declared.fault.Fault.TheVariants.{Refused, Memory}
 use Rattle.par_base.specs.declared.limits.Target.{Target}
@@ -11,13 +11,17 @@ use Rattle.op_any.specs.Operators.{AnyView, Built, CreateTable, DropTable, Renam
 use Rattle.layout_rules.specs.Changes.{layout_after}
 use Rattle.version_model.specs.Databases.{empty_database}
 use Rattle.storage_law.specs.Reading.{ReadsSources}
-use Rattle.db_state.specs.Fields.{database_of}
+use Rattle.layout_rules.proofs.AfterLemmas.{same_layout}
+use Rattle.db_state.specs.Fields.{IsDatabase, database_of}
 use Rattle.db_state.specs.declared.parts.Parts.{Parts}
 use Rattle.engine_statements.specs.State.{State}
 use Rattle.engine_statements.specs.declared.reply.Reply.{Reply}
 use Rattle.engine_statements.specs.declared.reply.Reply.TheVariants.{Moved}
-use Rattle.engine_layouts.specs.Laid.{Laid, Materializes, laid_of, materialized}
-use Rattle.engine_core.specs.Act.{with_data}
+use Rattle.engine_layouts.specs.Laid.{Laid, Materializes, materialized}
+use Rattle.bidel_parser.specs.declared.statement.Statement.{Statement}
+use Rattle.bidel_parser.specs.declared.statement.Statement.TheVariants as statement
+use Rattle.bidel_parser.specs.Views.{statement_view, StatementView, CreateVersion, DropVersion, Insert, Import, Update, Delete, Select, Materialize, Step, ShowLayout, Use, Session, Advise}
+use Rattle.engine_core.specs.Act.{acted, acted_data, tells_layout, with_data}
 use Rattle.engine_core.specs.Kept.{Answers, Follows, data_of, empty_state, state_of}
 
 -- the source of each operator is read back
@@ -53,7 +57,7 @@ answers_beside old new m (Err Memory) answers follows = tt
 
 -- ---- moves
 
-abbrev replied : Checked (ℕ × Laid) → Checked (Reply × Laid)
+abbrev pub replied : Checked (ℕ × Laid) → Checked (Reply × Laid)
 replied m = m then λ a. Ok (Moved a.0, a.1)
 
 pub move_refused : (old new : Laid) (named : List Target) (fault : Fault Refusal) → Materializes old named (Err fault) new → Answers (replied (materialized old named)) (Err fault) new × (new ≡ old)
@@ -62,3 +66,44 @@ move_refused old new named Memory moves = (tt, moves)
 
 pub move_answers : (old new : Laid) (named : List Target) (count : ℕ) → Materializes old named (Ok count) new → Answers (replied (materialized old named)) (Ok (Moved count)) new
 move_answers old new named count moves = ap replied moves
+
+-- ---- which statements are on the data
+
+pub acted_beside : (s : Laid) (x : StatementView) → tells_layout x ≡ false → acted s x ≡ (acted_data s.database x then λ answer. Ok (with_data s answer))
+acted_beside s (CreateVersion name from operators) off = refl
+acted_beside s (DropVersion name) off = refl
+acted_beside s (Insert table rows) off = refl
+acted_beside s (Import table bytes) off = refl
+acted_beside s (Update table assignments filter) off = refl
+acted_beside s (Delete table filter) off = refl
+acted_beside s (Select table items filter csv) off = refl
+acted_beside s (Materialize named in_steps) off = absurd (let no : ⊥ = cc in no)
+acted_beside s Step off = refl
+acted_beside s ShowLayout off = absurd (let no : ⊥ = cc in no)
+acted_beside s (Use name) off = refl
+acted_beside s (Session number) off = refl
+acted_beside s (Advise name) off = refl
+
+pub on_data : (st : Statement) → ((named : List Target) (in_steps : Bool) → st ≡ statement.Materialize named in_steps → ⊥) → (st ≡ statement.ShowLayout → ⊥) → tells_layout (statement_view st) ≡ false
+on_data (statement.CreateVersion name origin operators) a b = refl
+on_data (statement.DropVersion name) a b = refl
+on_data (statement.Insert table rows) a b = refl
+on_data (statement.Import table text) a b = refl
+on_data (statement.Update table assignments filter) a b = refl
+on_data (statement.Delete table filter) a b = refl
+on_data (statement.Select table items filter csv) a b = refl
+on_data (statement.Materialize named in_steps) a b = absurd (a named in_steps refl)
+on_data statement.Step a b = refl
+on_data statement.ShowLayout a b = absurd (b refl)
+on_data (statement.Use name) a b = refl
+on_data (statement.Session number) a b = refl
+on_data (statement.Advise name) a b = refl
+
+-- after an error the layout is as it was too
+pub same_laid : (old new : Parts AnyView) (r : Result Reply (Fault Refusal)) → IsDatabase any_meaning old → OnErr r (data_of new ≡ data_of old) → Follows old new → OnErr r (state_of new ≡ state_of old)
+same_laid old new (Ok reply) is same follows = tt
+same_laid old new (Err fault) is same follows =
+    let graph = ap (λ (d : State). d.graph) same in
+    let layout : new.layout.operators ≡ old.layout.operators =
+    follows ∙ ap (λ (g : Drawn AnyView). layout_after old.layout.operators old.graph g) graph ∙ same_layout old.graph is.graph old.layout.operators is.valid in
+    ap (λ (d : State). record { database = d; layout = new.layout.operators }) same ∙ ap (λ (l : List ℕ). record { database = data_of old; layout = l }) layout

@@ -1,5 +1,5 @@
 -- What a write of a database gives is what the model says of a statement's write.
-use Rattle.std.proofs.Common.{◌≡◌, ℕ, ◌<◌, Bool, true, false, Ok, Err, refl, sym, ap, subst, ◌∙◌, arith}
+use Rattle.std.proofs.Common.{◌≡◌, ℕ, ◌<◌, Bool, true, false, Result, Ok, Err, refl, sym, ap, subst, ◌∙◌, arith}
 use Rattle.std.specs.Prelude.{if◌then◌else◌}
 use Rattle.std.proofs.lemmas.Bool.{le-ltb, lt-ltb}
 use Rattle.par_base.specs.declared.fault.Fault.{Fault}
@@ -81,3 +81,9 @@ plan_fits k plan w t rows next plans n puts = (plans.1 n puts).0
 pub plan_refused : (k : Parts AnyView) (w t : ℕ) (rows : Rows) (next : ℕ) (fault : Fault Spent) → Plans any_meaning k w t rows next (Err fault) → Writes any_meaning (database_of any_meaning k) w t rows next (Err fault) (database_of any_meaning k)
 plan_refused k w t rows next (Refused spent) plans = (plans, refl)
 plan_refused k w t rows next Memory plans = refl
+
+-- after a write, or an error
+pub write_follows : (k n : Parts AnyView) (w t : ℕ) (rows : Rows) (next : ℕ) (r : Result (Unit {0}) (Fault Spent)) → IsDatabase any_meaning k → Writes any_meaning (database_of any_meaning k) w t rows next r (database_of any_meaning n) → n.layout ≡ k.layout → Follows k n
+write_follows k n w t rows next (Ok done) is writes layout = both_stay k n is (ap (λ (d : State). d.graph) writes.1) layout
+write_follows k n w t rows next (Err (Refused spent)) is writes layout = both_stay k n is (ap (λ (d : State). d.graph) writes.1) layout
+write_follows k n w t rows next (Err Memory) is writes layout = both_stay k n is (ap (λ (d : State). d.graph) writes) layout

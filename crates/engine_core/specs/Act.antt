@@ -61,6 +61,12 @@ acted s (Materialize named in_steps) = materialized s named then λ m. Ok (Moved
 acted s ShowLayout = Ok (Layout (shown_tables s) (shown_operators s), s)
 acted s statement = acted_data s.database statement then λ answer. Ok (with_data s answer)
 
+-- whether its answer tells of the layout
+abbrev pub tells_layout : StatementView → Bool
+tells_layout (Materialize named in_steps) = true
+tells_layout ShowLayout = true
+tells_layout _ = false
+
 -- one event; every other form is refused before all other checks of its statement
 abbrev pub act : Laid → StatementView → Checked (Reply × Laid)
 act s statement = if is_built statement then acted s statement else Err NotBuilt

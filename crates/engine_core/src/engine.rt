@@ -129,6 +129,8 @@ impl Engine {
         ensures ordinary { (p : Planned) → planned (data_of self.old) (statement_view statement.now) ≡ Ok p
             → OnOk result (IsOrdinary (data_of self.old) p (data_of self.new)) }
     {
+        // That the layout stays where the graph does rests on it.
+        self.versions_always_agree();
         match statement {
             Statement::Materialize { named, .. } => self.move_data(alloc, named.as_slice(), steps),
             Statement::ShowLayout => Ok(show_layout(alloc, &self.database)?),
@@ -208,6 +210,8 @@ impl Engine {
         ensures layout { Follows self.old self.new }
         ensures reply { IfOk result IsReply }
     {
+        // That the layout stays where the graph does rests on it.
+        self.versions_always_agree();
         let name = name.copy(alloc)?;
         create_version(
             alloc,
@@ -236,6 +240,8 @@ impl Engine {
         ensures ordinary { (p : Planned) → planned (data_of self.old) (statement_view statement.now) ≡ Ok p
             → OnOk result (IsOrdinary (data_of self.old) p (data_of self.new)) }
     {
+        // That the layout stays where the graph does rests on it.
+        self.versions_always_agree();
         let plan = self.plan(alloc, statement, steps)?;
         self.write(alloc, plan, steps)
     }

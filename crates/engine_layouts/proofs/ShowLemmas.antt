@@ -2,14 +2,14 @@
 use Rattle.std.specs.Prelude.{◌<◌, ◌↔◌, Option, Some, None, option_map, option_to_list, slice_get}
 use Rattle.std.specs.List.{find}
 use Rattle.std.specs.Option.{IsSome, option_map_or}
-use Rattle.std.proofs.Common.{◌≡◌, ℕ, ◌+◌, ◌==◌, List, [], ◌∷◌, ◌++◌, cond, filter, get_or, length, map, take, inl, inr, refl, sym, ap, ◌∙◌, subst, arith}
+use Rattle.std.proofs.Common.{◌≡◌, ℕ, ◌+◌, ◌==◌, List, [], ◌∷◌, ◌++◌, filter, get_or, length, map, take, inl, inr, refl, sym, ap, ◌∙◌, subst, arith}
 use Rattle.std.proofs.lemmas.Bool.{cond-false, cond-true, eq-eqb, ne_eqb}
 use Rattle.std.proofs.lemmas.List.{map-append, take_more}
 use mathlib.Core.List.{reverse}
 use Rattle.row_store.specs.Rows.{Rows}
 use Rattle.row_store.specs.States.{TableState}
-use Rattle.version_graph.specs.Sets.{In, Each}
-use Rattle.version_graph.specs.Tables.{TableVersion, table_numbers}
+use Rattle.version_graph.specs.Sets.{In}
+use Rattle.version_graph.specs.Tables.{TableVersion}
 use Rattle.version_graph.specs.Edges.{Drawn, Rises, heading_of, made}
 use Rattle.version_graph.specs.Forest.{Link, forest, link}
 use Rattle.version_graph.specs.declared.parts.Placed.{Placed}
@@ -22,7 +22,7 @@ use Rattle.op_any.specs.Operators.{AnyView, any_meaning}
 use Rattle.layout_rules.specs.Layouts.{IsStored}
 use Rattle.layout_rules.specs.Lookups.{is_stored, tables_up}
 use Rattle.layout_rules.proofs.PassLemmas.{reverse_next, stored_listed, stored_rise, take_next, target_up, up_made}
-use Rattle.version_model.specs.Kept.{rows_at, value_of}
+use Rattle.version_model.specs.Kept.{value_of}
 use Rattle.version_model.specs.States.{headings}
 use Rattle.version_model.specs.declared.numbered.Numbered.{Numbered}
 use Rattle.storage_law.specs.Storage.{StandsOver, aux_of, stored_way}

@@ -4,7 +4,7 @@ ghost use Rattle.engine_tests.specs.Short.{IsShortRow, AreShortRows, IsShortOper
 
 use bidel_parser::{OpText, Statement, TableName};
 use expr_lang::ExprText;
-use par_base::{List, Name, Row, Value, read_name};
+use par_base::{List, Name, Row, Target, Value, read_name};
 use std::alloc::Global;
 use std::test::Fail;
 
@@ -23,6 +23,9 @@ pub enum Given {
     Select(&'static str),
     /// `DELETE FROM` the version's `t`
     Delete(&'static str),
+    /// `MATERIALIZE` and a version
+    Materialize(&'static str),
+    ShowLayout,
 }
 
 fn named(alloc: Global, text: &str) -> Result<Name, Fail> {
@@ -97,6 +100,20 @@ fn version_b(alloc: Global) -> Result<Statement, Fail>
     version_of(alloc, "b", Some(from), operator)
 }
 
+fn materialize(alloc: Global, version: &str) -> Result<Statement, Fail>
+    ensures { IfOk result IsShortStatement }
+{
+    let mut named_tables = List::new(alloc);
+    named_tables.push(Target {
+        version: named(alloc, version)?,
+        table: None,
+    })?;
+    Ok(Statement::Materialize {
+        named: named_tables,
+        in_steps: false,
+    })
+}
+
 /// The statement as the engine takes it.
 pub fn statement_of(alloc: Global, given: Given) -> Result<Statement, Fail>
     ensures { IfOk result IsShortStatement }
@@ -118,5 +135,7 @@ pub fn statement_of(alloc: Global, given: Given) -> Result<Statement, Fail>
             table: table_in(alloc, version)?,
             filter: None,
         }),
+        Given::Materialize(version) => materialize(alloc, version),
+        Given::ShowLayout => Ok(Statement::ShowLayout),
     }
 }

@@ -9,9 +9,9 @@ use Rattle.engine_statements.specs.State.{State}
 use Rattle.engine_statements.specs.declared.reply.Reply.{Reply}
 use Rattle.engine_statements.specs.declared.reply.Reply.TheVariants.{Moved}
 use Rattle.engine_layouts.specs.Laid.{Laid, moved_count}
-use Rattle.engine_core.specs.Act.{act, acted_data, is_built, with_data}
+use Rattle.engine_core.specs.Act.{act, acted_data, is_built, tells_layout, with_data}
 use Rattle.inverda_run.specs.Output.{next_state, text_of}
-use Rattle.inverda_run.specs.Moves.{answers, tells_layout, without_moves}
+use Rattle.inverda_run.specs.Moves.{answers, without_moves}
 
 -- a statement on the data, beside a layout
 abbrev beside : Laid → Bool → Checked (Reply × State) → Checked (Reply × Laid)
@@ -46,8 +46,15 @@ same_act s t is (Use name) off = record { text = refl; database = is }
 same_act s t is (Session number) off = record { text = refl; database = is }
 same_act s t is (Advise name) off = record { text = refl; database = is }
 
--- a MATERIALIZE leaves the data
-move_leaves : (s : Laid) (b : Bool) (m : Checked (List ℕ)) → (next_state s (if b then ((m then λ new. Ok (moved_count s new, record s { layout = new })) then λ a. Ok (Moved a.0, a.1)) else Err NotBuilt)).database ≡ s.database
+-- what a MATERIALIZE makes of what closing gives, and its reply
+abbrev moved_laid : Laid → Checked (List ℕ) → Checked (ℕ × Laid)
+moved_laid s m = m then λ new. Ok (moved_count s new, record s { layout = new })
+
+abbrev moved_reply : Checked (ℕ × Laid) → Checked (Reply × Laid)
+moved_reply m = m then λ a. Ok (Moved a.0, a.1)
+
+-- it leaves the data
+move_leaves : (s : Laid) (b : Bool) (m : Checked (List ℕ)) → (next_state s (if b then moved_reply (moved_laid s m) else Err NotBuilt)).database ≡ s.database
 move_leaves s true (Ok new) = refl
 move_leaves s true (Err r) = refl
 move_leaves s false m = refl

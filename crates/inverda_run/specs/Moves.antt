@@ -1,19 +1,13 @@
 -- What a MATERIALIZE changes for its script: no line but its own and those of SHOW LAYOUT.
 use Rattle.std.specs.Prelude.{◌≡◌, ℕ, Bool, true, false, not, cond, List, [], ◌∷◌, ◌++◌, filter}
-use Rattle.bidel_parser.specs.Views.{StatementView, Materialize, ShowLayout}
-use Rattle.engine_core.specs.Act.{act}
+use Rattle.bidel_parser.specs.Views.{StatementView, Materialize}
+use Rattle.engine_core.specs.Act.{act, tells_layout}
 use Rattle.engine_layouts.specs.Laid.{Laid}
 use Rattle.inverda_run.specs.Output.{next_state, text_of}
 
 abbrev pub is_move : StatementView → Bool
 is_move (Materialize named in_steps) = true
 is_move _ = false
-
--- its answer tells of the layout
-abbrev pub tells_layout : StatementView → Bool
-tells_layout (Materialize named in_steps) = true
-tells_layout ShowLayout = true
-tells_layout _ = false
 
 -- the lines that answer each of the other statements
 unfoldable pub answers : Laid → List StatementView → List (List ℕ)

@@ -1,13 +1,13 @@
 -- The layout from one graph to the next.
-use Rattle.std.specs.Prelude.{◌<◌, ◌≤◌, ◌&&◌, nat_lt}
-use Rattle.std.proofs.Common.{◌≡◌, ℕ, ◌+◌, List, [], ◌∷◌, ◌++◌, Bool, true, false, cond, filter, length, inl, inr, refl, sym, ap, ◌∙◌, subst, arith, append_assoc}
+use Rattle.std.specs.Prelude.{◌≤◌, ◌&&◌, nat_lt}
+use Rattle.std.proofs.Common.{◌≡◌, ℕ, ◌+◌, List, [], ◌∷◌, ◌++◌, Bool, true, false, cond, filter, length, inl, inr, refl, sym, ap, ◌∙◌, subst, arith}
 use Rattle.std.proofs.lemmas.Bool.{cond-true, le-ltb, lt-ltb}
 use Rattle.std.proofs.lemmas.List.{append-nil}
-use Rattle.version_graph.specs.Sets.{In, Each}
+use Rattle.version_graph.specs.Sets.{In}
 use Rattle.version_graph.specs.Edges.{Drawn, IsGraph, is_in, numbers, version_sets}
 use Rattle.version_graph.specs.Evolve.{evolved, grown, placed_next}
 use Rattle.version_graph.specs.Dropped.{dropped, other_versions}
-use Rattle.version_graph.specs.Forest.{Link, forest}
+use Rattle.version_graph.specs.Forest.{forest}
 use Rattle.version_graph.specs.declared.parts.Edge.{Edge}
 use Rattle.version_graph.specs.declared.parts.Placed.{Placed}
 use Rattle.version_graph.proofs.SetLemmas.{each_at, is_in_true}

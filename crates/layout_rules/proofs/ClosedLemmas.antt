@@ -12,7 +12,7 @@ use Rattle.par_base.specs.declared.refusal.Refusal.TheVariants.{InvalidLayout}
 use Rattle.version_graph.specs.declared.parts.Heading.{Heading}
 use Rattle.version_graph.specs.Edges.{AreEdges, Drawn, heading_of}
 use Rattle.version_graph.proofs.NodeLemmas.{find_past}
-use Rattle.layout_rules.specs.Closing.{Closes, first_unknown, named_trees}
+use Rattle.layout_rules.specs.Closing.{first_unknown, named_trees}
 use Rattle.layout_rules.specs.Calls.{KnowsTables, SharesNone, StoresAll}
 use Rattle.layout_rules.specs.Lookups.{is_shared, numbers_up, stays, stores_found, tables_up}
 use Rattle.layout_rules.specs.Closed.{GivesLayout, IsClosing, closed_layout, closing, closing_refusal, first_shared, first_unstored, or_else, tells_table, tells_target, unless, wanted}

@@ -34,7 +34,7 @@ use Rattle.db_state.specs.Fields.{IsDatabase, auxes_at, database_of, numbers_in,
 use Rattle.db_state.specs.declared.parts.Parts.{Parts}
 use Rattle.db_state.proofs.FieldLemmas.{IsShaped, Store, is_database, none_at}
 use Rattle.migration.specs.Moved.{Adopts, Leads}
-use Rattle.migration.specs.Places.{AreStoredPlaces, IsPlace}
+use Rattle.migration.specs.Places.{AreStoredPlaces, IsPlace, place_rows}
 use Rattle.migration.specs.Sides.{changing}
 use Rattle.migration.specs.declared.moved.Moved.{Moved}
 use Rattle.migration.proofs.CoverLemmas.{source_covered, stored_covered, target_covered}
@@ -130,7 +130,7 @@ module _ {O : Type 0} (meaning : O → Meaning) (old : Parts O) (base : IsDataba
           let none = none_at old.stored t out in
           let right : rows_now old.stored read t ≡ s.tables t = is_read t (made_live k.made.0 t k.made.1 k.made.3) (stored_covered es edges layout goal base.valid valid t k) in
           let copied : place.item.value.rows ≡ rows_now old.stored read t =
-          here (ap (λ (m : ℕ). value_of old.stored m) place.number ∙ none) ∙ ap (λ (m : ℕ). rows_now old.stored read m) place.number in
+          here ∙ ap (λ (m : ℕ). place_rows (value_of old.stored m) (rows_now old.stored read m)) place.number ∙ ap (λ (o : Option TableState). place_rows o (rows_now old.stored read t)) none in
           ap rows_or_none (value ∙ ap (λ (o : Option TableState). renewed (Some place.item.value) o) none) ∙ copied ∙ right)
 
       -- the auxiliary tables of an operator

@@ -1,5 +1,6 @@
 -- The tables that a move brings to a layout.
-use Rattle.std.specs.Prelude.{◌≡◌, ◌↔◌, ℕ, None, List, [], ◌∷◌, ◌++◌}
+use Rattle.std.specs.Prelude.{◌≡◌, ◌↔◌, ℕ, Option, Some, None, List, [], ◌∷◌, ◌++◌}
+use Rattle.row_store.specs.Rows.{Rows}
 use Rattle.row_store.specs.States.{TableState}
 use Rattle.version_graph.specs.Sets.{In, Each}
 use Rattle.version_graph.specs.Edges.{Rises}
@@ -10,9 +11,14 @@ use Rattle.version_model.specs.Kept.{rows_now, value_of}
 use Rattle.version_model.specs.declared.numbered.Numbered.{Numbered}
 use Rattle.db_state.specs.Fields.{numbers_in}
 
+-- a table that is kept gets an empty place, and another one its rows
+abbrev pub place_rows : Option TableState → Rows → Rows
+place_rows None rows = rows
+place_rows (Some kept) rows = []
+
 -- a table for a number: where none is kept, it is what was read
 abbrev pub IsPlaceOf : List (Numbered TableState) → List (Numbered TableState) → ℕ → TableState → Type 0
-IsPlaceOf kept read n table = value_of kept n ≡ None → table.rows ≡ rows_now kept read n
+IsPlaceOf kept read n table = table.rows ≡ place_rows (value_of kept n) (rows_now kept read n)
 
 abbrev pub IsPlace : List (Numbered TableState) → List (Numbered TableState) → Numbered TableState → Type 0
 IsPlace kept read i = IsPlaceOf kept read i.number i.value

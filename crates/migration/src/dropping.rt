@@ -1,4 +1,4 @@
-//! Drops: the operators that go are first moved to their source sides, so that what stays keeps its data.
+//! Drops: the operators that go are first moved to their source sides. Then nothing that stays moves.
 ghost use Rattle.std.specs.Prelude.{◌≡◌, filter};
 ghost use Rattle.std.specs.Option.{IsSome};
 ghost use Rattle.version_graph.specs.Dropped.{dropped};
@@ -44,7 +44,8 @@ fn lives<O>(graph: &Graph<O>, number: u32) -> bool
 }
 
 fn keep_live<O>(graph: &Graph<O>, operators: &mut Vec<u32>)
-    ensures { operators.new.items ≡ filter (λ n. is_in n (numbers graph.now.edges)) operators.old.items }
+    ensures { operators.new.items
+        ≡ filter (λ n. is_in n (numbers graph.now.edges)) operators.old.items }
 {
     operators.retain(|number| lives(graph, *number));
 }
@@ -54,8 +55,10 @@ fn cut<O: Operator + Drop>(alloc: Global, db: &mut Db<O>, name: &Name)
     requires named { IsSome (set_named db.old.graph.versions name.now) }
     requires aside { GoFromSources db.old.graph.edges (dropped db.old.graph name.now).edges
         db.old.layout.operators }
-    ensures database { database_of O.meaning db.new ≡ dropped_database (database_of O.meaning db.old) name.now }
-    ensures layout { db.new.layout.operators ≡ dropped_layout db.old.graph name.now db.old.layout.operators }
+    ensures database { database_of O.meaning db.new
+        ≡ dropped_database (database_of O.meaning db.old) name.now }
+    ensures layout { db.new.layout.operators
+        ≡ dropped_layout db.old.graph name.now db.old.layout.operators }
 {
     let Parts {
         mut graph,

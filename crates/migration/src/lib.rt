@@ -4,9 +4,9 @@
 //! what takes memory or may be refused is done first and leaves the database as it is, and what is
 //! done then can't fail. After a flip or a move the database has the new layout and stands for the
 //! same state (`specs/Moved.antt`); after a drop it is the model's database without the version
-//! (`specs/Answers.antt`). Only the operators that change sides have their data moved, and
-//! `adopt_move` tells how many they are. The crate knows operators by their laws alone, and nothing
-//! of names in statements, of sessions or of replies.
+//! (`specs/Answers.antt`). `adopt_move` tells how many operators changed sides (`specs/Sides.antt`).
+//! The crate knows operators by their laws alone, and nothing of names in statements, of sessions or
+//! of replies.
 #![tactic(auto)]
 
 mod dropping;

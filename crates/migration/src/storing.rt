@@ -1,4 +1,4 @@
-//! The tables that a layout stores: those that come to it, and places for those that are stored already.
+//! The tables that a layout stores: those that come to it, and places for those that are kept.
 ghost use Rattle.std.specs.Prelude.{IfOk, OnOk};
 ghost use Rattle.migration.specs.Places.{AddsPlace, ArePlaces, AreStoredPlaces, IsPlaceOf};
 

@@ -57,9 +57,7 @@ ok
 }
 
 #[test]
-fn a_row_that_meets_no_condition_stays_in_an_auxiliary_table(
-    rt: HostRuntime,
-) -> Result<(), Fail> {
+fn a_row_that_meets_no_condition_stays_in_an_auxiliary_table(rt: HostRuntime) -> Result<(), Fail> {
     let script = "CREATE SCHEMA VERSION a WITH CREATE TABLE t(x); INSERT INTO a.t VALUES (7);
 CREATE SCHEMA VERSION b FROM a WITH SPLIT TABLE t INTO r WITH x < 0, s WITH x > 100;
 MATERIALIZE b; SELECT * FROM a.t; SHOW LAYOUT;";
@@ -263,7 +261,10 @@ fn expect_unnoticed(
     let wanted = answered(rt, alloc, plain.as_str())?;
     let told = answered(rt, alloc, moving.as_str())?;
     let left = without_moves(alloc, told.as_str())?;
-    assert!(rt; told.as_str() != wanted.as_str(), "moves have answers of their own");
+    assert!(rt;
+        told.as_str() != wanted.as_str(),
+        "moves have answers of their own"
+    );
     assert_eq!(rt; left.as_str(), wanted.as_str(), "of {plain}");
     Ok(())
 }

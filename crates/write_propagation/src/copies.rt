@@ -2,7 +2,6 @@
 ghost use Rattle.std.specs.Prelude.{◌≡◌, filter, is_some, IfOk};
 ghost use Rattle.version_graph.specs.Edges.{is_in};
 ghost use Rattle.version_model.specs.Kept.{rows_now, pairs_at, value_of as value_of_lem};
-ghost use Rattle.db_state.specs.Fields.{IsDatabase};
 ghost use Rattle.write_propagation.specs.Trees.{IsWhole};
 ghost use Rattle.write_propagation.specs.Calls.{beside, told_pairs, told_rows, CopiesTree};
 
@@ -10,11 +9,11 @@ use crate::tree::Tree;
 use db_state::{Db, read_over};
 use expr_lang::Steps;
 use id_memory::PairMemory;
+use layout_rules::holds;
 use op_law::Operator;
 use par_base::{List, Memory};
 use row_store::Table;
 use std::alloc::Global;
-use std::iter::Iterator;
 use std::sync::ledger::Ledger;
 use version_model::{Numbered, copy_now, memory_at, value_of};
 
@@ -64,12 +63,6 @@ pub fn copy_memories(
     Ok(copies)
 }
 
-fn is_among(numbers: &[u32], number: u32) -> bool
-    ensures { result ≡ is_in number numbers.now }
-{
-    numbers.iter().any(|other| number == *other)
-}
-
 /// Those of the memories that stand under these numbers. It takes no memory.
 pub fn memories_of(
     memories: List<Numbered<PairMemory>>,
@@ -78,7 +71,7 @@ pub fn memories_of(
     ensures { result ≡ filter (λ item. is_in item.number numbers.now) memories }
 {
     let mut kept = memories.into_vec();
-    kept.retain(|item| is_among(numbers, item.number));
+    kept.retain(|item| holds(numbers, item.number));
     List::from_vec(kept)
 }
 

@@ -1,5 +1,3 @@
-use Rattle.std.proofs.Common.{◌++◌, ap, ◌∙◌, map}
-use Rattle.std.specs.Prelude.{option_map, option_to_list}
 use mathlib.Core.List.{reverse}
 use Rattle.engine_layouts.specs.Calls.{shown_edge}
 use Rattle.engine_layouts.proofs.ShowLemmas.{edges_next}

@@ -1,4 +1,4 @@
-use Rattle.std.proofs.Common.{ℕ, List, [], sym, ap, ◌∙◌, subst}
+use Rattle.std.proofs.Common.{ℕ, List, sym, ap, ◌∙◌, subst}
 use Rattle.row_store.specs.States.{TableState}
 use Rattle.id_memory.specs.States.{MemoryState}
 use Rattle.version_graph.specs.Forest.{forest}

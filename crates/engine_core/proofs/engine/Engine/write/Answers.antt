@@ -1,4 +1,4 @@
-use Rattle.std.proofs.Common.{◌≡◌, ◌<◌, Ok, subst, ap}
+use Rattle.std.proofs.Common.{◌≡◌, ◌<◌, Ok, refl, subst, ap}
 use Rattle.std.proofs.lemmas.Result.{err_from_is_err_and}
 use Rattle.par_base.specs.declared.fault.Fault.TheVariants.{Refused}
 use Rattle.par_base.specs.declared.refusal.Refusal.TheVariants.{IdsSpent}
@@ -8,7 +8,7 @@ use Rattle.op_any.specs.Operators.{AnyView, any_meaning}
 use Rattle.db_state.specs.Fields.{database_of}
 use Rattle.db_state.specs.declared.parts.Parts.{Parts}
 use Rattle.version_model.specs.Databases.{Writes}
-use Rattle.engine_core.proofs.WriteLemmas.{above_already, ordinary_then, written_then}
+use Rattle.engine_core.proofs.WriteLemmas.{above_already, both_stay, ordinary_then, write_follows, written_then}
 use Rattle.engine_core.proofs.engine.Engine.write.Goals as goal
 
 pub returns-in_err-ids-clause-answers : goal.returns-in_err-ids-clause-answers
@@ -37,3 +37,33 @@ returns-in-Ok-clause-ordinary g c =
     let e = subst (λ (x : Parts AnyView). Writes any_meaning (database_of any_meaning x) w.set w.table w.rows.rows w.next (Ok tt) (database_of any_meaning c.write_through.new.database)) c.self.view_is
     (subst (λ n. Writes any_meaning (database_of any_meaning c.self.inside.database) w.set w.table w.rows.rows n (Ok tt) (database_of any_meaning c.write_through.new.database)) next c.in-Ok.ensures.writes) in
     ordinary_then k w c.versions_always_agree.ensures.graph.edges c.versions_always_agree.ensures.agree c.requires (database_of any_meaning c.write_through.new.database) e
+
+pub returns-in_err-ids-clause-layout : goal.returns-in_err-ids-clause-layout
+returns-in_err-ids-clause-layout g c = both_stay c.args.self.now c.args.self.now c.versions_always_agree.ensures.stored refl refl
+
+pub returns-in-Ok-clause-layout : goal.returns-in-Ok-clause-layout
+returns-in-Ok-clause-layout g c =
+    let w = c.args.plan in
+    let n = c.in_ok-ids.ids.next in
+    let new = c.write_through.new.database in
+    let writes = subst (λ (x : Parts AnyView). Writes any_meaning (database_of any_meaning x) w.set w.table w.rows.rows n c.write_through.result (database_of any_meaning new)) c.self.view_is c.write_through.ensures.writes in
+    let layout = subst (λ (x : Parts AnyView). new.layout ≡ x.layout) c.self.view_is c.write_through.ensures.layout in
+    write_follows c.args.self.now new w.set w.table w.rows.rows n c.write_through.result c.versions_always_agree.ensures.stored writes layout
+
+pub returns-in-Err-Refused-clause-layout : goal.returns-in-Err-Refused-clause-layout
+returns-in-Err-Refused-clause-layout g c =
+    let w = c.args.plan in
+    let n = c.in_ok-ids.ids.next in
+    let new = c.write_through.new.database in
+    let writes = subst (λ (x : Parts AnyView). Writes any_meaning (database_of any_meaning x) w.set w.table w.rows.rows n c.write_through.result (database_of any_meaning new)) c.self.view_is c.write_through.ensures.writes in
+    let layout = subst (λ (x : Parts AnyView). new.layout ≡ x.layout) c.self.view_is c.write_through.ensures.layout in
+    write_follows c.args.self.now new w.set w.table w.rows.rows n c.write_through.result c.versions_always_agree.ensures.stored writes layout
+
+pub returns-clause-layout : goal.returns-clause-layout
+returns-clause-layout g c =
+    let w = c.args.plan in
+    let n = c.in_ok-ids.ids.next in
+    let new = c.write_through.new.database in
+    let writes = subst (λ (x : Parts AnyView). Writes any_meaning (database_of any_meaning x) w.set w.table w.rows.rows n c.write_through.result (database_of any_meaning new)) c.self.view_is c.write_through.ensures.writes in
+    let layout = subst (λ (x : Parts AnyView). new.layout ≡ x.layout) c.self.view_is c.write_through.ensures.layout in
+    write_follows c.args.self.now new w.set w.table w.rows.rows n c.write_through.result c.versions_always_agree.ensures.stored writes layout

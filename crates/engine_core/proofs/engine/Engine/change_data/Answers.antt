@@ -1,0 +1,6 @@
+use Rattle.std.proofs.Common.{refl}
+use Rattle.engine_core.proofs.WriteLemmas.{both_stay}
+use Rattle.engine_core.proofs.engine.Engine.change_data.Goals as goal
+
+pub returns-in-Select-clause-layout : goal.returns-in-Select-clause-layout
+returns-in-Select-clause-layout g c = both_stay c.args.self.now c.args.self.now c.versions_always_agree.ensures.stored refl refl
