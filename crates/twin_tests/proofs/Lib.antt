@@ -1,3 +1,2 @@
 mod ParsingLemmas
 mod TwinLemmas
-mod TextLemmas
