@@ -1,7 +1,5 @@
 //! The statements that change a database, carried out on both.
-ghost use Rattle.std.specs.Prelude.{◌≡◌, false, length, IfOk, map};
-ghost use Rattle.std.specs.List.{All};
-ghost use Rattle.bidel_parser.specs.Views.{op_view, statement_view};
+ghost use Rattle.std.specs.Prelude.{IfOk};
 ghost use Rattle.engine_statements.specs.Calls.{IsTaken};
 ghost use Rattle.twin_tests.specs.Short.{IsShortStatement, AreShortOperators};
 ghost use Rattle.twin_tests.specs.Twins.{IsTwin, Stays};

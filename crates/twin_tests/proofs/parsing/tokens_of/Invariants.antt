@@ -1,4 +1,4 @@
-use Rattle.std.proofs.Common.{◌≡◌, ◌≤◌, ◌-◌, ◌++◌, List, true, length}
+use Rattle.std.proofs.Common.{◌≤◌, ◌-◌, ◌++◌, List, true, length}
 use Rattle.bidel_lex.specs.declared.tokens.Token.{Token}
 use Rattle.bidel_lex.specs.declared.tokens.Lexed.{Lexed}
 use Rattle.bidel_lex.specs.Tokens.{HasTokens}
