@@ -68,8 +68,10 @@ impl Engine {
     ///
     /// An INSERT, UPDATE or DELETE takes time in the number of values of its table and of the tables of
     /// its tree, a CREATE SCHEMA VERSION in that of the sources and targets of its operators, a SELECT in
-    /// that of its table, however many other versions there are, a DROP SCHEMA VERSION in the square of
-    /// the number of live operators and tables.
+    /// that of its table and of those on its way to storage, a MATERIALIZE in that of the operators that
+    /// change sides, near and far. Besides, each takes time in the square of the number of live operators
+    /// and tables at most, but MATERIALIZE and DROP SCHEMA VERSION also in that of the operators that
+    /// are stored on their target side, for each table and each live operator.
     pub fn event<L: Ledger>(
         &mut self,
         alloc: Global,

@@ -1,10 +1,10 @@
 //! The engine: one database with all its versions, which carries out one statement after the other.
 //!
-//! It keeps a whole table for each table version. To the crates above it promises that
-//! `Engine::event` answers and leaves exactly what the model does (`specs/Act.antt`): the reply and
+//! It keeps what one layout stores. To the crates above it promises that `Engine::event` answers and
+//! leaves exactly what the model does (`specs/Act.antt`), whose data has no layout: the reply and
 //! the next state, or the refusal in its order; that a refused or starved call leaves the state as
-//! it was; that each version is an ordinary database for its own writes; and that `reply_text` and
-//! `refusal_text` give the lines of replies and refusals. A statement whose form isn't carried out
+//! it was; that each version is an ordinary database for its own writes; that engines of one state
+//! store the same; and that `reply_text` and `refusal_text` give the lines of replies and refusals. A statement whose form isn't carried out
 //! yet is refused as not built before every other check. The crate must not know how statements are
 //! written, or where their bytes come from and where the lines go.
 #![tactic(auto)]
