@@ -4,9 +4,10 @@
 //! leaves exactly what the model does (`specs/Act.antt`), whose data has no layout: the reply and
 //! the next state, or the refusal in its order; that a refused or starved call leaves the state as
 //! it was; that each version is an ordinary database for its own writes; that engines of one state
-//! store the same; and that `reply_text` and `refusal_text` give the lines of replies and refusals. A statement whose form isn't carried out
-//! yet is refused as not built before every other check. The crate must not know how statements are
-//! written, or where their bytes come from and where the lines go.
+//! store the same; and that `reply_text` and `refusal_text` give the lines of replies and refusals.
+//! A statement whose form isn't carried out yet is refused as not built before every other check.
+//! The crate must not know how statements are written, or where their bytes come from and where the
+//! lines go.
 #![tactic(auto)]
 
 mod built;
