@@ -240,23 +240,27 @@ fn without_moves(alloc: Global, text: &str) -> Result<String, Fail> {
     Ok(left)
 }
 
-// Runs the statements behind a front, once as they stand, and once with a move to each version in
-// turn behind each of them.
+// Runs the statements behind a front, once as they stand, and once with a move behind each of them, to
+// both versions in turn.
 fn expect_unnoticed(
     rt: &impl Abort,
     alloc: Global,
     front: &str,
-    versions: &[&str],
+    versions: (&str, &str),
     statements: &[&str],
 ) -> Result<(), Fail> {
     let mut plain = String::from_str(alloc, front)?;
     let mut moving = String::from_str(alloc, front)?;
-    for (at, statement) in statements.iter().enumerate() {
+    let (mut next, mut last) = versions;
+    for statement in statements {
         plain.push_str(statement)?;
         moving.push_str(statement)?;
         moving.push_str(" MATERIALIZE ")?;
-        moving.push_str(versions[at % versions.len()])?;
+        moving.push_str(next)?;
         moving.push_str(";\n")?;
+        let done = next;
+        next = last;
+        last = done;
     }
     let wanted = answered(rt, alloc, plain.as_str())?;
     let told = answered(rt, alloc, moving.as_str())?;
@@ -303,15 +307,24 @@ fn moves_between_all_statements_change_no_other_reply(rt: HostRuntime) -> Result
         "SELECT * FROM b.s;",
     ];
     let alloc = rt.alloc();
-    let kept = ["TasKy", "Do!"];
-    expect_unnoticed(&rt, alloc, TASKS, kept.as_slice(), tasks.as_slice())?;
-    expect_unnoticed(&rt, alloc, TASKS, ["Do!"].as_slice(), tasks.as_slice())?;
-    expect_unnoticed(&rt, alloc, SPLIT, ["b", "a"].as_slice(), twins.as_slice())?;
-    expect_unnoticed(&rt, alloc, SPLIT, ["b"].as_slice(), twins.as_slice())
+    expect_unnoticed(&rt, alloc, TASKS, ("TasKy", "Do!"), tasks.as_slice())?;
+    expect_unnoticed(&rt, alloc, TASKS, ("Do!", "Do!"), tasks.as_slice())?;
+    expect_unnoticed(&rt, alloc, SPLIT, ("b", "a"), twins.as_slice())?;
+    expect_unnoticed(&rt, alloc, SPLIT, ("b", "b"), twins.as_slice())
 }
 
 #[test]
 fn new_versions_see_data_that_was_moved(rt: HostRuntime) -> Result<(), Fail> {
+    let begun = [
+        "CREATE SCHEMA VERSION c FROM b WITH MERGE TABLE r (x < 8), s (x >= 8) INTO w;",
+        "SELECT * FROM c.w;",
+        "UPDATE c.w SET x = 11;",
+        "SELECT * FROM a.t;",
+        "CREATE SCHEMA VERSION d FROM a WITH ADD COLUMN y AS x + 1 INTO t; DROP COLUMN x FROM t DEFAULT 4;",
+        "INSERT INTO d.t VALUES (3);",
+        "SELECT * FROM c.w;",
+        "SELECT * FROM d.t;",
+    ];
     let evolutions = [
         "CREATE SCHEMA VERSION c FROM b WITH MERGE TABLE r (x < 8), s (x >= 8) INTO w;",
         "SELECT * FROM c.w;",
@@ -328,8 +341,8 @@ fn new_versions_see_data_that_was_moved(rt: HostRuntime) -> Result<(), Fail> {
         "SELECT * FROM a.t;",
     ];
     let alloc = rt.alloc();
-    expect_unnoticed(&rt, alloc, SPLIT, ["a"].as_slice(), evolutions.as_slice())?;
-    expect_unnoticed(&rt, alloc, SPLIT, ["b"].as_slice(), &evolutions[..8])?;
+    expect_unnoticed(&rt, alloc, SPLIT, ("a", "a"), evolutions.as_slice())?;
+    expect_unnoticed(&rt, alloc, SPLIT, ("b", "b"), begun.as_slice())?;
     let tail = [
         "CREATE SCHEMA VERSION c FROM b WITH MERGE TABLE r (x < 8), s (x >= 8) INTO w;",
         "SELECT * FROM a.t;",
@@ -339,5 +352,5 @@ fn new_versions_see_data_that_was_moved(rt: HostRuntime) -> Result<(), Fail> {
         "SELECT * FROM b.s;",
         "SELECT * FROM b.r;",
     ];
-    expect_unnoticed(&rt, alloc, SPLIT, ["b"].as_slice(), tail.as_slice())
+    expect_unnoticed(&rt, alloc, SPLIT, ("b", "b"), tail.as_slice())
 }
