@@ -6,7 +6,7 @@ use Rattle.expr_lang.specs.Terms.{Term}
 use Rattle.op_rows.specs.Cells.{Cells, first_cell, CellWide, AreCellsOf}
 use Rattle.op_rows.specs.RowCalls.{AdmitsRows}
 use Rattle.op_column.specs.OneTable.{one_cell}
-use Rattle.op_column.specs.RowEdits.{value_at-insert}
+use Rattle.row_parts.specs.RowEdits.{value_at-insert}
 use Rattle.op_column.specs.Calls.{is_beside}
 use Rattle.op_column.specs.AddColumn.{kept_value, restored, without_column, column_alone, add_column}
 use Rattle.op_column.specs.AddColumnLaws.{source_wide, forward_wide, forward_related}

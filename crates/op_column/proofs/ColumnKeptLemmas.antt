@@ -7,7 +7,7 @@ use Rattle.expr_lang.specs.Terms.{Term}
 use Rattle.expr_lang.specs.Val.{val}
 use Rattle.op_rows.specs.Cells.{first_cell, CellWide}
 use Rattle.op_column.specs.OneTable.{one_cell}
-use Rattle.op_column.specs.RowEdits.{value_at, value_at-insert}
+use Rattle.row_parts.specs.RowEdits.{value_at, value_at-insert}
 use Rattle.op_column.specs.AddColumn.{added}
 use Rattle.op_column.specs.AddColumnLaws.{source_wide}
 use Rattle.op_column.specs.ColumnKept.{AddedColumnKept, AddedColumnFilled, DroppedColumnKept}

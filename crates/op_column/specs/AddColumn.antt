@@ -10,7 +10,7 @@ use Rattle.op_law.specs.Tables.{Heading}
 use Rattle.op_law.specs.SoundTerms.{TermSound}
 use Rattle.op_rows.specs.Cells.{first_cell}
 use Rattle.op_rows.specs.RowMeaning.{RowMeaning}
-use Rattle.op_column.specs.RowEdits.{value_at}
+use Rattle.row_parts.specs.RowEdits.{value_at}
 
 -- a row with the column, which gets this value at it
 abbrev pub with_column : ℕ → (List Value → Value) → Option (List Value) → Option (List Value)

@@ -12,7 +12,7 @@ use Rattle.op_law.proofs.SoundTermLemmas.{place_sound, val_sound, term_more}
 use Rattle.op_rows.specs.Cells.{Cells, first_cell, CellWide, AreCellsOf, CellSound}
 use Rattle.op_rows.specs.RowMeaning.{RowHalf, RowLaws, flip_row}
 use Rattle.op_column.specs.OneTable.{widths, one_cell, one_wide, one_long, first_sound}
-use Rattle.op_column.specs.RowEdits.{remove-insert, insert-remove, insert_sound, remove_sound}
+use Rattle.row_parts.specs.RowEdits.{remove-insert, insert-remove, insert_sound, remove_sound}
 use Rattle.op_column.specs.AddColumn.{with_column, without_column, column_alone, added_value, added, restored, AddColumnFits, add_column}
 
 -- how many columns either side has

@@ -7,7 +7,7 @@ use Rattle.expr_lang.specs.Val.{val}
 use Rattle.op_law.specs.Tables.{Heading}
 use Rattle.op_rows.specs.Cells.{Cells, first_cell, AreCellsOf}
 use Rattle.op_rows.specs.RowMeaning.{RowPair, flip_row}
-use Rattle.op_column.specs.RowEdits.{value_at}
+use Rattle.row_parts.specs.RowEdits.{value_at}
 use Rattle.op_column.specs.AddColumn.{add_column}
 
 -- the value of the column at one identifier, where there is a row

@@ -1,5 +1,4 @@
 pub mod OneTable
-pub mod RowEdits
 pub mod Calls
 pub mod Rename
 pub mod CreateTable

@@ -7,10 +7,11 @@ ghost use Rattle.op_rows.specs.Cells.{first_cell};
 ghost use Rattle.op_column.specs.AddColumn.{added, added_value, column_alone, kept_value as value_kept, restored, without_column};
 ghost use Rattle.op_column.specs.Calls.{HasPlace, MayAdd, TakesPlace, is_beside};
 
-use crate::rows::{first_row, one_cell, one_value, value_at, with_value, without_value};
+use crate::rows::{first_row, one_cell, one_value};
 use expr_lang::{Expr, Steps, eval};
 use op_rows::Cells;
 use par_base::{Memory, Row, Value};
+use row_parts::{value_at, with_value, without_value};
 use std::alloc::Global;
 use std::sync::ledger::Ledger;
 
@@ -49,7 +50,7 @@ pub(crate) fn with_new<L: Ledger>(
     match first_row(near) {
         Some(row) => {
             let value = new_value(alloc, place, value, row, first_row(old), steps)?;
-            let made = with_value(alloc, row, place, value)?;
+            let made = with_value(row.copy(alloc)?, place, value)?;
             Ok(one_cell(alloc, Some(made))?)
         }
         None => Ok(one_cell(alloc, None)?),
@@ -79,7 +80,7 @@ pub(crate) fn with_kept(
     match first_row(source) {
         Some(row) => {
             let value = kept_value(alloc, first_row(aux))?;
-            let made = with_value(alloc, row, place, value)?;
+            let made = with_value(row.copy(alloc)?, place, value)?;
             Ok(one_cell(alloc, Some(made))?)
         }
         None => Ok(one_cell(alloc, None)?),

@@ -71,8 +71,8 @@ fn next_id(ids: &[u64], in_ids: usize, rows: &[(u64, Row)], in_rows: usize) -> N
     }
 }
 
-/// The identifiers of the list and of the rows.
-fn merge_ids(alloc: Global, ids: &[u64], rows: &[(u64, Row)]) -> Result<List<u64>, Memory>
+/// The identifiers of the list and of the rows. It takes time in the number of both.
+pub fn merge_ids(alloc: Global, ids: &[u64], rows: &[(u64, Row)]) -> Result<List<u64>, Memory>
     requires ids { IdsRise 0 ids.now }
     requires rows { RiseFrom 0 rows.now }
     ensures { IfOk result (λ all. all ≡ ids_in rows.now ids.now) }

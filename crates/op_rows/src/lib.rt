@@ -19,6 +19,7 @@ mod row_operator;
 mod rowwise;
 
 pub use flip_row::FlipRow;
+pub use ids::merge_ids;
 pub use laws::{rowwise_is_local, rowwise_keeps_the_laws};
 pub use row_operator::{Cells, RowOperator};
 pub use rowwise::Rowwise;

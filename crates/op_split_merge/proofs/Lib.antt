@@ -1,3 +1,2 @@
 mod ShownLemmas
-mod SameLemmas
 mod CallLemmas

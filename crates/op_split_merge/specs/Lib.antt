@@ -1,4 +1,3 @@
-pub mod SameRows
 pub mod Twins
 pub mod Sides
 pub mod Auxiliary

@@ -12,11 +12,11 @@ ghost use Rattle.op_split_merge.specs.Calls.{CanTestBoth, TestsWithin, TargetBel
 use crate::Split;
 use crate::auxiliary::{aux_at_source, aux_at_target};
 use crate::cells::row_at;
-use crate::same::{is_same_cells, is_same_values};
 use crate::twins::meets;
 use expr_lang::Steps;
 use op_rows::Cells;
 use par_base::{Memory, Row};
+use row_parts::{is_same_cells, is_same_values};
 use std::alloc::Global;
 use std::sync::ledger::Ledger;
 

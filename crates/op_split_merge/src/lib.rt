@@ -16,7 +16,6 @@ mod cells;
 mod laws;
 mod mapping;
 mod reading;
-mod same;
 mod split;
 mod twins;
 

@@ -6,9 +6,9 @@ ghost use Rattle.op_split_merge.specs.Twins.{meets as meets_test, fails as fails
 ghost use Rattle.op_split_merge.specs.Split.{test_of};
 ghost use Rattle.op_split_merge.specs.Calls.{CanTest};
 
-use crate::same::is_same_row;
 use expr_lang::{Expr, Steps, holds};
 use par_base::{Memory, Row};
+use row_parts::is_same_row;
 use std::alloc::Global;
 use std::sync::ledger::Ledger;
 

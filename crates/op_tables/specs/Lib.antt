@@ -1,0 +1,4 @@
+pub mod SideTables
+pub mod Lookups
+pub mod CellFacts
+pub mod Wide

@@ -1,0 +1,7 @@
+mod IdLaws
+mod IdNumberLaws
+mod IdPairLaws
+mod NumberingLaws
+mod PathLaws
+mod RowLaws
+mod SymbolLaws

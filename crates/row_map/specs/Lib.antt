@@ -1,0 +1,5 @@
+pub mod IdNumbers
+pub mod IdPairs
+pub mod Numbering
+pub mod Paths
+pub mod RowNumbers

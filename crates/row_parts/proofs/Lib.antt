@@ -1,0 +1,2 @@
+mod SameLemmas
+mod EditLemmas

@@ -1,0 +1,6 @@
+pub mod RowCells
+pub mod SameRows
+pub mod RowEdits
+pub mod Places
+pub mod PlaceLemmas
+pub mod Partition

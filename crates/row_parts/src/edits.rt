@@ -1,0 +1,31 @@
+//! One value more in a row, and one less.
+ghost use Rattle.std.specs.Prelude.{◌≡◌, IfOk};
+ghost use Rattle.std.specs.List.{insert as inserted, remove as removed};
+
+use par_base::{Memory, Row, Value};
+use std::alloc::Global;
+
+/// The row with a value more at a place, or at its end where the place is past that.
+pub fn with_value(row: Row, place: usize, value: Value) -> Result<Row, Memory>
+    ensures { IfOk result (λ made. made ≡ inserted row place value) }
+{
+    let mut made = row;
+    let at = if place < made.len() {
+        place
+    } else {
+        made.len()
+    };
+    made.insert(at, value)?;
+    Ok(made)
+}
+
+/// The row without the value at a place, where it has one there.
+pub fn without_value(alloc: Global, row: &Row, place: usize) -> Result<Row, Memory>
+    ensures { IfOk result (λ part. part ≡ removed row.now place) }
+{
+    let mut part = row.copy(alloc)?;
+    if place < part.len() {
+        part.remove(place);
+    }
+    Ok(part)
+}
