@@ -1,0 +1,6 @@
+mod AdmissionLemmas
+mod SingleAdmission
+mod PkAdmission
+mod JoinAdmission
+mod KeptRowLemmas
+mod WorkedRows
