@@ -1,0 +1,28 @@
+-- What inner calls answer.
+use Rattle.std.specs.Prelude.{◌≡◌, ℕ, ◌+◌, ◌≤◌, ◌&&◌, Bool, cond, List, length, Option, Some, Result, Ok, Err}
+use Rattle.par_base.specs.declared.value.Value.{Value}
+use Rattle.par_base.specs.declared.fault.Fault.{Fault}
+use Rattle.par_base.specs.declared.fault.Fault.TheVariants.{Refused, Memory as OutOfMemory}
+use Rattle.par_base.specs.declared.refusal.IdsSpent.{IdsSpent}
+use Rattle.row_store.specs.States.{TableState}
+use Rattle.id_memory.specs.States.{CounterState}
+use Rattle.op_law.specs.Calls.{first_refused, IsSpent}
+use Rattle.row_parts.specs.SameRows.{same_row}
+use Rattle.row_map.specs.IdNumbers.{IdNumbers, number_of_id}
+use Rattle.row_map.specs.RowNumbers.{RowNumbers, number_of_row}
+use Rattle.foreign_keys.specs.References.{is_goal}
+use Rattle.foreign_keys.specs.Drawn.{numbered}
+
+-- the drawn rows, with the counter before and after: refused exactly where it doesn't give so many identifiers
+abbrev pub IsNumbered : List (List Value) → CounterState → CounterState → Result TableState (Fault IdsSpent) → Type 0
+IsNumbered values old new (Ok table) = (table.rows ≡ numbered old.next values) × (new ≡ record old { next = old.next + length values }) × (old.next + length values ≤ first_refused old)
+IsNumbered values old new (Err (Refused spent)) = IsSpent (old.next + length values) old new spent
+IsNumbered values old new (Err OutOfMemory) = new ≡ old
+
+-- the goal, where there is one, leads to this row, and each other to what it did
+abbrev pub IsWithGoal : IdNumbers → Option ℕ → ℕ → IdNumbers → Type 0
+IsWithGoal before goal id now = (q : ℕ) → number_of_id now q ≡ cond (is_goal goal q) (Some id) (number_of_id before q)
+
+-- the value has this row, if it is meant, and each other what it had
+abbrev pub IsWithLeast : RowNumbers → Bool → List Value → ℕ → RowNumbers → Type 0
+IsWithLeast before is_meant row id now = (v : List Value) → number_of_row now v ≡ cond (same_row row v && is_meant) (Some id) (number_of_row before v)

@@ -1,0 +1,10 @@
+pub mod Parts
+pub mod References
+pub mod Drawn
+pub mod Seeking
+pub mod Least
+pub mod Shared
+pub mod Calls
+pub mod DrawnLemmas
+pub mod ReferenceLemmas
+pub mod SeekLemmas

@@ -1,0 +1,2 @@
+mod AdmissionLemmas
+mod WorkedRows

@@ -1,0 +1,3 @@
+mod AdmissionLemmas
+mod FirstLemmas
+mod WorkedRows

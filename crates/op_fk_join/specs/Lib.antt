@@ -1,0 +1,4 @@
+pub mod Join
+pub mod Columns
+pub mod Admitted
+pub mod inner

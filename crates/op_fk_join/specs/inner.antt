@@ -1,0 +1,6 @@
+pub mod Calls
+pub mod JoinFacts
+pub mod JoinTables
+pub mod JoinLaws
+pub mod JoinRead
+pub mod ColumnLemmas

@@ -1,0 +1,144 @@
+//! JOIN ON FK: what a stored target keeps beside.
+ghost use Rattle.std.specs.Prelude.{◌≡◌, [], ◌∷◌, IfOk};
+ghost use Rattle.op_law.specs.Calls.{tables_of};
+ghost use Rattle.foreign_keys.specs.References.{AreReferred};
+ghost use Rattle.op_fk_join.specs.Join.{key_here, join_refs, unjoined_here, unjoined};
+ghost use Rattle.op_fk_join.specs.Join.{unreferred_here, unreferred, join_aux};
+
+use foreign_keys::{RowParts, copy_of, referred_ids};
+use op_law::{Aux, Side};
+use op_tables::{MakesRow, first_of, second_of, table_over, with_ids};
+use par_base::{List, Memory, Row};
+use row_map::IdSet;
+use row_store::Table;
+use std::alloc::Global;
+
+/// Each identifier of R with its foreign key.
+#[derive(Drop)]
+struct Keys<'a, P> {
+    parts: &'a P,
+    s: &'a Table,
+    r: &'a Table,
+}
+
+impl<P: RowParts> MakesRow for Keys<'_, P> {
+    ghost takes = { λ it. Unit {0} };
+
+    ghost made = { λ it. key_here (P.parts it.parts.now) it.s.now.rows it.r.now.rows };
+
+    fn at(&self, alloc: Global, id: u64) -> Result<Option<Row>, Memory> {
+        match (self.r.get(id), self.s.get(id)) {
+            (Some(_), Some(row)) => {
+                let mut alone = List::new(alloc);
+                alone.push(self.parts.key(alloc, row)?)?;
+                Ok(Some(alone))
+            }
+            _ => Ok(None),
+        }
+    }
+}
+
+/// The rows of S that R lacks.
+#[derive(Drop)]
+struct Unjoined<'a> {
+    s: &'a Table,
+    r: &'a Table,
+}
+
+impl MakesRow for Unjoined<'_> {
+    ghost takes = { λ it. Unit {0} };
+
+    ghost made = { λ it. unjoined_here it.s.now.rows it.r.now.rows };
+
+    fn at(&self, alloc: Global, id: u64) -> Result<Option<Row>, Memory> {
+        if self.r.get(id).is_some() {
+            return Ok(None);
+        }
+        copy_of(alloc, self.s, id)
+    }
+}
+
+/// The rows of T to which no row of S refers.
+#[derive(Drop)]
+struct Unreferred<'a, P> {
+    parts: &'a P,
+    s: &'a Table,
+    t: &'a Table,
+    referred: &'a IdSet,
+}
+
+impl<P: RowParts> MakesRow for Unreferred<'_, P> {
+    ghost takes = { λ it. AreReferred (P.parts it.parts.now) it.s.now.rows it.referred.now };
+
+    ghost made = { λ it. unreferred_here (P.parts it.parts.now) it.s.now.rows it.t.now.rows };
+
+    fn at(&self, alloc: Global, id: u64) -> Result<Option<Row>, Memory> {
+        if self.referred.has(id) {
+            return Ok(None);
+        }
+        copy_of(alloc, self.t, id)
+    }
+}
+
+/// The identifiers of R with their foreign keys.
+fn keys_table<P: RowParts>(alloc: Global, parts: &P, s: &Table, r: &Table) -> Result<Table, Memory>
+    ensures { let k = P.parts parts.now in
+        IfOk result (λ table. table.rows ≡ join_refs k s.now.rows r.now.rows) }
+{
+    let ids = with_ids(alloc, &List::new(alloc), r)?;
+    let table = table_over(alloc, ids.as_slice(), &Keys { parts, s, r })?;
+    Ok(table)
+}
+
+/// The rows of S that R lacks.
+fn unjoined_table(alloc: Global, s: &Table, r: &Table) -> Result<Table, Memory>
+    ensures { IfOk result (λ table. table.rows ≡ unjoined s.now.rows r.now.rows) }
+{
+    let ids = with_ids(alloc, &List::new(alloc), s)?;
+    let table = table_over(alloc, ids.as_slice(), &Unjoined { s, r })?;
+    Ok(table)
+}
+
+/// The rows of T to which no row of S refers.
+fn unreferred_table<P: RowParts>(
+    alloc: Global,
+    parts: &P,
+    s: &Table,
+    t: &Table,
+) -> Result<Table, Memory>
+    ensures { let k = P.parts parts.now in
+        IfOk result (λ table. table.rows ≡ unreferred k s.now.rows t.now.rows) }
+{
+    let ids = with_ids(alloc, &List::new(alloc), t)?;
+    let referred = &referred_ids(alloc, parts, s)?;
+    let each = Unreferred {
+        parts,
+        s,
+        t,
+        referred,
+    };
+    let table = table_over(alloc, ids.as_slice(), &each)?;
+    Ok(table)
+}
+
+/// What the target keeps beside, of this source and this target. It goes over each table a fixed
+/// number of times, with comparisons in the logarithm of the rows for each row.
+pub(crate) fn aux_of<P: RowParts>(
+    alloc: Global,
+    parts: &P,
+    source: &Side,
+    target: &Side,
+) -> Result<Aux, Memory>
+    ensures { let k = P.parts parts.now in
+        IfOk result (λ aux. tables_of aux ≡ join_aux k source.now target.now) }
+{
+    let empty = Table::new(alloc);
+    let s = first_of(source.tables(), &empty);
+    let t = second_of(source.tables(), &empty);
+    let r = first_of(target.tables(), &empty);
+    let mut tables = List::new(alloc);
+    tables.push(keys_table(alloc, parts, s, r)?)?;
+    tables.push(unjoined_table(alloc, s, r)?)?;
+    tables.push(unreferred_table(alloc, parts, s, t)?)?;
+    Ok(Aux { tables })
+}
