@@ -1,0 +1,73 @@
+-- What is said of the pairs that rows get while they are assigned.
+use Rattle.std.specs.Prelude.{◌≡◌, ℕ, List, Some, None, if◌then◌else◌}
+use Rattle.par_base.specs.declared.value.Value.{Value}
+use Rattle.row_store.specs.Rows.{Rows, AreBelow}
+use Rattle.id_memory.specs.Pairs.{Pairs}
+use Rattle.row_parts.specs.SameRows.{same_row}
+use Rattle.row_map.specs.IdPairs.{holds_pair}
+use Rattle.row_map.specs.RowNumbers.{RowNumbers, number_of_row}
+use Rattle.op_cond_join.specs.declared.assigning.Assigning.{Assigning as State}
+use Rattle.op_cond_join.specs.declared.join.JoinOn.{JoinOn}
+use Rattle.op_cond_join.specs.declared.unchanged.OldTarget.{OldTarget}
+use Rattle.op_cond_join.specs.declared.growing.Growing.{Growing}
+use Rattle.op_cond_join.specs.declared.taken.Taken.{Taken}
+use Rattle.op_cond_join.specs.Joinings.{joining}
+use Rattle.op_cond_join.specs.Shown.{has}
+use Rattle.op_cond_join.specs.Assigned.{Assigning, Got, Placed, least, or_id, place_changed, place_row, assigned, ending}
+
+-- what the laws see
+abbrev pub assigning : State → ℕ → Assigning
+assigning it next = record { first = it.first.table.rows; second = it.second.table.rows; taken = it.taken.entries; next = next }
+
+-- the map has the least row with each values
+abbrev pub HasLeast : RowNumbers → Rows → Type 0
+HasLeast numbers rows = (values : List Value) → number_of_row numbers values ≡ least rows values
+
+-- a row that has no number gets this one, and every other keeps what it had
+abbrev pub AddsNumber : RowNumbers → List Value → ℕ → RowNumbers → Type 0
+AddsNumber before values id now = (other : List Value) → number_of_row now other ≡ or_id (number_of_row before other) (if same_row values other then Some id else None)
+
+-- its own map has its least rows
+abbrev pub FindsLeast : Growing → Type 0
+FindsLeast it = HasLeast it.numbers it.table.rows
+
+-- the set has the pairs of the entries
+abbrev pub KnowsPairs : Taken → Type 0
+KnowsPairs it = (a b : ℕ) → holds_pair it.pairs a b ≡ has it.entries a b
+
+-- each look-up tells what a search would find
+pub record Knows (it : State) : Type 0 where
+  pub first : FindsLeast it.first
+  pub second : FindsLeast it.second
+  pub taken : KnowsPairs it.taken
+
+-- the identifier and the rows are those that were found or drawn
+pub record IsGiven (to : Got) (id : ℕ) (rows : Growing) : Type 0 where
+  pub number : id ≡ to.id
+  pub table : rows.table.rows ≡ to.rows
+  pub finds : FindsLeast rows
+
+-- the pair and what is assigned after it
+pub record IsPlaced (to : Placed) (pair : ℕ × ℕ) (it : State) (next : ℕ) : Type 0 where
+  pub both : pair ≡ (to.first, to.second)
+  pub after : assigning it next ≡ to.after
+  pub knows : Knows it
+
+-- the pair of a row that isn't as it was
+abbrev pub changed_placed : JoinOn → OldTarget → State → ℕ → ℕ × List Value → Placed
+changed_placed join old it next row = place_changed (joining join) old.rows.now.rows old.memory.now.entries (assigning it next) row
+
+-- the pair of a row
+abbrev pub row_placed : JoinOn → OldTarget → State → ℕ → ℕ × List Value → Placed
+row_placed join old it next row = place_row (joining join) old.rows.now.rows old.memory.now.entries (assigning it next) row
+
+-- the pairs of rows, and what is assigned at the end
+abbrev pub pairs_given : JoinOn → OldTarget → State → ℕ → Rows → Pairs
+pairs_given join old it next near = assigned (joining join) old.rows.now.rows old.memory.now.entries (assigning it next) near
+
+abbrev pub end_of : JoinOn → OldTarget → State → ℕ → Rows → Assigning
+end_of join old it next near = ending (joining join) old.rows.now.rows old.memory.now.entries (assigning it next) near
+
+-- the rows of both tables are below the next identifier
+abbrev pub AreBelowNext : Assigning → Type 0
+AreBelowNext d = AreBelow d.first d.next × AreBelow d.second d.next

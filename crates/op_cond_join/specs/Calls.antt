@@ -1,0 +1,50 @@
+-- What the inner calls answer.
+use Rattle.std.specs.Prelude.{◌≡◌, ℕ, ◌<◌, ◌≤◌, List, Bool, ◌&&◌, not, Result, Ok, Err}
+use Rattle.par_base.specs.declared.fault.Fault.{Fault}
+use Rattle.par_base.specs.declared.fault.Fault.TheVariants.{Refused, Memory as OutOfMemory}
+use Rattle.par_base.specs.declared.refusal.IdsSpent.{IdsSpent}
+use Rattle.row_store.specs.Rows.{row_of, RiseFrom}
+use Rattle.id_memory.specs.States.{CounterState}
+use Rattle.op_law.specs.Calls.{first_refused}
+use Rattle.op_cond_join.specs.declared.showing.Showing.{Showing}
+use Rattle.op_cond_join.specs.declared.showing.Seconds.{Seconds}
+use Rattle.op_cond_join.specs.Changed.{ids_of, changed_in}
+use Rattle.op_cond_join.specs.Joinings.{joining}
+use Rattle.id_memory.specs.Pairs.{Pairs}
+use Rattle.op_cond_join.specs.Shown.{has, is_shown, new_pairs, shown_pairs}
+
+-- an identifier is needed that the counter doesn't give, and the first such one is told; or memory ran out
+abbrev pub WasRefused : ℕ → CounterState → Fault IdsSpent → Type 0
+WasRefused next old (Refused spent) = (first_refused old < next) × (spent.needed ≡ first_refused old) × (spent.limit ≡ old.limit)
+WasRefused next old OutOfMemory = Unit {0}
+
+-- the answer has the property and the next identifier is this one, or it is refused exactly where that would draw more than the counter gives
+abbrev pub Draws : {T : Type 0} → ℕ → CounterState → CounterState → (T → Type 0) → Result T (Fault IdsSpent) → Type 0
+Draws next old new is (Ok x) = (next ≤ first_refused old) × is x × (new ≡ record old { next = next })
+Draws next old new is (Err fault) = WasRefused next old fault
+
+-- whether a pair of new rows is shown
+abbrev pub shows : Showing → ℕ → ℕ → Bool
+shows it a b = is_shown (joining it.join.now) it.s.now.rows it.t.now.rows it.memory.now.entries it.new_s.now.rows it.new_t.now.rows a b
+
+-- both new rows of a pair are as they were
+abbrev pub IsPairStill : Showing → ℕ → ℕ → Type 0
+IsPairStill it a b = (row_of it.s.now.rows a ≡ row_of it.new_s.now.rows a) × (row_of it.t.now.rows b ≡ row_of it.new_t.now.rows b)
+
+-- the identifiers of the new second rows, and of those of them that aren't as they were
+pub record AreSeconds (it : Showing) (seconds : Seconds) : Type 0 where
+  pub all_of : seconds.all ≡ ids_of it.new_t.now.rows
+  pub changed_of : seconds.changed ≡ changed_in it.t.now.rows it.new_t.now.rows
+  pub rise : RiseFrom 0 it.new_t.now.rows
+
+-- whether a pair is shown and was not in the memory
+abbrev pub is_new_in : Showing → ℕ × ℕ → Bool
+is_new_in it x = shows it x.0 x.1 && not (has it.memory.now.entries x.0 x.1)
+
+-- the pairs that are shown and were not in the memory
+abbrev pub new_in : Showing → List (ℕ × ℕ)
+new_in it = new_pairs (joining it.join.now) it.s.now.rows it.t.now.rows it.memory.now.entries it.new_s.now.rows it.new_t.now.rows
+
+-- the entries of the new memory
+abbrev pub shown_in : Showing → ℕ → Pairs
+shown_in it n = shown_pairs (joining it.join.now) it.s.now.rows it.t.now.rows it.memory.now.entries it.new_s.now.rows it.new_t.now.rows n

@@ -1,0 +1,17 @@
+pub mod Shown
+pub mod Changed
+pub mod Joinings
+pub mod Calls
+pub mod Assignings
+pub mod Admitted
+pub mod Assigned
+pub mod JoinOn
+pub mod JoinedRows
+pub mod PairLemmas
+pub mod ShownLaws
+pub mod Getting
+pub mod TakenPairs
+pub mod AssignedLaws
+pub mod FoundLaws
+pub mod TwoSides
+pub mod JoinOnLaws

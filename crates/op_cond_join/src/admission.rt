@@ -1,0 +1,167 @@
+//! Whether a side and its auxiliary tables belong together.
+ghost use Rattle.std.specs.Prelude.{◌≡◌, ◌↔◌, IsTrue, length, IfOk};
+ghost use Rattle.row_store.specs.Rows.{RiseFrom};
+ghost use Rattle.op_law.specs.Tables.{RowsWide};
+ghost use Rattle.op_law.specs.Meaning.{flip};
+ghost use Rattle.op_law.specs.Premises.{SomeNear};
+ghost use Rattle.op_law.specs.Calls.{tables_of, Admits};
+ghost use Rattle.op_cond_join.specs.Joinings.{joining};
+ghost use Rattle.op_cond_join.specs.Shown.{AreThere};
+ghost use Rattle.op_cond_join.specs.JoinOn.{join_on};
+ghost use Rattle.op_cond_join.specs.Admitted.{IsSource};
+
+use crate::join::JoinOn;
+use crate::joining::{joined_table, table_in};
+use crate::memories::entries_of;
+use crate::showing::is_there;
+use id_memory::PairMemory;
+use op_law::{Aux, Side};
+use op_tables::is_same_rows;
+use pair_rows::{Half, alone, side_read};
+use par_base::{Memory, Row};
+use row_store::Table;
+use std::alloc::Global;
+
+/// Whether each pair is one of rows that are there.
+fn are_there(s: &Table, t: &Table, entries: &[(u64, u64, u64)]) -> bool
+    ensures { IsTrue result ↔ AreThere s.now.rows t.now.rows entries.now }
+{
+    for entry in entries {
+        if !is_there(s, t, entry.1, entry.2) {
+            return false;
+        }
+    }
+    true
+}
+
+/// Whether each row has so many values.
+fn are_wide(rows: &[(u64, Row)], width: usize) -> bool
+    ensures { IsTrue result ↔ RowsWide width rows.now }
+{
+    for row in rows {
+        if row.1.len() != width {
+            return false;
+        }
+    }
+    true
+}
+
+/// The target of the related pair to which a source, auxiliary tables and a memory belong.
+pub(crate) fn admit_target(
+    alloc: Global,
+    join: &JoinOn,
+    source: &Side,
+    aux: &Aux,
+    memory: &PairMemory,
+) -> Result<Option<Side>, Memory>
+    requires { SomeNear (join_on (joining join.now)) source.now }
+    ensures { IfOk result (λ target.
+        Admits (join_on (joining join.now)) source.now (tables_of aux.now) memory.now.entries target) }
+{
+    if aux.tables.len() != 0 {
+        return Ok(None);
+    }
+    let none = Table::new(alloc);
+    let s = table_in(source, 0, &none);
+    let t = table_in(source, 1, &none);
+    let entries = entries_of(alloc, memory)?;
+    if !are_there(s, t, entries.as_slice()) {
+        return Ok(None);
+    }
+    let table = joined_table(alloc, join, s, t, entries.as_slice())?;
+    Ok(Some(Side::one(alloc, table)?))
+}
+
+/// A target with its memory and the rows in no pair, and a source that may belong to them.
+#[derive(Clone, Copy)]
+pub(crate) struct Candidate<'a> {
+    pub(crate) target: &'a Table,
+    pub(crate) memory: &'a PairMemory,
+    pub(crate) first_alone: &'a Table,
+    pub(crate) second_alone: &'a Table,
+    pub(crate) s: &'a Table,
+    pub(crate) t: &'a Table,
+}
+
+/// Whether the source belongs to them.
+fn is_source(alloc: Global, join: &JoinOn, it: &Candidate<'_>) -> Result<bool, Memory>
+    ensures first_rise { RiseFrom 0 it.now.s.now.rows }
+    ensures second_rise { RiseFrom 0 it.now.t.now.rows }
+    ensures answer { IfOk result (λ yes. IsTrue yes ↔
+        IsSource (joining join.now) it.now.target.now.rows it.now.memory.now.entries
+        it.now.first_alone.now.rows it.now.second_alone.now.rows it.now.s.now.rows it.now.t.now.rows) }
+{
+    let s = it.s.as_slice();
+    let t = it.t.as_slice();
+    if !are_wide(s, join.first.len()) {
+        return Ok(false);
+    }
+    if !are_wide(t, join.second.len()) {
+        return Ok(false);
+    }
+    let entries = entries_of(alloc, it.memory)?;
+    if !are_there(it.s, it.t, entries.as_slice()) {
+        return Ok(false);
+    }
+    let table = joined_table(alloc, join, it.s, it.t, entries.as_slice())?;
+    if !is_same_rows(table.as_slice(), it.target.as_slice()) {
+        return Ok(false);
+    }
+    let first = alone(alloc, Half::First, it.memory, it.s)?;
+    if !is_same_rows(first.as_slice(), it.first_alone.as_slice()) {
+        return Ok(false);
+    }
+    let second = alone(alloc, Half::Second, it.memory, it.t)?;
+    Ok(is_same_rows(second.as_slice(), it.second_alone.as_slice()))
+}
+
+/// The source of the related pair to which a target, auxiliary tables and a memory belong.
+pub(crate) fn admit_source(
+    alloc: Global,
+    join: &JoinOn,
+    target: &Side,
+    aux: &Aux,
+    memory: &PairMemory,
+) -> Result<Option<Side>, Memory>
+    requires { SomeNear (flip (join_on (joining join.now))) target.now }
+    ensures { IfOk result (λ source.
+        Admits (flip (join_on (joining join.now))) target.now (tables_of aux.now) memory.now.entries source) }
+{
+    let kept = aux.tables.as_slice();
+    if kept.len() != 2 {
+        return Ok(None);
+    }
+    let none = Table::new(alloc);
+    let r = table_in(target, 0, &none);
+    let first_alone = &kept[0];
+    let second_alone = &kept[1];
+    let entries = entries_of(alloc, memory)?;
+    let s = side_read(
+        alloc,
+        Half::First,
+        join.first.as_slice(),
+        r,
+        entries.as_slice(),
+        first_alone,
+    )?;
+    let t = side_read(
+        alloc,
+        Half::Second,
+        join.second.as_slice(),
+        r,
+        entries.as_slice(),
+        second_alone,
+    )?;
+    let it = Candidate {
+        target: r,
+        memory,
+        first_alone,
+        second_alone,
+        s: &s,
+        t: &t,
+    };
+    if !is_source(alloc, join, &it)? {
+        return Ok(None);
+    }
+    Ok(Some(Side::two(alloc, s, t)?))
+}

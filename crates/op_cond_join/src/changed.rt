@@ -1,0 +1,65 @@
+//! Which rows of a new table are as they were.
+ghost use Rattle.std.specs.Prelude.{◌≡◌, ◌++◌, ◌∷◌, [], if◌then◌else◌, IsTrue, IfOk, OnOk};
+ghost use Rattle.row_store.specs.Rows.{row_of};
+ghost use Rattle.op_cond_join.specs.Changed.{as_before, changed_in, ids_of};
+
+use par_base::{List, Memory, Row};
+use row_parts::is_same_row;
+use row_store::Table;
+use std::alloc::Global;
+
+/// Whether a row is as it was.
+pub(crate) fn is_as_before(old: &Table, id: u64, row: &Row) -> bool
+    ensures { result ≡ as_before (row_of old.now.rows id) row.now }
+{
+    match old.get(id) {
+        Some(before) => is_same_row(before, row),
+        None => false,
+    }
+}
+
+/// Whether the new table has a row of this identifier, as it was.
+pub(crate) fn is_still_there(old: &Table, new: &Table, id: u64) -> bool
+    ensures { IsTrue result → row_of old.now.rows id ≡ row_of new.now.rows id }
+{
+    match new.get(id) {
+        Some(row) => is_as_before(old, id, row),
+        None => false,
+    }
+}
+
+/// Adds the identifier of a row that isn't as it was.
+fn push_if_changed(old: &Table, row: &(u64, Row), ids: &mut List<u64>) -> Result<(), Memory>
+    ensures { OnOk result (ids.new ≡ ids.old ++ changed_in old.now.rows (row.now ∷ [])) }
+{
+    if !is_as_before(old, row.0, &row.1) {
+        ids.push(row.0)?;
+    }
+    Ok(())
+}
+
+/// The identifiers of the rows that aren't as they were.
+pub(crate) fn changed_ids(
+    alloc: Global,
+    old: &Table,
+    new: &[(u64, Row)],
+) -> Result<List<u64>, Memory>
+    ensures { IfOk result (λ ids. ids ≡ changed_in old.now.rows new.now) }
+{
+    let mut ids = List::new(alloc);
+    for row in new {
+        push_if_changed(old, row, &mut ids)?;
+    }
+    Ok(ids)
+}
+
+/// The identifiers of rows.
+pub(crate) fn ids_of(alloc: Global, rows: &[(u64, Row)]) -> Result<List<u64>, Memory>
+    ensures { IfOk result (λ ids. ids ≡ ids_of rows.now) }
+{
+    let mut ids = List::new(alloc);
+    for row in rows {
+        ids.push(row.0)?;
+    }
+    Ok(ids)
+}

@@ -1,0 +1,120 @@
+//! The new target and memory from a new source.
+ghost use Rattle.std.specs.Prelude.{◌≡◌, ◌+◌, ◌++◌, length, true, OnOk};
+ghost use Rattle.op_law.specs.Calls.{seen, IsMapped};
+ghost use Rattle.op_law.specs.Meaning.{flip, exchanged};
+ghost use Rattle.op_law.specs.Premises.{SomeMap};
+ghost use Rattle.op_cond_join.specs.Joinings.{joining, Reads};
+ghost use Rattle.op_cond_join.specs.JoinOn.{join_on, join_forward, join_backward};
+ghost use Rattle.op_cond_join.specs.Calls.{Draws, shown_in, new_in};
+
+use crate::assigning::{Assigning, assign};
+use crate::growing::growing_from;
+use crate::join::JoinOn;
+use crate::joining::{joined_table, table_in};
+use crate::memories::{draw_for, entries_of, memory_of};
+use crate::showing::{Showing, kept_pairs, new_pairs};
+use crate::unchanged::{OldTarget, kept_in};
+use expr_lang::Steps;
+use id_memory::IdCounter;
+use op_law::{Far, Pair, Side};
+use pair_rows::{Half, staying};
+use par_base::{Fault, IdsSpent, List, Memory};
+use row_store::Table;
+use std::alloc::Global;
+use std::sync::ledger::Ledger;
+
+/// Puts entries behind others.
+fn append(entries: &mut List<(u64, u64, u64)>, more: &[(u64, u64, u64)]) -> Result<(), Memory>
+    ensures { OnOk result (entries.new ≡ entries.old ++ more.now) }
+{
+    for entry in more {
+        entries.push(*entry)?;
+    }
+    Ok(())
+}
+
+/// The new memory's entries: pairs that stay, and drawn ones behind.
+pub(crate) fn shown_pairs<L: Ledger>(
+    alloc: Global,
+    it: &Showing<'_>,
+    ids: &mut IdCounter,
+    steps: &mut Steps<L>,
+) -> Result<List<(u64, u64, u64)>, Fault<IdsSpent>>
+    requires { Reads it.now.join.now }
+    ensures { Draws (ids.old.next + length (new_in it.now)) ids.old ids.new
+        (λ made. made ≡ shown_in it.now ids.old.next) result }
+{
+    let entries = entries_of(alloc, it.memory)?;
+    let mut pairs = kept_pairs(alloc, it, entries.as_slice(), steps)?;
+    let new = new_pairs(alloc, it, steps)?;
+    let drawn = draw_for(alloc, new.as_slice(), ids)?;
+    append(&mut pairs, drawn.as_slice())?;
+    Ok(pairs)
+}
+
+/// The new target and memory, from a new source. It looks at each pair of rows of which one isn't as
+/// it was.
+pub(crate) fn forward<L: Ledger>(
+    alloc: Global,
+    join: &JoinOn,
+    near: &Side,
+    old: &Pair,
+    ids: &mut IdCounter,
+    steps: &mut Steps<L>,
+) -> Result<Far, Fault<IdsSpent>>
+    requires { SomeMap (join_on (joining join.now)) near.now (seen old.now) ids.old.next }
+    ensures { let to = join_forward (joining join.now) near.now (seen old.now) ids.old.next in
+        IsMapped to ids.old ids.new result }
+{
+    let none = Table::new(alloc);
+    let it = Showing {
+        join,
+        s: table_in(&old.source, 0, &none),
+        t: table_in(&old.source, 1, &none),
+        memory: &old.memory,
+        new_s: table_in(near, 0, &none),
+        new_t: table_in(near, 1, &none),
+    };
+    let mut drawn = ids.copy();
+    let pairs = shown_pairs(alloc, &it, &mut drawn, steps)?;
+    let memory = memory_of(alloc, pairs.as_slice())?;
+    let table = joined_table(alloc, join, it.new_s, it.new_t, pairs.as_slice())?;
+    let side = Side::one(alloc, table)?;
+    *ids = drawn;
+    Ok(Far { side, memory })
+}
+
+/// The new source and memory, from a new target. It takes look-ups in the number of the rows.
+pub(crate) fn backward<L: Ledger>(
+    alloc: Global,
+    join: &JoinOn,
+    near: &Side,
+    old: &Pair,
+    ids: &mut IdCounter,
+    _steps: &mut Steps<L>,
+) -> Result<Far, Fault<IdsSpent>>
+    requires { SomeMap (flip (join_on (joining join.now))) near.now (exchanged (seen old.now))
+        ids.old.next }
+    ensures { let to = join_backward (joining join.now) near.now (seen old.now) ids.old.next in
+        IsMapped to ids.old ids.new result }
+{
+    let none = Table::new(alloc);
+    let before = OldTarget {
+        rows: table_in(&old.target, 0, &none),
+        memory: &old.memory,
+    };
+    let new = table_in(near, 0, &none).as_slice();
+    let mut it = Assigning {
+        first: growing_from(alloc, table_in(&old.source, 0, &none))?,
+        second: growing_from(alloc, table_in(&old.source, 1, &none))?,
+        taken: kept_in(alloc, &before, new)?,
+    };
+    let mut drawn = ids.copy();
+    let pairs = assign(alloc, join, &before, new, &mut it, &mut drawn)?;
+    let memory = memory_of(alloc, pairs.as_slice())?;
+    let first = staying(alloc, Half::First, &old.memory, &memory, &it.first.table)?;
+    let second = staying(alloc, Half::Second, &old.memory, &memory, &it.second.table)?;
+    let side = Side::two(alloc, first, second)?;
+    *ids = drawn;
+    Ok(Far { side, memory })
+}

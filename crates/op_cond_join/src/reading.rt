@@ -1,0 +1,103 @@
+//! A side from the other one, the memory and the rows in no pair.
+ghost use Rattle.std.specs.Prelude.{◌≡◌, ◌∷◌, [], IfOk};
+ghost use Rattle.op_law.specs.Tables.{contents};
+ghost use Rattle.op_law.specs.Meaning.{flip};
+ghost use Rattle.op_law.specs.Premises.{SomeStored};
+ghost use Rattle.op_law.specs.Calls.{seen, tables_of};
+ghost use Rattle.op_cond_join.specs.Joinings.{joining};
+ghost use Rattle.pair_rows.specs.Kept.{alone};
+ghost use Rattle.op_cond_join.specs.JoinOn.{join_on, table_at};
+ghost use Rattle.pair_rows.specs.Halves.{first_of, second_of};
+
+use crate::join::JoinOn;
+use crate::joining::{joined_table, table_in};
+use crate::memories::entries_of;
+use id_memory::PairMemory;
+use op_law::{Aux, Pair, Side};
+use pair_rows::{Half, alone, side_read};
+use par_base::{List, Memory};
+use row_store::Table;
+use std::alloc::Global;
+
+/// The target of a source.
+pub(crate) fn read_target(
+    alloc: Global,
+    join: &JoinOn,
+    source: &Side,
+    memory: &PairMemory,
+) -> Result<Side, Memory>
+    ensures { IfOk result (λ side.
+        side ≡ (join_on (joining join.now)).read_target source.now [] memory.now.entries) }
+{
+    let none = Table::new(alloc);
+    let entries = entries_of(alloc, memory)?;
+    let s = table_in(source, 0, &none);
+    let t = table_in(source, 1, &none);
+    let table = joined_table(alloc, join, s, t, entries.as_slice())?;
+    Ok(Side::one(alloc, table)?)
+}
+
+/// One auxiliary table, or the empty one past the last.
+fn aux_in<'a>(aux: &'a Aux, at: usize, none: &'a Table) -> &'a Table
+    requires { none.now.rows ≡ [] }
+    ensures { result.now.rows ≡ table_at at (tables_of aux.now) }
+{
+    match aux.tables.get(at) {
+        Some(table) => table,
+        None => none,
+    }
+}
+
+/// The source of a target.
+pub(crate) fn read_source(
+    alloc: Global,
+    join: &JoinOn,
+    target: &Side,
+    aux: &Aux,
+    memory: &PairMemory,
+) -> Result<Side, Memory>
+    ensures { IfOk result (λ side. side ≡
+        (join_on (joining join.now)).read_source target.now (tables_of aux.now) memory.now.entries) }
+{
+    let none = Table::new(alloc);
+    let r = table_in(target, 0, &none);
+    let entries = entries_of(alloc, memory)?;
+    let pairs = entries.as_slice();
+    let first = aux_in(aux, 0, &none);
+    let second = aux_in(aux, 1, &none);
+    let s = side_read(alloc, Half::First, join.first.as_slice(), r, pairs, first)?;
+    let t = side_read(
+        alloc,
+        Half::Second,
+        join.second.as_slice(),
+        r,
+        pairs,
+        second,
+    )?;
+    Ok(Side::two(alloc, s, t)?)
+}
+
+/// The rows of the source in no pair.
+pub(crate) fn aux_at_target(alloc: Global, pair: &Pair) -> Result<Aux, Memory>
+    ensures { IfOk result (λ aux. tables_of aux ≡
+        alone first_of pair.now.memory.entries (table_at 0 pair.now.source) ∷
+        alone second_of pair.now.memory.entries (table_at 1 pair.now.source) ∷ []) }
+{
+    let none = Table::new(alloc);
+    let first = alone(
+        alloc,
+        Half::First,
+        &pair.memory,
+        table_in(&pair.source, 0, &none),
+    )?;
+    let second = alone(
+        alloc,
+        Half::Second,
+        &pair.memory,
+        table_in(&pair.source, 1, &none),
+    )?;
+    let mut tables = List::new(alloc);
+    tables.push(first)?;
+    tables.push(second)?;
+    Ok(Aux { tables })
+}
