@@ -8,80 +8,44 @@ use Rattle.std.proofs.lemmas.Bool.{false≢true}
 use Rattle.par_base.specs.declared.refusal.Refusal.TheVariants.{NotBuilt, TooManyColumns, ColumnsDiffer}
 use Rattle.expr_lang.specs.Terms.{Term}
 use Rattle.expr_lang.specs.Resolved.{place_of, resolved}
-use Rattle.bidel_parser.specs.Views.{Tree, BranchView, OpView}
+use Rattle.bidel_parser.specs.Views.{Tree, KeyView, BranchView, OpView}
 use Rattle.bidel_parser.specs.Views as «text»
 use Rattle.version_graph.specs.Tables.{column_limit}
 use Rattle.version_graph.specs.declared.parts.Heading.{Heading}
 use Rattle.op_any.specs.Checks.{Checked, ◌then◌}
-use Rattle.op_any.specs.Build.{heading_named, is_passing, known_table, other_table, new_table, known_column, known_columns, unrepeated, new_columns, same_columns, few_columns, known_id, known_ids, creating_table, dropping_table, renaming_table, renaming_column, adding_column, dropping_column, splitting_in_one, splitting_in_two, splitting_table, merging_tables, planned, with_text, built, is_built}
-
--- the check gives something, or refuses for another cause
-abbrev Decides : {A : Type 0} → Checked A → Type 0
-Decides (Ok x) = Unit {0}
-Decides (Err r) = r ≢ NotBuilt
-
-then_decides : {A B : Type 0} (c : Checked A) (f : A → Checked B) → Decides c → ((x : A) → Decides (f x)) → Decides (c then f)
-then_decides (Ok x) f here later = later x
-then_decides (Err r) f here later = here
-
-table_decides : (name : List ℕ) (o : Option Heading) → Decides (known_table name o)
-table_decides name (Some h) = tt
-table_decides name None = λ e. absurd (cc)
-
-new_table_decides : (name : List ℕ) (b : Bool) → Decides (new_table name b)
-new_table_decides name true = λ e. absurd (cc)
-new_table_decides name false = tt
-
-other_table_decides : (name : List ℕ) (b : Bool) → Decides (other_table name b)
-other_table_decides name true = λ e. absurd (cc)
-other_table_decides name false = tt
-
-column_decides : (name : List ℕ) (o : Option ℕ) → Decides (known_column name o)
-column_decides name (Some place) = tt
-column_decides name None = λ e. absurd (cc)
-
-expression_decides : (r : Result (Term ℕ) (List ℕ)) → Decides (known_columns r)
-expression_decides (Ok e) = tt
-expression_decides (Err name) = λ e. absurd (cc)
-
-once_decides : (o : Option (List ℕ)) → Decides (unrepeated o)
-once_decides (Some name) = λ e. absurd (cc)
-once_decides None = tt
-
-same_decides : (first second : List ℕ) (b : Bool) → Decides {A = Unit {0}} (cond b (Ok tt) (Err (ColumnsDiffer first second)))
-same_decides first second true = tt
-same_decides first second false = λ e. absurd (cc)
-
-few_decides : (table : List ℕ) (b : Bool) → Decides {A = Unit {0}} (cond b (Err (TooManyColumns table column_limit)) (Ok tt))
-few_decides table true = λ e. absurd (cc)
-few_decides table false = tt
-
-ids_decide : (next : ℕ) (o : Option ℕ) → Decides (known_id next o)
-ids_decide next (Some id) = λ e. absurd (cc)
-ids_decide next None = tt
+use Rattle.op_any.specs.NameChecks.{heading_named, is_passing, known_table, other_table, new_table, known_column, known_columns, unrepeated, new_columns, same_columns, few_columns, known_id, known_ids}
+use Rattle.op_any.proofs.Decides.{Decides, then_decides, table_decides, new_table_decides, other_table_decides, column_decides, expression_decides, once_decides, same_decides, few_decides, ids_decide}
+use Rattle.op_any.proofs.JoinForms.{decomposing_decides, decomposing_table_decides, joining_decides}
+use Rattle.op_any.specs.BuildJoins.{joining_tables}
+use Rattle.op_any.specs.Build.{creating_table, dropping_table, renaming_table, renaming_column, adding_column, dropping_column, splitting_in_one, splitting_in_two, splitting_table, merging_tables, planned, with_text, built, is_built_join, is_built}
 
 module _ (set : List Heading) (next : ℕ) where
   creating_decides : (table : List ℕ) (columns : List (List ℕ)) → Decides (creating_table set table columns)
+  unfolding creating_table
   creating_decides table columns =
       then_decides (new_table table (is_passing set [] table)) _ (new_table_decides table _) (λ u.
       then_decides (new_columns [] columns) _ (once_decides _) (λ v.
       then_decides (few_columns table columns) _ (few_decides table (nat_lt column_limit (length columns))) (λ w. tt)))
 
   dropping_decides : (table : List ℕ) → Decides (dropping_table set table)
+  unfolding dropping_table
   dropping_decides table = then_decides (known_table table (heading_named set table)) _ (table_decides table _) (λ h. tt)
 
   renaming_table_decides : (table new : List ℕ) → Decides (renaming_table set table new)
+  unfolding renaming_table
   renaming_table_decides table new =
       then_decides (known_table table (heading_named set table)) _ (table_decides table _) (λ h.
       then_decides (new_table new (is_passing set (table ∷ []) new)) _ (new_table_decides new _) (λ u. tt))
 
   renaming_column_decides : (column table new : List ℕ) → Decides (renaming_column set column table new)
+  unfolding renaming_column
   renaming_column_decides column table new =
       then_decides (known_table table (heading_named set table)) _ (table_decides table _) (λ h.
       then_decides (known_column column (place_of h.columns column)) _ (column_decides column _) (λ place.
       then_decides (new_columns (remove h.columns place) (new ∷ [])) _ (once_decides _) (λ u. tt)))
 
   adding_decides : (column : List ℕ) (value : Tree) (table : List ℕ) → Decides (adding_column set next column value table)
+  unfolding adding_column
   adding_decides column value table =
       then_decides (known_table table (heading_named set table)) _ (table_decides table _) (λ h.
       then_decides (known_columns (resolved h.columns value)) _ (expression_decides _) (λ e.
@@ -90,6 +54,7 @@ module _ (set : List Heading) (next : ℕ) where
       then_decides (known_ids next value) _ (ids_decide next _) (λ w. tt)))))
 
   dropping_column_decides : (column table : List ℕ) (value : Tree) → Decides (dropping_column set next column table value)
+  unfolding dropping_column
   dropping_column_decides column table value =
       then_decides (known_table table (heading_named set table)) _ (table_decides table _) (λ h.
       then_decides (known_column column (place_of h.columns column)) _ (column_decides column _) (λ place.
@@ -114,10 +79,12 @@ module _ (set : List Heading) (next : ℕ) where
       then_decides (known_ids next s.condition) _ (ids_decide next _) (λ x. tt)))))))
 
   splitting_decides : (table : List ℕ) (r : BranchView) (o : Option BranchView) → Decides (splitting_table set next table r o)
+  unfolding splitting_table
   splitting_decides table r None = splitting_in_one_decides table r
   splitting_decides table r (Some s) = splitting_in_two_decides table r s
 
   merging_decides : (r s : BranchView) (target : List ℕ) → Decides (merging_tables set next r s target)
+  unfolding merging_tables
   merging_decides r s target =
       then_decides (known_table r.table (heading_named set r.table)) _ (table_decides r.table _) (λ h.
       then_decides (known_table s.table (heading_named set s.table)) _ (table_decides s.table _) (λ k.
@@ -136,15 +103,23 @@ module _ (set : List Heading) (next : ℕ) where
   planned_decides («text».RenameColumn column table new) is = renaming_column_decides column table new
   planned_decides («text».AddColumn column value table) is = adding_decides column value table
   planned_decides («text».DropColumn column table value) is = dropping_column_decides column table value
-  planned_decides («text».DecomposeSingle table target columns) is = absurd (false≢true is)
-  planned_decides («text».Decompose table first first_columns second second_columns key) is = absurd (false≢true is)
-  planned_decides («text».Join outer first second target key) is = absurd (false≢true is)
+  planned_decides («text».DecomposeSingle table target columns) is = decomposing_decides set table (record { name = target; columns = columns })
+  planned_decides («text».Decompose table first first_columns second second_columns key) is =
+      decomposing_table_decides set next table (record { name = first; columns = first_columns }) (record { name = second; columns = second_columns }) key
+  planned_decides («text».Join outer first second target key) is = joining_decides set next outer first second target key is
   planned_decides («text».Split table first second) is = splitting_decides table first second
   planned_decides («text».Merge first second target) is = merging_decides first second target
 
 decides : {A : Type 0} (c : Checked A) → Decides c → c ≡ Err NotBuilt → ⊥
 decides (Ok x) d e = absurd (cc)
 decides (Err r) d e = d (cc)
+
+not_joined : (set : List Heading) (next : ℕ) (outer : Bool) (first second target : List ℕ) (key : KeyView) → is_built_join outer key ≡ false → built set next («text».Join outer first second target key) ≡ Err NotBuilt
+unfolding joining_tables
+not_joined set next outer first second target «text».Primary is = absurd (false≢true (sym is))
+not_joined set next outer first second target («text».Foreign column) is = absurd (false≢true (sym is))
+not_joined set next false first second target («text».Condition condition) is = absurd (false≢true (sym is))
+not_joined set next true first second target («text».Condition condition) is = refl
 
 -- an operator of another form isn't built
 other_form : (set : List Heading) (next : ℕ) (text : OpView) → is_built text ≡ false → built set next text ≡ Err NotBuilt
@@ -154,9 +129,9 @@ other_form set next («text».RenameTable table new) is = absurd (false≢true (
 other_form set next («text».RenameColumn column table new) is = absurd (false≢true (sym is))
 other_form set next («text».AddColumn column value table) is = absurd (false≢true (sym is))
 other_form set next («text».DropColumn column table value) is = absurd (false≢true (sym is))
-other_form set next («text».DecomposeSingle table target columns) is = refl
-other_form set next («text».Decompose table first first_columns second second_columns key) is = refl
-other_form set next («text».Join outer first second target key) is = refl
+other_form set next («text».DecomposeSingle table target columns) is = absurd (false≢true (sym is))
+other_form set next («text».Decompose table first first_columns second second_columns key) is = absurd (false≢true (sym is))
+other_form set next («text».Join outer first second target key) is = not_joined set next outer first second target key is
 other_form set next («text».Split table first second) is = absurd (false≢true (sym is))
 other_form set next («text».Merge first second target) is = absurd (false≢true (sym is))
 

@@ -1,5 +1,5 @@
 -- What each operator builds suits the working set, case by case.
-use Rattle.std.proofs.Common.{◌≡◌, ℕ, suc, ◌≤◌, List, [], ◌∷◌, ◌++◌, length, map, get_or, true, Ok, IfOk, inl, inr, refl, sym, ◌∙◌, ap, subst, arith}
+use Rattle.std.proofs.Common.{◌≡◌, ℕ, suc, ◌≤◌, List, [], ◌∷◌, ◌++◌, length, map, get_or, true, false, Ok, IfOk, inl, inr, refl, sym, ◌∙◌, ap, subst, arith}
 use Rattle.std.specs.Prelude.{◌↔◌}
 use Rattle.std.specs.List.{insert, remove}
 use Rattle.std.proofs.lemmas.Bool.{false≢true}
@@ -11,18 +11,23 @@ use Rattle.version_graph.specs.Sets.{In, Each}
 use Rattle.version_graph.specs.Tables.{IsHeading, FitsSet, row_name, heading_names, headings_passing}
 use Rattle.version_graph.specs.declared.parts.Heading.{Heading}
 use Rattle.version_graph.specs.declared.parts.Edge.{Edge}
-use Rattle.op_any.specs.Operators.{Built, AnyView, any_meaning}
-use Rattle.op_any.specs.Operators as «any»
-use Rattle.op_any.specs.Build.{heading_named, is_passing, known_table, new_table, known_column, known_columns, new_columns, few_columns, known_ids, creating_table, dropping_table, renaming_table, renaming_column, adding_column, dropping_column, planned, with_text, built}
+use Rattle.op_kinds.specs.Operators.{Built, AnyView, any_meaning}
+use Rattle.op_kinds.specs.Operators as «any»
+use Rattle.op_any.specs.NameChecks.{heading_named, is_passing, known_table, new_table, known_column, known_columns, new_columns, few_columns, known_ids}
+use Rattle.op_any.specs.Build.{creating_table, dropping_table, renaming_table, renaming_column, adding_column, dropping_column, planned, with_text, built}
+use Rattle.op_any.specs.BuildJoins.{decomposing_table, joining_tables}
 use Rattle.op_any.specs.Texts.{TextsFit}
 use Rattle.op_any.specs.Laws.{as_seen, headings_taken, is_create_table}
 use Rattle.op_any.proofs.NameLists.{distinct_insert, distinct_remove, distinct_front, insert-remove}
 use Rattle.op_any.proofs.TableLists.{found_stands, stands_named, none_passing, source_gone}
 use Rattle.op_any.proofs.Suits.{Suits, if_then, at_ok, table_is, is_new, column_is, expression_is, are_few, ids_known, new_once, place_within, heading_at, without_column, reads_columns, is_closed, one_fits, one_taken}
 use Rattle.op_any.proofs.SplitMergeLaws.{splitting_suits, merging_suits}
+use Rattle.op_any.proofs.DecomposeLaws.{decomposing_suits, decomposing_on_pk_suits, decomposing_on_fk_suits, decomposing_on_suits}
+use Rattle.op_any.proofs.JoinLaws.{joining_on_pk_suits, joining_on_fk_suits, joining_on_suits}
 
 module _ (set : List Heading) (next : ℕ) where
   creating_suits : (table : List ℕ) (columns : List (List ℕ)) → IfOk (creating_table set table columns) (Suits set next («text».CreateTable table columns))
+  unfolding creating_table
   creating_suits table columns =
       if_then _ (new_table table (is_passing set [] table)) _ (λ u free.
       if_then _ (new_columns [] columns) _ (λ v once.
@@ -35,13 +40,14 @@ module _ (set : List Heading) (next : ℕ) where
           targets_once = ((λ i. i), tt);
           columns = (record { once = new_once [] columns v once ((λ i. i), tt); few = are_few table columns w few }, tt);
         };
-        fits = (refl, refl);
+        fits = λ tables. (refl, refl);
         closed = λ _. tt;
         few = (omega arith, omega arith);
         sources = (λ _. refl, λ _. refl);
       })))
 
   dropping_suits : (table : List ℕ) → IfOk (dropping_table set table) (Suits set next («text».DropTable table))
+  unfolding dropping_table
   dropping_suits table =
       if_then _ (known_table table (heading_named set table)) _ (λ h known.
       let found = table_is table _ h known in
@@ -53,13 +59,14 @@ module _ (set : List Heading) (next : ℕ) where
           targets_once = tt;
           columns = tt;
         };
-        fits = rw (one_taken set table h found) (refl, refl);
+        fits = λ tables. rw (one_taken set table h found) (refl, refl);
         closed = λ _. tt;
         few = (omega arith, omega arith);
         sources = (λ e. absurd (cc), λ e. absurd (false≢true e));
       })
 
   renaming_table_suits : (table new : List ℕ) → IfOk (renaming_table set table new) (Suits set next («text».RenameTable table new))
+  unfolding renaming_table
   renaming_table_suits table new =
       if_then _ (known_table table (heading_named set table)) _ (λ h known.
       if_then _ (new_table new (is_passing set (table ∷ []) new)) _ (λ u free.
@@ -68,13 +75,14 @@ module _ (set : List Heading) (next : ℕ) where
         set_fits = λ tables.
             let is = heading_at set table h tables found in
             one_fits set «any».Rename table (record { name = new; columns = h.columns }) (stands_named set table h (found_stands set table h found)) (none_passing set (table ∷ []) new (is_new new _ u free)) (record { once = is.once; few = is.few });
-        fits = rw (one_taken set table h found) (refl, refl, refl);
+        fits = λ tables. rw (one_taken set table h found) (refl, refl, refl);
         closed = λ _. tt;
         few = (omega arith, omega arith);
         sources = (λ e. absurd (cc), λ e. absurd (false≢true e));
       }))
 
   renaming_column_suits : (column table new : List ℕ) → IfOk (renaming_column set column table new) (Suits set next («text».RenameColumn column table new))
+  unfolding renaming_column
   renaming_column_suits column table new =
       if_then _ (known_table table (heading_named set table)) _ (λ h known.
       if_then _ (known_column column (place_of h.columns column)) _ (λ place there.
@@ -90,13 +98,14 @@ module _ (set : List Heading) (next : ℕ) where
             let both = distinct_front (row_name ∷ remove h.columns place) new (new_once (remove h.columns place) (new ∷ []) u once (distinct_remove (row_name ∷ h.columns) (suc place) is.once)) in
             one_fits set «any».Rename table (record { name = table; columns = insert (remove h.columns place) place new }) (stands_named set table h (found_stands set table h found)) (source_gone table set)
             (record { once = distinct_insert (row_name ∷ remove h.columns place) (suc place) new both.0 both.1; few = omega (arith, long, is.few) });
-        fits = rw (one_taken set table h found) (refl, refl, ap (λ (n : ℕ). n ∷ []) (sym long));
+        fits = λ tables. rw (one_taken set table h found) (refl, refl, ap (λ (n : ℕ). n ∷ []) (sym long));
         closed = λ _. tt;
         few = (omega arith, omega arith);
         sources = (λ e. absurd (cc), λ e. absurd (false≢true e));
       })))
 
   adding_suits : (column : List ℕ) (value : Tree) (table : List ℕ) → IfOk (adding_column set next column value table) (Suits set next («text».AddColumn column value table))
+  unfolding adding_column
   adding_suits column value table =
       if_then _ (known_table table (heading_named set table)) _ (λ h known.
       if_then _ (known_columns (resolved h.columns value)) _ (λ e reads.
@@ -110,7 +119,7 @@ module _ (set : List Heading) (next : ℕ) where
             let is = heading_at set table h tables found in
             one_fits set («any».AddColumn (length h.columns) e) table (record { name = table; columns = h.columns ++ column ∷ [] }) (stands_named set table h (found_stands set table h found)) (source_gone table set)
             (record { once = new_once h.columns (column ∷ []) u once is.once; few = are_few table (h.columns ++ column ∷ []) v few });
-        fits = rw (one_taken set table h found) (record {
+        fits = λ tables. rw (one_taken set table h found) (record {
           source = as_seen h;
           target = record { name = table; columns = h.columns ++ column ∷ [] };
           column = column;
@@ -126,6 +135,7 @@ module _ (set : List Heading) (next : ℕ) where
       })))))
 
   dropping_column_suits : (column table : List ℕ) (value : Tree) → IfOk (dropping_column set next column table value) (Suits set next («text».DropColumn column table value))
+  unfolding dropping_column
   dropping_column_suits column table value =
       if_then _ (known_table table (heading_named set table)) _ (λ h known.
       if_then _ (known_column column (place_of h.columns column)) _ (λ place there.
@@ -139,7 +149,7 @@ module _ (set : List Heading) (next : ℕ) where
         set_fits = λ tables.
             one_fits set («any».DropColumn place e) table (record { name = table; columns = remove h.columns place }) (stands_named set table h (found_stands set table h found)) (source_gone table set)
             (without_column h place within (heading_at set table h tables found) table);
-        fits = rw (one_taken set table h found) (record {
+        fits = λ tables. rw (one_taken set table h found) (record {
           source = record { name = table; columns = remove h.columns place };
           target = as_seen h;
           column = get_or h.columns place [];
@@ -155,22 +165,31 @@ module _ (set : List Heading) (next : ℕ) where
       }))))
 
   planned_suits : (text : OpView) → IfOk (planned set next text) (Suits set next text)
+  unfolding decomposing_table joining_tables
   planned_suits («text».CreateTable table columns) = creating_suits table columns
   planned_suits («text».DropTable table) = dropping_suits table
   planned_suits («text».RenameTable table new) = renaming_table_suits table new
   planned_suits («text».RenameColumn column table new) = renaming_column_suits column table new
   planned_suits («text».AddColumn column value table) = adding_suits column value table
   planned_suits («text».DropColumn column table value) = dropping_column_suits column table value
-  planned_suits («text».DecomposeSingle table target columns) = tt
-  planned_suits («text».Decompose table first first_columns second second_columns key) = tt
-  planned_suits («text».Join outer first second target key) = tt
+  planned_suits («text».DecomposeSingle table target columns) = decomposing_suits set next table (record { name = target; columns = columns })
+  planned_suits («text».Decompose table first first_columns second second_columns «text».Primary) =
+      decomposing_on_pk_suits set next table (record { name = first; columns = first_columns }) (record { name = second; columns = second_columns })
+  planned_suits («text».Decompose table first first_columns second second_columns («text».Foreign key)) =
+      decomposing_on_fk_suits set next table (record { name = first; columns = first_columns }) (record { name = second; columns = second_columns }) key
+  planned_suits («text».Decompose table first first_columns second second_columns («text».Condition condition)) =
+      decomposing_on_suits set next table (record { name = first; columns = first_columns }) (record { name = second; columns = second_columns }) condition
+  planned_suits («text».Join outer first second target «text».Primary) = joining_on_pk_suits set next outer first second target
+  planned_suits («text».Join outer first second target («text».Foreign key)) = joining_on_fk_suits set next outer first second target key
+  planned_suits («text».Join false first second target («text».Condition condition)) = joining_on_suits set next first second target condition
+  planned_suits («text».Join true first second target («text».Condition condition)) = tt
   planned_suits («text».Split table first second) = splitting_suits set next table first second
   planned_suits («text».Merge first second target) = merging_suits set next first second target
 
 -- the same of an edge whose operator keeps its text
 pub record SuitsText (set : List Heading) (next : ℕ) (text : OpView) (e : Edge AnyView) : Type 0 where
   pub set_fits : Each IsHeading set → FitsSet set e
-  pub fits : (any_meaning e.operator).Fits (map as_seen (headings_taken set e.sources)) (map as_seen e.targets)
+  pub fits : Each IsHeading set → (any_meaning e.operator).Fits (map as_seen (headings_taken set e.sources)) (map as_seen e.targets)
   pub closed : TextsFit text → (any_meaning e.operator).Closed next
   pub few : (length e.sources ≤ 2) × (length e.targets ≤ 2)
   pub sources : (e.sources ≡ []) ↔ (is_create_table text ≡ true)

@@ -2,6 +2,12 @@ pub mod NameLists
 pub mod TableLists
 pub mod SoundTexts
 pub mod Suits
+pub mod Placed
+pub mod Ranges
 pub mod SplitMergeLaws
+pub mod DecomposeLaws
+pub mod JoinLaws
 pub mod BuiltLaws
+pub mod Decides
+pub mod JoinForms
 pub mod BuiltForms

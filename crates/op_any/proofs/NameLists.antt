@@ -2,6 +2,7 @@
 use Rattle.std.proofs.Common.{◌≡◌, ℕ, zero, suc, ◌<◌, List, [], ◌∷◌, ◌++◌, length, get_or, Bool, true, false, cond, Option, Some, None, inl, inr, refl, sym, ◌∙◌, ap, subst, arith}
 use Rattle.std.specs.Prelude.{◌⊎◌, ◌||◌, MatchOption}
 use Rattle.std.specs.List.{list_any, insert, remove}
+use Rattle.std.specs.Option.{option_or}
 use Rattle.std.specs.Str.{bytes_eq}
 use Rattle.std.proofs.lemmas.Bool.{false≢true}
 use Rattle.std.proofs.lemmas.List.{append_assoc, append-nil}
@@ -9,7 +10,7 @@ use Rattle.version_graph.specs.Sets.{In, Apart, Distinct}
 use Rattle.version_graph.proofs.SetLemmas.{in_left, in_right}
 use Rattle.version_graph.proofs.TableLemmas.{distinct_append}
 use Rattle.version_graph.proofs.NameLemmas.{same_name, name_is}
-use Rattle.op_any.specs.Build.{repeated}
+use Rattle.op_any.specs.NameChecks.{repeated}
 use Rattle.op_any.specs.Laws.{IsFirstRepeated}
 
 module _ {X : Type 0} where
@@ -66,7 +67,7 @@ not_member name [] e i = i
 not_member name (n ∷ names) e (inl same) = false≢true (sym (either _ _ e).0 ∙ name_is name n same)
 not_member name (n ∷ names) e (inr i) = not_member name names (either _ _ e).1 i
 
-member : (name : List ℕ) (names : List (List ℕ)) → list_any (bytes_eq name) names ≡ true → In name names
+pub member : (name : List ℕ) (names : List (List ℕ)) → list_any (bytes_eq name) names ≡ true → In name names
 member name [] e = absurd (false≢true e)
 member name (n ∷ names) e =
     let P : Bool → Type 0 = λ b. bytes_eq name n ≡ b → (b || list_any (bytes_eq name) names) ≡ true → In name (n ∷ names) in
@@ -111,3 +112,15 @@ repeated-first seen (n ∷ names) once =
 pub unrepeated_distinct : (seen names : List (List ℕ)) → repeated seen names ≡ None → Distinct seen → Distinct (seen ++ names)
 unrepeated_distinct seen names none once =
     subst (λ (o : Option (List ℕ)). MatchOption o (Distinct (seen ++ names)) (IsFirstRepeated seen names)) none (repeated-first seen names once)
+
+-- of two lists in turn
+pub repeated_both : (seen xs ys : List (List ℕ)) → repeated seen (xs ++ ys) ≡ option_or (repeated seen xs) (repeated (seen ++ xs) ys)
+unfolding repeated
+repeated_both seen [] ys = ap (λ (l : List (List ℕ)). repeated l ys) (sym (append-nil seen))
+repeated_both seen (x ∷ xs) ys =
+    let more : repeated (seen ++ x ∷ []) (xs ++ ys) ≡ option_or (repeated (seen ++ x ∷ []) xs) (repeated (seen ++ x ∷ xs) ys) =
+    repeated_both (seen ++ x ∷ []) xs ys ∙ ap (λ (l : List (List ℕ)). option_or (repeated (seen ++ x ∷ []) xs) (repeated l ys)) (append_assoc seen (x ∷ []) xs) in
+    elim (list_any (bytes_eq x) seen) as (λ b. cond b (Some x) (repeated (seen ++ x ∷ []) (xs ++ ys)) ≡ option_or (cond b (Some x) (repeated (seen ++ x ∷ []) xs)) (repeated (seen ++ x ∷ xs) ys)) [
+      | true ↦ refl
+      | false ↦ more
+    ]

@@ -9,8 +9,9 @@ use Rattle.bidel_parser.specs.Views.{BranchView}
 use Rattle.bidel_parser.specs.Views as «text»
 use Rattle.version_graph.specs.Tables.{IsHeading}
 use Rattle.version_graph.specs.declared.parts.Heading.{Heading}
-use Rattle.op_any.specs.Operators as «any»
-use Rattle.op_any.specs.Build.{heading_named, is_passing, known_table, other_table, new_table, known_columns, same_columns, known_ids, splitting_in_one, splitting_in_two, splitting_table, merging_tables}
+use Rattle.op_kinds.specs.Operators as «any»
+use Rattle.op_any.specs.NameChecks.{heading_named, is_passing, known_table, other_table, new_table, known_columns, same_columns, known_ids}
+use Rattle.op_any.specs.Build.{splitting_in_one, splitting_in_two, splitting_table, merging_tables}
 use Rattle.op_any.proofs.NameLists.{either}
 use Rattle.op_any.proofs.TableLists.{found_stands, stands_named, none_passing}
 use Rattle.op_any.proofs.Suits.{Suits, if_then, table_is, is_new, names_differ, sources_differ, expression_is, are_same, ids_known, heading_at, reads_columns, is_closed, one_fits, two_targets_fit, two_sources_fit, one_taken, two_taken}
@@ -32,7 +33,7 @@ module _ (set : List Heading) (next : ℕ) where
         set_fits = λ tables.
             one_fits set («any».Split (length h.columns) c None) table (record { name = r.table; columns = h.columns }) (stands_named set table h (found_stands set table h found)) (none_passing set (table ∷ []) r.table (is_new r.table _ u free))
             (renamed h r.table (heading_at set table h tables found));
-        fits = rw (one_taken set table h found) (record { source = refl; target = refl; first_reads = reads_columns c h.columns r.condition read; second_reads = refl });
+        fits = λ tables. rw (one_taken set table h found) (record { source = refl; target = refl; first_reads = reads_columns c h.columns r.condition read; second_reads = refl });
         closed = λ fits. (is_closed next c h.columns r.condition read (ids_known next _ v ids) fits.0, tt);
         few = (omega arith, omega arith);
         sources = (λ e. absurd (cc), λ e. absurd (false≢true e));
@@ -57,7 +58,7 @@ module _ (set : List Heading) (next : ℕ) where
             two_targets_fit set («any».Split (length h.columns) c (Some d)) table (record { name = r.table; columns = h.columns }) (record { name = s.table; columns = h.columns })
             (stands_named set table h (found_stands set table h found)) (none_passing set (table ∷ []) r.table (is_new r.table _ u free)) (none_passing set (table ∷ []) s.table apart.1)
             (names_differ r.table s.table apart.0) (renamed h r.table is) (renamed h s.table is);
-        fits = rw (one_taken set table h found) (record { source = refl; target = refl; first_reads = reads_columns c h.columns r.condition read; second_reads = reads_columns d h.columns s.condition other_read });
+        fits = λ tables. rw (one_taken set table h found) (record { source = refl; target = refl; first_reads = reads_columns c h.columns r.condition read; second_reads = reads_columns d h.columns s.condition other_read });
         closed = λ fits. (
           is_closed next c h.columns r.condition read (ids_known next _ w ids) fits.0,
           is_closed next d h.columns s.condition other_read (ids_known next _ x other_ids) fits.1.0,
@@ -67,10 +68,12 @@ module _ (set : List Heading) (next : ℕ) where
       })))))))
 
   pub splitting_suits : (table : List ℕ) (r : BranchView) (o : Option BranchView) → IfOk (splitting_table set next table r o) (Suits set next («text».Split table r o))
+  unfolding splitting_table
   splitting_suits table r None = splitting_in_one_suits table r
   splitting_suits table r (Some s) = splitting_in_two_suits table r s
 
   pub merging_suits : (r s : BranchView) (target : List ℕ) → IfOk (merging_tables set next r s target) (Suits set next («text».Merge r s target))
+  unfolding merging_tables
   merging_suits r s target =
       if_then _ (known_table r.table (heading_named set r.table)) _ (λ h known.
       if_then _ (known_table s.table (heading_named set s.table)) _ (λ k other_known.
@@ -91,7 +94,7 @@ module _ (set : List Heading) (next : ℕ) where
             two_sources_fit set («any».Merge (length h.columns) c (Some d)) r.table s.table (record { name = target; columns = h.columns })
             (stands_named set r.table h (found_stands set r.table h found)) (stands_named set s.table k (found_stands set s.table k other_found))
             (sources_differ r.table s.table u differ) (none_passing set (r.table ∷ s.table ∷ []) target (is_new target _ v free)) (renamed h target (heading_at set r.table h tables found));
-        fits = rw (two_taken set r.table s.table h k found other_found) (record {
+        fits = λ tables. rw (two_taken set r.table s.table h k found other_found) (record {
           source = refl;
           target = ap (λ (n : ℕ). length h.columns ∷ n ∷ []) long;
           first_reads = reads_columns c h.columns r.condition read;

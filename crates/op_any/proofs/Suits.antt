@@ -21,8 +21,8 @@ use Rattle.version_graph.proofs.SetLemmas.{each_at}
 use Rattle.version_graph.proofs.NameLemmas.{name_is}
 use Rattle.op_law.specs.SoundTerms.{TermSound}
 use Rattle.op_any.specs.Checks.{Checked, ◌then◌}
-use Rattle.op_any.specs.Operators.{Built, meaning_of}
-use Rattle.op_any.specs.Build.{heading_named, known_table, other_table, new_table, known_column, known_columns, unrepeated, new_columns, same_columns, few_columns, known_id}
+use Rattle.op_kinds.specs.Operators.{Built, meaning_of}
+use Rattle.op_any.specs.NameChecks.{heading_named, known_table, other_table, new_table, known_column, known_columns, unrepeated, new_columns, same_columns, few_columns, known_id}
 use Rattle.op_any.specs.Texts.{TermFits, TextsFit}
 use Rattle.op_any.specs.Laws.{as_seen, headings_taken, is_create_table}
 use Rattle.op_any.proofs.NameLists.{distinct_remove, unrepeated_distinct}
@@ -123,7 +123,7 @@ is_closed next e columns t read known fits = at_ok (TermSound next) (resolved co
 -- what is true of an edge that is built from this text
 pub record Suits (set : List Heading) (next : ℕ) (text : OpView) (e : Edge Built) : Type 0 where
   pub set_fits : Each IsHeading set → FitsSet set e
-  pub fits : (meaning_of e.operator).Fits (map as_seen (headings_taken set e.sources)) (map as_seen e.targets)
+  pub fits : Each IsHeading set → (meaning_of e.operator).Fits (map as_seen (headings_taken set e.sources)) (map as_seen e.targets)
   pub closed : TextsFit text → (meaning_of e.operator).Closed next
   pub few : (length e.sources ≤ 2) × (length e.targets ≤ 2)
   pub sources : (e.sources ≡ []) ↔ (is_create_table text ≡ true)

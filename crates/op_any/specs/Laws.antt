@@ -1,14 +1,15 @@
 -- What is true of every edge that is built on the working set of a graph.
-use Rattle.std.specs.Prelude.{◌≡◌, ◌↔◌, ℕ, ◌≤◌, Bool, true, false, List, [], ◌∷◌, ◌++◌, length, map, option_to_list, MatchOption, Ok, Err}
+use Rattle.std.specs.Prelude.{◌≡◌, ◌↔◌, ◌⊎◌, ℕ, ◌≤◌, Bool, true, false, List, [], ◌∷◌, ◌++◌, length, map, option_to_list, MatchOption, Ok, Err}
 use Rattle.par_base.specs.declared.refusal.Refusal.TheVariants.{NotBuilt}
 use Rattle.bidel_parser.specs.Views.{OpView, CreateTable}
-use Rattle.version_graph.specs.Sets.{In, Distinct, Each}
+use Rattle.version_graph.specs.Sets.{In, Distinct, Within, Each}
 use Rattle.version_graph.specs.Tables.{TableVersion, headings_of, taken, IsHeading, FitsSet}
 use Rattle.version_graph.specs.declared.parts.Heading.{Heading as TableHeading}
 use Rattle.version_graph.specs.declared.parts.Edge.{Edge}
 use Rattle.op_law.specs.Tables.{Heading}
-use Rattle.op_any.specs.Operators.{AnyView, any_meaning}
-use Rattle.op_any.specs.Build.{built, is_built, heading_named, repeated}
+use Rattle.op_kinds.specs.Operators.{AnyView, any_meaning}
+use Rattle.op_any.specs.NameChecks.{heading_named, repeated, misdivided}
+use Rattle.op_any.specs.Build.{built, is_built}
 use Rattle.op_any.specs.Texts.{TextsFit}
 
 -- a table's heading, as operators see it
@@ -39,7 +40,8 @@ BuiltEdgesFit =
 -- its operator is built for its sources and targets
 abbrev pub BuiltForItsTables : Type 0
 BuiltForItsTables =
-    (set : List TableHeading) (next : ℕ) (text : OpView) (e : Edge AnyView) → built set next text ≡ Ok e
+    (set : List TableHeading) (next : ℕ) (text : OpView) (e : Edge AnyView)
+    → Each IsHeading set → built set next text ≡ Ok e
     → (any_meaning e.operator).Fits (map as_seen (headings_taken set e.sources)) (map as_seen e.targets)
 
 -- its expressions are closed, where no text literal is too long
@@ -73,6 +75,25 @@ abbrev pub FirstRepeatedIsRefused : Type 0
 FirstRepeatedIsRefused =
     (seen new : List (List ℕ)) → Distinct seen
     → MatchOption (repeated seen new) (Distinct (seen ++ new)) (IsFirstRepeated seen new)
+
+-- a column that none of the names is, while all before it are named
+pub record IsFirstLeftOut (columns names : List (List ℕ)) (name : List ℕ) : Type 0 where
+  pub front : List (List ℕ)
+  pub rest : List (List ℕ)
+  pub there : columns ≡ front ++ name ∷ rest
+  pub before : Within front names
+  pub out : In name names → ⊥
+
+-- the first name that stands twice, or else, where all are distinct, the first column that is left out
+abbrev pub IsFirstMisdivided : List (List ℕ) → List (List ℕ) → List ℕ → Type 0
+IsFirstMisdivided columns names name =
+    IsFirstRepeated [] names name ⊎ (Distinct names × IsFirstLeftOut columns names name)
+
+-- a bad partition is refused by this name, and none is exactly where names are distinct and leave out no column
+abbrev pub FirstMisdividedIsRefused : Type 0
+FirstMisdividedIsRefused =
+    (columns names : List (List ℕ))
+    → MatchOption (misdivided columns names) (Distinct names × Within columns names) (IsFirstMisdivided columns names)
 
 -- an operator isn't built yet exactly where its form is none of those that are
 abbrev pub NotBuiltIsTheForm : Type 0

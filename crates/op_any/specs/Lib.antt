@@ -1,7 +1,8 @@
 pub mod Checks
-pub mod Operators
-pub mod Codes
-pub mod Views
+pub mod NameChecks
+pub mod Edges
+pub mod BuildJoins
 pub mod Build
+pub mod Found
 pub mod Texts
 pub mod Laws

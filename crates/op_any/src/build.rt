@@ -1,32 +1,33 @@
 //! Building operators from their texts.
 ghost use Rattle.std.specs.Prelude.{◌≡◌};
-ghost use Rattle.bidel_parser.specs.Views.{op_view};
+ghost use Rattle.bidel_parser.specs.Views.{key_view, op_view};
 ghost use Rattle.op_any.specs.Checks.{Gives};
-ghost use Rattle.op_any.specs.Build.{built, is_built as is_built_form};
+ghost use Rattle.op_any.specs.Build.{built, is_built as is_built_form, is_built_join as is_built_join_form};
 
-use crate::AnyOp;
-use crate::copy_text::copy_text;
 use crate::plan::plan;
-use bidel_parser::OpText;
+use bidel_parser::{KeyText, OpText};
+use op_kinds::{AnyOp, copy_text};
 use par_base::{Fault, Refusal};
 use std::alloc::Global;
 use version_graph::{Edge, Heading};
+
+fn is_built_join(outer: bool, key: &KeyText) -> bool
+    ensures { result ≡ is_built_join_form outer (key_view key.now) }
+{
+    match key {
+        KeyText::Primary | KeyText::Foreign(_) => true,
+        KeyText::Condition(_) => !outer,
+    }
+}
 
 /// Whether operators of this form are built.
 pub fn is_built(text: &OpText) -> bool
     ensures { result ≡ is_built_form (op_view text.now) }
 {
-    matches!(
-        text,
-        OpText::CreateTable { .. }
-            | OpText::DropTable { .. }
-            | OpText::RenameTable { .. }
-            | OpText::RenameColumn { .. }
-            | OpText::AddColumn { .. }
-            | OpText::DropColumn { .. }
-            | OpText::Split { .. }
-            | OpText::Merge { .. }
-    )
+    match text {
+        OpText::Join { outer, key, .. } => is_built_join(*outer, key),
+        _ => true,
+    }
 }
 
 /// The edge of an operator on the working set of these tables, while `next` is the next identifier,

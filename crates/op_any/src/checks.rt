@@ -1,14 +1,17 @@
 //! The checks of an operator, each with its refusal.
-ghost use Rattle.std.specs.Prelude.{◌≡◌, ◌<◌, ◌||◌, length, IfOk};
+ghost use Rattle.std.specs.Prelude.{◌≡◌, ◌<◌, ◌||◌, ◌++◌, [], length, IfOk};
+ghost use Rattle.std.specs.Option.{option_map};
 ghost use Rattle.std.specs.Str.{bytes_eq};
 ghost use Rattle.expr_lang.specs.Terms.{text_term, expr_term};
 ghost use Rattle.expr_lang.specs.Resolved.{place_of, resolved};
 ghost use Rattle.op_any.specs.Checks.{Gives};
-ghost use Rattle.op_any.specs.Build.{heading_named, is_passing as is_passing_name, known_table, other_table, new_table, known_column, known_columns, new_columns, same_columns, few_columns, known_ids};
+ghost use Rattle.op_any.specs.NameChecks.{heading_named, is_passing as is_passing_name, known_table, other_table, new_table, known_column, known_places, known_columns, repeated, misdivided, well_divided, new_columns, same_columns, few_columns, known_ids};
 
-use crate::lookup::{find_column, find_heading, find_repeated, has_name, is_passing};
+use crate::lookup::{
+    find_again, find_column, find_heading, find_misdivided, find_repeated, has_name, is_passing,
+};
 use expr_lang::{Expr, ExprText, first_unknown, resolve};
-use par_base::{Fault, Name, Refusal};
+use par_base::{Fault, List, Name, Refusal};
 use std::alloc::Global;
 use version_graph::Heading;
 
@@ -95,6 +98,53 @@ pub fn find_place(alloc: Global, columns: &[Name], name: &Name) -> Result<usize,
             column: name.copy(alloc)?,
         })),
     }
+}
+
+/// The places of these columns, or the refusal of the first name that is none of the table's. It
+/// takes time in the number of pairs of names.
+#[tactic(auto, unfolding(crate::specs::NameChecks::known_places))]
+pub(crate) fn find_places(
+    alloc: Global,
+    columns: &[Name],
+    names: &[Name],
+) -> Result<List<usize>, Fault<Refusal>>
+    ensures { Gives (λ places. places) result (known_places columns.now names.now) }
+{
+    let mut places = List::new(alloc);
+    for name in names {
+        places.push(find_place(alloc, columns, name)?)?;
+    }
+    Ok(places)
+}
+
+fn refuse_division(alloc: Global, column: Option<&Name>) -> Result<(), Fault<Refusal>>
+    ensures { Gives (λ x. x) result (well_divided (option_map (λ name. name.now) column.entry)) }
+{
+    match column {
+        Some(column) => Err(Fault::Refused(Refusal::BadPartition {
+            column: column.copy(alloc)?,
+        })),
+        None => Ok(()),
+    }
+}
+
+/// Refuses the first name that is listed twice.
+pub(crate) fn check_once(alloc: Global, names: &[Name]) -> Result<(), Fault<Refusal>>
+    ensures { Gives (λ x. x) result (well_divided (repeated [] names.now)) }
+{
+    refuse_division(alloc, find_again(&[], names))
+}
+
+/// Refuses the first name that two lists name twice, or else the first column that they leave out.
+pub(crate) fn check_divided(
+    alloc: Global,
+    columns: &[Name],
+    first: &[Name],
+    second: &[Name],
+) -> Result<(), Fault<Refusal>>
+    ensures { Gives (λ x. x) result (well_divided (misdivided columns.now (first.now ++ second.now))) }
+{
+    refuse_division(alloc, find_misdivided(columns, first, second))
 }
 
 /// Refuses the first of the new columns that is `p`, a known one or one of those before it.

@@ -1,10 +1,9 @@
 //! Edges between one table or two on either side.
 ghost use Rattle.std.specs.Prelude.{◌≡◌, ◌∷◌, [], IfOk};
-ghost use Rattle.op_any.specs.Build.{one_to_one, one_to_two};
-ghost use Rattle.op_any.specs.Views.{built_view, edge_view};
+ghost use Rattle.op_kinds.specs.Views.{built_view};
+ghost use Rattle.op_any.specs.Edges.{edge_view};
 
-use crate::any_op::BuiltOp;
-use crate::copy_text::copy_names;
+use op_kinds::{BuiltOp, copy_names};
 use par_base::{List, Memory, Name};
 use std::alloc::Global;
 use version_graph::{Edge, Heading};
@@ -44,24 +43,8 @@ pub(crate) fn one_heading(
     Ok(made)
 }
 
-/// From one table to one table.
-pub(crate) fn from_one_to_one(
-    alloc: Global,
-    operator: BuiltOp,
-    source: &Name,
-    target: &Name,
-    columns: List<Name>,
-) -> Result<Edge<BuiltOp>, Memory>
-    ensures { IfOk result (λ made. edge_view made ≡ one_to_one (built_view operator) source.now target.now columns) }
-{
-    Ok(Edge {
-        operator,
-        sources: one_name(alloc, source)?,
-        targets: one_heading(alloc, target, columns)?,
-    })
-}
-
-fn heading_of(alloc: Global, name: &Name, columns: &[Name]) -> Result<Heading, Memory>
+/// A table with this name and these columns.
+pub(crate) fn heading_of(alloc: Global, name: &Name, columns: &[Name]) -> Result<Heading, Memory>
     ensures { IfOk result (λ made. made ≡ record { name = name.now; columns = columns.now }) }
 {
     Ok(Heading {
@@ -70,24 +53,87 @@ fn heading_of(alloc: Global, name: &Name, columns: &[Name]) -> Result<Heading, M
     })
 }
 
-/// From one table to two with the same columns.
-pub(crate) fn from_one_to_two(
-    alloc: Global,
-    operator: BuiltOp,
-    source: &Name,
-    first: &Name,
-    second: &Name,
-    columns: &[Name],
-) -> Result<Edge<BuiltOp>, Memory>
-    ensures { IfOk result (λ made. edge_view made
-        ≡ one_to_two (built_view operator) source.now first.now second.now columns.now) }
+/// The tables of an edge. They are made before its operator is.
+#[derive(Debug, Drop)]
+pub(crate) struct Tables {
+    pub sources: List<Name>,
+    pub targets: List<Heading>,
+}
+
+/// The edge of an operator between these tables.
+pub(crate) fn edge_of(operator: BuiltOp, tables: Tables) -> Edge<BuiltOp>
+    ensures { edge_view result
+        ≡ record { operator = built_view operator; sources = tables.sources; targets = tables.targets } }
+{
+    Edge {
+        operator,
+        sources: tables.sources,
+        targets: tables.targets,
+    }
+}
+
+/// From one table to this one.
+pub(crate) fn from_one_to(alloc: Global, source: &Name, target: Heading) -> Result<Tables, Memory>
+    ensures { IfOk result (λ made. made ≡ record { sources = source.now ∷ []; targets = target ∷ [] }) }
 {
     let mut targets = List::new(alloc);
-    targets.push(heading_of(alloc, first, columns)?)?;
-    targets.push(heading_of(alloc, second, columns)?)?;
-    Ok(Edge {
-        operator,
+    targets.push(target)?;
+    Ok(Tables {
         sources: one_name(alloc, source)?,
         targets,
+    })
+}
+
+/// From one table to one table with these columns.
+pub(crate) fn from_one_to_one(
+    alloc: Global,
+    source: &Name,
+    target: &Name,
+    columns: List<Name>,
+) -> Result<Tables, Memory>
+    ensures { IfOk result (λ made. made
+        ≡ record { sources = source.now ∷ []; targets = record { name = target.now; columns = columns } ∷ [] }) }
+{
+    Ok(Tables {
+        sources: one_name(alloc, source)?,
+        targets: one_heading(alloc, target, columns)?,
+    })
+}
+
+/// From one table to these two.
+pub(crate) fn from_one_to_both(
+    alloc: Global,
+    source: &Name,
+    first: Heading,
+    second: Heading,
+) -> Result<Tables, Memory>
+    ensures { IfOk result (λ made. made
+        ≡ record { sources = source.now ∷ []; targets = first ∷ second ∷ [] }) }
+{
+    let mut targets = List::new(alloc);
+    targets.push(first)?;
+    targets.push(second)?;
+    Ok(Tables {
+        sources: one_name(alloc, source)?,
+        targets,
+    })
+}
+
+/// From two tables to one with these columns.
+pub(crate) fn from_two_to_one(
+    alloc: Global,
+    first: &Name,
+    second: &Name,
+    target: &Name,
+    columns: List<Name>,
+) -> Result<Tables, Memory>
+    ensures { IfOk result (λ made. made ≡ record {
+      sources = first.now ∷ second.now ∷ [];
+      targets = record { name = target.now; columns = columns } ∷ [];
+    }) }
+{
+    Ok(Tables {
+        sources: two_names(alloc, first, second)?,
+        targets: one_heading(alloc, target, columns)?,
     })
 }

@@ -1,5 +1,5 @@
 //! Laws of built operators. The functions do nothing: their contracts are the laws.
-ghost use Rattle.op_any.specs.Laws.{BuiltEdgesFit, BuiltForItsTables, BuiltIsClosed, BuiltHasFewTables, OnlyCreateTableIsWithoutSource, BuiltKeepsItsText, NotBuiltIsTheForm, HeadingsOfTaken, FirstRepeatedIsRefused};
+ghost use Rattle.op_any.specs.Laws.{BuiltEdgesFit, BuiltForItsTables, BuiltIsClosed, BuiltHasFewTables, OnlyCreateTableIsWithoutSource, BuiltKeepsItsText, NotBuiltIsTheForm, HeadingsOfTaken, FirstRepeatedIsRefused, FirstMisdividedIsRefused};
 
 /// An edge that was built on the working set of a graph fits it, and its operator is built for its
 /// tables: for its targets, and for the tables of the set that it takes.
@@ -21,7 +21,8 @@ pub fn built_edges_keep_their_form()
     ensures text { BuiltKeepsItsText }
 {}
 
-/// Which forms are built. An operator of one of these forms may be refused, but never as not built.
+/// Which forms are built: all but one. An operator of one of these may be refused, but never as not
+/// built.
 pub fn other_forms_are_not_built()
     ensures { NotBuiltIsTheForm }
 {}
@@ -29,4 +30,9 @@ pub fn other_forms_are_not_built()
 /// Which column is refused because a target would have it twice.
 pub fn first_repeated_column_is_refused()
     ensures { FirstRepeatedIsRefused }
+{}
+
+/// Which column is refused because the lists of DECOMPOSE name it twice or leave it out.
+pub fn first_misdivided_column_is_refused()
+    ensures { FirstMisdividedIsRefused }
 {}

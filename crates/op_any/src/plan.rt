@@ -5,19 +5,21 @@ ghost use Rattle.expr_lang.specs.Terms.{text_term};
 ghost use Rattle.bidel_parser.specs.Views.{op_view};
 ghost use Rattle.op_any.specs.Checks.{Gives};
 ghost use Rattle.op_any.specs.Build.{creating_table, dropping_table, renaming_table, renaming_column, adding_column, dropping_column, planned};
-ghost use Rattle.op_any.specs.Views.{built_view, edge_view};
+ghost use Rattle.op_kinds.specs.Views.{built_view};
+ghost use Rattle.op_any.specs.Edges.{edge_view};
 
-use crate::any_op::BuiltOp;
 use crate::checks::{
     check_few_columns, check_ids, check_new_columns, check_new_table, find_place, find_table,
     resolve_value,
 };
-use crate::copy_text::copy_names;
-use crate::edges::{from_one_to_one, one_heading, one_name};
+use crate::edges::{edge_of, from_one_to_one, heading_of, one_heading, one_name};
+use crate::plan_decompose::{decompose, decompose_in_one};
+use crate::plan_joins::{JoinNames, join};
 use crate::plan_two::{merge, split};
 use bidel_parser::OpText;
 use expr_lang::ExprText;
 use op_column::{AddColumn, CreateTable, DropTable, Rename};
+use op_kinds::{BuiltOp, copy_names};
 use op_rows::{FlipRow, Rowwise};
 use par_base::{Fault, List, Memory, Name, Refusal};
 use std::alloc::Global;
@@ -32,6 +34,7 @@ fn with_name(alloc: Global, names: &[Name], name: &Name) -> Result<List<Name>, M
     Ok(made)
 }
 
+#[tactic(auto, unfolding(crate::specs::Build::creating_table))]
 fn create_table(
     alloc: Global,
     set: &[Heading],
@@ -43,13 +46,15 @@ fn create_table(
     check_new_table(alloc, set, &[], table)?;
     check_new_columns(alloc, &[], columns)?;
     check_few_columns(alloc, table, columns)?;
+    let targets = one_heading(alloc, table, copy_names(alloc, columns)?)?;
     Ok(Edge {
         operator: BuiltOp::CreateTable(Rowwise { inner: CreateTable }),
         sources: List::new(alloc),
-        targets: one_heading(alloc, table, copy_names(alloc, columns)?)?,
+        targets,
     })
 }
 
+#[tactic(auto, unfolding(crate::specs::Build::dropping_table))]
 fn drop_table(alloc: Global, set: &[Heading], table: &Name) -> Result<Edge<BuiltOp>, Fault<Refusal>>
     ensures { Gives edge_view result (dropping_table set.now table.now) }
 {
@@ -57,13 +62,15 @@ fn drop_table(alloc: Global, set: &[Heading], table: &Name) -> Result<Edge<Built
     let inner = DropTable {
         width: source.columns.len(),
     };
+    let sources = one_name(alloc, table)?;
     Ok(Edge {
         operator: BuiltOp::DropTable(Rowwise { inner }),
-        sources: one_name(alloc, table)?,
+        sources,
         targets: List::new(alloc),
     })
 }
 
+#[tactic(auto, unfolding(crate::specs::Build::renaming_table))]
 fn rename_table(
     alloc: Global,
     set: &[Heading],
@@ -75,10 +82,11 @@ fn rename_table(
     let renamed = find_table(alloc, set, table)?;
     check_new_table(alloc, set, slice::from_ref(table), new_name)?;
     let columns = copy_names(alloc, renamed.columns.as_slice())?;
-    let operator = BuiltOp::Rename(Rowwise { inner: Rename });
-    Ok(from_one_to_one(alloc, operator, table, new_name, columns)?)
+    let tables = from_one_to_one(alloc, table, new_name, columns)?;
+    Ok(edge_of(BuiltOp::Rename(Rowwise { inner: Rename }), tables))
 }
 
+#[tactic(auto, unfolding(crate::specs::Build::renaming_column))]
 fn rename_column(
     alloc: Global,
     set: &[Heading],
@@ -94,10 +102,11 @@ fn rename_column(
     columns.remove(place);
     check_new_columns(alloc, columns.as_slice(), slice::from_ref(new_name))?;
     columns.insert(place, new_name.copy(alloc)?)?;
-    let operator = BuiltOp::Rename(Rowwise { inner: Rename });
-    Ok(from_one_to_one(alloc, operator, table, table, columns)?)
+    let tables = from_one_to_one(alloc, table, table, columns)?;
+    Ok(edge_of(BuiltOp::Rename(Rowwise { inner: Rename }), tables))
 }
 
+#[tactic(auto, unfolding(crate::specs::Build::adding_column))]
 fn add_column(
     alloc: Global,
     set: &[Heading],
@@ -115,14 +124,15 @@ fn add_column(
     let columns = with_name(alloc, known, column)?;
     check_few_columns(alloc, table, columns.as_slice())?;
     check_ids(value, next)?;
+    let tables = from_one_to_one(alloc, table, table, columns)?;
     let inner = AddColumn {
         place: known.len(),
         value: expr,
     };
-    let operator = BuiltOp::AddColumn(Rowwise { inner });
-    Ok(from_one_to_one(alloc, operator, table, table, columns)?)
+    Ok(edge_of(BuiltOp::AddColumn(Rowwise { inner }), tables))
 }
 
+#[tactic(auto, unfolding(crate::specs::Build::dropping_column))]
 fn drop_column(
     alloc: Global,
     set: &[Heading],
@@ -139,11 +149,11 @@ fn drop_column(
     columns.remove(place);
     let expr = resolve_value(alloc, value, columns.as_slice())?;
     check_ids(value, next)?;
+    let tables = from_one_to_one(alloc, table, table, columns)?;
     let inner = FlipRow {
         inner: AddColumn { place, value: expr },
     };
-    let operator = BuiltOp::DropColumn(Rowwise { inner });
-    Ok(from_one_to_one(alloc, operator, table, table, columns)?)
+    Ok(edge_of(BuiltOp::DropColumn(Rowwise { inner }), tables))
 }
 
 /// The edge of an operator on a working set, or the first of its checks that refuses it.
@@ -189,6 +199,39 @@ pub(crate) fn plan(
             second,
             target,
         } => merge(alloc, set, next, first, second, target),
-        _ => Err(Fault::Refused(Refusal::NotBuilt)),
+        OpText::DecomposeSingle {
+            table,
+            target,
+            columns,
+        } => {
+            let target = heading_of(alloc, target, columns.as_slice())?;
+            decompose_in_one(alloc, set, table, target)
+        }
+        OpText::Decompose {
+            table,
+            first,
+            first_columns,
+            second,
+            second_columns,
+            key,
+        } => {
+            let first = heading_of(alloc, first, first_columns.as_slice())?;
+            let second = heading_of(alloc, second, second_columns.as_slice())?;
+            decompose(alloc, set, next, table, first, second, key)
+        }
+        OpText::Join {
+            outer,
+            first,
+            second,
+            target,
+            key,
+        } => {
+            let names = JoinNames {
+                first,
+                second,
+                target,
+            };
+            join(alloc, set, next, *outer, &names, key)
+        }
     }
 }

@@ -3,16 +3,17 @@ ghost use Rattle.std.specs.Prelude.{◌≡◌};
 ghost use Rattle.bidel_parser.specs.Views.{branch_view, second_view};
 ghost use Rattle.op_any.specs.Checks.{Gives};
 ghost use Rattle.op_any.specs.Build.{splitting_in_one, splitting_in_two, splitting_table, merging_tables};
-ghost use Rattle.op_any.specs.Views.{edge_view};
+ghost use Rattle.op_any.specs.Edges.{edge_view};
 
-use crate::any_op::BuiltOp;
 use crate::checks::{
     check_ids, check_new_table, check_other_table, check_same_columns, check_second_table,
     find_table, resolve_value,
 };
-use crate::copy_text::copy_names;
-use crate::edges::{from_one_to_one, from_one_to_two, one_heading, two_names};
+use crate::edges::{
+    edge_of, from_one_to_both, from_one_to_one, heading_of, one_heading, two_names,
+};
 use bidel_parser::Branch;
+use op_kinds::{BuiltOp, copy_names};
 use op_rows::{FlipRow, Rowwise};
 use op_split_merge::Split;
 use par_base::{Fault, Name, Refusal};
@@ -34,14 +35,13 @@ fn split_in_one(
     check_new_table(alloc, set, slice::from_ref(table), &first.table)?;
     let condition = resolve_value(alloc, &first.condition, columns)?;
     check_ids(&first.condition, next)?;
+    let tables = from_one_to_one(alloc, table, &first.table, copy_names(alloc, columns)?)?;
     let inner = Split {
         width: columns.len(),
         first: condition,
         second: None,
     };
-    let operator = BuiltOp::Split(Rowwise { inner });
-    let columns = copy_names(alloc, columns)?;
-    Ok(from_one_to_one(alloc, operator, table, &first.table, columns)?)
+    Ok(edge_of(BuiltOp::Split(Rowwise { inner }), tables))
 }
 
 fn split_in_two(
@@ -64,16 +64,19 @@ fn split_in_two(
     let other_condition = resolve_value(alloc, &second.condition, columns)?;
     check_ids(&first.condition, next)?;
     check_ids(&second.condition, next)?;
+    let first_target = heading_of(alloc, &first.table, columns)?;
+    let second_target = heading_of(alloc, &second.table, columns)?;
+    let tables = from_one_to_both(alloc, table, first_target, second_target)?;
     let inner = Split {
         width: columns.len(),
         first: condition,
         second: Some(other_condition),
     };
-    let operator = BuiltOp::Split(Rowwise { inner });
-    Ok(from_one_to_two(alloc, operator, table, &first.table, &second.table, columns)?)
+    Ok(edge_of(BuiltOp::Split(Rowwise { inner }), tables))
 }
 
 /// The edge of a SPLIT with one target or two, or the first of its checks that refuses it.
+#[tactic(auto, unfolding(crate::specs::Build::splitting_table))]
 pub(crate) fn split(
     alloc: Global,
     set: &[Heading],
@@ -92,6 +95,7 @@ pub(crate) fn split(
 }
 
 /// The edge of a MERGE, or the first of its checks that refuses it.
+#[tactic(auto, unfolding(crate::specs::Build::merging_tables))]
 pub(crate) fn merge(
     alloc: Global,
     set: &[Heading],
@@ -115,6 +119,7 @@ pub(crate) fn merge(
     check_same_columns(alloc, source, other_source)?;
     check_ids(&first.condition, next)?;
     check_ids(&second.condition, next)?;
+    let targets = one_heading(alloc, target, copy_names(alloc, columns)?)?;
     let inner = Split {
         width: columns.len(),
         first: condition,
@@ -124,6 +129,6 @@ pub(crate) fn merge(
     Ok(Edge {
         operator: BuiltOp::Merge(Rowwise { inner }),
         sources,
-        targets: one_heading(alloc, target, copy_names(alloc, columns)?)?,
+        targets,
     })
 }

@@ -6,7 +6,7 @@ pub returns-clause-set : goal.returns-clause-set
 returns-clause-set c = λ set next text e tables is. (built_suits set next text e is).set_fits tables
 
 pub returns-clause-tables : goal.returns-clause-tables
-returns-clause-tables c = λ set next text e is. (built_suits set next text e is).fits
+returns-clause-tables c = λ set next text e tables is. (built_suits set next text e is).fits tables
 
 pub returns-clause-sources : goal.returns-clause-sources
 returns-clause-sources c = headings_taken-of

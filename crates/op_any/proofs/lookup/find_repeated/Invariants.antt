@@ -1,6 +1,6 @@
 use Rattle.std.proofs.Common.{◌≡◌, ◌∷◌, ◌++◌, drop, take}
 use Rattle.version_graph.specs.Tables.{row_name}
-use Rattle.op_any.specs.Build.{repeated}
+use Rattle.op_any.specs.NameChecks.{repeated}
 use Rattle.op_any.proofs.lookup.find_repeated.Given as goal
 
 abbrev pub invariant-loop-at : goal.invariant-loop-at

@@ -205,7 +205,7 @@ fn copy_merge(
 }
 
 /// An equal text.
-pub(crate) fn copy_text(alloc: Global, text: &OpText) -> Result<OpText, Memory>
+pub fn copy_text(alloc: Global, text: &OpText) -> Result<OpText, Memory>
     ensures { IfOk result (λ made. op_view made ≡ op_view text.now) }
 {
     match text {

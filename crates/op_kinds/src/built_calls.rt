@@ -1,7 +1,7 @@
 //! The calls of any operator: each hands on to the operator that was built.
 ghost use Rattle.std.specs.Prelude.{◌≡◌};
-ghost use Rattle.op_any.specs.Operators.{meaning_of, laws_of};
-ghost use Rattle.op_any.specs.Views.{built_view};
+ghost use Rattle.op_kinds.specs.Operators.{meaning_of, laws_of};
+ghost use Rattle.op_kinds.specs.Views.{built_view};
 
 use crate::any_op::BuiltOp;
 use expr_lang::Steps;
@@ -30,6 +30,15 @@ impl Operator for BuiltOp {
             BuiltOp::DropColumn(it) => it.forward(alloc, near, old, ids, steps),
             BuiltOp::Split(it) => it.forward(alloc, near, old, ids, steps),
             BuiltOp::Merge(it) => it.forward(alloc, near, old, ids, steps),
+            BuiltOp::DecomposeSingle(it) => it.forward(alloc, near, old, ids, steps),
+            BuiltOp::DecomposePk(it) => it.forward(alloc, near, old, ids, steps),
+            BuiltOp::OuterJoinPk(it) => it.forward(alloc, near, old, ids, steps),
+            BuiltOp::JoinPk(it) => it.forward(alloc, near, old, ids, steps),
+            BuiltOp::DecomposeFk(it) => it.forward(alloc, near, old, ids, steps),
+            BuiltOp::OuterJoinFk(it) => it.forward(alloc, near, old, ids, steps),
+            BuiltOp::JoinFk(it) => it.forward(alloc, near, old, ids, steps),
+            BuiltOp::JoinOn(it) => it.forward(alloc, near, old, ids, steps),
+            BuiltOp::DecomposeOn(it) => it.forward(alloc, near, old, ids, steps),
         }
     }
 
@@ -49,6 +58,15 @@ impl Operator for BuiltOp {
             BuiltOp::DropColumn(it) => it.backward(alloc, near, old, ids, steps),
             BuiltOp::Split(it) => it.backward(alloc, near, old, ids, steps),
             BuiltOp::Merge(it) => it.backward(alloc, near, old, ids, steps),
+            BuiltOp::DecomposeSingle(it) => it.backward(alloc, near, old, ids, steps),
+            BuiltOp::DecomposePk(it) => it.backward(alloc, near, old, ids, steps),
+            BuiltOp::OuterJoinPk(it) => it.backward(alloc, near, old, ids, steps),
+            BuiltOp::JoinPk(it) => it.backward(alloc, near, old, ids, steps),
+            BuiltOp::DecomposeFk(it) => it.backward(alloc, near, old, ids, steps),
+            BuiltOp::OuterJoinFk(it) => it.backward(alloc, near, old, ids, steps),
+            BuiltOp::JoinFk(it) => it.backward(alloc, near, old, ids, steps),
+            BuiltOp::JoinOn(it) => it.backward(alloc, near, old, ids, steps),
+            BuiltOp::DecomposeOn(it) => it.backward(alloc, near, old, ids, steps),
         }
     }
 
@@ -68,6 +86,15 @@ impl Operator for BuiltOp {
             BuiltOp::DropColumn(it) => it.read_target(alloc, source, aux, memory, steps),
             BuiltOp::Split(it) => it.read_target(alloc, source, aux, memory, steps),
             BuiltOp::Merge(it) => it.read_target(alloc, source, aux, memory, steps),
+            BuiltOp::DecomposeSingle(it) => it.read_target(alloc, source, aux, memory, steps),
+            BuiltOp::DecomposePk(it) => it.read_target(alloc, source, aux, memory, steps),
+            BuiltOp::OuterJoinPk(it) => it.read_target(alloc, source, aux, memory, steps),
+            BuiltOp::JoinPk(it) => it.read_target(alloc, source, aux, memory, steps),
+            BuiltOp::DecomposeFk(it) => it.read_target(alloc, source, aux, memory, steps),
+            BuiltOp::OuterJoinFk(it) => it.read_target(alloc, source, aux, memory, steps),
+            BuiltOp::JoinFk(it) => it.read_target(alloc, source, aux, memory, steps),
+            BuiltOp::JoinOn(it) => it.read_target(alloc, source, aux, memory, steps),
+            BuiltOp::DecomposeOn(it) => it.read_target(alloc, source, aux, memory, steps),
         }
     }
 
@@ -87,6 +114,15 @@ impl Operator for BuiltOp {
             BuiltOp::DropColumn(it) => it.read_source(alloc, target, aux, memory, steps),
             BuiltOp::Split(it) => it.read_source(alloc, target, aux, memory, steps),
             BuiltOp::Merge(it) => it.read_source(alloc, target, aux, memory, steps),
+            BuiltOp::DecomposeSingle(it) => it.read_source(alloc, target, aux, memory, steps),
+            BuiltOp::DecomposePk(it) => it.read_source(alloc, target, aux, memory, steps),
+            BuiltOp::OuterJoinPk(it) => it.read_source(alloc, target, aux, memory, steps),
+            BuiltOp::JoinPk(it) => it.read_source(alloc, target, aux, memory, steps),
+            BuiltOp::DecomposeFk(it) => it.read_source(alloc, target, aux, memory, steps),
+            BuiltOp::OuterJoinFk(it) => it.read_source(alloc, target, aux, memory, steps),
+            BuiltOp::JoinFk(it) => it.read_source(alloc, target, aux, memory, steps),
+            BuiltOp::JoinOn(it) => it.read_source(alloc, target, aux, memory, steps),
+            BuiltOp::DecomposeOn(it) => it.read_source(alloc, target, aux, memory, steps),
         }
     }
 
@@ -104,6 +140,15 @@ impl Operator for BuiltOp {
             BuiltOp::DropColumn(it) => it.aux_at_source(alloc, pair, steps),
             BuiltOp::Split(it) => it.aux_at_source(alloc, pair, steps),
             BuiltOp::Merge(it) => it.aux_at_source(alloc, pair, steps),
+            BuiltOp::DecomposeSingle(it) => it.aux_at_source(alloc, pair, steps),
+            BuiltOp::DecomposePk(it) => it.aux_at_source(alloc, pair, steps),
+            BuiltOp::OuterJoinPk(it) => it.aux_at_source(alloc, pair, steps),
+            BuiltOp::JoinPk(it) => it.aux_at_source(alloc, pair, steps),
+            BuiltOp::DecomposeFk(it) => it.aux_at_source(alloc, pair, steps),
+            BuiltOp::OuterJoinFk(it) => it.aux_at_source(alloc, pair, steps),
+            BuiltOp::JoinFk(it) => it.aux_at_source(alloc, pair, steps),
+            BuiltOp::JoinOn(it) => it.aux_at_source(alloc, pair, steps),
+            BuiltOp::DecomposeOn(it) => it.aux_at_source(alloc, pair, steps),
         }
     }
 
@@ -121,6 +166,15 @@ impl Operator for BuiltOp {
             BuiltOp::DropColumn(it) => it.aux_at_target(alloc, pair, steps),
             BuiltOp::Split(it) => it.aux_at_target(alloc, pair, steps),
             BuiltOp::Merge(it) => it.aux_at_target(alloc, pair, steps),
+            BuiltOp::DecomposeSingle(it) => it.aux_at_target(alloc, pair, steps),
+            BuiltOp::DecomposePk(it) => it.aux_at_target(alloc, pair, steps),
+            BuiltOp::OuterJoinPk(it) => it.aux_at_target(alloc, pair, steps),
+            BuiltOp::JoinPk(it) => it.aux_at_target(alloc, pair, steps),
+            BuiltOp::DecomposeFk(it) => it.aux_at_target(alloc, pair, steps),
+            BuiltOp::OuterJoinFk(it) => it.aux_at_target(alloc, pair, steps),
+            BuiltOp::JoinFk(it) => it.aux_at_target(alloc, pair, steps),
+            BuiltOp::JoinOn(it) => it.aux_at_target(alloc, pair, steps),
+            BuiltOp::DecomposeOn(it) => it.aux_at_target(alloc, pair, steps),
         }
     }
 
@@ -140,6 +194,15 @@ impl Operator for BuiltOp {
             BuiltOp::DropColumn(it) => it.admit_target(alloc, source, aux, memory, steps),
             BuiltOp::Split(it) => it.admit_target(alloc, source, aux, memory, steps),
             BuiltOp::Merge(it) => it.admit_target(alloc, source, aux, memory, steps),
+            BuiltOp::DecomposeSingle(it) => it.admit_target(alloc, source, aux, memory, steps),
+            BuiltOp::DecomposePk(it) => it.admit_target(alloc, source, aux, memory, steps),
+            BuiltOp::OuterJoinPk(it) => it.admit_target(alloc, source, aux, memory, steps),
+            BuiltOp::JoinPk(it) => it.admit_target(alloc, source, aux, memory, steps),
+            BuiltOp::DecomposeFk(it) => it.admit_target(alloc, source, aux, memory, steps),
+            BuiltOp::OuterJoinFk(it) => it.admit_target(alloc, source, aux, memory, steps),
+            BuiltOp::JoinFk(it) => it.admit_target(alloc, source, aux, memory, steps),
+            BuiltOp::JoinOn(it) => it.admit_target(alloc, source, aux, memory, steps),
+            BuiltOp::DecomposeOn(it) => it.admit_target(alloc, source, aux, memory, steps),
         }
     }
 
@@ -159,6 +222,15 @@ impl Operator for BuiltOp {
             BuiltOp::DropColumn(it) => it.admit_source(alloc, target, aux, memory, steps),
             BuiltOp::Split(it) => it.admit_source(alloc, target, aux, memory, steps),
             BuiltOp::Merge(it) => it.admit_source(alloc, target, aux, memory, steps),
+            BuiltOp::DecomposeSingle(it) => it.admit_source(alloc, target, aux, memory, steps),
+            BuiltOp::DecomposePk(it) => it.admit_source(alloc, target, aux, memory, steps),
+            BuiltOp::OuterJoinPk(it) => it.admit_source(alloc, target, aux, memory, steps),
+            BuiltOp::JoinPk(it) => it.admit_source(alloc, target, aux, memory, steps),
+            BuiltOp::DecomposeFk(it) => it.admit_source(alloc, target, aux, memory, steps),
+            BuiltOp::OuterJoinFk(it) => it.admit_source(alloc, target, aux, memory, steps),
+            BuiltOp::JoinFk(it) => it.admit_source(alloc, target, aux, memory, steps),
+            BuiltOp::JoinOn(it) => it.admit_source(alloc, target, aux, memory, steps),
+            BuiltOp::DecomposeOn(it) => it.admit_source(alloc, target, aux, memory, steps),
         }
     }
 

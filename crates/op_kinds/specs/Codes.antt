@@ -9,8 +9,8 @@ use Rattle.expr_lang.specs.contracts.tree.BinaryOp as binary
 use Rattle.expr_lang.specs.Terms.{Term, Literal, Column, Unary, Binary}
 use Rattle.bidel_parser.specs.Views.{Tree, KeyView, BranchView, OpView}
 use Rattle.bidel_parser.specs.Views as «text»
-use Rattle.op_any.specs.Operators.{Built, AnyView}
-use Rattle.op_any.specs.Operators as «any»
+use Rattle.op_kinds.specs.Operators.{Built, AnyView}
+use Rattle.op_kinds.specs.Operators as «any»
 
 -- ---- expressions
 
@@ -183,6 +183,15 @@ BuiltParts =
     ⊎ ℕ × Term ℕ
     ⊎ ℕ × (Term ℕ × Option (Term ℕ))
     ⊎ ℕ × (Term ℕ × Option (Term ℕ))
+    ⊎ List ℕ × ℕ
+    ⊎ List ℕ × List ℕ
+    ⊎ List ℕ × List ℕ
+    ⊎ ℕ × ℕ
+    ⊎ List ℕ × (List ℕ × ℕ)
+    ⊎ List ℕ × (List ℕ × ℕ)
+    ⊎ ℕ × (ℕ × ℕ)
+    ⊎ List ℕ × (List ℕ × Term ℕ)
+    ⊎ List ℕ × (List ℕ × Term ℕ)
 
 abbrev built_parts : Built → BuiltParts
 built_parts «any».CreateTable = inl tt
@@ -191,7 +200,16 @@ built_parts «any».Rename = inr (inr (inl tt))
 built_parts («any».AddColumn a b) = inr (inr (inr (inl (a, b))))
 built_parts («any».DropColumn a b) = inr (inr (inr (inr (inl (a, b)))))
 built_parts («any».Split a b c) = inr (inr (inr (inr (inr (inl (a, (b, c)))))))
-built_parts («any».Merge a b c) = inr (inr (inr (inr (inr (inr (a, (b, c)))))))
+built_parts («any».Merge a b c) = inr (inr (inr (inr (inr (inr (inl (a, (b, c))))))))
+built_parts («any».DecomposeSingle a b) = inr (inr (inr (inr (inr (inr (inr (inl (a, b))))))))
+built_parts («any».DecomposePk a b) = inr (inr (inr (inr (inr (inr (inr (inr (inl (a, b)))))))))
+built_parts («any».OuterJoinPk a b) = inr (inr (inr (inr (inr (inr (inr (inr (inr (inl (a, b))))))))))
+built_parts («any».JoinPk a b) = inr (inr (inr (inr (inr (inr (inr (inr (inr (inr (inl (a, b)))))))))))
+built_parts («any».DecomposeFk a b c) = inr (inr (inr (inr (inr (inr (inr (inr (inr (inr (inr (inl (a, (b, c)))))))))))))
+built_parts («any».OuterJoinFk a b c) = inr (inr (inr (inr (inr (inr (inr (inr (inr (inr (inr (inr (inl (a, (b, c))))))))))))))
+built_parts («any».JoinFk a b c) = inr (inr (inr (inr (inr (inr (inr (inr (inr (inr (inr (inr (inr (inl (a, (b, c)))))))))))))))
+built_parts («any».JoinOn a b c) = inr (inr (inr (inr (inr (inr (inr (inr (inr (inr (inr (inr (inr (inr (inl (a, (b, c))))))))))))))))
+built_parts («any».DecomposeOn a b c) = inr (inr (inr (inr (inr (inr (inr (inr (inr (inr (inr (inr (inr (inr (inr (a, (b, c))))))))))))))))
 
 abbrev built_from : BuiltParts → Built
 built_from (inl u) = «any».CreateTable
@@ -200,7 +218,16 @@ built_from (inr (inr (inl u))) = «any».Rename
 built_from (inr (inr (inr (inl p)))) = «any».AddColumn p.0 p.1
 built_from (inr (inr (inr (inr (inl p))))) = «any».DropColumn p.0 p.1
 built_from (inr (inr (inr (inr (inr (inl p)))))) = «any».Split p.0 p.1.0 p.1.1
-built_from (inr (inr (inr (inr (inr (inr p)))))) = «any».Merge p.0 p.1.0 p.1.1
+built_from (inr (inr (inr (inr (inr (inr (inl p))))))) = «any».Merge p.0 p.1.0 p.1.1
+built_from (inr (inr (inr (inr (inr (inr (inr (inl p)))))))) = «any».DecomposeSingle p.0 p.1
+built_from (inr (inr (inr (inr (inr (inr (inr (inr (inl p))))))))) = «any».DecomposePk p.0 p.1
+built_from (inr (inr (inr (inr (inr (inr (inr (inr (inr (inl p)))))))))) = «any».OuterJoinPk p.0 p.1
+built_from (inr (inr (inr (inr (inr (inr (inr (inr (inr (inr (inl p))))))))))) = «any».JoinPk p.0 p.1
+built_from (inr (inr (inr (inr (inr (inr (inr (inr (inr (inr (inr (inl p)))))))))))) = «any».DecomposeFk p.0 p.1.0 p.1.1
+built_from (inr (inr (inr (inr (inr (inr (inr (inr (inr (inr (inr (inr (inl p))))))))))))) = «any».OuterJoinFk p.0 p.1.0 p.1.1
+built_from (inr (inr (inr (inr (inr (inr (inr (inr (inr (inr (inr (inr (inr (inl p)))))))))))))) = «any».JoinFk p.0 p.1.0 p.1.1
+built_from (inr (inr (inr (inr (inr (inr (inr (inr (inr (inr (inr (inr (inr (inr (inl p))))))))))))))) = «any».JoinOn p.0 p.1.0 p.1.1
+built_from (inr (inr (inr (inr (inr (inr (inr (inr (inr (inr (inr (inr (inr (inr (inr p))))))))))))))) = «any».DecomposeOn p.0 p.1.0 p.1.1
 
 pub built_back : (x : Built) → built_from (built_parts x) ≡ x
 built_back «any».CreateTable = refl
@@ -210,9 +237,21 @@ built_back («any».AddColumn a b) = refl
 built_back («any».DropColumn a b) = refl
 built_back («any».Split a b c) = refl
 built_back («any».Merge a b c) = refl
+built_back («any».DecomposeSingle a b) = refl
+built_back («any».DecomposePk a b) = refl
+built_back («any».OuterJoinPk a b) = refl
+built_back («any».JoinPk a b) = refl
+built_back («any».DecomposeFk a b c) = refl
+built_back («any».OuterJoinFk a b c) = refl
+built_back («any».JoinFk a b c) = refl
+built_back («any».JoinOn a b c) = refl
+built_back («any».DecomposeOn a b c) = refl
 
 abbrev coded_place : Coded (Term ℕ)
 coded_place = coded_term coded_ℕ
+
+abbrev coded_places : Coded (List ℕ)
+coded_places = coded_list coded_ℕ
 
 abbrev coded_built : Coded Built
 coded_built = code_by BuiltParts
@@ -222,7 +261,15 @@ coded_built = code_by BuiltParts
     (coded⊎ (coded× coded_ℕ coded_place)
     (coded⊎ (coded× coded_ℕ coded_place)
     (coded⊎ (coded× coded_ℕ (coded× coded_place (coded_option coded_place)))
-    (coded× coded_ℕ (coded× coded_place (coded_option coded_place)))))))))
+    (coded⊎ (coded× coded_ℕ (coded× coded_place (coded_option coded_place)))
+    (coded⊎ (coded× coded_places coded_ℕ)
+    (coded⊎ (coded× coded_places coded_places)
+    (coded⊎ (coded× coded_places coded_places)
+    (coded⊎ (coded× coded_ℕ coded_ℕ)
+    (coded⊎ (coded× coded_places (coded× coded_places coded_ℕ))
+    (coded⊎ (coded× coded_places (coded× coded_places coded_ℕ))
+    (coded⊎ (coded× coded_ℕ (coded× coded_ℕ coded_ℕ))
+    (coded⊎ (coded× coded_places (coded× coded_places coded_place)) (coded× coded_places (coded× coded_places coded_place)))))))))))))))))
     built_parts built_from built_back
 
 abbrev pub coded_any : Coded AnyView

@@ -1,14 +1,18 @@
 //! Any of the operators, with the text that it was built from.
 ghost use Rattle.std.specs.Prelude.{◌≡◌};
 ghost use Rattle.bidel_parser.specs.Views.{op_view};
-ghost use Rattle.op_any.specs.Operators.{any_meaning, any_laws};
-ghost use Rattle.op_any.specs.Views.{built_view};
+ghost use Rattle.op_kinds.specs.Operators.{any_meaning, any_laws};
+ghost use Rattle.op_kinds.specs.Views.{built_view};
 
 use bidel_parser::OpText;
 use expr_lang::Steps;
 use id_memory::{IdCounter, PairMemory};
 use op_column::{AddColumn, CreateTable, DropTable, Rename};
-use op_law::{Aux, Far, Operator, Pair, Side};
+use op_cond_join::JoinOn;
+use op_fk_decompose::DecomposeFk;
+use op_fk_join::JoinFk;
+use op_key_join::{DecomposePk, DecomposeSingle, JoinPk};
+use op_law::{Aux, Far, Flip, Operator, Pair, Side};
 use op_rows::{FlipRow, Rowwise};
 use op_split_merge::Split;
 use par_base::{Fault, IdsSpent, Memory};
@@ -29,6 +33,18 @@ pub enum BuiltOp {
     Split(Rowwise<Split>),
     /// The flip of splitting the target into the sources.
     Merge(Rowwise<FlipRow<Split>>),
+    DecomposeSingle(Rowwise<DecomposeSingle>),
+    DecomposePk(Rowwise<DecomposePk>),
+    /// The flip of decomposing the target into the sources.
+    OuterJoinPk(Rowwise<FlipRow<DecomposePk>>),
+    JoinPk(Rowwise<JoinPk>),
+    DecomposeFk(DecomposeFk),
+    /// The flip of decomposing the target into the sources.
+    OuterJoinFk(Flip<DecomposeFk>),
+    JoinFk(JoinFk),
+    JoinOn(JoinOn),
+    /// The flip of joining the targets into the source.
+    DecomposeOn(Flip<JoinOn>),
 }
 
 /// An operator of any kind.
@@ -40,9 +56,9 @@ pub struct AnyOp {
 
 impl Model for AnyOp {
     ghost use Rattle.bidel_parser.specs.Views.{op_view};
-    ghost use Rattle.op_any.specs.Operators.{AnyView};
-    ghost use Rattle.op_any.specs.Codes.{coded_any};
-    ghost use Rattle.op_any.specs.Views.{built_view};
+    ghost use Rattle.op_kinds.specs.Operators.{AnyView};
+    ghost use Rattle.op_kinds.specs.Codes.{coded_any};
+    ghost use Rattle.op_kinds.specs.Views.{built_view};
 
     ghost Value = { AnyView };
 
@@ -53,7 +69,7 @@ impl Model for AnyOp {
 
 impl AnyOp {
     /// The operator that was built from this text. It takes no memory.
-    pub(crate) fn new(text: OpText, operator: BuiltOp) -> AnyOp
+    pub fn new(text: OpText, operator: BuiltOp) -> AnyOp
         ensures { result ≡ record { text = op_view text; operator = built_view operator } }
     {
         AnyOp { text, operator }

@@ -1,0 +1,6 @@
+use Rattle.std.proofs.Common.{◌≡◌, length}
+use Rattle.op_any.specs.BuildJoins.{places_from}
+use Rattle.op_any.proofs.plan_joins.places_after.Given as goal
+
+abbrev pub invariant-loop-at : goal.invariant-loop-at
+invariant-loop-at l = l.places ≡ places_from (length l.before) l.at

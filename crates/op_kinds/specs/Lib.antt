@@ -1,0 +1,3 @@
+pub mod Operators
+pub mod Codes
+pub mod Views
