@@ -7,7 +7,7 @@ use Rattle.par_base.specs.declared.limits.Target.{Target}
 use Rattle.par_base.specs.declared.refusal.Refusal.{Refusal}
 use Rattle.version_graph.specs.Edges.{Drawn}
 use Rattle.op_any.specs.Checks.{Checked, ◌then◌}
-use Rattle.op_any.specs.Operators.{AnyView, Built, CreateTable, DropTable, Rename, AddColumn, DropColumn, Split, Merge, any_meaning, meaning_of}
+use Rattle.op_kinds.specs.Operators.{AnyView, Built, CreateTable, DropTable, Rename, AddColumn, DropColumn, Split, Merge, DecomposeSingle, DecomposePk, OuterJoinPk, JoinPk, DecomposeFk, OuterJoinFk, JoinFk, JoinOn, DecomposeOn, any_meaning, meaning_of}
 use Rattle.layout_rules.specs.Changes.{layout_after}
 use Rattle.version_model.specs.Databases.{empty_database}
 use Rattle.storage_law.specs.Reading.{ReadsSources}
@@ -33,6 +33,15 @@ built_reads (AddColumn place e) = refl
 built_reads (DropColumn place e) = refl
 built_reads (Split width first second) = refl
 built_reads (Merge width first second) = refl
+built_reads (DecomposeSingle columns width) = refl
+built_reads (DecomposePk first second) = refl
+built_reads (OuterJoinPk first second) = refl
+built_reads (JoinPk first second) = refl
+built_reads (DecomposeFk first second place) = refl
+built_reads (OuterJoinFk first second place) = refl
+built_reads (JoinFk first second place) = refl
+built_reads (JoinOn first second c) = refl
+built_reads (DecomposeOn first second c) = refl
 
 pub any_reads : ReadsSources any_meaning
 any_reads o = built_reads o.operator

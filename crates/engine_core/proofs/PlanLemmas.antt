@@ -3,7 +3,7 @@ use Rattle.std.proofs.Common.{◌≡◌, List, [], ◌++◌, length, Option, Ok,
 use Rattle.par_base.specs.declared.value.Value.{Value}
 use Rattle.bidel_parser.specs.Views.{Tree, AssignmentView, StatementView, CreateVersion, DropVersion, Insert, Import, Update, Delete, Select, Materialize, Step, ShowLayout, Use, Session, Advise}
 use Rattle.bidel_parser.specs.declared.statement.TableName.{TableName}
-use Rattle.op_any.specs.Build.{known_id, repeated, unrepeated}
+use Rattle.op_any.specs.NameChecks.{known_id, repeated, unrepeated}
 use Rattle.engine_statements.specs.State.{State}
 use Rattle.engine_statements.specs.Found.{condition_list, found, known_condition, known_references, unknown_in_rows}
 use Rattle.engine_statements.specs.Statements.{Planned, columns_of, known_sets, planned_delete, planned_insert, planned_update, right_counts, set_columns, set_values}

@@ -13,7 +13,7 @@ use Rattle.layout_rules.specs.declared.layout.Layout.{Layout}
 use Rattle.layout_rules.proofs.AfterLemmas.{same_layout}
 use Rattle.op_law.specs.Calls.{first_refused}
 use Rattle.op_any.specs.Checks.{◌then◌}
-use Rattle.op_any.specs.Operators.{AnyView, any_laws, any_meaning}
+use Rattle.op_kinds.specs.Operators.{AnyView, any_laws, any_meaning}
 use Rattle.db_state.specs.Fields.{IsDatabase, database_of, state_of}
 use Rattle.db_state.specs.declared.parts.Parts.{Parts}
 use Rattle.version_model.specs.Sound.{IsSound}

@@ -13,7 +13,7 @@ use Rattle.expr_lang.proofs.Resolving.{resolved-fits}
 use Rattle.bidel_parser.specs.Views.{Tree, AssignmentView}
 use Rattle.op_law.specs.SoundTerms.{TermSound}
 use Rattle.op_any.specs.Checks.{Checked, ◌then◌}
-use Rattle.op_any.specs.Build.{known_column, known_columns}
+use Rattle.op_any.specs.NameChecks.{known_column, known_columns}
 use Rattle.op_any.specs.Texts.{TermFits}
 use Rattle.op_any.proofs.SoundTexts.{resolved_sound}
 use Rattle.ordinary_table.specs.Shown.{condition_of}

@@ -10,7 +10,7 @@ use Rattle.bidel_parser.specs.declared.statement.TableName.{TableName}
 use Rattle.version_graph.specs.Tables.{TableVersion, table_named, row_name}
 use Rattle.version_graph.specs.Edges.{working, set_named}
 use Rattle.op_any.specs.Checks.{Checked, ◌then◌}
-use Rattle.op_any.specs.Build.{known_columns, known_id}
+use Rattle.op_any.specs.NameChecks.{known_columns, known_id}
 use Rattle.engine_statements.specs.State.{State}
 
 -- ---- tables

@@ -3,7 +3,7 @@ use Rattle.std.specs.Prelude.{◌≡◌, ℕ}
 use Rattle.version_graph.specs.Sets.{In}
 use Rattle.version_graph.specs.Tables.{table_numbers}
 use Rattle.version_graph.specs.Edges.{AreEdges, working}
-use Rattle.op_any.specs.Operators.{any_meaning}
+use Rattle.op_kinds.specs.Operators.{any_meaning}
 use Rattle.version_model.specs.Sound.{IsSound}
 use Rattle.version_model.specs.Writes.{MayWrite}
 use Rattle.engine_statements.specs.State.{State}

@@ -8,8 +8,8 @@ use Rattle.bidel_parser.specs.Views.{Tree, AssignmentView}
 use Rattle.bidel_parser.specs.declared.statement.TableName.{TableName}
 use Rattle.op_law.specs.Calls.{first_refused}
 use Rattle.op_any.specs.Checks.{Checked, ◌then◌}
-use Rattle.op_any.specs.Operators.{any_meaning}
-use Rattle.op_any.specs.Build.{known_column, repeated, unrepeated, known_id}
+use Rattle.op_kinds.specs.Operators.{any_meaning}
+use Rattle.op_any.specs.NameChecks.{known_column, repeated, unrepeated, known_id}
 use Rattle.ordinary_table.specs.Written.{SetTerm, numbered, inserted, updated, deleted, chosen_count}
 use Rattle.ordinary_table.specs.Selected.{selected}
 use Rattle.version_model.specs.Writes.{write}

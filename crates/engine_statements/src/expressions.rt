@@ -6,7 +6,7 @@ ghost use Rattle.std.specs.Str.{bytes_eq};
 ghost use Rattle.bidel_parser.specs.Views.{assignment_view, filter_view};
 ghost use Rattle.version_graph.specs.Tables.{row_name};
 ghost use Rattle.op_any.specs.Checks.{Gives};
-ghost use Rattle.op_any.specs.Build.{repeated, unrepeated};
+ghost use Rattle.op_any.specs.NameChecks.{repeated, unrepeated};
 ghost use Rattle.ordinary_table.specs.Written.{set_term, sets_of};
 ghost use Rattle.engine_statements.specs.Found.{shown_names as shown_names_lem, known_condition};
 ghost use Rattle.engine_statements.specs.Statements.{known_set, known_sets, set_columns};
@@ -105,7 +105,7 @@ fn is_set(assignments: &[Assignment], column: &Name) -> bool
         .any(|assignment| sets_column(assignment, column))
 }
 
-#[tactic(auto, unfolding(op_any::specs::Build::repeated))]
+#[tactic(auto, unfolding(op_any::specs::NameChecks::repeated))]
 fn find_repeated(assignments: &[Assignment]) -> Option<&Name>
     ensures { option_map (λ name. name.now) result
         ≡ repeated [] (set_columns (map assignment_view assignments.entry.now)) }

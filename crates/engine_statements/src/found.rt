@@ -7,7 +7,7 @@ ghost use Rattle.version_graph.specs.Tables.{table_named};
 ghost use Rattle.version_graph.specs.Edges.{AreEdges, numbers, set_named, working};
 ghost use Rattle.version_graph.specs.Kept.{has_name as has_name_lem, number_named};
 ghost use Rattle.op_any.specs.Checks.{Gives};
-ghost use Rattle.op_any.specs.Operators.{any_meaning};
+ghost use Rattle.op_kinds.specs.Operators.{any_meaning};
 ghost use Rattle.db_state.specs.Fields.{database_of};
 ghost use Rattle.engine_statements.specs.Found.{found, known_version, set_of};
 ghost use Rattle.engine_statements.specs.Calls.{found_view, named_view, table_of, IsNamedIn, IsTableOf};

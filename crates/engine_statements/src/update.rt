@@ -3,7 +3,7 @@ ghost use Rattle.std.specs.Prelude.{◌≡◌, IfOk, map};
 ghost use Rattle.std.specs.List.{All};
 ghost use Rattle.bidel_parser.specs.Views.{assignment_view, filter_view};
 ghost use Rattle.op_any.specs.Checks.{Gives};
-ghost use Rattle.op_any.specs.Operators.{any_meaning};
+ghost use Rattle.op_kinds.specs.Operators.{any_meaning};
 ghost use Rattle.db_state.specs.Fields.{database_of};
 ghost use Rattle.engine_statements.specs.Statements.{planned_update};
 ghost use Rattle.engine_statements.specs.Calls.{planned_view, AssignmentFits, IsTaken};

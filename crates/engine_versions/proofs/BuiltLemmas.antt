@@ -20,14 +20,14 @@ use Rattle.version_model.specs.States.{as_seen, headings}
 use Rattle.version_model.specs.Evolving.{AreBuilt}
 use Rattle.version_model.proofs.HeadingLemmas.{made_more}
 use Rattle.op_law.specs.Tables.{Heading as SeenHeading}
-use Rattle.op_any.specs.Operators.{AnyView, any_meaning}
+use Rattle.op_kinds.specs.Operators.{AnyView, any_meaning}
 use Rattle.op_any.specs.Laws.{headings_taken}
 use Rattle.op_any.specs.Texts.{TextsFit}
 use Rattle.op_any.proofs.BuiltLaws.{built_suits}
 use Rattle.op_any.proofs.TableLists.{headings_taken-of}
 use Rattle.engine_versions.specs.declared.edges.Counts.{Counts}
 use Rattle.engine_versions.specs.Evolve.{edges_on, target_count, with_one}
-use Rattle.engine_versions.proofs.EdgeLemmas.{none_built, splits}
+use Rattle.engine_versions.proofs.EdgeLemmas.{headings_well, none_built, splits}
 
 -- the tables that are taken from a set are in it
 taken_within : (set : List TableVersion) (names : List (List ℕ)) → Within (taken set names) set
@@ -101,7 +101,7 @@ are_built es w operator table next counts (text ∷ texts) edges h can fit =
     let then_on : edges_on (headings_of (working (new ∷ es) (operator + 1))) more next texts ≡ Ok s.rest =
     subst (λ hs. edges_on hs more next texts ≡ Ok s.rest) (sym (headings_then es w operator table s.edge s.rest can_both)) s.others in
     rw s.are (
-      fits_seen es w operator table s.edge s.rest can_both here.fits,
+      fits_seen es w operator table s.edge s.rest can_both (here.fits (headings_well es can.edges w)),
       here.closed fit.0,
       are_built (new ∷ es) (operator + 1) (operator + 1) (table + length s.edge.targets) next more texts s.rest then_on
           (can_next es w operator table s.edge s.rest can_both) fit.1,

@@ -16,7 +16,7 @@ use Rattle.version_graph.specs.declared.parts.Edge.{Edge}
 use Rattle.version_graph.proofs.EvolveLemmas.{can_evolve, no_refusal}
 use Rattle.op_law.specs.Calls.{first_refused}
 use Rattle.op_any.specs.Checks.{◌then◌, Gives}
-use Rattle.op_any.specs.Operators.{AnyView, any_meaning}
+use Rattle.op_kinds.specs.Operators.{AnyView, any_meaning}
 use Rattle.op_any.specs.Texts.{TextsFit}
 use Rattle.version_model.specs.Evolving.{AreBuilt, grown_state}
 use Rattle.version_model.specs.Databases.{counter_of, evolved_state, start_in, Evolves, MayEvolveTo, RefusesEvolution}

@@ -1,7 +1,7 @@
 //! DROP SCHEMA VERSION.
 ghost use Rattle.std.specs.Prelude.{◌≡◌, OnErr};
 ghost use Rattle.op_any.specs.Checks.{Gives};
-ghost use Rattle.op_any.specs.Operators.{any_meaning};
+ghost use Rattle.op_kinds.specs.Operators.{any_meaning};
 ghost use Rattle.layout_rules.specs.Changes.{layout_after};
 ghost use Rattle.db_state.specs.Fields.{database_of};
 ghost use Rattle.engine_versions.specs.Evolve.{dropped_version};

@@ -3,7 +3,7 @@ use Rattle.std.specs.Option.{option_copied}
 use Rattle.std.proofs.lemmas.Result.{err_from_is_err_and}
 use Rattle.bidel_parser.specs.Views.{op_view}
 use Rattle.id_memory.specs.States.{CounterState}
-use Rattle.op_any.specs.Operators.{any_meaning}
+use Rattle.op_kinds.specs.Operators.{any_meaning}
 use Rattle.db_state.specs.Fields.{database_of}
 use Rattle.engine_versions.specs.Plans.{IsPlanned}
 use Rattle.engine_versions.proofs.CreateLemmas.{edges_fail}
