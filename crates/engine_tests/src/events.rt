@@ -1,18 +1,21 @@
 //! Events of one engine, and the lines that answer them.
-ghost use Rattle.std.specs.Prelude.{◌≡◌};
-ghost use Rattle.engine_tests.specs.Short.{IsShortStatement};
+ghost use Rattle.std.specs.Prelude.{◌≡◌, IfOk};
+ghost use Rattle.statement_texts.specs.Short.{IsShortStatement};
 
-use crate::statements::{Given, statement_of};
 use bidel_parser::Statement;
 use engine_core::{Engine, refusal_text, reply_text};
 use engine_statements::Reply;
 use expr_lang::Steps;
 use par_base::{Fault, Limits, Memory, Refusal, Text};
+use statement_texts::statement_of;
 use std::alloc::Global;
 use std::marker::Brand;
 use std::process::Abort;
 use std::sync::ledger::{Blank, Ledger};
 use std::test::Fail;
+
+/// A statement, and the lines that answer it.
+pub type Given = (&'static str, &'static str);
 
 // The session of all tests.
 const SESSION: u8 = 0;
@@ -26,19 +29,42 @@ fn lines_of(alloc: Global, answer: &Result<Reply, Fault<Refusal>>) -> Result<Tex
     }
 }
 
+// The statement that a text spells.
+fn statement_in(alloc: Global, text: &str) -> Result<Statement, Fail>
+    ensures { IfOk result IsShortStatement }
+{
+    match statement_of(alloc, text)? {
+        Some(statement) => Ok(statement),
+        None => Err("no statement")?,
+    }
+}
+
 fn expect_event<L: Ledger>(
     rt: &impl Abort,
     alloc: Global,
     engine: &mut Engine,
-    statement: Statement,
+    given: Given,
     steps: &mut Steps<L>,
-    written: &str,
-) -> Result<(), Fail>
-    requires { IsShortStatement statement }
-{
+) -> Result<(), Fail> {
+    let (text, lines) = given;
+    let statement = statement_in(alloc, text)?;
     let answer = engine.event(alloc, SESSION, statement, steps);
-    let lines = lines_of(alloc, &answer)?;
-    assert_eq!(rt; lines.as_str(), written);
+    let told = lines_of(alloc, &answer)?;
+    let wanted = format!(in alloc; "{lines}\n")?;
+    assert_eq!(rt; told.as_str(), wanted.as_str(), "of {text}");
+    Ok(())
+}
+
+fn expect_script<L: Ledger>(
+    rt: &impl Abort,
+    alloc: Global,
+    engine: &mut Engine,
+    script: &[Given],
+    steps: &mut Steps<L>,
+) -> Result<(), Fail> {
+    for given in script {
+        expect_event(rt, alloc, engine, *given, steps)?;
+    }
     Ok(())
 }
 
@@ -47,7 +73,7 @@ fn expect_each<L: Ledger>(
     rt: &impl Abort,
     alloc: Global,
     limits: Limits,
-    events: &[(Given, &str)],
+    scripts: &[&[Given]],
     blank: Blank,
 ) -> Result<(), Fail>
     requires name { blank.name ≡ L.name }
@@ -56,20 +82,19 @@ fn expect_each<L: Ledger>(
 {
     let mut engine = Engine::new(alloc, limits);
     let mut steps = Steps::<L>::new(blank);
-    for (given, written) in events {
-        let statement = statement_of(alloc, *given)?;
-        expect_event(rt, alloc, &mut engine, statement, &mut steps, written)?;
+    for script in scripts {
+        expect_script(rt, alloc, &mut engine, script, &mut steps)?;
     }
     Ok(())
 }
 
-/// Gives an engine of an empty database the statements one after the other, and expects the lines
-/// that stand beside each.
+/// Gives an engine of an empty database the statements of some scripts one after the other, and expects
+/// the lines that stand beside each.
 pub fn expect_events(
     rt: &impl Abort,
     alloc: Global,
     limits: Limits,
-    events: &[(Given, &str)],
+    scripts: &[&[Given]],
 ) -> Result<(), Fail> {
-    expect_each::<Brand>(rt, alloc, limits, events, Blank::new(1))
+    expect_each::<Brand>(rt, alloc, limits, scripts, Blank::new(1))
 }

@@ -1,9 +1,10 @@
-//! Tests of the engine through its calls, with limits of identifiers that no script can set. Beside
-//! the tests it has the statements that they give, which promise what `Engine::event` requires.
+//! Tests of the engine through its calls, with limits of identifiers that no script can set. This crate
+//! has nothing but tests.
 #![tactic(auto)]
 
 #[cfg(test)]
 mod events;
 #[cfg(test)]
 mod limits;
-mod statements;
+#[cfg(test)]
+mod mapped;

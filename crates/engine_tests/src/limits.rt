@@ -1,7 +1,6 @@
 //! Identifiers run out. A refused INSERT draws no identifier and changes no version, and the
 //! identifiers of rows that went aren't given again.
 use crate::events::expect_events;
-use crate::statements::Given;
 use par_base::Limits;
 use std::test::Fail;
 
@@ -9,98 +8,87 @@ use std::test::Fail;
 const LIMITS: Limits = Limits { max_id: 2 };
 
 // The third row's refusal.
-const SPENT: &str = "refused 9 ids spent, needs #3, limit #2\n";
+const SPENT: &str = "refused 9 ids spent, needs #3, limit #2";
+
+// A version, and one that adds a column.
+const VERSION_A: &str = "CREATE SCHEMA VERSION a WITH CREATE TABLE t(x);";
+
+const VERSION_B: &str = "CREATE SCHEMA VERSION b FROM a WITH ADD COLUMN y AS 7 INTO t;";
 
 #[test]
 fn a_refused_insert_draws_no_identifier(rt: HostRuntime) -> Result<(), Fail> {
-    expect_events(
-        &rt,
-        rt.alloc(),
-        LIMITS,
-        &[
-            (Given::VersionA, "ok\n"),
-            (Given::Insert("a", &[&[5], &[6], &[7]]), SPENT),
-            (Given::Select("a"), "p|x\nrows 0\n"),
-            (Given::Insert("a", &[&[5], &[6]]), "inserted 2 #1 #2\n"),
-            (Given::Insert("a", &[&[7]]), SPENT),
-            // The counts of values are checked before the identifiers.
-            (
-                Given::Insert("a", &[&[7, 8]]),
-                "refused 7 wrong count 2 of 1\n",
-            ),
-            (Given::Select("a"), "p|x\n#1|5\n#2|6\nrows 2\n"),
-        ],
-    )
+    let script = [
+        (VERSION_A, "ok"),
+        ("INSERT INTO a.t VALUES (5), (6), (7);", SPENT),
+        ("SELECT * FROM a.t;", "p|x\nrows 0"),
+        ("INSERT INTO a.t VALUES (5), (6);", "inserted 2 #1 #2"),
+        ("INSERT INTO a.t VALUES (7);", SPENT),
+        // The counts of values are checked before the identifiers.
+        (
+            "INSERT INTO a.t VALUES (7, 8);",
+            "refused 7 wrong count 2 of 1",
+        ),
+        ("SELECT * FROM a.t;", "p|x\n#1|5\n#2|6\nrows 2"),
+    ];
+    expect_events(&rt, rt.alloc(), LIMITS, &[&script])
 }
 
 #[test]
 fn identifiers_are_not_given_again(rt: HostRuntime) -> Result<(), Fail> {
-    expect_events(
-        &rt,
-        rt.alloc(),
-        LIMITS,
-        &[
-            (Given::VersionA, "ok\n"),
-            (Given::Insert("a", &[&[5], &[6]]), "inserted 2 #1 #2\n"),
-            (Given::Delete("a"), "deleted 2\n"),
-            (Given::Insert("a", &[&[7]]), SPENT),
-            (Given::Select("a"), "p|x\nrows 0\n"),
-        ],
-    )
+    let script = [
+        (VERSION_A, "ok"),
+        ("INSERT INTO a.t VALUES (5), (6);", "inserted 2 #1 #2"),
+        ("DELETE FROM a.t;", "deleted 2"),
+        ("INSERT INTO a.t VALUES (7);", SPENT),
+        ("SELECT * FROM a.t;", "p|x\nrows 0"),
+    ];
+    expect_events(&rt, rt.alloc(), LIMITS, &[&script])
 }
 
 #[test]
 fn a_refused_insert_leaves_the_other_version(rt: HostRuntime) -> Result<(), Fail> {
-    expect_events(
-        &rt,
-        rt.alloc(),
-        LIMITS,
-        &[
-            (Given::VersionA, "ok\n"),
-            (Given::VersionB, "ok\n"),
-            (Given::Insert("a", &[&[5], &[6], &[8]]), SPENT),
-            (Given::Select("b"), "p|x|y\nrows 0\n"),
-            (Given::Insert("b", &[&[5, 50]]), "inserted 1 #1\n"),
-            (Given::Insert("a", &[&[6], &[8]]), SPENT),
-            (Given::Select("b"), "p|x|y\n#1|5|50\nrows 1\n"),
-            (Given::Insert("a", &[&[6]]), "inserted 1 #2\n"),
-            (Given::Insert("b", &[&[8, 80]]), SPENT),
-            (Given::Select("a"), "p|x\n#1|5\n#2|6\nrows 2\n"),
-            (Given::Select("b"), "p|x|y\n#1|5|50\n#2|6|7\nrows 2\n"),
-            (Given::Delete("a"), "deleted 2\n"),
-            (Given::Insert("b", &[&[8, 80]]), SPENT),
-            (Given::Select("b"), "p|x|y\nrows 0\n"),
-        ],
-    )
+    let script = [
+        (VERSION_A, "ok"),
+        (VERSION_B, "ok"),
+        ("INSERT INTO a.t VALUES (5), (6), (8);", SPENT),
+        ("SELECT * FROM b.t;", "p|x|y\nrows 0"),
+        ("INSERT INTO b.t VALUES (5, 50);", "inserted 1 #1"),
+        ("INSERT INTO a.t VALUES (6), (8);", SPENT),
+        ("SELECT * FROM b.t;", "p|x|y\n#1|5|50\nrows 1"),
+        ("INSERT INTO a.t VALUES (6);", "inserted 1 #2"),
+        ("INSERT INTO b.t VALUES (8, 80);", SPENT),
+        ("SELECT * FROM a.t;", "p|x\n#1|5\n#2|6\nrows 2"),
+        ("SELECT * FROM b.t;", "p|x|y\n#1|5|50\n#2|6|7\nrows 2"),
+        ("DELETE FROM a.t;", "deleted 2"),
+        ("INSERT INTO b.t VALUES (8, 80);", SPENT),
+        ("SELECT * FROM b.t;", "p|x|y\nrows 0"),
+    ];
+    expect_events(&rt, rt.alloc(), LIMITS, &[&script])
 }
 
 #[test]
 fn a_refused_insert_changes_nothing_wherever_the_data_is(rt: HostRuntime) -> Result<(), Fail> {
     let at_a =
-        "table 1 t rows 1\noperator 1 create_table target aux 0\noperator 2 add_column source aux 1\nok\n";
+        "table 1 t rows 1\noperator 1 create_table target aux 0\noperator 2 add_column source aux 1\nok";
     let at_b =
-        "table 2 t rows 1\noperator 1 create_table target aux 0\noperator 2 add_column target aux 0\nok\n";
-    expect_events(
-        &rt,
-        rt.alloc(),
-        LIMITS,
-        &[
-            (Given::VersionA, "ok\n"),
-            (Given::VersionB, "ok\n"),
-            (Given::Insert("b", &[&[5, 50]]), "inserted 1 #1\n"),
-            (Given::Insert("a", &[&[6], &[8]]), SPENT),
-            (Given::ShowLayout, at_a),
-            (Given::Materialize("b"), "moved 1\n"),
-            (Given::Insert("a", &[&[6], &[8]]), SPENT),
-            (Given::Insert("b", &[&[6, 60], &[8, 80]]), SPENT),
-            (Given::ShowLayout, at_b),
-            (Given::Select("a"), "p|x\n#1|5\nrows 1\n"),
-            (Given::Select("b"), "p|x|y\n#1|5|50\nrows 1\n"),
-            (Given::Materialize("a"), "moved 1\n"),
-            (Given::ShowLayout, at_a),
-            (Given::Insert("b", &[&[6, 60]]), "inserted 1 #2\n"),
-            (Given::Select("a"), "p|x\n#1|5\n#2|6\nrows 2\n"),
-            (Given::Select("b"), "p|x|y\n#1|5|50\n#2|6|60\nrows 2\n"),
-        ],
-    )
+        "table 2 t rows 1\noperator 1 create_table target aux 0\noperator 2 add_column target aux 0\nok";
+    let script = [
+        (VERSION_A, "ok"),
+        (VERSION_B, "ok"),
+        ("INSERT INTO b.t VALUES (5, 50);", "inserted 1 #1"),
+        ("INSERT INTO a.t VALUES (6), (8);", SPENT),
+        ("SHOW LAYOUT;", at_a),
+        ("MATERIALIZE b;", "moved 1"),
+        ("INSERT INTO a.t VALUES (6), (8);", SPENT),
+        ("INSERT INTO b.t VALUES (6, 60), (8, 80);", SPENT),
+        ("SHOW LAYOUT;", at_b),
+        ("SELECT * FROM a.t;", "p|x\n#1|5\nrows 1"),
+        ("SELECT * FROM b.t;", "p|x|y\n#1|5|50\nrows 1"),
+        ("MATERIALIZE a;", "moved 1"),
+        ("SHOW LAYOUT;", at_a),
+        ("INSERT INTO b.t VALUES (6, 60);", "inserted 1 #2"),
+        ("SELECT * FROM a.t;", "p|x\n#1|5\n#2|6\nrows 2"),
+        ("SELECT * FROM b.t;", "p|x|y\n#1|5|50\n#2|6|60\nrows 2"),
+    ];
+    expect_events(&rt, rt.alloc(), LIMITS, &[&script])
 }

@@ -1,26 +1,10 @@
 //! What the parser answers for some bytes, as a text.
-ghost use Rattle.std.specs.Prelude.{IfOk};
-ghost use Rattle.bidel_lex.specs.Tokens.{AreTokens};
-
-use bidel_lex::{Lexed, Token, next_token};
 use bidel_parser::{Parsed, Statement, Syntax, parse_statement};
 use par_base::{Fault, Memory};
+use statement_texts::tokens_of;
 use std::alloc::Global;
 use std::process::Abort;
 use std::test::Fail;
-
-/// The tokens of the bytes up to where none is found; `ended` says that no bytes come after these.
-pub fn tokens_of(alloc: Global, bytes: &[u8], ended: bool) -> Result<Vec<Token>, Memory>
-    ensures { IfOk result (λ tokens. AreTokens bytes.now tokens.items) }
-{
-    let mut tokens = Vec::new(alloc);
-    let mut from = 0;
-    while let Lexed::Token(token) = next_token(bytes, from, ended) {
-        tokens.push(token)?;
-        from = token.end;
-    }
-    Ok(tokens)
-}
 
 // What is printed of a statement, with each name as it stands, each text behind one quote, and lists in brackets.
 fn parts_of(alloc: Global, statement: &Statement) -> Result<String, Fail> {

@@ -1,2 +1,1 @@
-mod ParsingLemmas
 mod TwinLemmas

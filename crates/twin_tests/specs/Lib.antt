@@ -1,2 +1,1 @@
 pub mod Twins
-pub mod Short

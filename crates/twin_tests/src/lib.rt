@@ -6,9 +6,11 @@
 
 #[cfg(test)]
 mod compare;
+#[cfg(test)]
+mod conditions;
 mod kept;
 #[cfg(test)]
-mod parsing;
+mod keys;
 #[cfg(test)]
 mod runs;
 #[cfg(test)]

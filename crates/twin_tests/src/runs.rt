@@ -1,13 +1,15 @@
 //! Runs of scripts on a twin, with moves between the statements.
-ghost use Rattle.std.specs.Prelude.{◌≡◌, OnOk};
+ghost use Rattle.std.specs.Prelude.{◌≡◌, IfOk, OnOk};
+ghost use Rattle.statement_texts.specs.Short.{IsShortStatement};
 ghost use Rattle.twin_tests.specs.Twins.{IsTwin, Stays};
 ghost use Rattle.twin_tests.specs.declared.kept.Twin.{Twin};
 
 use crate::Twin;
 use crate::compare::expect_same;
-use crate::parsing::statement_of;
+use bidel_parser::Statement;
 use expr_lang::Steps;
 use par_base::{Fault, Limits, Refusal, Target};
+use statement_texts::statement_of;
 use std::alloc::Global;
 use std::marker::Brand;
 use std::process::Abort;
@@ -33,6 +35,16 @@ fn told(answer: Result<(), Fault<Refusal>>) -> Result<bool, Fail>
     }
 }
 
+// The statement that a text spells.
+fn statement_in(alloc: Global, text: &str) -> Result<Statement, Fail>
+    ensures { IfOk result IsShortStatement }
+{
+    match statement_of(alloc, text)? {
+        Some(statement) => Ok(statement),
+        None => Err("no statement")?,
+    }
+}
+
 // Carries out a statement, and answers whether it isn't refused.
 fn is_done<L: Ledger>(
     alloc: Global,
@@ -43,7 +55,7 @@ fn is_done<L: Ledger>(
     requires { IsTwin twin.old }
     ensures { OnOk result (IsTwin twin.new) }
 {
-    let statement = statement_of(alloc, text)?;
+    let statement = statement_in(alloc, text)?;
     told(twin.carry_out(alloc, &statement, steps))
 }
 

@@ -1,7 +1,7 @@
 //! The statements that change a database, carried out on both.
 ghost use Rattle.std.specs.Prelude.{IfOk};
 ghost use Rattle.engine_statements.specs.Calls.{IsTaken};
-ghost use Rattle.twin_tests.specs.Short.{IsShortStatement, AreShortOperators};
+ghost use Rattle.statement_texts.specs.Short.{IsShortStatement, AreShortOperators};
 ghost use Rattle.twin_tests.specs.Twins.{IsTwin, Stays};
 
 use crate::Twin;

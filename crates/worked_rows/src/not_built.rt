@@ -30,19 +30,13 @@ fn a_statement_of_another_form_is_not_built(rt: HostRuntime) -> Result<(), Fail>
 }
 
 #[test]
-fn an_operator_of_another_form_is_not_built(rt: HostRuntime) -> Result<(), Fail> {
+fn an_outer_join_on_a_condition_is_not_built(rt: HostRuntime) -> Result<(), Fail> {
     let alloc = rt.alloc();
     for operator in [
-        "DECOMPOSE TABLE t INTO u(a)",
-        "DECOMPOSE TABLE t INTO u(a), w() ON PK",
-        "DECOMPOSE TABLE t INTO u(), w(a) ON FK f",
-        "DECOMPOSE TABLE t INTO u(a), w(a) ON a = 1",
-        "JOIN TABLE t, u INTO w ON PRIMARY KEY",
-        "JOIN TABLE t, u INTO w ON FOREIGN KEY a",
-        "JOIN TABLE t, u INTO w ON a < b",
-        "OUTER JOIN TABLE t, u INTO w ON PK",
-        "OUTER JOIN TABLE t, u INTO w ON FK a",
         "OUTER JOIN TABLE t, u INTO w ON a < b",
+        "OUTER JOIN TABLE t, t INTO t ON 1",
+        "OUTER JOIN TABLE u, t INTO t ON a IS NULL OR (b = a)",
+        "OUTER JOIN TABLE t, u INTO w ON null",
     ] {
         let statement = format!(in alloc; "CREATE SCHEMA VERSION w FROM v WITH {operator};")?;
         expect_not_built(&rt, alloc, statement.as_str())?;
@@ -54,10 +48,10 @@ fn an_operator_of_another_form_is_not_built(rt: HostRuntime) -> Result<(), Fail>
 fn one_operator_of_another_form_makes_the_evolution_not_built(rt: HostRuntime) -> Result<(), Fail> {
     let alloc = rt.alloc();
     for operators in [
-        "DECOMPOSE TABLE t INTO u(a); DROP TABLE u",
-        "ADD COLUMN b AS a INTO t; DECOMPOSE TABLE t INTO t(b)",
-        "CREATE TABLE u(a); OUTER JOIN TABLE t, u INTO w ON PK; DROP TABLE w",
-        "RENAME COLUMN a IN t TO b; RENAME TABLE t INTO u; JOIN TABLE u, u INTO t ON PK",
+        "OUTER JOIN TABLE t, t INTO u ON a = 1; DROP TABLE u",
+        "ADD COLUMN b AS a INTO t; OUTER JOIN TABLE t, t INTO u ON b",
+        "CREATE TABLE u(b); OUTER JOIN TABLE t, u INTO w ON a = b; DROP TABLE w",
+        "DECOMPOSE TABLE t INTO t(a), u() ON PK; JOIN TABLE t, u INTO t ON PK; OUTER JOIN TABLE t, t INTO t ON 1 = 1",
     ] {
         let statement = format!(in alloc; "CREATE SCHEMA VERSION w FROM v WITH {operators};")?;
         expect_not_built(&rt, alloc, statement.as_str())?;
@@ -78,16 +72,17 @@ fn a_form_that_is_not_built_is_refused_before_all_else(rt: HostRuntime) -> Resul
         "USE w;",
         "ADVISE w;",
         // An unknown version after FROM, a live version's name, and operators before and behind.
-        "CREATE SCHEMA VERSION v FROM w WITH DECOMPOSE TABLE u INTO w(b), x(a) ON b = #9;",
-        "CREATE SCHEMA VERSION v WITH JOIN TABLE t, t INTO t ON FK p;",
-        "CREATE SCHEMA VERSION w FROM v WITH DROP TABLE u; JOIN TABLE t, t INTO u ON a = 1;",
+        "CREATE SCHEMA VERSION v FROM w WITH OUTER JOIN TABLE u, u INTO w ON b = #9;",
+        "CREATE SCHEMA VERSION v WITH OUTER JOIN TABLE t, t INTO t ON p;",
+        "CREATE SCHEMA VERSION w FROM v WITH DROP TABLE u; OUTER JOIN TABLE t, t INTO u ON a = 1;",
         "CREATE SCHEMA VERSION w FROM v WITH CREATE TABLE t(p, p); OUTER JOIN TABLE t, t INTO t ON a;",
-        "CREATE SCHEMA VERSION w FROM v WITH DECOMPOSE TABLE t INTO u(b); ADD COLUMN a AS #9 INTO w;",
+        "CREATE SCHEMA VERSION w FROM v WITH OUTER JOIN TABLE t, u INTO u ON b; ADD COLUMN a AS #9 INTO w;",
+        "CREATE SCHEMA VERSION w FROM v WITH DECOMPOSE TABLE u INTO x(b), x(a) ON b = #9; OUTER JOIN TABLE t, t INTO u ON a;",
     ] {
         expect_not_built(&rt, rt.alloc(), statement)?;
     }
     let script =
-        "CREATE SCHEMA VERSION w WITH CREATE TABLE u(); DECOMPOSE TABLE u INTO x(); SELECT * FROM w.u;";
+        "CREATE SCHEMA VERSION w WITH CREATE TABLE u(); OUTER JOIN TABLE u, u INTO x ON 1; SELECT * FROM w.u;";
     let written = "refused 0 not built\nrefused 1 unknown version w\n";
     expect_replies(&rt, rt.alloc(), script, written)
 }

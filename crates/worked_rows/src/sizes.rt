@@ -107,7 +107,7 @@ fn the_number_of_operators_is_the_first_check_of_each(rt: HostRuntime) -> Result
             OPEN,
             SAME,
             1_100,
-            "DECOMPOSE TABLE t INTO u(a);",
+            "OUTER JOIN TABLE t, t INTO u ON a = 1;",
             0,
             NOT_BUILT,
         ),
