@@ -13,8 +13,6 @@ mod laws;
 mod operations;
 mod resolution;
 mod steps;
-#[cfg(test)]
-mod tests;
 mod tree;
 
 pub use evaluation::{eval, holds};

@@ -1,3 +1,3 @@
 pub mod LiteralLemmas
-pub mod NamedFiles
 pub mod NameText
+mod SameLemmas

@@ -9,7 +9,7 @@ pub struct Limits {
     /// The greatest identifier that may be drawn.
     pub max_id: u64,
     ghost some: { 1 ≤ max_id },
-    ghost least: { max_id < 2 ^ 63 },
+    ghost most: { max_id < 2 ^ 63 },
 }
 
 /// A version, or a table of a version.

@@ -123,12 +123,4 @@ impl<T: Drop> List<T> {
     {
         self.items.truncate(most);
     }
-
-    /// Makes room for further items. The items stay.
-    pub fn reserve(&mut self, more: usize) -> Result<(), Memory>
-        ensures { self.new ≡ self.old }
-    {
-        self.items.reserve(more)?;
-        Ok(())
-    }
 }

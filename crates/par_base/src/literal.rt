@@ -168,9 +168,9 @@ fn inner_candidate(alloc: Global, inner: &[u8]) -> Result<Option<Value>, Memory>
     }
 }
 
-// The bytes without the second quote of each pair.
+/// The bytes without the second quote of each pair.
 #[tactic(auto, using(crate::proofs::LiteralLemmas::undoubling))]
-fn without_doubling(alloc: Global, bytes: &[u8]) -> Result<Vec<u8>, Memory>
+pub fn without_doubling(alloc: Global, bytes: &[u8]) -> Result<Vec<u8>, Memory>
     ensures { IfOk result (λ made. made.items ≡ undoubled false bytes.now) }
 {
     let mut made = Vec::new(alloc);

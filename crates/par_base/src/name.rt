@@ -9,7 +9,7 @@ ghost use Rattle.std.specs.Cmp.Rules.{hashing};
 ghost use Rattle.std.proofs.Common.{rules};
 ghost use Rattle.par_base.specs.Names.{is_name, is_name_byte, begins_with_digit, is_reserved, folded};
 
-use crate::Memory;
+use crate::{List, Memory};
 use std::alloc::Global;
 use std::hash::{Hash, Hasher};
 use std::marker::Model;
@@ -117,6 +117,17 @@ impl Name {
     }
 }
 
+/// Equal names, in their order. It takes time in the number of their bytes.
+pub fn copy_names(alloc: Global, names: &[Name]) -> Result<List<Name>, Memory>
+    ensures { IfOk result (λ made. made ≡ names.now) }
+{
+    let mut made = List::new(alloc);
+    for name in names {
+        made.push(name.copy(alloc)?)?;
+    }
+    Ok(made)
+}
+
 impl PartialEq for Name {
     ghost eq = { pointwise nat_eq };
 
@@ -169,7 +180,8 @@ fn folded_bytes(alloc: Global, bytes: &[u8]) -> Result<Vec<u8>, Memory>
     Ok(made)
 }
 
-fn folded_byte(byte: u8) -> u8
+/// The byte, and a capital letter as its small one.
+pub fn folded_byte(byte: u8) -> u8
     ensures { result ≡ folded byte }
 {
     if byte.is_ascii_uppercase() {

@@ -1,5 +1,7 @@
 //! The refusals of statements, each with the values that its line prints.
-use crate::{Name, Text};
+ghost use Rattle.std.specs.Prelude.{◌≡◌};
+
+use crate::{Fault, Name, Text};
 
 /// The next identifier that the model would draw is above the limit.
 #[derive(Clone, Copy, Debug, PartialEq, Eq, Drop)]
@@ -7,6 +9,18 @@ pub struct IdsSpent {
     /// The first identifier above the limit that would be drawn.
     pub needed: u64,
     pub limit: u64,
+}
+
+impl IdsSpent {
+    /// The refusal of a statement that would draw an identifier above the limit.
+    pub fn refused(self) -> Fault<Refusal>
+        ensures { result ≡ Fault.Refused (Refusal.IdsSpent self.needed self.limit) }
+    {
+        Fault::Refused(Refusal::IdsSpent {
+            needed: self.needed,
+            limit: self.limit,
+        })
+    }
 }
 
 /// Why a statement is refused. A refused statement changes nothing.

@@ -1,2 +1,1 @@
-mod SameLemmas
 mod EditLemmas

@@ -1,5 +1,4 @@
 pub mod RowCells
-pub mod SameRows
 pub mod RowEdits
 pub mod Places
 pub mod PlaceLemmas

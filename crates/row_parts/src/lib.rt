@@ -14,4 +14,4 @@ mod same;
 pub use edits::{with_value, without_value};
 pub use laws::places_divide_a_row;
 pub use places::{nulls, pick, row_of_both, value_at};
-pub use same::{is_same_cells, is_same_row, is_same_values};
+pub use same::is_same_cells;

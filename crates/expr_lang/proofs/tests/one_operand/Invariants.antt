@@ -1,5 +1,0 @@
-use Rattle.expr_lang.proofs.tests.one_operand.Given as goal
-
--- the ledger is the one that the blank names
-abbrev pub ghosts-at_one : goal.ghosts-at_one
-ghosts-at_one g a = record { name = a.blank.name; parts = a.blank.parts }

@@ -1,0 +1,4 @@
+pub mod Causes
+pub mod FileTold
+pub mod InMemory
+pub mod Reading
