@@ -1,7 +1,6 @@
 //! Literals.
-ghost use Rattle.std.specs.Prelude.{◌≡◌, ◌==◌, ◌&&◌, false, MatchResult};
+ghost use Rattle.std.specs.Prelude.{◌≡◌, MatchResult};
 ghost use Rattle.phrases.specs.Reading.{starts, one_at};
-ghost use Rattle.par_base.specs.Literals.{undoubled};
 ghost use Rattle.bidel_expr.specs.Lexemes.{lexeme_of, between, text_of, unsigned_of, negative_of};
 ghost use Rattle.bidel_expr.specs.Literals.{literal_at, begins_literal};
 ghost use Rattle.bidel_expr.specs.Answers.{ahead, IsNext, Finds, Gives};
@@ -11,7 +10,7 @@ use crate::numbers::number_value;
 use crate::read_error::ReadError;
 use crate::terminals::{is_word, next_negative, next_sign, next_token};
 use bidel_lex::TokenKind;
-use par_base::{Text, Value};
+use par_base::{Text, Value, without_doubling};
 use std::alloc::Global;
 
 /// The greatest integer without a sign.
@@ -33,30 +32,6 @@ fn reference(written: &[u8]) -> Option<Value>
     };
     let number = number_value(digits, u64::MAX)?;
     Some(Value::Reference(number))
-}
-
-fn is_second_quote(follows_quote: bool, byte: u8) -> bool
-    ensures { result ≡ (follows_quote && byte == 39) }
-{
-    follows_quote && byte == b'\''
-}
-
-// The bytes without the second quote of each pair.
-#[tactic(auto, using(crate::proofs::TextLemmas::undoubling))]
-fn without_doubling(alloc: Global, bytes: &[u8]) -> Result<Vec<u8>, ReadError>
-    ensures { MatchResult result (λ made. made.items ≡ undoubled false bytes.now) (λ e. e ≡ ReadError.Memory) }
-{
-    let mut made = Vec::new(alloc);
-    let mut follows_quote = false;
-    for byte in bytes {
-        if is_second_quote(follows_quote, *byte) {
-            follows_quote = false;
-        } else {
-            made.push(*byte)?;
-            follows_quote = *byte == b'\'';
-        }
-    }
-    Ok(made)
 }
 
 fn without_quotes(written: &[u8]) -> &[u8]

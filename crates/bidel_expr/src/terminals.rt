@@ -9,7 +9,7 @@ use crate::cursor::{Cursor, Next};
 use crate::numbers::{GREATEST_NUMBER, negated, number_value};
 use crate::read_error::ReadError;
 use bidel_lex::TokenKind;
-use par_base::{Name, Value, read_name};
+use par_base::{Name, Value, folded_byte, read_name};
 use std::alloc::Global;
 
 /// The token that comes next.
@@ -29,23 +29,13 @@ pub fn next_token(cursor: Cursor<'_>) -> Option<Next<'_>>
     }
 }
 
-fn fold(byte: u8) -> u8
-    ensures { result ≡ folded byte }
-{
-    if byte.is_ascii_uppercase() {
-        byte + 32
-    } else {
-        byte
-    }
-}
-
 /// Whether the bytes are the word, whichever case they are written in.
 pub fn is_word(written: &[u8], word: &[u8]) -> bool
     ensures { result ≡ bytes_eq word.now (map folded written.now) }
 {
     match (written, word) {
         ([], []) => true,
-        ([byte, rest @ ..], [letter, letters @ ..]) => fold(*byte) == *letter
+        ([byte, rest @ ..], [letter, letters @ ..]) => folded_byte(*byte) == *letter
             && is_word(rest, letters),
         _ => false,
     }

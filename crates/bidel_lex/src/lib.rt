@@ -23,6 +23,3 @@ mod words;
 
 pub use next::next_token;
 pub use tokens::{Lexed, Token, TokenKind};
-
-#[cfg(test)]
-mod tests;

@@ -7,7 +7,7 @@ use Rattle.bidel_lex.specs.declared.tokens.Token.{Token}
 use Rattle.bidel_expr.specs.declared.cursor.Cursor.{Cursor}
 use Rattle.bidel_expr.specs.declared.read_error.ReadError.TheVariants.{Left}
 use Rattle.bidel_expr.specs.Lexemes.{Lexeme, lexeme, lexemes}
-use Rattle.bidel_parser.specs.Views.{StatementView}
+use Rattle.statements.specs.Views.{StatementView}
 use Rattle.bidel_parser.specs.Statements.{IsStatement, Script, stays_open, statement_at}
 use Rattle.bidel_parser.specs.Parsing.{IsFront, NoFront, FirstFault, start_of, IsFault}
 use Rattle.bidel_expr.specs.Answers.{ahead, Fails}

@@ -11,7 +11,7 @@ use Rattle.bidel_expr.specs.Answers.{ahead, Gives}
 use Rattle.bidel_parser.specs.declared.first_words.OperatorWord.{OperatorWord}
 use Rattle.bidel_parser.specs.Words.{choice_of}
 use Rattle.bidel_parser.specs.Operators.{shared_words, goes_on_with, shows_operator, begins_operator, closed_operator_at, operators_at, listed_operators_at, further_operators_at}
-use Rattle.bidel_parser.specs.Views.{OpView}
+use Rattle.statements.specs.Views.{OpView}
 use Rattle.bidel_parser.proofs.OperatorListLaws.{lone, shared}
 
 -- what the rest gives, the whole gives

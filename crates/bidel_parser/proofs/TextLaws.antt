@@ -25,10 +25,10 @@ use Rattle.bidel_parser.specs.declared.first_words.Kind.TheVariants as kind
 use Rattle.bidel_parser.specs.declared.first_words.StatementWord.{StatementWord}
 use Rattle.bidel_parser.specs.declared.first_words.StatementWord.TheVariants as statement
 use Rattle.bidel_parser.specs.Words.{Sign}
-use Rattle.bidel_parser.specs.Views.{Primary, Foreign, Condition, CreateTable, DropTable, RenameTable, RenameColumn, AddColumn, DropColumn, Join, Split, Merge, StatementView, CreateVersion, DropVersion, Insert, Import, Update, Delete, Select, Materialize, Step, ShowLayout, Use, Session, Advise}
+use Rattle.statements.specs.Views.{Primary, Foreign, Condition, CreateTable, DropTable, RenameTable, RenameColumn, AddColumn, DropColumn, Join, Split, Merge, StatementView, CreateVersion, DropVersion, Insert, Import, Update, Delete, Select, Materialize, Step, ShowLayout, Use, Session, Advise}
 use Rattle.bidel_parser.specs.Operators.{KeyRest, Key, branch_of, SplitBranch, MergeBranch, Part, part_of, SecondPart, decomposed, DropRest, RenameRest, JoinRest, OperatorRest, ClosedOperator, ListedOperators}
 use Rattle.bidel_parser.specs.Statements.{assigned, AssignmentOf, Filter, StatementRest, IsStatement}
-use Rattle.bidel_parser.specs.Texts.{ValueTexts, RowTexts, TermTexts, KeyTexts, BranchTexts, OpTexts, AssignmentTexts, StatementTexts}
+use Rattle.statements.specs.Texts.{ValueTexts, RowTexts, TermTexts, KeyTexts, BranchTexts, OpTexts, AssignmentTexts, StatementTexts}
 
 -- P holds of the text that a token says
 abbrev pub LexemeTexts : (List ℕ → Type 0) → Lexeme → Type 0

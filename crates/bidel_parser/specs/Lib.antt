@@ -1,5 +1,4 @@
 pub mod Words
-pub mod Views
 pub mod Operators
 pub mod Statements
 pub mod Parsing

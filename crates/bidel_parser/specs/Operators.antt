@@ -13,7 +13,7 @@ use Rattle.bidel_parser.specs.declared.first_words.KeyWord.{KeyWord}
 use Rattle.bidel_parser.specs.declared.first_words.KeyWord.TheVariants as by
 use Rattle.bidel_parser.specs.Words.{Word, Sign, Name, choice_of, Choice, word_at, sign_at, is_word, choice_at}
 use Rattle.bidel_parser.specs.declared.decompose.Second.{Second}
-use Rattle.bidel_parser.specs.Views.{Tree, key_view, KeyView, Primary, Foreign, Condition, BranchView, OpView, CreateTable, DropTable, RenameTable, RenameColumn, AddColumn, DropColumn, DecomposeSingle, Decompose, Join, Split, Merge}
+use Rattle.statements.specs.Views.{Tree, key_view, KeyView, Primary, Foreign, Condition, BranchView, OpView, CreateTable, DropTable, RenameTable, RenameColumn, AddColumn, DropColumn, DecomposeSingle, Decompose, Join, Split, Merge}
 
 -- ---- the words that tell them apart
 

@@ -5,11 +5,11 @@ use Rattle.par_base.specs.declared.fault.Fault.TheVariants.{Refused, Memory}
 use Rattle.bidel_lex.specs.declared.tokens.Token.{Token}
 use Rattle.phrases.specs.Phrases.{Begins}
 use Rattle.phrases.specs.Fronts as fronts
-use Rattle.bidel_parser.specs.declared.statement.Parsed.{Parsed}
-use Rattle.bidel_parser.specs.declared.statement.Parsed.TheVariants.{Whole, More, Nothing}
-use Rattle.bidel_parser.specs.declared.statement.Syntax.{Syntax}
+use Rattle.bidel_parser.specs.declared.parsed.Parsed.{Parsed}
+use Rattle.bidel_parser.specs.declared.parsed.Parsed.TheVariants.{Whole, More, Nothing}
+use Rattle.bidel_parser.specs.declared.parsed.Syntax.{Syntax}
 use Rattle.bidel_expr.specs.Lexemes.{Lexeme, lexemes}
-use Rattle.bidel_parser.specs.Views.{StatementView, statement_view}
+use Rattle.statements.specs.Views.{StatementView, statement_view}
 use Rattle.bidel_parser.specs.Statements.{IsStatement, Script, stays_open}
 
 -- the first tokens, so many, spell the statement, and what follows fixes its end

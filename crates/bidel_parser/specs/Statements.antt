@@ -6,12 +6,12 @@ use Rattle.phrases.specs.Reading.{Read, and_then, one_at, done, either, is, behi
 use Rattle.bidel_expr.specs.Lexemes.{Lexeme, text_of}
 use Rattle.bidel_expr.specs.Literals.{comma_of, dot_of, star_of, Tuple, name_at, tuple_at}
 use Rattle.bidel_expr.specs.Expressions.{Expression, expression_at}
-use Rattle.bidel_parser.specs.declared.statement.TableName.{TableName}
+use Rattle.statements.specs.declared.statement.TableName.{TableName}
 use Rattle.bidel_parser.specs.declared.first_words.StatementWord.{StatementWord}
 use Rattle.bidel_parser.specs.declared.first_words.StatementWord.TheVariants as first
 use Rattle.bidel_parser.specs.Words.{Word, Sign, Name, Choice, Flag, session_of, word_at, sign_at, is_word, choice_at, flag_at}
 use Rattle.bidel_parser.specs.Operators.{ListedOperators, listed_operators_at, begins_operator}
-use Rattle.bidel_parser.specs.Views.{Tree, AssignmentView, StatementView, CreateVersion, DropVersion, Insert, Import, Update, Delete, Select, Materialize, Step, ShowLayout, Use, Session, Advise}
+use Rattle.statements.specs.Views.{Tree, AssignmentView, StatementView, CreateVersion, DropVersion, Insert, Import, Update, Delete, Select, Materialize, Step, ShowLayout, Use, Session, Advise}
 
 -- ---- the words that tell them apart
 

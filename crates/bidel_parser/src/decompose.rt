@@ -1,13 +1,13 @@
 //! DECOMPOSE, behind its first word.
 ghost use Rattle.std.specs.Prelude.{◌≡◌};
-ghost use Rattle.bidel_parser.specs.Views.{op_view};
+ghost use Rattle.statements.specs.Views.{op_view};
 ghost use Rattle.bidel_parser.specs.Operators.{part_view, second_part_at, optional_part_at, decompose_rest_at, optional_view};
 ghost use Rattle.bidel_expr.specs.Answers.{ahead, Gives};
 
 use crate::keys::take_key;
-use crate::statement::{KeyText, OpText};
 use bidel_expr::{Cursor, ReadError, next_sign, take_keyword, take_name, take_names};
 use par_base::{List, Name};
+use statements::{KeyText, OpText};
 use std::alloc::Global;
 
 /// The second table of a DECOMPOSE.

@@ -1,14 +1,14 @@
 //! Keys: by what two tables belong together.
 ghost use Rattle.std.specs.Prelude.{◌≡◌};
 ghost use Rattle.phrases.specs.Reading.{starts, is};
-ghost use Rattle.bidel_parser.specs.Views.{key_view};
+ghost use Rattle.statements.specs.Views.{key_view};
 ghost use Rattle.bidel_parser.specs.Operators.{key_rest_at, key_at};
 ghost use Rattle.bidel_expr.specs.Answers.{ahead, Gives};
 
 use crate::choices::next_key_word;
 use crate::first_words::KeyWord;
-use crate::statement::KeyText;
 use bidel_expr::{Cursor, ReadError, take_expression, take_keyword, take_name};
+use statements::KeyText;
 use std::alloc::Global;
 
 // PK | PRIMARY KEY | FK name | FOREIGN KEY name, behind the first word

@@ -18,8 +18,8 @@ mod laws;
 mod operator_list;
 mod operators;
 mod parse;
-mod statement;
-mod statements;
+mod parsed;
+mod statement_readers;
 mod tables;
 
 pub use laws::{
@@ -27,4 +27,4 @@ pub use laws::{
     front_stays, no_front_is_no_script, no_tokens_are_no_statements, texts_are_no_longer,
 };
 pub use parse::parse_statement;
-pub use statement::{Assignment, Branch, KeyText, OpText, Parsed, Statement, Syntax, TableName};
+pub use parsed::{Parsed, Syntax};

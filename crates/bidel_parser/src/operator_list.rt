@@ -1,16 +1,16 @@
 //! The operators of a CREATE SCHEMA VERSION, up to where none begins.
 ghost use Rattle.std.specs.Prelude.{◌≡◌, ◌∷◌, [], map};
 ghost use Rattle.phrases.specs.Reading.{with_front};
-ghost use Rattle.bidel_parser.specs.Views.{op_view};
+ghost use Rattle.statements.specs.Views.{op_view};
 ghost use Rattle.bidel_parser.specs.Operators.{further_operators_at, closed_operator_at, operators_at, listed_operators_at, begins_operator, shows_operator};
 ghost use Rattle.bidel_expr.specs.Answers.{ahead, Gives};
 
 use crate::choices::{is_kind_next, is_lone_word_next, is_shared_word_next, next_shared_word};
 use crate::first_words::OperatorWord;
 use crate::operators::take_operator;
-use crate::statement::OpText;
 use bidel_expr::{Cursor, ReadError, is_keyword_next, take_sign};
 use par_base::List;
+use statements::OpText;
 use std::alloc::Global;
 
 // An operator and its semicolon.

@@ -1,6 +1,6 @@
 //! Operators, behind their first words.
 ghost use Rattle.std.specs.Prelude.{◌≡◌};
-ghost use Rattle.bidel_parser.specs.Views.{op_view, branch_view, second_view};
+ghost use Rattle.statements.specs.Views.{op_view, branch_view, second_view};
 ghost use Rattle.bidel_parser.specs.Operators.{create_rest_at, drop_rest_at, rename_rest_at, add_rest_at, join_rest_at, split_branch_at, second_branch_at, split_rest_at, merge_branch_at, merge_rest_at, operator_rest_at, operator_at};
 ghost use Rattle.bidel_expr.specs.Answers.{ahead, Gives};
 
@@ -8,10 +8,10 @@ use crate::choices::{take_kind, take_operator_word};
 use crate::decompose::decompose_rest;
 use crate::first_words::{Kind, OperatorWord};
 use crate::keys::take_key;
-use crate::statement::{Branch, OpText};
 use bidel_expr::{
     Cursor, ReadError, next_sign, take_expression, take_keyword, take_name, take_names, take_sign,
 };
+use statements::{Branch, OpText};
 use std::alloc::Global;
 
 // CREATE TABLE name names

@@ -3,8 +3,8 @@ ghost use Rattle.std.specs.Prelude.{◌≡◌, drop, length};
 ghost use Rattle.bidel_lex.specs.Tokens.{AreTokens};
 ghost use Rattle.bidel_parser.specs.Parsing.{Parses, start_of};
 
-use crate::statement::{Parsed, Syntax};
-use crate::statements::take_statement;
+use crate::parsed::{Parsed, Syntax};
+use crate::statement_readers::take_statement;
 use bidel_expr::{Cursor, ReadError};
 use bidel_lex::Token;
 use par_base::Fault;

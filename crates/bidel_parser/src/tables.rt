@@ -2,18 +2,18 @@
 ghost use Rattle.std.specs.Prelude.{◌≡◌, map};
 ghost use Rattle.par_base.specs.declared.limits.Target.{Target};
 ghost use Rattle.bidel_parser.specs.Words.{session_of};
-ghost use Rattle.bidel_parser.specs.Views.{AssignmentView, assignment_view, filter_view};
+ghost use Rattle.statements.specs.Views.{AssignmentView, assignment_view, filter_view};
 ghost use Rattle.bidel_parser.specs.Statements.{second_name_at, table_at, target_at, assignment_at, filter_at, items_at, origin_at, csv_at, in_steps_at};
 ghost use Rattle.phrases.specs.Reading.{one_at};
 ghost use Rattle.bidel_expr.specs.Answers.{ahead, Gives};
 
-use crate::statement::{Assignment, TableName};
 use bidel_expr::{
     Cursor, Item, Names, ReadError, next_keyword, next_number, next_sign, take_expression,
     take_keyword, take_name, take_separated, take_sign,
 };
 use expr_lang::ExprText;
 use par_base::{List, Name, Target};
+use statements::{Assignment, TableName};
 use std::alloc::Global;
 
 // [ "." name ]

@@ -1,7 +1,8 @@
 //! What the parser answers for some bytes, as a text.
-use bidel_parser::{Parsed, Statement, Syntax, parse_statement};
+use bidel_parser::{Parsed, Syntax, parse_statement};
 use par_base::{Fault, Memory};
 use statement_texts::tokens_of;
+use statements::Statement;
 use std::alloc::Global;
 use std::process::Abort;
 use std::test::Fail;

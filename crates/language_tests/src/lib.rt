@@ -1,4 +1,5 @@
 //! The language layer, from bytes to statements: lexer and parser together. This crate has nothing but tests: they show
+//! which tokens bytes spell, what operators of expressions give,
 //! the parts of a statement of each form, that spacing, comments and case don't matter, and what stands at the front
 //! of some tokens while they may go on.
 #![tactic(auto)]
@@ -10,8 +11,12 @@ mod expressions;
 #[cfg(test)]
 mod fronts;
 #[cfg(test)]
+mod operations;
+#[cfg(test)]
 mod operators;
 #[cfg(test)]
 mod reserved;
 #[cfg(test)]
-mod statements;
+mod statement_forms;
+#[cfg(test)]
+mod tokens;

@@ -2,10 +2,10 @@
 use Rattle.std.specs.Prelude.{◌≤◌, List, length, map}
 use Rattle.std.specs.List.{All}
 use Rattle.expr_lang.specs.Operations.{text_limit}
-use Rattle.bidel_parser.specs.declared.statement.Statement.{Statement}
-use Rattle.bidel_parser.specs.declared.statement.OpText.{OpText}
-use Rattle.bidel_parser.specs.Views.{op_view, statement_view}
-use Rattle.bidel_parser.specs.Texts.{OpTexts, TextsWithin}
+use Rattle.statements.specs.declared.statement.Statement.{Statement}
+use Rattle.statements.specs.declared.statement.OpText.{OpText}
+use Rattle.statements.specs.Views.{op_view, statement_view}
+use Rattle.statements.specs.Texts.{OpTexts, TextsWithin}
 
 -- operators
 abbrev pub AreShortOperators : List OpText → Type 0

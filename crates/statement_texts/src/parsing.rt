@@ -4,8 +4,9 @@ ghost use Rattle.bidel_lex.specs.Tokens.{AreTokens};
 ghost use Rattle.statement_texts.specs.Short.{IsShortStatement};
 
 use bidel_lex::{Lexed, Token, next_token};
-use bidel_parser::{Parsed, Statement, parse_statement, texts_are_no_longer};
+use bidel_parser::{Parsed, parse_statement, texts_are_no_longer};
 use par_base::{Fault, Memory};
+use statements::Statement;
 use std::alloc::Global;
 
 // The greatest number of bytes of a statement.

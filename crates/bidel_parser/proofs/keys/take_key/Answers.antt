@@ -2,7 +2,7 @@ use Rattle.phrases.specs.Reading.{and_then, done}
 use Rattle.bidel_expr.specs.Answers.{ahead}
 use Rattle.bidel_expr.specs.Expressions.{expression_at}
 use Rattle.bidel_parser.specs.Words.{choice_of}
-use Rattle.bidel_parser.specs.Views.{key_view, Condition}
+use Rattle.statements.specs.Views.{key_view, Condition}
 use Rattle.bidel_parser.specs.Operators.{key_words, key_rest_at, key_at}
 use Rattle.bidel_parser.proofs.ReadSteps.{gives_same, choice_behind}
 use Rattle.bidel_parser.proofs.keys.take_key.Goals as goal

@@ -1,7 +1,7 @@
 use Rattle.phrases.specs.Reading.{one_at}
 use Rattle.bidel_expr.specs.Answers.{ahead}
 use Rattle.bidel_parser.specs.Words.{choice_of}
-use Rattle.bidel_parser.specs.Views.{op_view}
+use Rattle.statements.specs.Views.{op_view}
 use Rattle.bidel_parser.specs.Operators.{operator_words, operator_rest_at, operator_at}
 use Rattle.bidel_parser.proofs.ReadSteps.{gives_same, behind}
 use Rattle.bidel_parser.proofs.operators.take_operator.Goals as goal

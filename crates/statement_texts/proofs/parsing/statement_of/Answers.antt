@@ -3,7 +3,7 @@ use Rattle.expr_lang.specs.Operations.{text_limit}
 use Rattle.bidel_lex.specs.declared.tokens.Token.{Token}
 use Rattle.bidel_lex.specs.Tokens.{AreTokens}
 use Rattle.bidel_expr.specs.Lexemes.{lexemes}
-use Rattle.bidel_parser.specs.Views.{statement_view}
+use Rattle.statements.specs.Views.{statement_view}
 use Rattle.bidel_parser.specs.Parsing.{IsFront}
 use Rattle.statement_texts.proofs.ParsingLemmas.{tokens_no_longer}
 use Rattle.statement_texts.proofs.parsing.statement_of.Goals as goal

@@ -1,0 +1,5 @@
+use Rattle.bidel_script.proofs.ScriptLemmas.{over_is_script}
+use Rattle.bidel_script.proofs.laws.over_is_script.Goals as goal
+
+pub returns : goal.returns
+returns c = over_is_script

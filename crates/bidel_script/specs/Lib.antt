@@ -1,0 +1,5 @@
+pub mod Tails
+pub mod Lengths
+pub mod Script
+pub mod Places
+pub mod Calls

@@ -1,0 +1,28 @@
+//! Laws of scripts, each the contract of a function that does nothing.
+ghost use Rattle.bidel_script.specs.Script.{FaultIsNoScript, OneComes, OneScript, OverIsScript};
+ghost use Rattle.bidel_script.specs.Tails.{TokensAreKnown};
+
+/// Bytes are the script of at most one list of statements.
+pub fn script_is_one()
+    ensures { OneScript }
+{}
+
+/// Bytes that are whole statements and nothing else are their script.
+pub fn over_is_script()
+    ensures { OverIsScript }
+{}
+
+/// Bytes with a fault are no script.
+pub fn fault_is_no_script()
+    ensures { FaultIsNoScript }
+{}
+
+/// Any bytes fix one list of statements, and one thing stands behind them.
+pub fn run_is_one()
+    ensures { OneComes }
+{}
+
+/// Exactly so many first bytes show a token as it is said to be known by.
+pub fn tokens_are_known()
+    ensures { TokensAreKnown }
+{}
