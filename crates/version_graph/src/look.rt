@@ -153,25 +153,6 @@ pub fn tables_of_set<O>(nodes: &[Node<O>], set: u32) -> &[u32]
     }
 }
 
-fn copy_names(alloc: Global, names: &[Name]) -> Result<List<Name>, Memory>
-    ensures { IfOk result (λ made. made ≡ names.now) }
-{
-    let mut made = List::new(alloc);
-    for name in names {
-        made.push(name.copy(alloc)?)?;
-    }
-    Ok(made)
-}
-
-fn copy_heading(alloc: Global, heading: &Heading) -> Result<Heading, Memory>
-    ensures { IfOk result (λ made. made ≡ heading.now) }
-{
-    Ok(Heading {
-        name: heading.name.copy(alloc)?,
-        columns: copy_names(alloc, heading.columns.as_slice())?,
-    })
-}
-
 fn push_heading(
     alloc: Global,
     made: &mut List<Heading>,
@@ -180,7 +161,7 @@ fn push_heading(
     ensures { OnOk result (made.new ≡ made.old ++ option_to_list (option_copied found.entry)) }
 {
     if let Some(heading) = found {
-        made.push(copy_heading(alloc, heading)?)?;
+        made.push(heading.copy(alloc)?)?;
     }
     Ok(())
 }

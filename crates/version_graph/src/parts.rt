@@ -1,11 +1,26 @@
 //! The parts of a graph that callers give and take.
-use par_base::{List, Name};
+ghost use Rattle.std.specs.Prelude.{◌≡◌, IfOk};
+
+use par_base::{List, Memory, Name, copy_names};
+use std::alloc::Global;
 
 /// The name and the columns of a table.
 #[derive(Debug, Drop)]
 pub struct Heading {
     pub name: Name,
     pub columns: List<Name>,
+}
+
+impl Heading {
+    /// An equal heading. It takes time in the number of bytes of its names.
+    pub fn copy(&self, alloc: Global) -> Result<Heading, Memory>
+        ensures { IfOk result (λ made. made ≡ self.now) }
+    {
+        Ok(Heading {
+            name: self.name.copy(alloc)?,
+            columns: copy_names(alloc, self.columns.as_slice())?,
+        })
+    }
 }
 
 /// An operator between its source tables, by their names in the working set before it, and its

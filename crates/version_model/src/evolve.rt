@@ -154,10 +154,7 @@ pub fn as_refusal(fault: Fault<IdsSpent>) -> Fault<Refusal>
     ensures { result ≡ refusal_for fault }
 {
     match fault {
-        Fault::Refused(spent) => Fault::Refused(Refusal::IdsSpent {
-            needed: spent.needed,
-            limit: spent.limit,
-        }),
+        Fault::Refused(spent) => spent.refused(),
         Fault::Memory => Fault::Memory,
     }
 }

@@ -10,7 +10,7 @@ use Rattle.version_graph.specs.Sets.{Apart, Distinct, Each, In}
 use Rattle.version_graph.specs.Tables.{FitInOrder, FitsSet, IsHeading, column_limit, heading_names, headings_after, row_name}
 use Rattle.version_graph.specs.declared.parts.Edge.{Edge}
 use Rattle.version_graph.specs.declared.parts.Heading.{Heading}
-use Rattle.graph_tests.specs.Tests.{AreNew, HasRoom, has, is_bare}
+use Rattle.data_tests.specs.Tests.{AreNew, HasRoom, has, is_bare}
 
 pub has_name : (set : List Heading) (name : List ℕ) → has set name ≡ true → In name (heading_names set)
 has_name [] name e = cc

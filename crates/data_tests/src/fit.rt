@@ -5,7 +5,7 @@ ghost use Rattle.std.specs.Str.{bytes_eq};
 ghost use Rattle.version_graph.specs.Sets.{Distinct, Each, In};
 ghost use Rattle.version_graph.specs.Tables.{FitInOrder, FitsSet, IsHeading, heading_names};
 ghost use Rattle.version_graph.specs.declared.parts.Heading.{Heading as AHeading};
-ghost use Rattle.graph_tests.specs.Tests.{AreNew, HasRoom, has as has_lem, is_bare as is_bare_lem};
+ghost use Rattle.data_tests.specs.Tests.{AreNew, HasRoom, has as has_lem, is_bare as is_bare_lem};
 
 use par_base::Name;
 use std::iter::Iterator;

@@ -1,5 +1,5 @@
-use Rattle.graph_tests.proofs.FitLemmas.{fits_from}
-use Rattle.graph_tests.proofs.fit.is_fit.Goals as goal
+use Rattle.data_tests.proofs.FitLemmas.{fits_from}
+use Rattle.data_tests.proofs.fit.is_fit.Goals as goal
 
 pub returns-then-has_source : goal.returns-then-has_source
 returns-then-has_source c holds =

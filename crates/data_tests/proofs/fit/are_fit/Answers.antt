@@ -1,6 +1,6 @@
 use Rattle.std.proofs.Common.{sym, ◌∙◌}
-use Rattle.graph_tests.proofs.FitLemmas.{all_fit}
-use Rattle.graph_tests.proofs.fit.are_fit.Goals as goal
+use Rattle.data_tests.proofs.FitLemmas.{all_fit}
+use Rattle.data_tests.proofs.fit.are_fit.Goals as goal
 
 pub returns-then-is_fit : goal.returns-then-is_fit
 returns-then-is_fit c holds =
