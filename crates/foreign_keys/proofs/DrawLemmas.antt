@@ -9,7 +9,7 @@ use Rattle.row_store.specs.Rows.{Rows, AreBelow}
 use Rattle.row_parts.specs.RowCells.{by_test}
 use Rattle.foreign_keys.specs.Drawn.{Values, add_once, has, place, numbered, place_if, ArePlaced}
 use Rattle.foreign_keys.specs.DrawnLemmas.{place_under}
-use Rattle.row_parts.specs.SameRows.{same_row, row_equal}
+use Rattle.par_base.specs.SameRows.{same_row, row_equal}
 use Rattle.row_map.specs.RowNumbers.{RowNumbers, IsWithRow}
 
 -- a value that isn't there goes to the end

@@ -7,7 +7,7 @@ use Rattle.par_base.specs.declared.refusal.IdsSpent.{IdsSpent}
 use Rattle.row_store.specs.States.{TableState}
 use Rattle.id_memory.specs.States.{CounterState}
 use Rattle.op_law.specs.Calls.{first_refused, IsSpent}
-use Rattle.row_parts.specs.SameRows.{same_row}
+use Rattle.par_base.specs.SameRows.{same_row}
 use Rattle.row_map.specs.IdNumbers.{IdNumbers, number_of_id}
 use Rattle.row_map.specs.RowNumbers.{RowNumbers, number_of_row}
 use Rattle.foreign_keys.specs.References.{is_goal}

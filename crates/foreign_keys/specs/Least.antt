@@ -2,7 +2,7 @@
 use Rattle.std.specs.Prelude.{◌≡◌, ℕ, List, [], ◌∷◌, Bool, ◌&&◌, cond, Option, Some, None}
 use Rattle.par_base.specs.declared.value.Value.{Value}
 use Rattle.row_store.specs.Rows.{Rows}
-use Rattle.row_parts.specs.SameRows.{same_row}
+use Rattle.par_base.specs.SameRows.{same_row}
 use Rattle.row_map.specs.RowNumbers.{RowNumbers, number_of_row}
 
 -- the least of these rows that has the value and is one of those that are meant

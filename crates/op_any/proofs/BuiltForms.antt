@@ -8,8 +8,8 @@ use Rattle.std.proofs.lemmas.Bool.{false≢true}
 use Rattle.par_base.specs.declared.refusal.Refusal.TheVariants.{NotBuilt, TooManyColumns, ColumnsDiffer}
 use Rattle.expr_lang.specs.Terms.{Term}
 use Rattle.expr_lang.specs.Resolved.{place_of, resolved}
-use Rattle.bidel_parser.specs.Views.{Tree, KeyView, BranchView, OpView}
-use Rattle.bidel_parser.specs.Views as «text»
+use Rattle.statements.specs.Views.{Tree, KeyView, BranchView, OpView}
+use Rattle.statements.specs.Views as «text»
 use Rattle.version_graph.specs.Tables.{column_limit}
 use Rattle.version_graph.specs.declared.parts.Heading.{Heading}
 use Rattle.op_any.specs.Checks.{Checked, ◌then◌}

@@ -5,8 +5,8 @@ use Rattle.std.specs.List.{insert, remove}
 use Rattle.std.proofs.lemmas.Bool.{false≢true}
 use Rattle.std.proofs.lemmas.List.Edits.{insert_end, length-insert, length-remove}
 use Rattle.expr_lang.specs.Resolved.{place_of, resolved}
-use Rattle.bidel_parser.specs.Views.{Tree, OpView}
-use Rattle.bidel_parser.specs.Views as «text»
+use Rattle.statements.specs.Views.{Tree, OpView}
+use Rattle.statements.specs.Views as «text»
 use Rattle.version_graph.specs.Sets.{In, Each}
 use Rattle.version_graph.specs.Tables.{IsHeading, FitsSet, row_name, heading_names, headings_passing}
 use Rattle.version_graph.specs.declared.parts.Heading.{Heading}

@@ -9,8 +9,8 @@ use Rattle.std.proofs.lemmas.List.Edits.{insert_end}
 use Rattle.expr_lang.specs.Terms.{Term}
 use Rattle.expr_lang.specs.Val.{fits_row}
 use Rattle.expr_lang.specs.Resolved.{resolved}
-use Rattle.bidel_parser.specs.Views.{Tree, OpView}
-use Rattle.bidel_parser.specs.Views as «text»
+use Rattle.statements.specs.Views.{Tree, OpView}
+use Rattle.statements.specs.Views as «text»
 use Rattle.version_graph.specs.Sets.{Each, Distinct}
 use Rattle.version_graph.specs.Tables.{IsHeading, row_name}
 use Rattle.version_graph.specs.declared.parts.Heading.{Heading}

@@ -5,7 +5,7 @@ use Rattle.std.specs.List.{remove}
 use Rattle.std.specs.Str.{bytes_eq}
 use Rattle.std.proofs.lemmas.Bool.{false≢true}
 use Rattle.expr_lang.specs.Resolved.{place_of, resolved}
-use Rattle.bidel_parser.specs.Views.{Tree, KeyView, Primary, Foreign, Condition}
+use Rattle.statements.specs.Views.{Tree, KeyView, Primary, Foreign, Condition}
 use Rattle.version_graph.specs.Tables.{column_limit}
 use Rattle.version_graph.specs.declared.parts.Heading.{Heading}
 use Rattle.op_any.specs.NameChecks.{heading_named, is_passing, repeated, known_table, other_table, new_table, known_column, known_places, known_columns, well_divided, new_columns, few_columns, known_ids}

@@ -8,8 +8,8 @@ use Rattle.std.proofs.lemmas.List.Edits.{length-remove}
 use Rattle.expr_lang.specs.Terms.{Term}
 use Rattle.expr_lang.specs.Val.{fits_row}
 use Rattle.expr_lang.specs.Resolved.{place_of, resolved}
-use Rattle.bidel_parser.specs.Views.{Tree, OpView}
-use Rattle.bidel_parser.specs.Views as «text»
+use Rattle.statements.specs.Views.{Tree, OpView}
+use Rattle.statements.specs.Views as «text»
 use Rattle.version_graph.specs.Sets.{Each, Distinct}
 use Rattle.version_graph.specs.Tables.{IsHeading, row_name}
 use Rattle.version_graph.specs.declared.parts.Heading.{Heading}

@@ -5,8 +5,8 @@ use Rattle.std.specs.Str.{bytes_eq}
 use Rattle.std.proofs.lemmas.Bool.{false≢true}
 use Rattle.expr_lang.specs.Val.{fits_row}
 use Rattle.expr_lang.specs.Resolved.{resolved}
-use Rattle.bidel_parser.specs.Views.{BranchView}
-use Rattle.bidel_parser.specs.Views as «text»
+use Rattle.statements.specs.Views.{BranchView}
+use Rattle.statements.specs.Views as «text»
 use Rattle.version_graph.specs.Tables.{IsHeading}
 use Rattle.version_graph.specs.declared.parts.Heading.{Heading}
 use Rattle.op_kinds.specs.Operators as «any»

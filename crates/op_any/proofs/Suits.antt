@@ -12,7 +12,7 @@ use Rattle.expr_lang.specs.Terms.{Term}
 use Rattle.expr_lang.specs.Val.{fits_row}
 use Rattle.expr_lang.specs.Resolved.{place_of, resolved, first_unknown_id}
 use Rattle.expr_lang.proofs.Resolving.{resolved-fits}
-use Rattle.bidel_parser.specs.Views.{Tree, OpView}
+use Rattle.statements.specs.Views.{Tree, OpView}
 use Rattle.version_graph.specs.Sets.{In, Distinct, Each}
 use Rattle.version_graph.specs.Tables.{IsHeading, FitsSet, row_name, heading_names, headings_passing}
 use Rattle.version_graph.specs.declared.parts.Heading.{Heading}

@@ -4,8 +4,8 @@ use Rattle.std.specs.List.{insert, remove}
 use Rattle.std.specs.Str.{bytes_eq}
 use Rattle.par_base.specs.declared.refusal.Refusal.TheVariants.{NotBuilt}
 use Rattle.expr_lang.specs.Resolved.{place_of, resolved}
-use Rattle.bidel_parser.specs.Views.{Tree, KeyView, Primary, Foreign, Condition, BranchView, OpView}
-use Rattle.bidel_parser.specs.Views as «text»
+use Rattle.statements.specs.Views.{Tree, KeyView, Primary, Foreign, Condition, BranchView, OpView}
+use Rattle.statements.specs.Views as «text»
 use Rattle.version_graph.specs.declared.parts.Heading.{Heading}
 use Rattle.version_graph.specs.declared.parts.Edge.{Edge}
 use Rattle.op_kinds.specs.Operators.{Built, CreateTable, DropTable, Rename, AddColumn, DropColumn, Split, Merge, AnyView}

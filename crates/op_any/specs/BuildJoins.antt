@@ -5,7 +5,7 @@ use Rattle.std.specs.Str.{bytes_eq}
 use Rattle.par_base.specs.declared.refusal.Refusal.TheVariants.{NotBuilt}
 use Rattle.expr_lang.specs.Terms.{Term}
 use Rattle.expr_lang.specs.Resolved.{place_of, resolved}
-use Rattle.bidel_parser.specs.Views.{Tree, KeyView, Primary, Foreign, Condition}
+use Rattle.statements.specs.Views.{Tree, KeyView, Primary, Foreign, Condition}
 use Rattle.version_graph.specs.declared.parts.Heading.{Heading}
 use Rattle.version_graph.specs.declared.parts.Edge.{Edge}
 use Rattle.op_kinds.specs.Operators.{Built, DecomposeSingle, DecomposePk, DecomposeFk, DecomposeOn, JoinPk, OuterJoinPk, JoinFk, OuterJoinFk, JoinOn}

@@ -1,7 +1,7 @@
 -- What is true of every edge that is built on the working set of a graph.
 use Rattle.std.specs.Prelude.{◌≡◌, ◌↔◌, ◌⊎◌, ℕ, ◌≤◌, Bool, true, false, List, [], ◌∷◌, ◌++◌, length, map, option_to_list, MatchOption, Ok, Err}
 use Rattle.par_base.specs.declared.refusal.Refusal.TheVariants.{NotBuilt}
-use Rattle.bidel_parser.specs.Views.{OpView, CreateTable}
+use Rattle.statements.specs.Views.{OpView, CreateTable}
 use Rattle.version_graph.specs.Sets.{In, Distinct, Within, Each}
 use Rattle.version_graph.specs.Tables.{TableVersion, headings_of, taken, IsHeading, FitsSet}
 use Rattle.version_graph.specs.declared.parts.Heading.{Heading as TableHeading}

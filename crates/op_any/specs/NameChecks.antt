@@ -7,7 +7,7 @@ use Rattle.std.specs.Cmp.Lexicographic.{pointwise}
 use Rattle.par_base.specs.declared.refusal.Refusal.TheVariants.{UnknownTable, TableExists, UnknownColumn, ColumnExists, BadPartition, TooManyColumns, UnknownId, ColumnsDiffer, SameTable}
 use Rattle.expr_lang.specs.Terms.{Term}
 use Rattle.expr_lang.specs.Resolved.{place_of, first_unknown_id}
-use Rattle.bidel_parser.specs.Views.{Tree}
+use Rattle.statements.specs.Views.{Tree}
 use Rattle.version_graph.specs.Tables.{row_name, column_limit, headings_passing}
 use Rattle.version_graph.specs.declared.parts.Heading.{Heading}
 use Rattle.op_any.specs.Checks.{Checked, ◌then◌}

@@ -4,7 +4,7 @@ use Rattle.par_base.specs.declared.value.Value.{Value}
 use Rattle.par_base.specs.declared.value.Value.TheVariants.{Null, Int, Text, Reference}
 use Rattle.expr_lang.specs.Operations.{text_limit}
 use Rattle.expr_lang.specs.Terms.{Term, Literal, Column, Unary, Binary}
-use Rattle.bidel_parser.specs.Views.{Tree, KeyView, BranchView, OpView, Primary, Foreign, Condition, CreateTable, DropTable, RenameTable, RenameColumn, AddColumn, DropColumn, DecomposeSingle, Decompose, Join, Split, Merge}
+use Rattle.statements.specs.Views.{Tree, KeyView, BranchView, OpView, Primary, Foreign, Condition, CreateTable, DropTable, RenameTable, RenameColumn, AddColumn, DropColumn, DecomposeSingle, Decompose, Join, Split, Merge}
 use Rattle.version_graph.specs.Sets.{Each}
 
 -- a text has at most `text_limit` bytes

@@ -1,13 +1,13 @@
 //! Building operators from their texts.
 ghost use Rattle.std.specs.Prelude.{◌≡◌};
-ghost use Rattle.bidel_parser.specs.Views.{key_view, op_view};
+ghost use Rattle.statements.specs.Views.{key_view, op_view};
 ghost use Rattle.op_any.specs.Checks.{Gives};
 ghost use Rattle.op_any.specs.Build.{built, is_built as is_built_form, is_built_join as is_built_join_form};
 
 use crate::plan::plan;
-use bidel_parser::{KeyText, OpText};
 use op_kinds::{AnyOp, copy_text};
 use par_base::{Fault, Refusal};
+use statements::{KeyText, OpText};
 use std::alloc::Global;
 use version_graph::{Edge, Heading};
 

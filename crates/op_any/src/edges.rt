@@ -3,8 +3,8 @@ ghost use Rattle.std.specs.Prelude.{◌≡◌, ◌∷◌, [], IfOk};
 ghost use Rattle.op_kinds.specs.Views.{built_view};
 ghost use Rattle.op_any.specs.Edges.{edge_view};
 
-use op_kinds::{BuiltOp, copy_names};
-use par_base::{List, Memory, Name};
+use op_kinds::BuiltOp;
+use par_base::{List, Memory, Name, copy_names};
 use std::alloc::Global;
 use version_graph::{Edge, Heading};
 

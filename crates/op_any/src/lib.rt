@@ -24,4 +24,4 @@ pub use laws::{
     first_misdivided_column_is_refused, first_repeated_column_is_refused,
     other_forms_are_not_built,
 };
-pub use op_kinds::{AnyOp, copy_names};
+pub use op_kinds::AnyOp;

@@ -1,7 +1,7 @@
 //! What DECOMPOSE makes of a working set, or why it is refused.
 ghost use Rattle.std.specs.Prelude.{◌≡◌, IfOk};
 ghost use Rattle.expr_lang.specs.Terms.{text_term};
-ghost use Rattle.bidel_parser.specs.Views.{key_view};
+ghost use Rattle.statements.specs.Views.{key_view};
 ghost use Rattle.op_any.specs.Checks.{Gives};
 ghost use Rattle.op_any.specs.Edges.{edge_view};
 ghost use Rattle.op_any.specs.BuildJoins.{parting, divided, decomposing_in_one, decomposing_on_pk, decomposing_on_fk, decomposing_on, decomposing_table, with_column as with_column_of};
@@ -12,7 +12,6 @@ use crate::checks::{
     check_second_table, find_places, find_table, resolve_value,
 };
 use crate::edges::{edge_of, from_one_to, from_one_to_both};
-use bidel_parser::KeyText;
 use expr_lang::ExprText;
 use op_cond_join::JoinOn;
 use op_fk_decompose::DecomposeFk;
@@ -21,6 +20,7 @@ use op_kinds::BuiltOp;
 use op_law::Flip;
 use op_rows::Rowwise;
 use par_base::{Fault, List, Memory, Name, Refusal};
+use statements::KeyText;
 use std::alloc::Global;
 use std::slice;
 use version_graph::{Edge, Heading};

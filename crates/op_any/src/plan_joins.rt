@@ -3,7 +3,7 @@ ghost use Rattle.std.specs.Prelude.{◌≡◌, ◌++◌, length, IfOk};
 ghost use Rattle.std.specs.List.{remove};
 ghost use Rattle.expr_lang.specs.Terms.{text_term, expr_term};
 ghost use Rattle.expr_lang.specs.Resolved.{resolved};
-ghost use Rattle.bidel_parser.specs.Views.{key_view};
+ghost use Rattle.statements.specs.Views.{key_view};
 ghost use Rattle.op_kinds.specs.Views.{built_view};
 ghost use Rattle.op_any.specs.Checks.{Gives};
 ghost use Rattle.op_any.specs.NameChecks.{known_columns};
@@ -16,16 +16,16 @@ use crate::checks::{
     find_place, find_table, resolve_value,
 };
 use crate::edges::{edge_of, from_two_to_one, two_names};
-use bidel_parser::KeyText;
 use expr_lang::{Expr, ExprText};
 use op_cond_join::JoinOn;
 use op_fk_decompose::DecomposeFk;
 use op_fk_join::JoinFk;
 use op_key_join::{DecomposePk, JoinPk};
-use op_kinds::{BuiltOp, copy_names};
+use op_kinds::BuiltOp;
 use op_law::Flip;
 use op_rows::{FlipRow, Rowwise};
-use par_base::{Fault, List, Memory, Name, Refusal};
+use par_base::{Fault, List, Memory, Name, Refusal, copy_names};
+use statements::KeyText;
 use std::alloc::Global;
 use version_graph::{Edge, Heading};
 

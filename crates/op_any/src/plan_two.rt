@@ -1,6 +1,6 @@
 //! What SPLIT and MERGE make of a working set, or why they are refused.
 ghost use Rattle.std.specs.Prelude.{◌≡◌};
-ghost use Rattle.bidel_parser.specs.Views.{branch_view, second_view};
+ghost use Rattle.statements.specs.Views.{branch_view, second_view};
 ghost use Rattle.op_any.specs.Checks.{Gives};
 ghost use Rattle.op_any.specs.Build.{splitting_in_one, splitting_in_two, splitting_table, merging_tables};
 ghost use Rattle.op_any.specs.Edges.{edge_view};
@@ -12,11 +12,11 @@ use crate::checks::{
 use crate::edges::{
     edge_of, from_one_to_both, from_one_to_one, heading_of, one_heading, two_names,
 };
-use bidel_parser::Branch;
-use op_kinds::{BuiltOp, copy_names};
+use op_kinds::BuiltOp;
 use op_rows::{FlipRow, Rowwise};
 use op_split_merge::Split;
-use par_base::{Fault, Name, Refusal};
+use par_base::{Fault, Name, Refusal, copy_names};
+use statements::Branch;
 use std::alloc::Global;
 use std::slice;
 use version_graph::{Edge, Heading};

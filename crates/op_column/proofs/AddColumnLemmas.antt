@@ -3,11 +3,12 @@ use Rattle.std.proofs.Common.{◌≡◌, ℕ, ◌≤◌, List, [], ◌∷◌, tr
 use Rattle.std.proofs.lemmas.Bool.{false≢true}
 use Rattle.par_base.specs.declared.value.Value.{Value}
 use Rattle.expr_lang.specs.Terms.{Term}
+use Rattle.expr_lang.specs.Val.{fits_row}
 use Rattle.op_rows.specs.Cells.{Cells, first_cell, CellWide, AreCellsOf}
-use Rattle.op_rows.specs.RowCalls.{AdmitsRows}
+use Rattle.op_rows.specs.RowCalls.{AdmitsRows, MayRows, StoredRows}
 use Rattle.op_column.specs.OneTable.{one_cell}
 use Rattle.row_parts.specs.RowEdits.{value_at-insert}
-use Rattle.op_column.specs.Calls.{is_beside}
+use Rattle.op_column.specs.Calls.{is_beside, MayAdd, TakesPlace}
 use Rattle.op_column.specs.AddColumn.{kept_value, restored, without_column, column_alone, add_column}
 use Rattle.op_column.specs.AddColumnLaws.{source_wide, forward_wide, forward_related}
 
@@ -29,7 +30,27 @@ column_beside : (place : ℕ) (t : Option (List Value)) → is_beside (without_c
 column_beside place None = refl
 column_beside place (Some row) = refl
 
+-- a row as wide as the source takes the column
+wide_adds : (place : ℕ) (e : Term ℕ) (width : ℕ) (c : Option (List Value)) → CellWide width c → place ≤ width → fits_row e width ≡ true → MayAdd place e c
+wide_adds place e width None wide within reads = tt
+wide_adds place e width (Some row) wide within reads = (omega (arith, wide, within), subst (λ (n : ℕ). fits_row e n ≡ true) (sym wide) reads)
+
+wide_takes : (place width : ℕ) (c : Option (List Value)) → CellWide width c → place ≤ width → TakesPlace place c
+wide_takes place width None wide within = tt
+wide_takes place width (Some row) wide within = omega (arith, wide, within)
+
 module _ (place : ℕ) (e : Term ℕ) where
+  -- what a mapping forward may be given takes the column
+  pub may_add : (near s t : Cells) → MayRows (add_column place e) near s t → MayAdd place e (first_cell near)
+  may_add near s t may =
+      wide_adds place e _ (first_cell near) (one_cell _ may.hs near (source_wide place e may.hs may.ht may.pair.fits) may.near_of).wide may.pair.fits.within may.pair.fits.reads
+
+  -- and so does a stored source
+  pub may_take : (near aux : Cells) → StoredRows (add_column place e) near aux → TakesPlace place (first_cell near)
+  may_take near aux stored =
+      let pair = stored.belongs.pair in
+      wide_takes place _ (first_cell near) (one_cell _ stored.hs near (source_wide place e stored.hs stored.ht pair.fits) pair.source_of).wide pair.fits.within
+
   -- a value for each row and for no other is admitted
   pub admits_beside : (near far aux : Cells) → far ≡ restored place (first_cell near) (first_cell aux) ∷ [] → is_beside (first_cell near) aux ≡ true → AdmitsRows (add_column place e) near aux (Some far)
   admits_beside near far aux made beside = (

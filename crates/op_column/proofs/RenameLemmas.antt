@@ -1,12 +1,15 @@
 -- Which rows a rename admits.
 use Rattle.std.proofs.Common.{◌≡◌, length, Some, sym, subst}
 use Rattle.op_rows.specs.Cells.{Cells, AreCellsOf}
+use Rattle.op_rows.specs.declared.near_side.NearSide.{NearSide}
+use Rattle.op_rows.specs.declared.near_side.NearSide.TheVariants.{Source, Target}
+use Rattle.op_rows.specs.NearSides.{seen_from}
 use Rattle.op_rows.specs.RowMeaning.{flip_row}
 use Rattle.op_rows.specs.RowCalls.{AdmitsRows}
 use Rattle.op_column.specs.Rename.{rename, same_wide}
 use Rattle.op_column.proofs.OneTableLemmas.{no_cells}
 
-pub admits : (near far aux : Cells) → far ≡ near → length aux ≡ 0 → AdmitsRows rename near aux (Some far)
+admits : (near far aux : Cells) → far ≡ near → length aux ≡ 0 → AdmitsRows rename near aux (Some far)
 admits near far aux same none = (
   same,
   λ hs ht fits near_of. record {
@@ -15,7 +18,7 @@ admits near far aux same none = (
   },
 )
 
-pub admits_back : (near far aux : Cells) → far ≡ near → length aux ≡ 0 → AdmitsRows (flip_row rename) near aux (Some far)
+admits_back : (near far aux : Cells) → far ≡ near → length aux ≡ 0 → AdmitsRows (flip_row rename) near aux (Some far)
 admits_back near far aux same none = (
   same,
   λ hs ht fits near_of. record {
@@ -23,3 +26,8 @@ admits_back near far aux same none = (
     aux_is = no_cells aux none;
   },
 )
+
+-- whichever side is near
+pub admits_either : (side : NearSide) (near far aux : Cells) → far ≡ near → length aux ≡ 0 → AdmitsRows (seen_from side rename) near aux (Some far)
+admits_either Source = admits
+admits_either Target = admits_back

@@ -1,13 +1,13 @@
 //! One column more.
 ghost use Rattle.std.specs.Prelude.{◌≡◌, IfOk, true, false};
 ghost use Rattle.expr_lang.specs.Terms.{expr_term};
-ghost use Rattle.op_rows.specs.RowMeaning.{flip_row};
+ghost use Rattle.op_rows.specs.RowCalls.{AdmitsRows, NearRows};
 ghost use Rattle.op_column.specs.AddColumn.{add_column};
 ghost use Rattle.op_column.specs.AddColumnLaws.{add_column_laws};
 
 use crate::column::{alone, is_kept_beside, with_kept, with_new, without};
 use expr_lang::{Expr, Steps};
-use op_rows::{Cells, RowOperator};
+use op_rows::{Cells, NearSide, OldRows, RowOperator};
 use par_base::{List, Memory};
 use std::alloc::Global;
 use std::sync::ledger::Ledger;
@@ -24,109 +24,91 @@ pub struct AddColumn {
 impl RowOperator for AddColumn {
     ghost row_meaning = { λ it. add_column it.place (expr_term it.value) };
 
-    fn sources(&self) -> usize {
+    fn count_tables(&self, _side: NearSide) -> usize {
         1
     }
 
-    fn targets(&self) -> usize {
-        1
+    fn count_aux(&self, side: NearSide) -> usize {
+        match side {
+            NearSide::Source => 1,
+            NearSide::Target => 0,
+        }
     }
 
-    fn source_aux(&self) -> usize {
-        1
-    }
-
-    fn target_aux(&self) -> usize {
-        0
-    }
-
-    fn forward_row<L: Ledger>(
+    fn map_row<L: Ledger>(
         &self,
         alloc: Global,
+        side: NearSide,
         near: &Cells,
-        _source: &Cells,
-        target: &Cells,
+        old: OldRows<'_>,
         steps: &mut Steps<L>,
     ) -> Result<Cells, Memory> {
-        Ok(with_new(alloc, self.place, &self.value, near, target, steps)?)
+        match side {
+            NearSide::Source => with_new(alloc, self.place, &self.value, near, old.far, steps),
+            NearSide::Target => without(alloc, self.place, near),
+        }
     }
 
-    fn backward_row<L: Ledger>(
+    fn aux_row<L: Ledger>(
         &self,
         alloc: Global,
+        side: NearSide,
+        _near: &Cells,
+        far: &Cells,
+        _steps: &mut Steps<L>,
+    ) -> Result<Cells, Memory> {
+        match side {
+            NearSide::Source => alone(alloc, self.place, far),
+            NearSide::Target => Ok(List::new(alloc)),
+        }
+    }
+
+    fn read_row<L: Ledger>(
+        &self,
+        alloc: Global,
+        side: NearSide,
         near: &Cells,
-        _source: &Cells,
-        _target: &Cells,
-        _steps: &mut Steps<L>,
-    ) -> Result<Cells, Memory> {
-        Ok(without(alloc, self.place, near)?)
-    }
-
-    fn aux_at_source_row<L: Ledger>(
-        &self,
-        alloc: Global,
-        _source: &Cells,
-        target: &Cells,
-        _steps: &mut Steps<L>,
-    ) -> Result<Cells, Memory> {
-        Ok(alone(alloc, self.place, target)?)
-    }
-
-    fn aux_at_target_row<L: Ledger>(
-        &self,
-        alloc: Global,
-        _source: &Cells,
-        _target: &Cells,
-        _steps: &mut Steps<L>,
-    ) -> Result<Cells, Memory> {
-        Ok(List::new(alloc))
-    }
-
-    fn read_target_row<L: Ledger>(
-        &self,
-        alloc: Global,
-        source: &Cells,
         aux: &Cells,
         _steps: &mut Steps<L>,
     ) -> Result<Cells, Memory> {
-        Ok(with_kept(alloc, self.place, source, aux)?)
+        match side {
+            NearSide::Source => with_kept(alloc, self.place, near, aux),
+            NearSide::Target => without(alloc, self.place, near),
+        }
     }
 
-    fn read_source_row<L: Ledger>(
+    fn admit_row<L: Ledger>(
         &self,
         alloc: Global,
-        target: &Cells,
-        _aux: &Cells,
-        _steps: &mut Steps<L>,
-    ) -> Result<Cells, Memory> {
-        Ok(without(alloc, self.place, target)?)
-    }
-
-    fn admit_target_row<L: Ledger>(
-        &self,
-        alloc: Global,
-        source: &Cells,
+        side: NearSide,
+        near: &Cells,
         aux: &Cells,
         _steps: &mut Steps<L>,
     ) -> Result<Option<Cells>, Memory> {
-        if !is_kept_beside(source, aux) {
-            return Ok(None);
+        match side {
+            NearSide::Source => self.admit_target(alloc, near, aux),
+            NearSide::Target if aux.len() != 0 => Ok(None),
+            NearSide::Target => Ok(Some(without(alloc, self.place, near)?)),
         }
-        Ok(Some(with_kept(alloc, self.place, source, aux)?))
-    }
-
-    fn admit_source_row<L: Ledger>(
-        &self,
-        alloc: Global,
-        target: &Cells,
-        aux: &Cells,
-        _steps: &mut Steps<L>,
-    ) -> Result<Option<Cells>, Memory> {
-        if aux.len() != 0 {
-            return Ok(None);
-        }
-        Ok(Some(without(alloc, self.place, target)?))
     }
 
     ghost row_laws = { λ it. add_column_laws it.place (expr_term it.value) };
+}
+
+impl AddColumn {
+    /// The target with the values that are kept beside the source.
+    fn admit_target(
+        &self,
+        alloc: Global,
+        near: &Cells,
+        aux: &Cells,
+    ) -> Result<Option<Cells>, Memory>
+        requires { NearRows (add_column self.now.place (expr_term self.now.value)) near.now }
+        ensures { IfOk result (λ far. AdmitsRows (add_column self.now.place (expr_term self.now.value)) near.now aux.now far) }
+    {
+        if !is_kept_beside(near, aux) {
+            return Ok(None);
+        }
+        Ok(Some(with_kept(alloc, self.place, near, aux)?))
+    }
 }

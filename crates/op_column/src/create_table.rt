@@ -1,12 +1,11 @@
 //! A table that is there from the beginning of its version.
 ghost use Rattle.std.specs.Prelude.{◌≡◌, IfOk, true, false};
-ghost use Rattle.op_rows.specs.RowMeaning.{flip_row};
 ghost use Rattle.op_column.specs.CreateTable.{create_table, create_table_laws};
 
 use crate::copies::copy_cells;
 use crate::rows::one_cell;
 use expr_lang::Steps;
-use op_rows::{Cells, RowOperator};
+use op_rows::{Cells, NearSide, OldRows, RowOperator};
 use par_base::{List, Memory};
 use std::alloc::Global;
 use std::sync::ledger::Ledger;
@@ -18,108 +17,71 @@ pub struct CreateTable;
 impl RowOperator for CreateTable {
     ghost row_meaning = { λ _. create_table };
 
-    fn sources(&self) -> usize {
+    fn count_tables(&self, side: NearSide) -> usize {
+        match side {
+            NearSide::Source => 0,
+            NearSide::Target => 1,
+        }
+    }
+
+    fn count_aux(&self, _side: NearSide) -> usize {
         0
     }
 
-    fn targets(&self) -> usize {
-        1
-    }
-
-    fn source_aux(&self) -> usize {
-        0
-    }
-
-    fn target_aux(&self) -> usize {
-        0
-    }
-
-    fn forward_row<L: Ledger>(
+    fn map_row<L: Ledger>(
         &self,
         alloc: Global,
+        side: NearSide,
         _near: &Cells,
-        _source: &Cells,
-        target: &Cells,
+        old: OldRows<'_>,
         _steps: &mut Steps<L>,
     ) -> Result<Cells, Memory> {
-        Ok(copy_cells(alloc, target)?)
+        match side {
+            NearSide::Source => copy_cells(alloc, old.far),
+            NearSide::Target => Ok(List::new(alloc)),
+        }
     }
 
-    fn backward_row<L: Ledger>(
+    fn aux_row<L: Ledger>(
         &self,
         alloc: Global,
+        _side: NearSide,
         _near: &Cells,
-        _source: &Cells,
-        _target: &Cells,
+        _far: &Cells,
         _steps: &mut Steps<L>,
     ) -> Result<Cells, Memory> {
         Ok(List::new(alloc))
     }
 
-    fn aux_at_source_row<L: Ledger>(
+    fn read_row<L: Ledger>(
         &self,
         alloc: Global,
-        _source: &Cells,
-        _target: &Cells,
-        _steps: &mut Steps<L>,
-    ) -> Result<Cells, Memory> {
-        Ok(List::new(alloc))
-    }
-
-    fn aux_at_target_row<L: Ledger>(
-        &self,
-        alloc: Global,
-        _source: &Cells,
-        _target: &Cells,
-        _steps: &mut Steps<L>,
-    ) -> Result<Cells, Memory> {
-        Ok(List::new(alloc))
-    }
-
-    fn read_target_row<L: Ledger>(
-        &self,
-        alloc: Global,
-        _source: &Cells,
+        side: NearSide,
+        _near: &Cells,
         _aux: &Cells,
         _steps: &mut Steps<L>,
     ) -> Result<Cells, Memory> {
-        Ok(one_cell(alloc, None)?)
+        match side {
+            NearSide::Source => one_cell(alloc, None),
+            NearSide::Target => Ok(List::new(alloc)),
+        }
     }
 
-    fn read_source_row<L: Ledger>(
+    fn admit_row<L: Ledger>(
         &self,
         alloc: Global,
-        _target: &Cells,
-        _aux: &Cells,
-        _steps: &mut Steps<L>,
-    ) -> Result<Cells, Memory> {
-        Ok(List::new(alloc))
-    }
-
-    fn admit_target_row<L: Ledger>(
-        &self,
-        alloc: Global,
-        _source: &Cells,
+        side: NearSide,
+        _near: &Cells,
         aux: &Cells,
         _steps: &mut Steps<L>,
     ) -> Result<Option<Cells>, Memory> {
         if aux.len() != 0 {
             return Ok(None);
         }
-        Ok(Some(one_cell(alloc, None)?))
-    }
-
-    fn admit_source_row<L: Ledger>(
-        &self,
-        alloc: Global,
-        _target: &Cells,
-        aux: &Cells,
-        _steps: &mut Steps<L>,
-    ) -> Result<Option<Cells>, Memory> {
-        if aux.len() != 0 {
-            return Ok(None);
+        match side {
+            NearSide::Source => Ok(Some(one_cell(alloc, None)?)),
+            NearSide::Target => Ok(Some(List::new(alloc))),
         }
-        Ok(Some(List::new(alloc)))
     }
 
     ghost row_laws = { λ _. create_table_laws };

@@ -1,12 +1,13 @@
 //! A table that the next version no longer has.
 ghost use Rattle.std.specs.Prelude.{◌≡◌, IfOk, true, false};
 ghost use Rattle.op_rows.specs.RowMeaning.{flip_row};
+ghost use Rattle.op_rows.specs.RowCalls.{AdmitsRows};
 ghost use Rattle.op_column.specs.DropTable.{drop_table, drop_table_laws};
 ghost use Rattle.op_column.specs.Calls.{is_one_cell};
 
 use crate::copies::copy_cells;
 use expr_lang::Steps;
-use op_rows::{Cells, RowOperator};
+use op_rows::{Cells, NearSide, OldRows, RowOperator};
 use par_base::{List, Memory};
 use std::alloc::Global;
 use std::sync::ledger::Ledger;
@@ -21,111 +22,95 @@ pub struct DropTable {
 impl RowOperator for DropTable {
     ghost row_meaning = { λ it. drop_table it.width };
 
-    fn sources(&self) -> usize {
-        1
-    }
-
-    fn targets(&self) -> usize {
-        0
-    }
-
-    fn source_aux(&self) -> usize {
-        0
-    }
-
-    fn target_aux(&self) -> usize {
-        1
-    }
-
-    fn forward_row<L: Ledger>(
-        &self,
-        alloc: Global,
-        _near: &Cells,
-        _source: &Cells,
-        _target: &Cells,
-        _steps: &mut Steps<L>,
-    ) -> Result<Cells, Memory> {
-        Ok(List::new(alloc))
-    }
-
-    fn backward_row<L: Ledger>(
-        &self,
-        alloc: Global,
-        _near: &Cells,
-        source: &Cells,
-        _target: &Cells,
-        _steps: &mut Steps<L>,
-    ) -> Result<Cells, Memory> {
-        Ok(copy_cells(alloc, source)?)
-    }
-
-    fn aux_at_source_row<L: Ledger>(
-        &self,
-        alloc: Global,
-        _source: &Cells,
-        _target: &Cells,
-        _steps: &mut Steps<L>,
-    ) -> Result<Cells, Memory> {
-        Ok(List::new(alloc))
-    }
-
-    fn aux_at_target_row<L: Ledger>(
-        &self,
-        alloc: Global,
-        source: &Cells,
-        _target: &Cells,
-        _steps: &mut Steps<L>,
-    ) -> Result<Cells, Memory> {
-        Ok(copy_cells(alloc, source)?)
-    }
-
-    fn read_target_row<L: Ledger>(
-        &self,
-        alloc: Global,
-        _source: &Cells,
-        _aux: &Cells,
-        _steps: &mut Steps<L>,
-    ) -> Result<Cells, Memory> {
-        Ok(List::new(alloc))
-    }
-
-    fn read_source_row<L: Ledger>(
-        &self,
-        alloc: Global,
-        _target: &Cells,
-        aux: &Cells,
-        _steps: &mut Steps<L>,
-    ) -> Result<Cells, Memory> {
-        Ok(copy_cells(alloc, aux)?)
-    }
-
-    fn admit_target_row<L: Ledger>(
-        &self,
-        alloc: Global,
-        _source: &Cells,
-        aux: &Cells,
-        _steps: &mut Steps<L>,
-    ) -> Result<Option<Cells>, Memory> {
-        if aux.len() != 0 {
-            return Ok(None);
+    fn count_tables(&self, side: NearSide) -> usize {
+        match side {
+            NearSide::Source => 1,
+            NearSide::Target => 0,
         }
-        Ok(Some(List::new(alloc)))
     }
 
-    fn admit_source_row<L: Ledger>(
+    fn count_aux(&self, side: NearSide) -> usize {
+        match side {
+            NearSide::Source => 0,
+            NearSide::Target => 1,
+        }
+    }
+
+    fn map_row<L: Ledger>(
         &self,
         alloc: Global,
-        _target: &Cells,
+        side: NearSide,
+        _near: &Cells,
+        old: OldRows<'_>,
+        _steps: &mut Steps<L>,
+    ) -> Result<Cells, Memory> {
+        match side {
+            NearSide::Source => Ok(List::new(alloc)),
+            NearSide::Target => copy_cells(alloc, old.far),
+        }
+    }
+
+    fn aux_row<L: Ledger>(
+        &self,
+        alloc: Global,
+        side: NearSide,
+        _near: &Cells,
+        far: &Cells,
+        _steps: &mut Steps<L>,
+    ) -> Result<Cells, Memory> {
+        match side {
+            NearSide::Source => Ok(List::new(alloc)),
+            NearSide::Target => copy_cells(alloc, far),
+        }
+    }
+
+    fn read_row<L: Ledger>(
+        &self,
+        alloc: Global,
+        side: NearSide,
+        _near: &Cells,
+        aux: &Cells,
+        _steps: &mut Steps<L>,
+    ) -> Result<Cells, Memory> {
+        match side {
+            NearSide::Source => Ok(List::new(alloc)),
+            NearSide::Target => copy_cells(alloc, aux),
+        }
+    }
+
+    fn admit_row<L: Ledger>(
+        &self,
+        alloc: Global,
+        side: NearSide,
+        near: &Cells,
         aux: &Cells,
         _steps: &mut Steps<L>,
     ) -> Result<Option<Cells>, Memory> {
+        match side {
+            NearSide::Source if aux.len() != 0 => Ok(None),
+            NearSide::Source => Ok(Some(List::new(alloc))),
+            NearSide::Target => self.admit_source(alloc, near, aux),
+        }
+    }
+
+    ghost row_laws = { λ it. drop_table_laws it.width };
+}
+
+impl DropTable {
+    /// The source that is kept beside.
+    fn admit_source(
+        &self,
+        alloc: Global,
+        _near: &Cells,
+        aux: &Cells,
+    ) -> Result<Option<Cells>, Memory>
+        ensures { IfOk result (λ far. AdmitsRows (flip_row (drop_table self.now.width)) _near.now aux.now far) }
+    {
         if !is_one_row(aux, self.width) {
             return Ok(None);
         }
         Ok(Some(copy_cells(alloc, aux)?))
     }
-
-    ghost row_laws = { λ it. drop_table_laws it.width };
 }
 
 /// Whether one table with so many columns may have this.

@@ -1,11 +1,10 @@
 //! Another name for a table or a column.
 ghost use Rattle.std.specs.Prelude.{◌≡◌, IfOk, true, false};
-ghost use Rattle.op_rows.specs.RowMeaning.{flip_row};
 ghost use Rattle.op_column.specs.Rename.{rename, rename_laws};
 
 use crate::copies::copy_cells;
 use expr_lang::Steps;
-use op_rows::{Cells, RowOperator};
+use op_rows::{Cells, NearSide, OldRows, RowOperator};
 use par_base::{List, Memory};
 use std::alloc::Global;
 use std::sync::ledger::Ledger;
@@ -17,108 +16,59 @@ pub struct Rename;
 impl RowOperator for Rename {
     ghost row_meaning = { λ _. rename };
 
-    fn sources(&self) -> usize {
+    fn count_tables(&self, _side: NearSide) -> usize {
         1
     }
 
-    fn targets(&self) -> usize {
-        1
-    }
-
-    fn source_aux(&self) -> usize {
+    fn count_aux(&self, _side: NearSide) -> usize {
         0
     }
 
-    fn target_aux(&self) -> usize {
-        0
-    }
-
-    fn forward_row<L: Ledger>(
+    fn map_row<L: Ledger>(
         &self,
         alloc: Global,
+        _side: NearSide,
         near: &Cells,
-        _source: &Cells,
-        _target: &Cells,
+        _old: OldRows<'_>,
         _steps: &mut Steps<L>,
     ) -> Result<Cells, Memory> {
-        Ok(copy_cells(alloc, near)?)
+        copy_cells(alloc, near)
     }
 
-    fn backward_row<L: Ledger>(
+    fn aux_row<L: Ledger>(
         &self,
         alloc: Global,
-        near: &Cells,
-        _source: &Cells,
-        _target: &Cells,
-        _steps: &mut Steps<L>,
-    ) -> Result<Cells, Memory> {
-        Ok(copy_cells(alloc, near)?)
-    }
-
-    fn aux_at_source_row<L: Ledger>(
-        &self,
-        alloc: Global,
-        _source: &Cells,
-        _target: &Cells,
+        _side: NearSide,
+        _near: &Cells,
+        _far: &Cells,
         _steps: &mut Steps<L>,
     ) -> Result<Cells, Memory> {
         Ok(List::new(alloc))
     }
 
-    fn aux_at_target_row<L: Ledger>(
+    fn read_row<L: Ledger>(
         &self,
         alloc: Global,
-        _source: &Cells,
-        _target: &Cells,
-        _steps: &mut Steps<L>,
-    ) -> Result<Cells, Memory> {
-        Ok(List::new(alloc))
-    }
-
-    fn read_target_row<L: Ledger>(
-        &self,
-        alloc: Global,
-        source: &Cells,
+        _side: NearSide,
+        near: &Cells,
         _aux: &Cells,
         _steps: &mut Steps<L>,
     ) -> Result<Cells, Memory> {
-        Ok(copy_cells(alloc, source)?)
+        copy_cells(alloc, near)
     }
 
-    fn read_source_row<L: Ledger>(
+    fn admit_row<L: Ledger>(
         &self,
         alloc: Global,
-        target: &Cells,
-        _aux: &Cells,
-        _steps: &mut Steps<L>,
-    ) -> Result<Cells, Memory> {
-        Ok(copy_cells(alloc, target)?)
-    }
-
-    fn admit_target_row<L: Ledger>(
-        &self,
-        alloc: Global,
-        source: &Cells,
+        _side: NearSide,
+        near: &Cells,
         aux: &Cells,
         _steps: &mut Steps<L>,
     ) -> Result<Option<Cells>, Memory> {
         if aux.len() != 0 {
             return Ok(None);
         }
-        Ok(Some(copy_cells(alloc, source)?))
-    }
-
-    fn admit_source_row<L: Ledger>(
-        &self,
-        alloc: Global,
-        target: &Cells,
-        aux: &Cells,
-        _steps: &mut Steps<L>,
-    ) -> Result<Option<Cells>, Memory> {
-        if aux.len() != 0 {
-            return Ok(None);
-        }
-        Ok(Some(copy_cells(alloc, target)?))
+        Ok(Some(copy_cells(alloc, near)?))
     }
 
     ghost row_laws = { λ _. rename_laws };

@@ -7,7 +7,7 @@ use Rattle.expr_lang.specs.declared.tree.BinaryOp.TheVariants.{Equal as IsEqual,
 use Rattle.expr_lang.specs.Val.{val}
 use Rattle.row_store.specs.Rows.{Rows}
 use Rattle.op_law.specs.Meaning.{PairState}
-use Rattle.row_parts.specs.SameRows.{same_row}
+use Rattle.par_base.specs.SameRows.{same_row}
 use Rattle.op_cond_join.specs.Shown.{Joining}
 use Rattle.op_cond_join.specs.JoinOn.{join_forward, join_backward, join_on}
 

@@ -5,7 +5,7 @@ use Rattle.par_base.specs.declared.value.Value.{Value}
 use Rattle.row_store.specs.Rows.{Rows, row_of}
 use Rattle.id_memory.specs.Pairs.{Pairs, pair_of}
 use Rattle.row_parts.specs.Places.{pick as part}
-use Rattle.row_parts.specs.SameRows.{same_row}
+use Rattle.par_base.specs.SameRows.{same_row}
 use Rattle.row_parts.specs.RowCells.{Cell}
 use Rattle.op_cond_join.specs.Shown.{Joining, has}
 

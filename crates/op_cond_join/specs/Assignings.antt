@@ -3,7 +3,7 @@ use Rattle.std.specs.Prelude.{◌≡◌, ℕ, List, Some, None, if◌then◌else
 use Rattle.par_base.specs.declared.value.Value.{Value}
 use Rattle.row_store.specs.Rows.{Rows, AreBelow}
 use Rattle.id_memory.specs.Pairs.{Pairs}
-use Rattle.row_parts.specs.SameRows.{same_row}
+use Rattle.par_base.specs.SameRows.{same_row}
 use Rattle.row_map.specs.IdPairs.{holds_pair}
 use Rattle.row_map.specs.RowNumbers.{RowNumbers, number_of_row}
 use Rattle.op_cond_join.specs.declared.assigning.Assigning.{Assigning as State}

@@ -3,7 +3,7 @@ use Rattle.std.specs.Prelude.{◌≡◌, ℕ, List, [], ◌∷◌, Bool, false, 
 use Rattle.par_base.specs.declared.value.Value.{Value}
 use Rattle.row_store.specs.Rows.{Rows, row_of}
 use Rattle.row_parts.specs.RowCells.{Cell}
-use Rattle.row_parts.specs.SameRows.{same_row}
+use Rattle.par_base.specs.SameRows.{same_row}
 
 -- whether the row is as it was
 abbrev pub as_before : Cell → List Value → Bool

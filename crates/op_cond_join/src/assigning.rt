@@ -16,8 +16,8 @@ use crate::join::JoinOn;
 use crate::taken::{Taken, is_taken, take};
 use crate::unchanged::{OldTarget, unchanged_pair};
 use id_memory::IdCounter;
-use par_base::{Fault, IdsSpent, List, Memory, Row};
-use row_parts::{is_same_row, pick};
+use par_base::{Fault, IdsSpent, List, Memory, Row, is_same_row};
+use row_parts::pick;
 use std::alloc::Global;
 
 /// The rows of both tables, and the pairs that are taken.

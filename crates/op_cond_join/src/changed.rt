@@ -3,8 +3,7 @@ ghost use Rattle.std.specs.Prelude.{◌≡◌, ◌++◌, ◌∷◌, [], if◌the
 ghost use Rattle.row_store.specs.Rows.{row_of};
 ghost use Rattle.op_cond_join.specs.Changed.{as_before, changed_in, ids_of};
 
-use par_base::{List, Memory, Row};
-use row_parts::is_same_row;
+use par_base::{List, Memory, Row, is_same_row};
 use row_store::Table;
 use std::alloc::Global;
 

@@ -8,8 +8,7 @@ ghost use Rattle.op_cond_join.specs.Assignings.{KnowsPairs};
 
 use crate::taken::{Taken, none_taken, take};
 use id_memory::PairMemory;
-use par_base::{Memory, Row};
-use row_parts::is_same_row;
+use par_base::{Memory, Row, is_same_row};
 use row_store::Table;
 use std::alloc::Global;
 

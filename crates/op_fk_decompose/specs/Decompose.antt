@@ -15,7 +15,7 @@ use Rattle.foreign_keys.specs.Least.{least_with}
 use Rattle.foreign_keys.specs.Shared.{head_or_null, second_part_at}
 use Rattle.foreign_keys.specs.Seeking.{seek, goals_in}
 use Rattle.op_tables.specs.SideTables.{first_table, second_table, third_table}
-use Rattle.row_parts.specs.SameRows.{same_row}
+use Rattle.par_base.specs.SameRows.{same_row}
 
 -- S and T, beside what takes their rows apart
 pub record TargetRows (P : Type 0) : Type 0 where

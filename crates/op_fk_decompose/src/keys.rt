@@ -7,8 +7,7 @@ ghost use Rattle.op_fk_decompose.specs.Decompose.{how as how_of, needs as needs_
 
 use crate::old_target::OldTarget;
 use foreign_keys::{Draws, RowParts, at_goal};
-use par_base::{Memory, Row, Value};
-use row_parts::is_same_row;
+use par_base::{Memory, Row, Value, is_same_row};
 use row_store::Table;
 use std::alloc::Global;
 

@@ -9,9 +9,8 @@ use crate::keys::how;
 use crate::old_target::OldTarget;
 use foreign_keys::{Drawn, RowParts, copy_of};
 use op_tables::{MakesRow, table_over, with_ids};
-use par_base::{List, Memory, Row, Value};
+use par_base::{List, Memory, Row, Value, is_same_row};
 use row_map::IdSet;
-use row_parts::is_same_row;
 use row_store::Table;
 use std::alloc::Global;
 

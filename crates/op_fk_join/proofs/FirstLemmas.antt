@@ -3,7 +3,7 @@ use Rattle.std.proofs.Common.{◌≡◌, List, [], ◌∷◌, true, refl}
 use Rattle.par_base.specs.declared.value.Value.{Value}
 use Rattle.row_store.specs.Rows.{Rows}
 use Rattle.row_parts.specs.RowCells.{by_test}
-use Rattle.row_parts.specs.SameRows.{same_row}
+use Rattle.par_base.specs.SameRows.{same_row}
 use Rattle.foreign_keys.specs.Least.{least_with}
 use Rattle.op_fk_join.specs.Join.{first_with}
 

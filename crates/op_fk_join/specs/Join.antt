@@ -14,7 +14,7 @@ use Rattle.foreign_keys.specs.References.{goal_of, at_goal, referred}
 use Rattle.foreign_keys.specs.Drawn.{numbered, place, drawn}
 use Rattle.foreign_keys.specs.Seeking.{seek, goals_in}
 use Rattle.foreign_keys.specs.Shared.{head_or_null, second_part_at}
-use Rattle.row_parts.specs.SameRows.{same_row}
+use Rattle.par_base.specs.SameRows.{same_row}
 
 -- R, from S and T
 

@@ -5,8 +5,7 @@ ghost use Rattle.op_fk_join.specs.Join.{key_kept, needs_join};
 
 use crate::old_source::OldSource;
 use foreign_keys::{Draws, RowParts, at_goal};
-use par_base::{Memory, Row, Value};
-use row_parts::is_same_row;
+use par_base::{Memory, Row, Value, is_same_row};
 use row_store::Table;
 use std::alloc::Global;
 

@@ -1,18 +1,22 @@
 -- What belongs to stored rows, by what is read back from them.
-use Rattle.std.proofs.Common.{◌≡◌, List, [], ◌∷◌, length, true, None, refl, sym, ◌∙◌, ap, subst, arith}
-use Rattle.op_law.specs.Tables.{Heading}
+use Rattle.std.proofs.Common.{◌≡◌, true, None, sym, ◌∙◌, ap, subst}
 use Rattle.op_rows.specs.Cells.{Cells}
-use Rattle.op_rows.specs.RowMeaning.{RowMeaning, RowHalf}
-use Rattle.op_rows.specs.RowCalls.{RowBelongs, AdmitsRows}
+use Rattle.op_rows.specs.RowMeaning.{RowMeaning, RowLaws}
+use Rattle.op_rows.specs.RowCalls.{AdmitsRows}
+use Rattle.op_rows.specs.declared.near_side.NearSide.{NearSide}
+use Rattle.op_rows.specs.declared.near_side.NearSide.TheVariants.{Source, Target}
+use Rattle.op_rows.specs.NearSides.{seen_from, half_from}
 
--- no cells at all
-pub no_cells : (cs : Cells) → length cs ≡ 0 → cs ≡ []
-no_cells [] h = refl
-no_cells (c ∷ cs) h = absurd (omega arith)
+-- the far side is read back
+reads_from : (side : NearSide) (r : RowMeaning) → r.reads_target ≡ true → r.reads_source ≡ true → (seen_from side r).reads_target ≡ true
+reads_from Source r target source = target
+reads_from Target r target source = source
 
--- where what is read back doesn't belong, nothing does
-pub belongs_none : (r : RowMeaning) → RowHalf r → r.reads_target ≡ true → (near far aux : Cells) → far ≡ r.read_target near aux
-    → ((hs ht : List Heading) → RowBelongs r hs ht aux near far → ⊥) → AdmitsRows r near aux None
-belongs_none r laws reads near far aux made none hs ht other belongs =
-    let back : r.read_target near aux ≡ other = ap (λ (cs : Cells). r.read_target near cs) belongs.aux_is ∙ laws.recovered hs ht near other reads belongs.pair in
-    none hs ht (subst (λ (cs : Cells). RowBelongs r hs ht aux near cs) (sym (made ∙ back)) belongs)
+-- where what is read back has other rows beside it, nothing belongs
+pub admits_none : (side : NearSide) (r : RowMeaning) → RowLaws r → r.reads_target ≡ true → r.reads_source ≡ true → (near far aux : Cells) → far ≡ (seen_from side r).read_target near aux
+    → (aux ≡ (seen_from side r).aux_at_source near far → ⊥) → AdmitsRows (seen_from side r) near aux None
+admits_none side r laws target source near far aux made none hs ht other belongs =
+    let seen = seen_from side r in
+    let back : seen.read_target near aux ≡ other =
+    ap (λ (cs : Cells). seen.read_target near cs) belongs.aux_is ∙ (half_from side r laws).recovered hs ht near other (reads_from side r target source) belongs.pair in
+    none (subst (λ (cs : Cells). aux ≡ seen.aux_at_source near cs) (sym (made ∙ back)) belongs.aux_is)

@@ -1,30 +1,26 @@
 -- Which rows JOIN ON PK admits.
-use Rattle.std.proofs.Common.{◌≡◌, ℕ, List, [], ◌∷◌, length, take, drop, Some, None, refl, sym, ap, subst}
-use Rattle.op_law.specs.Tables.{Heading}
+use Rattle.std.proofs.Common.{◌≡◌, ℕ, [], ◌∷◌, take, drop, Some, None, refl, sym, ap, subst}
 use Rattle.op_rows.specs.Cells.{Cells, CellWide, AreCellsOf}
 use Rattle.op_rows.specs.RowMeaning.{flip_row}
-use Rattle.op_rows.specs.RowCalls.{AdmitsRows, RowBelongs}
+use Rattle.op_rows.specs.RowCalls.{AdmitsRows}
 use Rattle.row_parts.specs.RowCells.{Cell, or_else, map_cell}
 use Rattle.op_key_join.specs.Sides.{nth_cell}
-use Rattle.op_key_join.specs.JoinPk.{joined, row_alone, rows_alone, sources_of, join_pk}
-use Rattle.op_key_join.specs.JoinPkLaws.{source_of, target_of, joined_wide, sources_wide, part_long, rest_long, alone_apart, parts_join, join_pk_laws}
+use Rattle.op_key_join.specs.JoinPk.{joined, rows_alone, sources_of, join_pk}
+use Rattle.op_key_join.specs.JoinPkLaws.{source_of, target_of, joined_wide, sources_wide, part_long, rest_long, parts_join}
 use Rattle.op_key_join.specs.Calls.{MayStandAlone}
-use Rattle.op_key_join.proofs.AdmissionLemmas.{no_cells, belongs_none}
+use Rattle.op_rows.specs.declared.near_side.NearSide.{NearSide}
+use Rattle.op_rows.specs.declared.near_side.NearSide.TheVariants.{Source, Target}
+use Rattle.op_rows.specs.NearSides.{seen_from}
 
 -- a part, or else a row that stands alone
 or_wide : (width : ℕ) (x y : Cell) → CellWide width x → CellWide width y → CellWide width (or_else x y)
 or_wide width None y wide other = other
 or_wide width (Some row) y wide other = wide
 
--- a row that stands alone is the source's own
-alone_wide : (width : ℕ) (c x : Cell) → CellWide width x → CellWide width (row_alone c x)
-alone_wide width None x wide = wide
-alone_wide width (Some row) x wide = tt
-
 module _ (first second : ℕ) where
   -- the joined row belongs to the sources where nothing is kept beside
-  pub admits_joined : (near far aux : Cells) → far ≡ joined (nth_cell 0 near) (nth_cell 1 near) ∷ [] → length aux ≡ 0 → AdmitsRows (join_pk first second) near aux (Some far)
-  admits_joined near far aux made none = (
+  admits_joined : (near far aux : Cells) → far ≡ joined (nth_cell 0 near) (nth_cell 1 near) ∷ [] → aux ≡ [] → AdmitsRows (join_pk first second) near aux (Some far)
+  admits_joined near far aux made kept = (
     made,
     λ hs ht fits near_of.
         let two = source_of first second hs ht near fits near_of in
@@ -35,12 +31,12 @@ module _ (first second : ℕ) where
             source_of = near_of;
             target_of = subst (λ (cs : Cells). AreCellsOf ht cs) (sym made) (joined_wide first second hs ht (nth_cell 0 near) (nth_cell 1 near) fits two.first_wide two.second_wide);
           };
-          aux_is = no_cells aux none;
+          aux_is = kept;
         },
   )
 
   -- the parts of the target's row, or rows that stand alone, belong to it where these are kept beside
-  pub admits_sources : (near far aux : Cells) → MayStandAlone first second (nth_cell 0 aux) (nth_cell 1 aux) → far ≡ sources_of first (nth_cell 0 near) (nth_cell 0 aux) (nth_cell 1 aux)
+  admits_sources : (near far aux : Cells) → MayStandAlone first second (nth_cell 0 aux) (nth_cell 1 aux) → far ≡ sources_of first (nth_cell 0 near) (nth_cell 0 aux) (nth_cell 1 aux)
       → aux ≡ rows_alone far near → AdmitsRows (flip_row (join_pk first second)) near aux (Some far)
   admits_sources near far aux may made kept = (
     made,
@@ -61,18 +57,8 @@ module _ (first second : ℕ) where
         },
   )
 
-  -- rows that are kept beside may stand alone
-  kept_alone : (hs ht : List Heading) (aux near far : Cells) → RowBelongs (flip_row (join_pk first second)) ht hs aux near far → MayStandAlone first second (nth_cell 0 aux) (nth_cell 1 aux)
-  kept_alone hs ht aux near far belongs =
-      let two = source_of first second hs ht far belongs.pair.fits belongs.pair.target_of in
-      subst (λ (cs : Cells). MayStandAlone first second (nth_cell 0 cs) (nth_cell 1 cs)) (sym belongs.aux_is)
-      (alone_wide first (nth_cell 0 near) (nth_cell 0 far) two.first_wide, alone_wide second (nth_cell 0 near) (nth_cell 1 far) two.second_wide, alone_apart first second (nth_cell 0 near) (nth_cell 0 far) (nth_cell 1 far) belongs.pair.related)
-
-  pub admits_none_alone : (near aux : Cells) → (MayStandAlone first second (nth_cell 0 aux) (nth_cell 1 aux) → ⊥) → AdmitsRows (flip_row (join_pk first second)) near aux None
-  admits_none_alone near aux none ht hs far belongs = none (kept_alone hs ht aux near far belongs)
-
-  -- and nothing else is kept beside
-  pub admits_no_sources : (near far aux : Cells) → far ≡ sources_of first (nth_cell 0 near) (nth_cell 0 aux) (nth_cell 1 aux)
-      → (aux ≡ rows_alone far near → ⊥) → AdmitsRows (flip_row (join_pk first second)) near aux None
-  admits_no_sources near far aux made none =
-      belongs_none (flip_row (join_pk first second)) (join_pk_laws first second).1 refl near far aux made (λ ht hs belongs. none belongs.aux_is)
+  -- what is read back belongs to either side where the rest is kept beside
+  pub admits_join : (side : NearSide) (near far aux : Cells) → (side ≡ Target → MayStandAlone first second (nth_cell 0 aux) (nth_cell 1 aux)) → far ≡ (seen_from side (join_pk first second)).read_target near aux
+      → aux ≡ (seen_from side (join_pk first second)).aux_at_source near far → AdmitsRows (seen_from side (join_pk first second)) near aux (Some far)
+  admits_join Source near far aux may = admits_joined near far aux
+  admits_join Target near far aux may = admits_sources near far aux (may refl)

@@ -1,5 +1,5 @@
 -- Which rows DECOMPOSE ON PK admits.
-use Rattle.std.proofs.Common.{◌≡◌, ℕ, zero, suc, ◌+◌, ◌==◌, List, [], ◌∷◌, length, Some, None, refl, sym, ◌∙◌, ap, subst}
+use Rattle.std.proofs.Common.{◌≡◌, ℕ, zero, suc, ◌+◌, ◌==◌, List, [], ◌∷◌, length, Some, None, refl, sym, ◌∙◌, ap, subst, rules}
 use Rattle.par_base.specs.declared.value.Value.{Value}
 use Rattle.par_base.specs.declared.value.Value.TheVariants.{Null}
 use Rattle.op_rows.specs.Cells.{Cells, CellWide, AreCellsOf}
@@ -10,9 +10,11 @@ use Rattle.row_parts.specs.Places.{nulls, value_for, filled, value_of_both}
 use Rattle.op_key_join.specs.Sides.{nth_cell}
 use Rattle.op_key_join.specs.Nulls.{is_null, nulls_null, null_nulls}
 use Rattle.op_key_join.specs.DecomposePk.{null_rows, row_of_neither, rows_of_neither, row_of_parts, HasParts, joined_parts, shown_parts, decompose_pk}
-use Rattle.op_key_join.specs.DecomposePkLaws.{source_of, parts_wide, source_wide, has_shown, has_joined, neither_null, neither_wide, decompose_pk_laws}
+use Rattle.op_key_join.specs.DecomposePkLaws.{source_of, parts_wide, source_wide, has_shown, has_joined, neither_null, neither_wide}
 use Rattle.op_key_join.specs.Calls.{MayBeOfNeither}
-use Rattle.op_key_join.proofs.AdmissionLemmas.{belongs_none}
+use Rattle.op_rows.specs.declared.near_side.NearSide.{NearSide}
+use Rattle.op_rows.specs.declared.near_side.NearSide.TheVariants.{Source, Target}
+use Rattle.op_rows.specs.NearSides.{seen_from}
 
 -- of nulls there are only nulls
 null_for : (places : List ℕ) (count place : ℕ) (out : Value) → out ≡ Null → value_or out (value_for places (nulls count) place) ≡ Null
@@ -41,7 +43,7 @@ module _ (first second : List ℕ) where
   has_null (Some row) wide has = (wide, ap is_null (has ∙ both_nulls first second) ∙ nulls_null (length first + length second))
 
   -- what is shown belongs to the source where the null rows are kept beside
-  pub admits_shown : (near far aux : Cells) → far ≡ shown_parts first second (nth_cell 0 near) (nth_cell 0 aux) (nth_cell 1 aux)
+  admits_shown : (near far aux : Cells) → far ≡ shown_parts first second (nth_cell 0 near) (nth_cell 0 aux) (nth_cell 1 aux)
       → aux ≡ null_rows far → AdmitsRows (decompose_pk first second) near aux (Some far)
   admits_shown near far aux made kept = (
     made,
@@ -58,14 +60,8 @@ module _ (first second : List ℕ) where
         },
   )
 
-  -- and nothing else does
-  pub admits_none_shown : (near far aux : Cells) → far ≡ shown_parts first second (nth_cell 0 near) (nth_cell 0 aux) (nth_cell 1 aux)
-      → (aux ≡ null_rows far → ⊥) → AdmitsRows (decompose_pk first second) near aux None
-  admits_none_shown near far aux made none =
-      belongs_none (decompose_pk first second) (decompose_pk_laws first second).0 refl near far aux made (λ hs ht belongs. none belongs.aux_is)
-
   -- the joined row belongs to the targets where the row of neither is null and kept beside
-  pub admits_parts : (near far aux : Cells) → MayBeOfNeither (length first) (length second) (nth_cell 0 aux) → far ≡ joined_parts first second (nth_cell 0 near) (nth_cell 1 near) (nth_cell 0 aux) ∷ []
+  admits_parts : (near far aux : Cells) → MayBeOfNeither (length first) (length second) (nth_cell 0 aux) → far ≡ joined_parts first second (nth_cell 0 near) (nth_cell 1 near) (nth_cell 0 aux) ∷ []
       → aux ≡ rows_of_neither far near → AdmitsRows (flip_row (decompose_pk first second)) near aux (Some far)
   admits_parts near far aux may made kept = (
     made,
@@ -82,17 +78,19 @@ module _ (first second : List ℕ) where
         },
   )
 
+  -- what is read back belongs to either side where the rest is kept beside
+  pub admits_pk : (side : NearSide) (near far aux : Cells) → (side ≡ Target → MayBeOfNeither (length first) (length second) (nth_cell 0 aux)) → far ≡ (seen_from side (decompose_pk first second)).read_target near aux
+      → aux ≡ (seen_from side (decompose_pk first second)).aux_at_source near far → AdmitsRows (seen_from side (decompose_pk first second)) near aux (Some far)
+  admits_pk Source near far aux may = admits_shown near far aux
+  admits_pk Target near far aux may = admits_parts near far aux (may refl)
+
   -- another row of neither belongs to no source
-  pub admits_none_neither : (near aux : Cells) → (MayBeOfNeither (length first) (length second) (nth_cell 0 aux) → ⊥) → AdmitsRows (flip_row (decompose_pk first second)) near aux None
-  admits_none_neither near aux none ht hs far belongs =
+  pub admits_none_neither : (side : NearSide) (near aux : Cells) → side ≡ Target → (MayBeOfNeither (length first) (length second) (nth_cell 0 aux) → ⊥)
+      → AdmitsRows (seen_from side (decompose_pk first second)) near aux None
+  admits_none_neither Source near aux is none ht hs far belongs = search rules
+  admits_none_neither Target near aux is none ht hs far belongs =
       let is : nth_cell 0 aux ≡ row_of_neither (nth_cell 0 far) (nth_cell 0 near) (nth_cell 1 near) = ap (nth_cell 0) belongs.aux_is in
       none (subst (λ (c : Cell). MayBeOfNeither (length first) (length second) c) (sym is)
       (has_null (row_of_neither (nth_cell 0 far) (nth_cell 0 near) (nth_cell 1 near))
       (neither_wide (length first + length second) (nth_cell 0 far) (nth_cell 0 near) (nth_cell 1 near) (source_of first second hs ht far belongs.pair.fits belongs.pair.target_of).wide)
       (neither_null first second (nth_cell 0 far) (nth_cell 0 near) (nth_cell 1 near) belongs.pair.related)))
-
-  -- and nothing else is kept beside
-  pub admits_no_parts : (near far aux : Cells) → far ≡ joined_parts first second (nth_cell 0 near) (nth_cell 1 near) (nth_cell 0 aux) ∷ []
-      → (aux ≡ rows_of_neither far near → ⊥) → AdmitsRows (flip_row (decompose_pk first second)) near aux None
-  admits_no_parts near far aux made none =
-      belongs_none (flip_row (decompose_pk first second)) (decompose_pk_laws first second).1 refl near far aux made (λ ht hs belongs. none belongs.aux_is)

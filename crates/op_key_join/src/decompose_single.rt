@@ -1,13 +1,13 @@
 //! Some columns of a table.
 ghost use Rattle.std.specs.Prelude.{◌≡◌, IfOk, true, false};
-ghost use Rattle.op_rows.specs.RowMeaning.{flip_row};
+ghost use Rattle.op_rows.specs.NearSides.{seen_from};
 ghost use Rattle.op_key_join.specs.DecomposeSingle.{decompose_single};
 ghost use Rattle.op_key_join.specs.DecomposeSingleLaws.{decompose_single_laws};
 
 use crate::cells::row_at;
 use crate::single::{part_of, rest_of, with_rest};
 use expr_lang::Steps;
-use op_rows::{Cells, RowOperator};
+use op_rows::{Cells, NearSide, OldRows, RowOperator};
 use par_base::{List, Memory};
 use row_parts::is_same_cells;
 use std::alloc::Global;
@@ -23,136 +23,103 @@ pub struct DecomposeSingle {
     pub width: usize,
 }
 
+impl DecomposeSingle {
+    /// The rows that are kept beside the near ones where these are stored.
+    fn beside(
+        &self,
+        alloc: Global,
+        side: NearSide,
+        near: &Cells,
+        far: &Cells,
+    ) -> Result<Cells, Memory>
+        ensures { let seen = seen_from side (decompose_single self.now.columns self.now.width) in
+            IfOk result (λ aux. aux ≡ seen.aux_at_source near.now far.now) }
+    {
+        let columns = self.columns.as_slice();
+        match side {
+            NearSide::Source => Ok(List::new(alloc)),
+            NearSide::Target => rest_of(alloc, columns, self.width, row_at(far, 0)),
+        }
+    }
+
+    /// The far rows, from the near ones and those that are kept beside.
+    fn read(
+        &self,
+        alloc: Global,
+        side: NearSide,
+        near: &Cells,
+        aux: &Cells,
+    ) -> Result<Cells, Memory>
+        ensures { let seen = seen_from side (decompose_single self.now.columns self.now.width) in
+            IfOk result (λ far. far ≡ seen.read_target near.now aux.now) }
+    {
+        let columns = self.columns.as_slice();
+        let row = row_at(near, 0);
+        match side {
+            NearSide::Source => part_of(alloc, columns, row),
+            NearSide::Target => with_rest(alloc, columns, self.width, row, row_at(aux, 0)),
+        }
+    }
+}
+
 impl RowOperator for DecomposeSingle {
     ghost row_meaning = { λ it. decompose_single it.columns it.width };
 
-    fn sources(&self) -> usize {
+    fn count_tables(&self, _side: NearSide) -> usize {
         1
     }
 
-    fn targets(&self) -> usize {
-        1
-    }
-
-    fn source_aux(&self) -> usize {
-        0
-    }
-
-    fn target_aux(&self) -> usize {
-        1
-    }
-
-    fn forward_row<L: Ledger>(
-        &self,
-        alloc: Global,
-        near: &Cells,
-        _source: &Cells,
-        _target: &Cells,
-        _steps: &mut Steps<L>,
-    ) -> Result<Cells, Memory> {
-        Ok(part_of(alloc, self.columns.as_slice(), row_at(near, 0))?)
-    }
-
-    fn backward_row<L: Ledger>(
-        &self,
-        alloc: Global,
-        near: &Cells,
-        source: &Cells,
-        _target: &Cells,
-        _steps: &mut Steps<L>,
-    ) -> Result<Cells, Memory> {
-        let columns = self.columns.as_slice();
-        let rest = rest_of(alloc, columns, self.width, row_at(source, 0))?;
-        Ok(with_rest(
-            alloc,
-            columns,
-            self.width,
-            row_at(near, 0),
-            row_at(&rest, 0),
-        )?)
-    }
-
-    fn aux_at_source_row<L: Ledger>(
-        &self,
-        alloc: Global,
-        _source: &Cells,
-        _target: &Cells,
-        _steps: &mut Steps<L>,
-    ) -> Result<Cells, Memory> {
-        Ok(List::new(alloc))
-    }
-
-    fn aux_at_target_row<L: Ledger>(
-        &self,
-        alloc: Global,
-        source: &Cells,
-        _target: &Cells,
-        _steps: &mut Steps<L>,
-    ) -> Result<Cells, Memory> {
-        Ok(rest_of(
-            alloc,
-            self.columns.as_slice(),
-            self.width,
-            row_at(source, 0),
-        )?)
-    }
-
-    fn read_target_row<L: Ledger>(
-        &self,
-        alloc: Global,
-        source: &Cells,
-        _aux: &Cells,
-        _steps: &mut Steps<L>,
-    ) -> Result<Cells, Memory> {
-        Ok(part_of(alloc, self.columns.as_slice(), row_at(source, 0))?)
-    }
-
-    fn read_source_row<L: Ledger>(
-        &self,
-        alloc: Global,
-        target: &Cells,
-        aux: &Cells,
-        _steps: &mut Steps<L>,
-    ) -> Result<Cells, Memory> {
-        let columns = self.columns.as_slice();
-        Ok(with_rest(
-            alloc,
-            columns,
-            self.width,
-            row_at(target, 0),
-            row_at(aux, 0),
-        )?)
-    }
-
-    fn admit_target_row<L: Ledger>(
-        &self,
-        alloc: Global,
-        source: &Cells,
-        aux: &Cells,
-        _steps: &mut Steps<L>,
-    ) -> Result<Option<Cells>, Memory> {
-        if aux.len() != 0 {
-            return Ok(None);
+    fn count_aux(&self, side: NearSide) -> usize {
+        match side {
+            NearSide::Source => 0,
+            NearSide::Target => 1,
         }
-        Ok(Some(part_of(alloc, self.columns.as_slice(), row_at(source, 0))?))
     }
 
-    fn admit_source_row<L: Ledger>(
+    fn map_row<L: Ledger>(
         &self,
         alloc: Global,
-        target: &Cells,
+        side: NearSide,
+        near: &Cells,
+        old: OldRows<'_>,
+        _steps: &mut Steps<L>,
+    ) -> Result<Cells, Memory> {
+        let kept = self.beside(alloc, side, old.near, old.far)?;
+        self.read(alloc, side, near, &kept)
+    }
+
+    fn aux_row<L: Ledger>(
+        &self,
+        alloc: Global,
+        side: NearSide,
+        near: &Cells,
+        far: &Cells,
+        _steps: &mut Steps<L>,
+    ) -> Result<Cells, Memory> {
+        self.beside(alloc, side, near, far)
+    }
+
+    fn read_row<L: Ledger>(
+        &self,
+        alloc: Global,
+        side: NearSide,
+        near: &Cells,
+        aux: &Cells,
+        _steps: &mut Steps<L>,
+    ) -> Result<Cells, Memory> {
+        self.read(alloc, side, near, aux)
+    }
+
+    fn admit_row<L: Ledger>(
+        &self,
+        alloc: Global,
+        side: NearSide,
+        near: &Cells,
         aux: &Cells,
         _steps: &mut Steps<L>,
     ) -> Result<Option<Cells>, Memory> {
-        let columns = self.columns.as_slice();
-        let far = with_rest(
-            alloc,
-            columns,
-            self.width,
-            row_at(target, 0),
-            row_at(aux, 0),
-        )?;
-        let kept = rest_of(alloc, columns, self.width, row_at(&far, 0))?;
+        let far = self.read(alloc, side, near, aux)?;
+        let kept = self.beside(alloc, side, near, &far)?;
         if !is_same_cells(aux.as_slice(), kept.as_slice()) {
             return Ok(None);
         }

@@ -1,13 +1,13 @@
 //! Two tables joined where they have the same identifiers.
 ghost use Rattle.std.specs.Prelude.{◌≡◌, IfOk, true, false};
-ghost use Rattle.op_rows.specs.RowMeaning.{flip_row};
+ghost use Rattle.op_rows.specs.NearSides.{seen_from};
 ghost use Rattle.op_key_join.specs.JoinPk.{join_pk, rows_alone as the_rows_alone};
 ghost use Rattle.op_key_join.specs.JoinPkLaws.{join_pk_laws};
 
 use crate::cells::{copied, row_at, two_cells};
 use crate::joins::{joined, may_stand_alone, row_alone, sources_of};
 use expr_lang::Steps;
-use op_rows::{Cells, RowOperator};
+use op_rows::{Cells, NearSide, OldRows, RowOperator};
 use par_base::{List, Memory};
 use row_parts::is_same_cells;
 use std::alloc::Global;
@@ -30,126 +30,116 @@ fn rows_alone(alloc: Global, source: &Cells, target: &Cells) -> Result<Cells, Me
     let row = row_at(target, 0);
     let first = copied(alloc, row_alone(row, row_at(source, 0)))?;
     let second = copied(alloc, row_alone(row, row_at(source, 1)))?;
-    Ok(two_cells(alloc, first, second)?)
+    two_cells(alloc, first, second)
+}
+
+impl JoinPk {
+    /// The rows that are kept beside the near ones where these are stored.
+    fn beside(
+        &self,
+        alloc: Global,
+        side: NearSide,
+        near: &Cells,
+        far: &Cells,
+    ) -> Result<Cells, Memory>
+        ensures { let seen = seen_from side (join_pk self.now.first self.now.second) in
+            IfOk result (λ aux. aux ≡ seen.aux_at_source near.now far.now) }
+    {
+        match side {
+            NearSide::Source => Ok(List::new(alloc)),
+            NearSide::Target => rows_alone(alloc, far, near),
+        }
+    }
+
+    /// The far rows, from the near ones and those that are kept beside.
+    fn read(
+        &self,
+        alloc: Global,
+        side: NearSide,
+        near: &Cells,
+        aux: &Cells,
+    ) -> Result<Cells, Memory>
+        ensures { let seen = seen_from side (join_pk self.now.first self.now.second) in
+            IfOk result (λ far. far ≡ seen.read_target near.now aux.now) }
+    {
+        let row = row_at(near, 0);
+        let first = row_at(aux, 0);
+        match side {
+            NearSide::Source => joined(alloc, row, row_at(near, 1)),
+            NearSide::Target => sources_of(alloc, self.first, row, first, row_at(aux, 1)),
+        }
+    }
 }
 
 impl RowOperator for JoinPk {
     ghost row_meaning = { λ it. join_pk it.first it.second };
 
-    fn sources(&self) -> usize {
-        2
+    fn count_tables(&self, side: NearSide) -> usize {
+        match side {
+            NearSide::Source => 2,
+            NearSide::Target => 1,
+        }
     }
 
-    fn targets(&self) -> usize {
-        1
+    fn count_aux(&self, side: NearSide) -> usize {
+        match side {
+            NearSide::Source => 0,
+            NearSide::Target => 2,
+        }
     }
 
-    fn source_aux(&self) -> usize {
-        0
-    }
-
-    fn target_aux(&self) -> usize {
-        2
-    }
-
-    fn forward_row<L: Ledger>(
+    fn map_row<L: Ledger>(
         &self,
         alloc: Global,
+        side: NearSide,
         near: &Cells,
-        _source: &Cells,
-        _target: &Cells,
+        old: OldRows<'_>,
         _steps: &mut Steps<L>,
     ) -> Result<Cells, Memory> {
-        Ok(joined(alloc, row_at(near, 0), row_at(near, 1))?)
+        let kept = self.beside(alloc, side, old.near, old.far)?;
+        self.read(alloc, side, near, &kept)
     }
 
-    fn backward_row<L: Ledger>(
+    fn aux_row<L: Ledger>(
         &self,
         alloc: Global,
+        side: NearSide,
         near: &Cells,
-        source: &Cells,
-        target: &Cells,
+        far: &Cells,
         _steps: &mut Steps<L>,
     ) -> Result<Cells, Memory> {
-        let old = row_at(target, 0);
-        let first = row_alone(old, row_at(source, 0));
-        let second = row_alone(old, row_at(source, 1));
-        Ok(sources_of(alloc, self.first, row_at(near, 0), first, second)?)
+        self.beside(alloc, side, near, far)
     }
 
-    fn aux_at_source_row<L: Ledger>(
+    fn read_row<L: Ledger>(
         &self,
         alloc: Global,
-        _source: &Cells,
-        _target: &Cells,
-        _steps: &mut Steps<L>,
-    ) -> Result<Cells, Memory> {
-        Ok(List::new(alloc))
-    }
-
-    fn aux_at_target_row<L: Ledger>(
-        &self,
-        alloc: Global,
-        source: &Cells,
-        target: &Cells,
-        _steps: &mut Steps<L>,
-    ) -> Result<Cells, Memory> {
-        Ok(rows_alone(alloc, source, target)?)
-    }
-
-    fn read_target_row<L: Ledger>(
-        &self,
-        alloc: Global,
-        source: &Cells,
-        _aux: &Cells,
-        _steps: &mut Steps<L>,
-    ) -> Result<Cells, Memory> {
-        Ok(joined(alloc, row_at(source, 0), row_at(source, 1))?)
-    }
-
-    fn read_source_row<L: Ledger>(
-        &self,
-        alloc: Global,
-        target: &Cells,
+        side: NearSide,
+        near: &Cells,
         aux: &Cells,
         _steps: &mut Steps<L>,
     ) -> Result<Cells, Memory> {
-        Ok(sources_of(
-            alloc,
-            self.first,
-            row_at(target, 0),
-            row_at(aux, 0),
-            row_at(aux, 1),
-        )?)
+        self.read(alloc, side, near, aux)
     }
 
-    fn admit_target_row<L: Ledger>(
+    fn admit_row<L: Ledger>(
         &self,
         alloc: Global,
-        source: &Cells,
+        side: NearSide,
+        near: &Cells,
         aux: &Cells,
         _steps: &mut Steps<L>,
     ) -> Result<Option<Cells>, Memory> {
-        if aux.len() != 0 {
+        let (first, second) = (row_at(aux, 0), row_at(aux, 1));
+        let may = match side {
+            NearSide::Source => true,
+            NearSide::Target => may_stand_alone(self.first, self.second, first, second),
+        };
+        if !may {
             return Ok(None);
         }
-        Ok(Some(joined(alloc, row_at(source, 0), row_at(source, 1))?))
-    }
-
-    fn admit_source_row<L: Ledger>(
-        &self,
-        alloc: Global,
-        target: &Cells,
-        aux: &Cells,
-        _steps: &mut Steps<L>,
-    ) -> Result<Option<Cells>, Memory> {
-        let first = row_at(aux, 0);
-        let second = row_at(aux, 1);
-        if !may_stand_alone(self.first, self.second, first, second) {
-            return Ok(None);
-        }
-        let far = sources_of(alloc, self.first, row_at(target, 0), first, second)?;
-        let kept = rows_alone(alloc, &far, target)?;
+        let far = self.read(alloc, side, near, aux)?;
+        let kept = self.beside(alloc, side, near, &far)?;
         if !is_same_cells(aux.as_slice(), kept.as_slice()) {
             return Ok(None);
         }

@@ -7,8 +7,8 @@ use Rattle.par_base.specs.contracts.value.Value as value
 use Rattle.expr_lang.specs.contracts.tree.UnaryOp as unary
 use Rattle.expr_lang.specs.contracts.tree.BinaryOp as binary
 use Rattle.expr_lang.specs.Terms.{Term, Literal, Column, Unary, Binary}
-use Rattle.bidel_parser.specs.Views.{Tree, KeyView, BranchView, OpView}
-use Rattle.bidel_parser.specs.Views as «text»
+use Rattle.statements.specs.Views.{Tree, KeyView, BranchView, OpView}
+use Rattle.statements.specs.Views as «text»
 use Rattle.op_kinds.specs.Operators.{Built, AnyView}
 use Rattle.op_kinds.specs.Operators as «any»
 

@@ -1,7 +1,7 @@
 -- The operators that are built, and what each means.
 use Rattle.std.specs.Prelude.{ℕ, List, Option}
 use Rattle.expr_lang.specs.Terms.{Term}
-use Rattle.bidel_parser.specs.Views.{OpView}
+use Rattle.statements.specs.Views.{OpView}
 use Rattle.op_law.specs.Meaning.{Meaning, flip}
 use Rattle.op_law.specs.Laws.{Laws, flip_laws}
 use Rattle.op_rows.specs.RowMeaning.{rowwise, flip_row}

@@ -1,10 +1,9 @@
 //! Any of the operators, with the text that it was built from.
 ghost use Rattle.std.specs.Prelude.{◌≡◌};
-ghost use Rattle.bidel_parser.specs.Views.{op_view};
+ghost use Rattle.statements.specs.Views.{op_view};
 ghost use Rattle.op_kinds.specs.Operators.{any_meaning, any_laws};
 ghost use Rattle.op_kinds.specs.Views.{built_view};
 
-use bidel_parser::OpText;
 use expr_lang::Steps;
 use id_memory::{IdCounter, PairMemory};
 use op_column::{AddColumn, CreateTable, DropTable, Rename};
@@ -16,6 +15,7 @@ use op_law::{Aux, Far, Flip, Operator, Pair, Side};
 use op_rows::{FlipRow, Rowwise};
 use op_split_merge::Split;
 use par_base::{Fault, IdsSpent, Memory};
+use statements::OpText;
 use std::alloc::Global;
 use std::marker::Model;
 use std::sync::ledger::Ledger;
@@ -55,7 +55,7 @@ pub struct AnyOp {
 }
 
 impl Model for AnyOp {
-    ghost use Rattle.bidel_parser.specs.Views.{op_view};
+    ghost use Rattle.statements.specs.Views.{op_view};
     ghost use Rattle.op_kinds.specs.Operators.{AnyView};
     ghost use Rattle.op_kinds.specs.Codes.{coded_any};
     ghost use Rattle.op_kinds.specs.Views.{built_view};

@@ -1,23 +1,12 @@
 //! Copies of operators' texts.
 ghost use Rattle.std.specs.Prelude.{◌≡◌, IfOk};
 ghost use Rattle.expr_lang.specs.Terms.{text_term};
-ghost use Rattle.bidel_parser.specs.Views.{op_view, key_view, branch_view, second_view, CreateTable, DropTable, RenameTable, RenameColumn, AddColumn, DropColumn, DecomposeSingle, Decompose, Join, Split, Merge};
+ghost use Rattle.statements.specs.Views.{op_view, key_view, branch_view, second_view, CreateTable, DropTable, RenameTable, RenameColumn, AddColumn, DropColumn, DecomposeSingle, Decompose, Join, Split, Merge};
 
-use bidel_parser::{Branch, KeyText, OpText};
 use expr_lang::ExprText;
-use par_base::{List, Memory, Name};
+use par_base::{List, Memory, Name, copy_names};
+use statements::{Branch, KeyText, OpText};
 use std::alloc::Global;
-
-/// Equal names. It takes time in the number of their bytes.
-pub fn copy_names(alloc: Global, names: &[Name]) -> Result<List<Name>, Memory>
-    ensures { IfOk result (λ made. made ≡ names.now) }
-{
-    let mut made = List::new(alloc);
-    for name in names {
-        made.push(name.copy(alloc)?)?;
-    }
-    Ok(made)
-}
 
 fn copy_key(alloc: Global, key: &KeyText) -> Result<KeyText, Memory>
     ensures { IfOk result (λ made. key_view made ≡ key_view key.now) }

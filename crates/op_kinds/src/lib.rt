@@ -10,4 +10,4 @@ mod built_calls;
 mod copies;
 
 pub use any_op::{AnyOp, BuiltOp};
-pub use copies::{copy_names, copy_text};
+pub use copies::copy_text;

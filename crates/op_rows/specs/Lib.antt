@@ -1,5 +1,6 @@
 pub mod Cells
 pub mod RowMeaning
+pub mod NearSides
 pub mod RowCalls
 pub mod CellLemmas
 pub mod Tabulated

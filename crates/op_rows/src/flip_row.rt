@@ -2,7 +2,7 @@
 ghost use Rattle.op_rows.specs.RowMeaning.{flip_row};
 ghost use Rattle.op_rows.specs.RowwiseLaws.{flip_row_laws};
 
-use crate::{Cells, RowOperator};
+use crate::{Cells, NearSide, OldRows, RowOperator};
 use expr_lang::Steps;
 use par_base::Memory;
 use std::alloc::Global;
@@ -17,102 +17,56 @@ pub struct FlipRow<R> {
 impl<R: RowOperator> RowOperator for FlipRow<R> {
     ghost row_meaning = { λ it. flip_row (R.row_meaning it.inner) };
 
-    fn sources(&self) -> usize {
-        self.inner.targets()
+    fn count_tables(&self, side: NearSide) -> usize {
+        self.inner.count_tables(side.far())
     }
 
-    fn targets(&self) -> usize {
-        self.inner.sources()
+    fn count_aux(&self, side: NearSide) -> usize {
+        self.inner.count_aux(side.far())
     }
 
-    fn source_aux(&self) -> usize {
-        self.inner.target_aux()
-    }
-
-    fn target_aux(&self) -> usize {
-        self.inner.source_aux()
-    }
-
-    fn forward_row<L: Ledger>(
+    fn map_row<L: Ledger>(
         &self,
         alloc: Global,
+        side: NearSide,
         near: &Cells,
-        source: &Cells,
-        target: &Cells,
+        old: OldRows<'_>,
         steps: &mut Steps<L>,
     ) -> Result<Cells, Memory> {
-        self.inner.backward_row(alloc, near, target, source, steps)
+        self.inner.map_row(alloc, side.far(), near, old, steps)
     }
 
-    fn backward_row<L: Ledger>(
+    fn aux_row<L: Ledger>(
         &self,
         alloc: Global,
+        side: NearSide,
         near: &Cells,
-        source: &Cells,
-        target: &Cells,
+        far: &Cells,
         steps: &mut Steps<L>,
     ) -> Result<Cells, Memory> {
-        self.inner.forward_row(alloc, near, target, source, steps)
+        self.inner.aux_row(alloc, side.far(), near, far, steps)
     }
 
-    fn aux_at_source_row<L: Ledger>(
+    fn read_row<L: Ledger>(
         &self,
         alloc: Global,
-        source: &Cells,
-        target: &Cells,
-        steps: &mut Steps<L>,
-    ) -> Result<Cells, Memory> {
-        self.inner.aux_at_target_row(alloc, target, source, steps)
-    }
-
-    fn aux_at_target_row<L: Ledger>(
-        &self,
-        alloc: Global,
-        source: &Cells,
-        target: &Cells,
-        steps: &mut Steps<L>,
-    ) -> Result<Cells, Memory> {
-        self.inner.aux_at_source_row(alloc, target, source, steps)
-    }
-
-    fn read_target_row<L: Ledger>(
-        &self,
-        alloc: Global,
-        source: &Cells,
+        side: NearSide,
+        near: &Cells,
         aux: &Cells,
         steps: &mut Steps<L>,
     ) -> Result<Cells, Memory> {
-        self.inner.read_source_row(alloc, source, aux, steps)
+        self.inner.read_row(alloc, side.far(), near, aux, steps)
     }
 
-    fn read_source_row<L: Ledger>(
+    fn admit_row<L: Ledger>(
         &self,
         alloc: Global,
-        target: &Cells,
-        aux: &Cells,
-        steps: &mut Steps<L>,
-    ) -> Result<Cells, Memory> {
-        self.inner.read_target_row(alloc, target, aux, steps)
-    }
-
-    fn admit_target_row<L: Ledger>(
-        &self,
-        alloc: Global,
-        source: &Cells,
+        side: NearSide,
+        near: &Cells,
         aux: &Cells,
         steps: &mut Steps<L>,
     ) -> Result<Option<Cells>, Memory> {
-        self.inner.admit_source_row(alloc, source, aux, steps)
-    }
-
-    fn admit_source_row<L: Ledger>(
-        &self,
-        alloc: Global,
-        target: &Cells,
-        aux: &Cells,
-        steps: &mut Steps<L>,
-    ) -> Result<Option<Cells>, Memory> {
-        self.inner.admit_target_row(alloc, target, aux, steps)
+        self.inner.admit_row(alloc, side.far(), near, aux, steps)
     }
 
     ghost row_laws = { λ it. flip_row_laws (R.row_meaning it.inner) (R.row_laws it.inner) };

@@ -6,20 +6,20 @@
 //! operator, and nothing of versions.
 #![tactic(auto)]
 
-mod admission;
-mod auxiliary;
 mod cells;
 mod flip_row;
 mod ids;
 mod laws;
 mod mapping;
+mod near_side;
 mod pass;
-mod reading;
 mod row_operator;
 mod rowwise;
+mod tables;
 
 pub use flip_row::FlipRow;
 pub use ids::merge_ids;
 pub use laws::{rowwise_is_local, rowwise_keeps_the_laws};
-pub use row_operator::{Cells, RowOperator};
+pub use near_side::NearSide;
+pub use row_operator::{Cells, OldRows, RowOperator};
 pub use rowwise::Rowwise;

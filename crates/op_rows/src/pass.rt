@@ -40,7 +40,7 @@ pub(crate) trait AdmitsCells {
 
     ghost aux: { Self → Tables };
 
-    fn at<L: Ledger>(
+    fn admit_at<L: Ledger>(
         &self,
         alloc: Global,
         id: u64,
@@ -121,7 +121,7 @@ pub(crate) fn admit_each<A: AdmitsCells, L: Ledger>(
 {
     let mut tables = empty_tables(alloc, count)?;
     for id in ids {
-        let Some(cells) = each.at(alloc, *id, steps)? else {
+        let Some(cells) = each.admit_at(alloc, *id, steps)? else {
             return Ok(None);
         };
         push_cells(&mut tables, *id, cells)?;

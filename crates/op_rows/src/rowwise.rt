@@ -5,13 +5,9 @@
 ghost use Rattle.op_rows.specs.RowMeaning.{rowwise};
 ghost use Rattle.op_rows.specs.RowwiseLaws.{rowwise_laws};
 
-use crate::RowOperator;
-use crate::admission::{AdmitSource, AdmitTarget};
-use crate::auxiliary::{AuxAtSource, AuxAtTarget};
-use crate::ids::{ids_of_three, ids_of_two};
-use crate::mapping::{Backward, Forward};
-use crate::pass::{admit_each, tabulate};
-use crate::reading::{ReadSource, ReadTarget};
+use crate::mapping::{Keeping, Mapping, Reading};
+use crate::tables::{admit_tables, keep_tables, map_tables, read_tables};
+use crate::{NearSide, RowOperator};
 use expr_lang::Steps;
 use id_memory::{IdCounter, PairMemory};
 use op_law::{Aux, Far, Operator, Pair, Side};
@@ -37,22 +33,14 @@ impl<R: RowOperator> Operator for Rowwise<R> {
         _ids: &mut IdCounter,
         steps: &mut Steps<L>,
     ) -> Result<Far, Fault<IdsSpent>> {
-        let ids = ids_of_three(
-            alloc,
-            near.tables(),
-            old.source.tables(),
-            old.target.tables(),
-        )?;
-        let each = Forward {
+        let each = Mapping {
             operator: &self.inner,
+            side: NearSide::Source,
             near,
-            old,
+            old_near: &old.source,
+            old_far: &old.target,
         };
-        let tables = tabulate(alloc, ids.as_slice(), &each, self.inner.targets(), steps)?;
-        Ok(Far {
-            side: Side::new(tables),
-            memory: PairMemory::new(alloc),
-        })
+        Ok(map_tables(alloc, &each, steps)?)
     }
 
     fn backward<L: Ledger>(
@@ -63,22 +51,14 @@ impl<R: RowOperator> Operator for Rowwise<R> {
         _ids: &mut IdCounter,
         steps: &mut Steps<L>,
     ) -> Result<Far, Fault<IdsSpent>> {
-        let ids = ids_of_three(
-            alloc,
-            near.tables(),
-            old.target.tables(),
-            old.source.tables(),
-        )?;
-        let each = Backward {
+        let each = Mapping {
             operator: &self.inner,
+            side: NearSide::Target,
             near,
-            old,
+            old_near: &old.target,
+            old_far: &old.source,
         };
-        let tables = tabulate(alloc, ids.as_slice(), &each, self.inner.sources(), steps)?;
-        Ok(Far {
-            side: Side::new(tables),
-            memory: PairMemory::new(alloc),
-        })
+        Ok(map_tables(alloc, &each, steps)?)
     }
 
     fn read_target<L: Ledger>(
@@ -89,14 +69,13 @@ impl<R: RowOperator> Operator for Rowwise<R> {
         _memory: &PairMemory,
         steps: &mut Steps<L>,
     ) -> Result<Side, Memory> {
-        let ids = ids_of_two(alloc, source.tables(), aux.tables.as_slice())?;
-        let each = ReadTarget {
+        let each = Reading {
             operator: &self.inner,
-            source,
+            side: NearSide::Source,
+            near: source,
             aux,
         };
-        let tables = tabulate(alloc, ids.as_slice(), &each, self.inner.targets(), steps)?;
-        Ok(Side::new(tables))
+        read_tables(alloc, &each, steps)
     }
 
     fn read_source<L: Ledger>(
@@ -107,14 +86,13 @@ impl<R: RowOperator> Operator for Rowwise<R> {
         _memory: &PairMemory,
         steps: &mut Steps<L>,
     ) -> Result<Side, Memory> {
-        let ids = ids_of_two(alloc, target.tables(), aux.tables.as_slice())?;
-        let each = ReadSource {
+        let each = Reading {
             operator: &self.inner,
-            target,
+            side: NearSide::Target,
+            near: target,
             aux,
         };
-        let tables = tabulate(alloc, ids.as_slice(), &each, self.inner.sources(), steps)?;
-        Ok(Side::new(tables))
+        read_tables(alloc, &each, steps)
     }
 
     fn aux_at_source<L: Ledger>(
@@ -123,13 +101,13 @@ impl<R: RowOperator> Operator for Rowwise<R> {
         pair: &Pair,
         steps: &mut Steps<L>,
     ) -> Result<Aux, Memory> {
-        let ids = ids_of_two(alloc, pair.source.tables(), pair.target.tables())?;
-        let each = AuxAtSource {
+        let each = Keeping {
             operator: &self.inner,
-            pair,
+            side: NearSide::Source,
+            near: &pair.source,
+            far: &pair.target,
         };
-        let tables = tabulate(alloc, ids.as_slice(), &each, self.inner.source_aux(), steps)?;
-        Ok(Aux { tables })
+        keep_tables(alloc, &each, steps)
     }
 
     fn aux_at_target<L: Ledger>(
@@ -138,13 +116,13 @@ impl<R: RowOperator> Operator for Rowwise<R> {
         pair: &Pair,
         steps: &mut Steps<L>,
     ) -> Result<Aux, Memory> {
-        let ids = ids_of_two(alloc, pair.target.tables(), pair.source.tables())?;
-        let each = AuxAtTarget {
+        let each = Keeping {
             operator: &self.inner,
-            pair,
+            side: NearSide::Target,
+            near: &pair.target,
+            far: &pair.source,
         };
-        let tables = tabulate(alloc, ids.as_slice(), &each, self.inner.target_aux(), steps)?;
-        Ok(Aux { tables })
+        keep_tables(alloc, &each, steps)
     }
 
     fn admit_target<L: Ledger>(
@@ -155,20 +133,13 @@ impl<R: RowOperator> Operator for Rowwise<R> {
         memory: &PairMemory,
         steps: &mut Steps<L>,
     ) -> Result<Option<Side>, Memory> {
-        let kept = aux.tables.as_slice();
-        if memory.len() != 0 || kept.len() != self.inner.source_aux() {
-            return Ok(None);
-        }
-        let ids = ids_of_two(alloc, source.tables(), kept)?;
-        let each = AdmitTarget {
+        let each = Reading {
             operator: &self.inner,
-            source,
+            side: NearSide::Source,
+            near: source,
             aux,
         };
-        match admit_each(alloc, ids.as_slice(), &each, self.inner.targets(), steps)? {
-            Some(tables) => Ok(Some(Side::new(tables))),
-            None => Ok(None),
-        }
+        admit_tables(alloc, &each, memory, steps)
     }
 
     fn admit_source<L: Ledger>(
@@ -179,20 +150,13 @@ impl<R: RowOperator> Operator for Rowwise<R> {
         memory: &PairMemory,
         steps: &mut Steps<L>,
     ) -> Result<Option<Side>, Memory> {
-        let kept = aux.tables.as_slice();
-        if memory.len() != 0 || kept.len() != self.inner.target_aux() {
-            return Ok(None);
-        }
-        let ids = ids_of_two(alloc, target.tables(), kept)?;
-        let each = AdmitSource {
+        let each = Reading {
             operator: &self.inner,
-            target,
+            side: NearSide::Target,
+            near: target,
             aux,
         };
-        match admit_each(alloc, ids.as_slice(), &each, self.inner.sources(), steps)? {
-            Some(tables) => Ok(Some(Side::new(tables))),
-            None => Ok(None),
-        }
+        admit_tables(alloc, &each, memory, steps)
     }
 
     ghost laws = { λ it. rowwise_laws (R.row_meaning it.inner) (R.row_laws it.inner) };

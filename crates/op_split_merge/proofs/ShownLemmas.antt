@@ -3,7 +3,7 @@ use Rattle.std.specs.Prelude.{◌≢◌}
 use Rattle.std.proofs.Common.{◌≡◌, ℕ, List, true, false, refl, arith}
 use Rattle.par_base.specs.declared.value.Value.{Value}
 use Rattle.expr_lang.specs.Terms.{Term}
-use Rattle.row_parts.specs.SameRows.{same_row, row_equal}
+use Rattle.par_base.specs.SameRows.{same_row, row_equal}
 use Rattle.op_split_merge.specs.Shown.{NewInBoth, NewInFirst, NewInSecond, NewInNeither, LostFirstStays, LostSecondStays, SeparatedStay, AgainstStays}
 
 -- rows that differ are told apart

@@ -1,7 +1,7 @@
 -- One identifier of SPLIT: its rows in the two targets, which are twins, and which target takes a new row of the source.
 use Rattle.std.specs.Prelude.{◌≡◌, List, [], Bool, true, false, not, ◌&&◌, ◌||◌, if◌then◌else◌, Option, Some, None}
 use Rattle.par_base.specs.declared.value.Value.{Value}
-use Rattle.row_parts.specs.SameRows.{same_row}
+use Rattle.par_base.specs.SameRows.{same_row}
 
 -- what one table has at the identifier
 abbrev pub Cell : Type 0

@@ -15,8 +15,8 @@ use crate::cells::row_at;
 use crate::twins::meets;
 use expr_lang::Steps;
 use op_rows::Cells;
-use par_base::{Memory, Row};
-use row_parts::{is_same_cells, is_same_values};
+use par_base::{Memory, Row, is_same_values};
+use row_parts::is_same_cells;
 use std::alloc::Global;
 use std::sync::ledger::Ledger;
 

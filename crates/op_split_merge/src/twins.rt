@@ -7,8 +7,7 @@ ghost use Rattle.op_split_merge.specs.Split.{test_of};
 ghost use Rattle.op_split_merge.specs.Calls.{CanTest};
 
 use expr_lang::{Expr, Steps, holds};
-use par_base::{Memory, Row};
-use row_parts::is_same_row;
+use par_base::{Memory, Row, is_same_row};
 use std::alloc::Global;
 use std::sync::ledger::Ledger;
 

@@ -5,8 +5,7 @@ ghost use Rattle.op_tables.specs.Wide.{are_wide};
 ghost use Rattle.op_tables.specs.SideTables.{first_table, second_table};
 
 use crate::side_tables::{first_of, second_of};
-use par_base::Row;
-use row_parts::is_same_values;
+use par_base::{Row, is_same_values};
 use row_store::Table;
 
 /// Whether each row has this many values.

@@ -1,30 +1,38 @@
-//! Whether a side is one that the tests call operators with.
-ghost use Rattle.std.specs.Prelude.{◌≡◌, IsTrue};
+//! Whether tables are ones that the tests call operators with.
+ghost use Rattle.std.specs.Prelude.{◌≡◌, IsTrue, IfOk};
 ghost use Rattle.std.specs.List.{list_all};
 ghost use Rattle.row_store.specs.Rows.{AreBelow};
-ghost use Rattle.operator_tests.specs.Worked.{is_plain as is_plain_value, is_row as is_worked_row, is_below as is_below_id, IsTable, IsSide};
+ghost use Rattle.operator_tests.specs.Worked.{is_sound as is_sound_value, is_row as is_worked_row, is_below as is_below_id, IsTable, AreTables};
 
 use op_law::Side;
 use par_base::{Row, Value};
 use row_store::Table;
 use std::iter::Iterator;
+use std::test::Fail;
 
-fn is_plain(value: &Value) -> bool
-    ensures { result ≡ is_plain_value value.now }
+/// The next identifier in all tests.
+pub const NEXT: u64 = 100;
+
+fn is_sound(value: &Value, next: u64) -> bool
+    ensures { result ≡ is_sound_value next value.now }
 {
-    matches!(value, Value::Null | Value::Int(_))
+    match value {
+        Value::Null | Value::Int(_) => true,
+        Value::Text(_) => false,
+        Value::Reference(id) => 0 < *id && *id < next,
+    }
 }
 
-fn are_plain(values: &[Value]) -> bool
-    ensures { result ≡ list_all is_plain_value values.now }
+fn are_sound(values: &[Value], next: u64) -> bool
+    ensures { result ≡ list_all (is_sound_value next) values.now }
 {
-    values.iter().all(|value| is_plain(value))
+    values.iter().all(|value| is_sound(value, next))
 }
 
 fn is_row(row: &(u64, Row), width: usize, next: u64) -> bool
     ensures { result ≡ is_worked_row width next row.now }
 {
-    0 < row.0 && row.0 < next && row.1.len() == width && are_plain(row.1.as_slice())
+    0 < row.0 && row.0 < next && row.1.len() == width && are_sound(row.1.as_slice(), next)
 }
 
 fn are_rows(rows: &[(u64, Row)], width: usize, next: u64) -> bool
@@ -39,15 +47,26 @@ fn is_table(table: &Table, width: usize, next: u64) -> bool
     are_rows(table.as_slice(), width, next)
 }
 
-/// Whether the side has one table, with so many columns, whose values are null or integers and
-/// whose identifiers are below the next one.
-pub fn is_side(side: &Side, width: usize, next: u64) -> bool
-    ensures { IsTrue result → IsSide width next side.now }
+fn are_tables(side: &Side, widths: &[usize], next: u64) -> bool
+    ensures { IsTrue result → AreTables widths.now next side.now }
 {
-    match side.tables() {
-        [table] => is_table(table, width, next),
+    match (widths, side.tables()) {
+        ([width], [table]) => is_table(table, *width, next),
+        ([width, further], [table, other]) => {
+            is_table(table, *width, next) && is_table(other, *further, next)
+        }
         _ => false,
     }
+}
+
+/// Fails unless the side has a table of each of these widths, at most two, whose rows may stand.
+pub fn require_side(side: &Side, widths: &[usize]) -> Result<(), Fail>
+    ensures { IfOk result (λ _. AreTables widths.now 100 side.now) }
+{
+    if !are_tables(side, widths, NEXT) {
+        return Err(Fail::new("no tables of these widths"));
+    }
+    Ok(())
 }
 
 fn is_below(row: &(u64, Row), id: u64) -> bool

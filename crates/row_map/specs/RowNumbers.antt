@@ -5,7 +5,7 @@ use Rattle.std.specs.Map.{lookup}
 use Rattle.std.specs.Str.{bytes_eq}
 use Rattle.par_base.specs.declared.value.Value.{Value}
 use Rattle.row_map.specs.declared.symbol.Symbol.{Symbol}
-use Rattle.row_parts.specs.SameRows.{same_row}
+use Rattle.par_base.specs.SameRows.{same_row}
 use Rattle.row_map.specs.IdNumbers.{IdNumbers, number_of_id}
 use Rattle.row_map.specs.Paths.{same_step, node_of}
 

@@ -8,7 +8,7 @@ use Rattle.foreign_keys.specs.Parts.{FkParts}
 use Rattle.foreign_keys.specs.References.{far_part}
 use Rattle.op_tables.specs.Lookups.{own_row, later}
 use Rattle.op_fk_decompose.specs.Decompose.{alone, least_in, how_in, draws_for}
-use Rattle.row_parts.specs.SameRows.{same_row}
+use Rattle.par_base.specs.SameRows.{same_row}
 
 -- a row of T that is shared: of value b, and not alone
 pub record Least (k : FkParts) (s t rows : Rows) (b : List Value) (q : ℕ) : Type 0 where

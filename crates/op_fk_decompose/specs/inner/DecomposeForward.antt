@@ -18,7 +18,7 @@ use Rattle.op_law.proofs.SoundLemmas.{below_more, value_more, values_more}
 use Rattle.foreign_keys.specs.DrawnLemmas.{place_under, has_needed}
 use Rattle.op_fk_decompose.specs.Decompose.{alone, least_in, how, draws_for, needs, values_drawn, ref, near_row, new_first, new_second, s_after, t_after}
 use Rattle.op_fk_decompose.specs.inner.DecomposeFacts.{Least, least, from_keep}
-use Rattle.row_parts.specs.SameRows.{same_row}
+use Rattle.par_base.specs.SameRows.{same_row}
 
 -- nothing of nothing
 nothing : (a b : Bool) → or_else (kept_if a None) (or_else (kept_if b None) None) ≡ None

@@ -20,7 +20,7 @@ use Rattle.op_fk_join.specs.Join.{joined_row, stays_at, key_kept, first_with, dr
 use Rattle.foreign_keys.specs.Shared.{Ready}
 use Rattle.op_tables.specs.CellFacts.{cell_has, or_has}
 use Rattle.op_fk_join.specs.inner.JoinFacts.{first_at_of, join_kept, join_needs_none, join_first_still}
-use Rattle.row_parts.specs.SameRows.{same_row}
+use Rattle.par_base.specs.SameRows.{same_row}
 
 -- a kept foreign key is that of the old row
 kept_key : (k : FkParts) (c : Cell) (t : Rows) (y : List Value) (f : Value) → key_kept k c t y ≡ Some f → {X : Type 0} → ((v : List Value) → c ≡ Some v → k.key v ≡ f → X) → X

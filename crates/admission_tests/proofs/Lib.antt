@@ -1,2 +1,0 @@
-mod BuiltLemmas
-mod SideLemmas

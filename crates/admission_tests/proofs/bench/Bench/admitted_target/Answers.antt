@@ -1,5 +1,0 @@
-use Rattle.admission_tests.proofs.SideLemmas.{near_of_built}
-use Rattle.admission_tests.proofs.bench.Bench.admitted_target.Goals as goal
-
-pub admit_target-requires : goal.admit_target-requires
-admit_target-requires g c = near_of_built (g.O.Operator.meaning c.args.self.now.operator.now) c.args.self.now.source.now c.args.self.now.target.now c.args.source.now c.requires c.in_ok-require_side.ensures

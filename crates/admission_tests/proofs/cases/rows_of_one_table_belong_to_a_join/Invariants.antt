@@ -1,5 +1,0 @@
-use Rattle.admission_tests.proofs.cases.rows_of_one_table_belong_to_a_join.Given as goal
-
--- the ledger is the one that the blank names
-abbrev pub ghosts-expect_admitted : goal.ghosts-expect_admitted
-ghosts-expect_admitted g a = record { name = a.blank.name; parts = a.blank.parts }

@@ -1,0 +1,18 @@
+use Rattle.std.specs.Option.{option_map}
+use Rattle.std.proofs.Common.{rules, sym, ◌∙◌}
+use Rattle.std.proofs.lemmas.Bool.{false≢true}
+use Rattle.expr_lang.specs.Terms.{expr_term}
+use Rattle.op_split_merge.proofs.CallLemmas.{admits_source, admits_no_source}
+use Rattle.op_split_merge.proofs.split.Split.admit_source.Goals as goal
+
+pub returns-then-branch : goal.returns-then-branch
+returns-then-branch g c =
+    admits_source c.args.self.now.width (expr_term c.args.self.now.first) (option_map expr_term c.args.self.now.second) c.args.target.now c.in_ok-far.far c.args.aux.now
+    (search rules)
+    (c.in_ok-source_belongs.ensures.0 c.if-branch.true)
+
+pub returns : goal.returns
+returns g c =
+    admits_no_source c.args.self.now.width (expr_term c.args.self.now.first) (option_map expr_term c.args.self.now.second) c.args.target.now c.in_ok-far.far c.args.aux.now
+    (search rules)
+    (λ belongs. false≢true (sym c.if-branch.false ∙ c.in_ok-source_belongs.ensures.1 belongs))

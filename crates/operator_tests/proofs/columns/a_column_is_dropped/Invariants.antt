@@ -1,5 +1,0 @@
-use Rattle.operator_tests.proofs.columns.a_column_is_dropped.Given as goal
-
--- the ledger is the one that the blank names
-abbrev pub ghosts-expect_calls : goal.ghosts-expect_calls
-ghosts-expect_calls g a = record { name = a.blank.name; parts = a.blank.parts }
