@@ -14,13 +14,13 @@ use Rattle.storage_law.specs.Reading.{ReadsSources}
 use Rattle.layout_rules.proofs.AfterLemmas.{same_layout}
 use Rattle.db_state.specs.Fields.{IsDatabase, database_of}
 use Rattle.db_state.specs.declared.parts.Parts.{Parts}
-use Rattle.engine_statements.specs.State.{State}
-use Rattle.engine_statements.specs.declared.reply.Reply.{Reply}
-use Rattle.engine_statements.specs.declared.reply.Reply.TheVariants.{Moved}
+use Rattle.engine_state.specs.State.{State}
+use Rattle.engine_state.specs.declared.reply.Reply.{Reply}
+use Rattle.engine_state.specs.declared.reply.Reply.TheVariants.{Moved}
 use Rattle.engine_layouts.specs.Laid.{Laid, Materializes, materialized}
-use Rattle.bidel_parser.specs.declared.statement.Statement.{Statement}
-use Rattle.bidel_parser.specs.declared.statement.Statement.TheVariants as statement
-use Rattle.bidel_parser.specs.Views.{statement_view, StatementView, CreateVersion, DropVersion, Insert, Import, Update, Delete, Select, Materialize, Step, ShowLayout, Use, Session, Advise}
+use Rattle.statements.specs.declared.statement.Statement.{Statement}
+use Rattle.statements.specs.declared.statement.Statement.TheVariants as statement
+use Rattle.statements.specs.Views.{statement_view, StatementView, CreateVersion, DropVersion, Insert, Import, Update, Delete, Select, Materialize, Step, ShowLayout, Use, Session, Advise}
 use Rattle.engine_core.specs.Act.{acted, acted_data, tells_layout, with_data}
 use Rattle.engine_core.specs.Kept.{Answers, Follows, data_of, empty_state, state_of}
 

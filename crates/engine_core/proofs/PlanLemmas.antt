@@ -1,13 +1,13 @@
 -- What a statement that writes rows replies can be printed.
 use Rattle.std.proofs.Common.{◌≡◌, List, [], ◌++◌, length, Option, Ok, subst}
 use Rattle.par_base.specs.declared.value.Value.{Value}
-use Rattle.bidel_parser.specs.Views.{Tree, AssignmentView, StatementView, CreateVersion, DropVersion, Insert, Import, Update, Delete, Select, Materialize, Step, ShowLayout, Use, Session, Advise}
-use Rattle.bidel_parser.specs.declared.statement.TableName.{TableName}
+use Rattle.statements.specs.Views.{Tree, AssignmentView, StatementView, CreateVersion, DropVersion, Insert, Import, Update, Delete, Select, Materialize, Step, ShowLayout, Use, Session, Advise}
+use Rattle.statements.specs.declared.statement.TableName.{TableName}
 use Rattle.op_any.specs.NameChecks.{known_id, repeated, unrepeated}
-use Rattle.engine_statements.specs.State.{State}
+use Rattle.engine_state.specs.State.{State}
+use Rattle.engine_state.specs.Replies.{IsReply}
 use Rattle.engine_statements.specs.Found.{condition_list, found, known_condition, known_references, unknown_in_rows}
 use Rattle.engine_statements.specs.Statements.{Planned, columns_of, known_sets, planned_delete, planned_insert, planned_update, right_counts, set_columns, set_values}
-use Rattle.engine_statements.specs.Replies.{IsReply}
 use Rattle.engine_versions.proofs.ChainLemmas.{both_give, ok_is}
 use Rattle.engine_core.specs.Act.{planned}
 

@@ -6,8 +6,8 @@ use Rattle.par_base.specs.declared.value.Value.{Value}
 use Rattle.par_base.specs.declared.value.Value.TheVariants.{Null, Int, Text, Reference}
 use Rattle.expr_lang.specs.Operations.{text_limit}
 use Rattle.expr_lang.specs.Terms.{Term, Literal, Column, Unary, Binary}
-use Rattle.bidel_parser.specs.Views.{AssignmentView, OpView, CreateTable, DropTable, RenameTable, RenameColumn, AddColumn, DropColumn, DecomposeSingle, Decompose, Join, Split, Merge, KeyView, Primary, Foreign, Condition}
-use Rattle.bidel_parser.specs.Texts.{AssignmentTexts, KeyTexts, OpTexts, RowTexts, TermTexts, ValueTexts}
+use Rattle.statements.specs.Views.{AssignmentView, OpView, CreateTable, DropTable, RenameTable, RenameColumn, AddColumn, DropColumn, DecomposeSingle, Decompose, Join, Split, Merge, KeyView, Primary, Foreign, Condition}
+use Rattle.statements.specs.Texts.{AssignmentTexts, KeyTexts, OpTexts, RowTexts, TermTexts, ValueTexts}
 use Rattle.version_graph.specs.Sets.{Each}
 use Rattle.op_any.specs.Texts.{ValueFits, TermFits, TextsFit, key_expressions}
 use Rattle.engine_statements.specs.Calls.{AssignmentFits, RowFits}

@@ -20,7 +20,7 @@ use Rattle.version_model.specs.Sound.{IsSound}
 use Rattle.version_model.specs.Databases.{Writes}
 use Rattle.version_model.specs.Laws.{WriteIsOrdinary}
 use Rattle.version_model.proofs.WriteLemmas.{write_is_ordinary}
-use Rattle.engine_statements.specs.State.{State}
+use Rattle.engine_state.specs.State.{State}
 use Rattle.engine_statements.specs.Statements.{Planned, state_with, wrote}
 use Rattle.engine_statements.specs.Calls.{planned_view, IsTaken}
 use Rattle.engine_statements.specs.declared.write_plan.WritePlan.{WritePlan}

@@ -2,17 +2,17 @@
 use Rattle.std.specs.Prelude.{◌≡◌, ℕ, ◌==◌, ◌&&◌, Bool, true, false, not, List, length, Ok, Err, if◌then◌else◌}
 use Rattle.std.specs.List.{list_all}
 use Rattle.par_base.specs.declared.refusal.Refusal.TheVariants.{NotBuilt}
-use Rattle.bidel_parser.specs.Views.{OpView, StatementView, CreateVersion, DropVersion, Insert, Update, Delete, Select, Materialize, ShowLayout}
+use Rattle.statements.specs.Views.{OpView, StatementView, CreateVersion, DropVersion, Insert, Update, Delete, Select, Materialize, ShowLayout}
 use Rattle.version_graph.specs.Sets.{In}
 use Rattle.version_graph.specs.Tables.{table_numbers}
 use Rattle.version_graph.specs.Edges.{working}
 use Rattle.layout_rules.specs.Changes.{layout_after}
 use Rattle.op_any.specs.Checks.{Checked, ◌then◌}
 use Rattle.op_any.specs.Build.{is_built as is_built_operator}
-use Rattle.engine_statements.specs.State.{State}
+use Rattle.engine_state.specs.State.{State}
+use Rattle.engine_state.specs.declared.reply.Reply.{Reply}
+use Rattle.engine_state.specs.declared.reply.Reply.TheVariants.{Done, Moved, Layout}
 use Rattle.engine_statements.specs.Statements.{Planned, planned_insert, planned_update, planned_delete, acted_select, wrote}
-use Rattle.engine_statements.specs.declared.reply.Reply.{Reply}
-use Rattle.engine_statements.specs.declared.reply.Reply.TheVariants.{Done, Moved, Layout}
 use Rattle.engine_versions.specs.Evolve.{created, dropped_version}
 use Rattle.engine_layouts.specs.Laid.{Laid, materialized}
 use Rattle.engine_layouts.specs.Shown.{shown_operators, shown_tables}

@@ -8,8 +8,8 @@ use Rattle.version_model.specs.Databases.{empty_database}
 use Rattle.layout_rules.specs.Changes.{layout_after}
 use Rattle.db_state.specs.Fields.{database_of}
 use Rattle.db_state.specs.declared.parts.Parts.{Parts}
-use Rattle.engine_statements.specs.State.{State}
-use Rattle.engine_statements.specs.declared.reply.Reply.{Reply}
+use Rattle.engine_state.specs.State.{State}
+use Rattle.engine_state.specs.declared.reply.Reply.{Reply}
 use Rattle.engine_layouts.specs.Laid.{Laid, laid_of}
 
 -- the database that the engine keeps, with its layout

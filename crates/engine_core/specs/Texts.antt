@@ -5,10 +5,10 @@ use Rattle.par_base.specs.declared.value.Value.{Value}
 use Rattle.par_base.specs.Literals.{literal_of}
 use Rattle.par_base.specs.declared.refusal.Refusal.{Refusal}
 use Rattle.par_base.specs.declared.refusal.Refusal.TheVariants.{NotBuilt, UnknownVersion, VersionExists, UnknownTable, TableExists, UnknownColumn, ColumnExists, WrongCount, UnknownId, IdsSpent, BadPartition, InvalidLayout, NoVersionInUse, TooManyOperators, TooManyColumns, ColumnsDiffer, SameTable, NothingPending}
-use Rattle.engine_statements.specs.declared.reply.Reply.{Reply}
-use Rattle.engine_statements.specs.declared.reply.StoredOperator.{StoredOperator}
-use Rattle.engine_statements.specs.declared.reply.StoredTable.{StoredTable}
-use Rattle.engine_statements.specs.declared.reply.Reply.TheVariants.{Done, Inserted, Updated, Deleted, Rows, Moved, Layout}
+use Rattle.engine_state.specs.declared.reply.Reply.{Reply}
+use Rattle.engine_state.specs.declared.reply.StoredOperator.{StoredOperator}
+use Rattle.engine_state.specs.declared.reply.StoredTable.{StoredTable}
+use Rattle.engine_state.specs.declared.reply.Reply.TheVariants.{Done, Inserted, Updated, Deleted, Rows, Moved, Layout}
 
 -- a text with its line feed
 abbrev pub line : List ℕ → List ℕ

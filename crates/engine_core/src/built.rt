@@ -1,11 +1,11 @@
 //! Which forms of statements are carried out.
 ghost use Rattle.std.specs.Prelude.{◌≡◌, map};
 ghost use Rattle.std.specs.List.{list_all};
-ghost use Rattle.bidel_parser.specs.Views.{op_view, statement_view};
+ghost use Rattle.statements.specs.Views.{op_view, statement_view};
 ghost use Rattle.op_any.specs.Build.{is_built as is_built_operator};
 ghost use Rattle.engine_core.specs.Act.{is_built as is_built_statement, are_built as are_built_operators};
 
-use bidel_parser::{OpText, Statement};
+use statements::{OpText, Statement};
 
 fn all_built(operators: &[OpText]) -> bool
     ensures { result ≡ list_all (λ operator. is_built_operator (op_view operator)) operators.now }

@@ -2,16 +2,16 @@
 ghost use Rattle.std.specs.Prelude.{◌≡◌, ◌≤◌, true, Ok, OnErr, OnOk, IfOk, length, map};
 ghost use Rattle.std.specs.List.{All};
 ghost use Rattle.expr_lang.specs.Operations.{text_limit};
-ghost use Rattle.bidel_parser.specs.Views.{op_view, statement_view};
-ghost use Rattle.bidel_parser.specs.Texts.{OpTexts, TextsWithin};
+ghost use Rattle.statements.specs.Views.{op_view, statement_view};
+ghost use Rattle.statements.specs.Texts.{OpTexts, TextsWithin};
 ghost use Rattle.version_graph.specs.Edges.{IsGraph};
 ghost use Rattle.op_any.specs.Checks.{◌then◌, Gives};
 ghost use Rattle.op_kinds.specs.Operators.{any_meaning};
 ghost use Rattle.version_model.specs.Sound.{IsSound};
 ghost use Rattle.storage_law.specs.Canonical.{SameStored};
 ghost use Rattle.db_state.specs.Fields.{storage_in, IsDatabase};
+ghost use Rattle.engine_state.specs.Replies.{IsReply};
 ghost use Rattle.engine_statements.specs.Statements.{Planned, wrote};
-ghost use Rattle.engine_statements.specs.Replies.{IsReply};
 ghost use Rattle.engine_statements.specs.Calls.{planned_view, IsTaken};
 ghost use Rattle.engine_versions.specs.Evolve.{created};
 ghost use Rattle.engine_layouts.specs.Laid.{materialized};
@@ -19,16 +19,17 @@ ghost use Rattle.engine_core.specs.Act.{act, acted, acted_data, are_built, is_bu
 ghost use Rattle.engine_core.specs.Kept.{data_of, empty_state, state_of, Answers, Follows};
 
 use crate::built::is_built;
-use crate::spent::{counter_at, refused};
+use crate::spent::counter_at;
 use crate::writing::write_through;
-use bidel_parser::{OpText, Statement};
 use db_state::{Db, states_are_stored_once};
 use engine_layouts::{materialize, show_layout};
-use engine_statements::{Reply, WritePlan, plan_delete, plan_insert, plan_update, select_rows};
+use engine_state::Reply;
+use engine_statements::{WritePlan, plan_delete, plan_insert, plan_update, select_rows};
 use engine_versions::{create_version, drop_version};
 use expr_lang::Steps;
 use op_any::AnyOp;
 use par_base::{Fault, Limits, Name, Refusal, Target};
+use statements::{OpText, Statement};
 use std::alloc::Global;
 use std::marker::Model;
 use std::sync::ledger::Ledger;
@@ -317,7 +318,7 @@ impl Engine {
         };
         match write_through(alloc, &mut self.database, written, steps) {
             Ok(()) => Ok(reply),
-            Err(Fault::Refused(spent)) => Err(refused(spent)),
+            Err(Fault::Refused(spent)) => Err(spent.refused()),
             Err(Fault::Memory) => Err(Fault::Memory),
         }
     }

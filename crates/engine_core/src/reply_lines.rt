@@ -5,7 +5,7 @@ ghost use Rattle.std.specs.Prelude.{◌≡◌, ◌++◌, codes, decimal, flat_ma
 ghost use Rattle.engine_core.specs.Texts.{header_text, layout_lines, line, operator_text, reply_bytes, row_text, rows_lines, side_word as side_word_lem, table_text};
 ghost use Rattle.par_base.specs.Literals.{literal_of};
 
-use engine_statements::{Reply, StoredOperator, StoredTable};
+use engine_state::{Reply, StoredOperator, StoredTable};
 use par_base::{Memory, Name, Row, Text, Value, literal_text};
 use std::alloc::Global;
 

@@ -16,20 +16,11 @@ pub fn counter_at(ids: &IdCounter, next: u64) -> Result<IdCounter, Fault<Refusal
     let limit = ids.limit();
     let first = ids.next().max(limit + 1);
     if next > first {
-        return Err(refused(IdsSpent {
+        return Err(IdsSpent {
             needed: first,
             limit,
-        }));
+        }
+        .refused());
     }
     Ok(IdCounter::new(next, limit))
-}
-
-/// The refusal of a statement that would draw an identifier above the limit.
-pub fn refused(spent: IdsSpent) -> Fault<Refusal>
-    ensures { result ≡ Fault.Refused (Refusal.IdsSpent spent.needed spent.limit) }
-{
-    Fault::Refused(Refusal::IdsSpent {
-        needed: spent.needed,
-        limit: spent.limit,
-    })
 }

@@ -13,7 +13,7 @@ use Rattle.db_state.specs.declared.parts.Parts.{Parts}
 use Rattle.migration.specs.Answers.{ComputesMove}
 use Rattle.migration.specs.Sides.{flip_count}
 use Rattle.migration.specs.declared.moved.Moved.{Moved}
-use Rattle.engine_statements.specs.State.{State}
+use Rattle.engine_state.specs.State.{State}
 use Rattle.engine_layouts.specs.Laid.{Laid, Materializes, laid_of, moved_count}
 
 -- what follows the closing

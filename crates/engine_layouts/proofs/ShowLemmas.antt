@@ -28,9 +28,9 @@ use Rattle.version_model.specs.declared.numbered.Numbered.{Numbered}
 use Rattle.storage_law.specs.Storage.{StandsOver, aux_of, stored_way}
 use Rattle.db_state.specs.Fields.{IsDatabase, auxes_at, database_of, numbers_in, state_of, storage_in}
 use Rattle.db_state.specs.declared.parts.Parts.{Parts}
-use Rattle.engine_statements.specs.declared.reply.Reply.TheVariants.{Layout}
-use Rattle.engine_statements.specs.declared.reply.StoredOperator.{StoredOperator}
-use Rattle.engine_statements.specs.declared.reply.StoredTable.{StoredTable}
+use Rattle.engine_state.specs.declared.reply.Reply.TheVariants.{Layout}
+use Rattle.engine_state.specs.declared.reply.StoredOperator.{StoredOperator}
+use Rattle.engine_state.specs.declared.reply.StoredTable.{StoredTable}
 use Rattle.engine_layouts.specs.Calls.{HasHeadings, shown_edge, shown_item}
 use Rattle.engine_layouts.specs.Laid.{laid_of}
 use Rattle.engine_layouts.specs.Shown.{row_count, shown_operator, shown_operators, shown_table, shown_tables}

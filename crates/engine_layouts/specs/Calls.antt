@@ -9,8 +9,8 @@ use Rattle.op_law.specs.declared.side.Aux.{Aux}
 use Rattle.op_kinds.specs.Operators.{AnyView}
 use Rattle.version_model.specs.declared.numbered.Numbered.{Numbered}
 use Rattle.db_state.specs.Fields.{auxes_at}
-use Rattle.engine_statements.specs.declared.reply.StoredOperator.{StoredOperator}
-use Rattle.engine_statements.specs.declared.reply.StoredTable.{StoredTable}
+use Rattle.engine_state.specs.declared.reply.StoredOperator.{StoredOperator}
+use Rattle.engine_state.specs.declared.reply.StoredTable.{StoredTable}
 use Rattle.engine_layouts.specs.Shown.{kind_word, name_at, row_count}
 
 -- each of these tables lives

@@ -10,7 +10,7 @@ use Rattle.op_kinds.specs.Operators.{AnyView, any_meaning}
 use Rattle.db_state.specs.Fields.{database_of}
 use Rattle.db_state.specs.declared.parts.Parts.{Parts}
 use Rattle.migration.specs.Sides.{flip_count}
-use Rattle.engine_statements.specs.State.{State}
+use Rattle.engine_state.specs.State.{State}
 
 -- the model's database, which has no layout, and beside it the operators that are stored on their target side
 pub record Laid : Type 0 where

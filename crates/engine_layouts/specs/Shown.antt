@@ -2,7 +2,7 @@
 use Rattle.std.specs.Prelude.{ℕ, ◌+◌, ◌++◌, Bool, true, false, List, [], ◌∷◌, map, filter, length, codes}
 use Rattle.std.specs.Option.{option_map_or}
 use mathlib.Core.List.{reverse}
-use Rattle.bidel_parser.specs.Views.{KeyView, Primary, Foreign, Condition, OpView, CreateTable, DropTable, RenameTable, RenameColumn, AddColumn, DropColumn, DecomposeSingle, Decompose, Join, Split, Merge}
+use Rattle.statements.specs.Views.{KeyView, Primary, Foreign, Condition, OpView, CreateTable, DropTable, RenameTable, RenameColumn, AddColumn, DropColumn, DecomposeSingle, Decompose, Join, Split, Merge}
 use Rattle.version_graph.specs.Edges.{heading_of, is_in}
 use Rattle.version_graph.specs.Forest.{Link, forest}
 use Rattle.version_graph.specs.declared.parts.Heading.{Heading}
@@ -11,9 +11,9 @@ use Rattle.op_law.specs.Tables.{Tables}
 use Rattle.op_kinds.specs.Operators.{AnyView, any_meaning}
 use Rattle.layout_rules.specs.Lookups.{is_stored, tables_up}
 use Rattle.storage_law.specs.Storage.{aux_of, stored_way}
-use Rattle.engine_statements.specs.State.{State}
-use Rattle.engine_statements.specs.declared.reply.StoredOperator.{StoredOperator}
-use Rattle.engine_statements.specs.declared.reply.StoredTable.{StoredTable}
+use Rattle.engine_state.specs.State.{State}
+use Rattle.engine_state.specs.declared.reply.StoredOperator.{StoredOperator}
+use Rattle.engine_state.specs.declared.reply.StoredTable.{StoredTable}
 use Rattle.engine_layouts.specs.Laid.{Laid}
 
 -- ---- tables

@@ -1,10 +1,10 @@
 //! The names of operators' kinds.
 ghost use Rattle.std.specs.Prelude.{◌≡◌, ◌++◌, IfOk};
-ghost use Rattle.bidel_parser.specs.Views.{key_view, op_view};
+ghost use Rattle.statements.specs.Views.{key_view, op_view};
 ghost use Rattle.engine_layouts.specs.Shown.{join_word as join_word_lem, key_word as key_word_lem, kind_word};
 
-use bidel_parser::{KeyText, OpText};
 use par_base::{Memory, Text};
+use statements::{KeyText, OpText};
 use std::alloc::Global;
 
 fn key_word(key: &KeyText) -> &'static str

@@ -9,9 +9,9 @@ use par_base::{Fault, Refusal, Target};
 use std::alloc::Global;
 use std::sync::ledger::Ledger;
 
-/// Moves the data to the layout that stores the named tables, and answers how many operators changed
-/// sides; or the refusal. It takes time in the number of values of the operators that change sides,
-/// near and far.
+/// Moves the data to the layout that stores the named tables, and answers how many operators
+/// changed sides; or the refusal. It takes time in the number of values of the operators that change
+/// sides, near and far.
 pub fn materialize<L: Ledger>(
     alloc: Global,
     database: &mut Db<AnyOp>,

@@ -11,7 +11,7 @@ ghost use Rattle.engine_layouts.specs.Shown.{name_at, row_count as row_count_lem
 
 use crate::kinds::kind_text;
 use db_state::{Db, Numbered};
-use engine_statements::{Reply, StoredOperator, StoredTable};
+use engine_state::{Reply, StoredOperator, StoredTable};
 use op_any::AnyOp;
 use op_law::Aux;
 use par_base::{List, Memory, Name};
@@ -103,8 +103,8 @@ fn push_operator(
     placed: Option<&Placed<AnyOp>>,
     made: &mut List<StoredOperator>,
 ) -> Result<(), Memory>
-    ensures { OnOk result (made.new ≡ made.old
-        ++ option_to_list (option_map (shown_edge layout.now auxes.now) (option_copied placed.entry))) }
+    ensures { OnOk result (made.new ≡ made.old ++ option_to_list
+        (option_map (shown_edge layout.now auxes.now) (option_copied placed.entry))) }
 {
     if let Some(edge) = placed {
         made.push(show_operator(alloc, layout, auxes, edge)?)?;
@@ -118,7 +118,8 @@ fn show_operators(
     layout: &[u32],
     auxes: &[Numbered<Aux>],
 ) -> Result<List<StoredOperator>, Memory>
-    ensures { IfOk result (λ made. made ≡ map (shown_edge layout.now auxes.now) (reverse graph.now.edges)) }
+    ensures { IfOk result
+        (λ made. made ≡ map (shown_edge layout.now auxes.now) (reverse graph.now.edges)) }
 {
     let mut made = List::new(alloc);
     for place in 0..graph.live_operators() {
@@ -130,7 +131,8 @@ fn show_operators(
 /// The stored tables, and the operators with what is stored of each. It takes time in the number of
 /// live tables, for each stored table, and of live operators, for each operator.
 pub fn show_layout(alloc: Global, database: &Db<AnyOp>) -> Result<Reply, Memory>
-    ensures { IfOk result (λ reply. reply ≡ Reply.Layout (shown_tables (laid_of database.now)) (shown_operators (laid_of database.now))) }
+    ensures { IfOk result (λ reply. reply ≡ Reply.Layout
+        (shown_tables (laid_of database.now)) (shown_operators (laid_of database.now))) }
 {
     let graph = database.graph();
     let layout = database.layout().operators.as_slice();

@@ -10,7 +10,7 @@ use Rattle.expr_lang.specs.Terms.{Term}
 use Rattle.expr_lang.specs.Val.{fits_row}
 use Rattle.expr_lang.specs.Resolved.{place_of, resolved, first_unknown_id}
 use Rattle.expr_lang.proofs.Resolving.{resolved-fits}
-use Rattle.bidel_parser.specs.Views.{Tree, AssignmentView}
+use Rattle.statements.specs.Views.{Tree, AssignmentView}
 use Rattle.op_law.specs.SoundTerms.{TermSound}
 use Rattle.op_any.specs.Checks.{Checked, ◌then◌}
 use Rattle.op_any.specs.NameChecks.{known_column, known_columns}

@@ -6,7 +6,7 @@ use Rattle.std.proofs.lemmas.Bool.{leb-false, eqb-false}
 use Rattle.par_base.specs.declared.value.Value.{Value}
 use Rattle.par_base.specs.declared.value.Value.TheVariants.{Null, Int, Text, Reference}
 use Rattle.expr_lang.specs.Resolved.{first_unknown_id}
-use Rattle.bidel_parser.specs.Views.{Tree}
+use Rattle.statements.specs.Views.{Tree}
 use Rattle.op_law.specs.Sound.{IsBelow, ValueSound, ValuesSound}
 use Rattle.op_any.specs.NameChecks.{known_id}
 use Rattle.op_any.specs.Texts.{ValueFits}

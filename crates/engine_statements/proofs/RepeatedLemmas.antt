@@ -5,8 +5,8 @@ use Rattle.std.specs.List.{list_any}
 use Rattle.std.specs.Str.{bytes_eq}
 use Rattle.std.proofs.lemmas.Bool.{cond-true, cond-false}
 use Rattle.std.proofs.lemmas.List.{map-append, take_more}
-use Rattle.bidel_parser.specs.declared.statement.Assignment.{Assignment}
-use Rattle.bidel_parser.specs.Views.{assignment_view, AssignmentView}
+use Rattle.statements.specs.declared.statement.Assignment.{Assignment}
+use Rattle.statements.specs.Views.{assignment_view, AssignmentView}
 use Rattle.op_any.specs.NameChecks.{repeated}
 use Rattle.engine_statements.specs.Statements.{set_columns}
 

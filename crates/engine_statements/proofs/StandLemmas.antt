@@ -17,7 +17,7 @@ use Rattle.version_model.specs.States.{as_seen, headings}
 use Rattle.db_state.specs.Fields.{IsDatabase, state_of}
 use Rattle.db_state.specs.declared.parts.Parts.{Parts}
 use Rattle.version_model.specs.Writes.{MayWrite}
-use Rattle.engine_statements.specs.Found.{known_version}
+use Rattle.engine_state.specs.SharedChecks.{known_version}
 use Rattle.engine_statements.specs.Calls.{IsTableOf}
 use Rattle.engine_statements.specs.declared.found.FoundTable.{FoundTable}
 

@@ -4,7 +4,7 @@ use Rattle.std.specs.List.{All}
 use Rattle.par_base.specs.declared.value.Value.{Value}
 use Rattle.expr_lang.specs.Terms.{Term}
 use Rattle.row_store.specs.Rows.{Rows}
-use Rattle.bidel_parser.specs.Views.{Tree, AssignmentView}
+use Rattle.statements.specs.Views.{Tree, AssignmentView}
 use Rattle.op_kinds.specs.Operators.{AnyView, any_meaning}
 use Rattle.ordinary_table.specs.Laws.{IsTable}
 use Rattle.ordinary_table.specs.Written.{SetTerm, inserted, updated}

@@ -4,7 +4,7 @@ use Rattle.std.specs.List.{All}
 use Rattle.par_base.specs.declared.value.Value.{Value}
 use Rattle.expr_lang.specs.declared.tree.Expr.{Expr}
 use Rattle.expr_lang.specs.Terms.{Term, expr_term}
-use Rattle.bidel_parser.specs.Views.{AssignmentView}
+use Rattle.statements.specs.Views.{AssignmentView}
 use Rattle.version_graph.specs.Sets.{In}
 use Rattle.version_graph.specs.Tables.{TableVersion, table_numbers}
 use Rattle.version_graph.specs.Edges.{heading_of, made, numbers, working}

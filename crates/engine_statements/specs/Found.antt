@@ -2,16 +2,17 @@
 use Rattle.std.specs.Prelude.{ℕ, ◌==◌, ◌||◌, nat_le, List, [], ◌∷◌, Option, Some, None, Ok, Err, if◌then◌else◌}
 use Rattle.par_base.specs.declared.value.Value.{Value}
 use Rattle.par_base.specs.declared.value.Value.TheVariants.{Reference}
-use Rattle.par_base.specs.declared.refusal.Refusal.TheVariants.{NoVersionInUse, UnknownVersion, UnknownTable}
+use Rattle.par_base.specs.declared.refusal.Refusal.TheVariants.{NoVersionInUse, UnknownTable}
 use Rattle.expr_lang.specs.Terms.{Term}
 use Rattle.expr_lang.specs.Resolved.{resolved, first_unknown_id}
-use Rattle.bidel_parser.specs.Views.{Tree}
-use Rattle.bidel_parser.specs.declared.statement.TableName.{TableName}
+use Rattle.statements.specs.Views.{Tree}
+use Rattle.statements.specs.declared.statement.TableName.{TableName}
 use Rattle.version_graph.specs.Tables.{TableVersion, table_named, row_name}
 use Rattle.version_graph.specs.Edges.{working, set_named}
 use Rattle.op_any.specs.Checks.{Checked, ◌then◌}
 use Rattle.op_any.specs.NameChecks.{known_columns, known_id}
-use Rattle.engine_statements.specs.State.{State}
+use Rattle.engine_state.specs.State.{State}
+use Rattle.engine_state.specs.SharedChecks.{known_version}
 
 -- ---- tables
 
@@ -19,10 +20,6 @@ use Rattle.engine_statements.specs.State.{State}
 pub record Found : Type 0 where
   pub set : ℕ
   pub table : TableVersion
-
-abbrev pub known_version : List ℕ → Option ℕ → Checked ℕ
-known_version name (Some set) = Ok set
-known_version name None = Err (UnknownVersion name)
 
 -- the working set of the version that a statement names; no session has a version in use yet
 abbrev pub set_of : State → Option (List ℕ) → Checked ℕ

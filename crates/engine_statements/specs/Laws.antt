@@ -6,7 +6,7 @@ use Rattle.version_graph.specs.Edges.{AreEdges, working}
 use Rattle.op_kinds.specs.Operators.{any_meaning}
 use Rattle.version_model.specs.Sound.{IsSound}
 use Rattle.version_model.specs.Writes.{MayWrite}
-use Rattle.engine_statements.specs.State.{State}
+use Rattle.engine_state.specs.State.{State}
 use Rattle.engine_statements.specs.Statements.{Planned, state_with}
 
 -- of the tables of its version a write changes the written one alone: each version is an ordinary database for its own writes

@@ -1,29 +1,24 @@
 -- INSERT, UPDATE, DELETE and SELECT: the checks in their order, and what each makes of its version's table.
-use Rattle.std.specs.Prelude.{ℕ, ◌+◌, ◌==◌, nat_lt, List, [], ◌∷◌, ◌++◌, map, length, Option, Some, None, Ok, Err, false, if◌then◌else◌}
+use Rattle.std.specs.Prelude.{ℕ, ◌+◌, ◌==◌, List, [], ◌∷◌, ◌++◌, map, length, Option, Some, None, Ok, Err, false, if◌then◌else◌}
 use Rattle.par_base.specs.declared.value.Value.{Value}
-use Rattle.par_base.specs.declared.refusal.Refusal.TheVariants.{WrongCount, IdsSpent}
+use Rattle.par_base.specs.declared.refusal.Refusal.TheVariants.{WrongCount}
 use Rattle.expr_lang.specs.Resolved.{place_of}
 use Rattle.row_store.specs.Rows.{Rows}
-use Rattle.bidel_parser.specs.Views.{Tree, AssignmentView}
-use Rattle.bidel_parser.specs.declared.statement.TableName.{TableName}
-use Rattle.op_law.specs.Calls.{first_refused}
+use Rattle.statements.specs.Views.{Tree, AssignmentView}
+use Rattle.statements.specs.declared.statement.TableName.{TableName}
 use Rattle.op_any.specs.Checks.{Checked, ◌then◌}
 use Rattle.op_kinds.specs.Operators.{any_meaning}
 use Rattle.op_any.specs.NameChecks.{known_column, repeated, unrepeated, known_id}
 use Rattle.ordinary_table.specs.Written.{SetTerm, numbered, inserted, updated, deleted, chosen_count}
 use Rattle.ordinary_table.specs.Selected.{selected}
 use Rattle.version_model.specs.Writes.{write}
-use Rattle.version_model.specs.Databases.{counter_of}
-use Rattle.engine_statements.specs.State.{State}
+use Rattle.engine_state.specs.State.{State}
+use Rattle.engine_state.specs.SharedChecks.{enough_ids}
+use Rattle.engine_state.specs.declared.reply.Reply.{Reply}
+use Rattle.engine_state.specs.declared.reply.Reply.TheVariants.{Inserted, Updated, Deleted, Rows as Shown}
 use Rattle.engine_statements.specs.Found.{Found, found, known_expression, known_condition, known_references, condition_list, shown_names, unknown_in_rows}
-use Rattle.engine_statements.specs.declared.reply.Reply.{Reply}
-use Rattle.engine_statements.specs.declared.reply.Reply.TheVariants.{Inserted, Updated, Deleted, Rows as Shown}
 
 -- ---- writes
-
--- no identifier above the limit is drawn, where this is the next one at the end
-abbrev pub enough_ids : State → ℕ → Checked (Unit {0})
-enough_ids s next = if nat_lt (first_refused (counter_of s)) next then Err (IdsSpent (first_refused (counter_of s)) s.limit) else Ok tt
 
 -- what a statement makes of its version's table: the rows that the table is to have, the next identifier after those that they took, and the reply
 pub record Planned : Type 0 where

@@ -1,22 +1,23 @@
 //! DELETE.
 ghost use Rattle.std.specs.Prelude.{◌≡◌, IfOk};
-ghost use Rattle.bidel_parser.specs.Views.{filter_view};
+ghost use Rattle.statements.specs.Views.{filter_view};
 ghost use Rattle.op_any.specs.Checks.{Gives};
 ghost use Rattle.op_kinds.specs.Operators.{any_meaning};
 ghost use Rattle.db_state.specs.Fields.{database_of};
 ghost use Rattle.engine_statements.specs.Statements.{planned_delete};
 ghost use Rattle.engine_statements.specs.Calls.{planned_view, IsTaken};
 
+use crate::WritePlan;
 use crate::expressions::{find_condition, shown_names};
 use crate::found::find_table;
 use crate::ids::check_condition_ids;
-use crate::{Reply, WritePlan};
-use bidel_parser::TableName;
 use db_state::Db;
+use engine_state::Reply;
 use expr_lang::{ExprText, Steps};
 use op_any::AnyOp;
 use ordinary_table::{Changed, delete_rows};
 use par_base::{Fault, Refusal};
+use statements::TableName;
 use std::alloc::Global;
 use std::sync::ledger::Ledger;
 

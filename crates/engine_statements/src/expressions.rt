@@ -3,7 +3,7 @@ ghost use Rattle.std.specs.Prelude.{◌≡◌, List, ℕ, [], IfOk, map};
 ghost use Rattle.std.specs.Option.{option_map};
 ghost use Rattle.std.specs.List.{list_any};
 ghost use Rattle.std.specs.Str.{bytes_eq};
-ghost use Rattle.bidel_parser.specs.Views.{assignment_view, filter_view};
+ghost use Rattle.statements.specs.Views.{assignment_view, filter_view};
 ghost use Rattle.version_graph.specs.Tables.{row_name};
 ghost use Rattle.op_any.specs.Checks.{Gives};
 ghost use Rattle.op_any.specs.NameChecks.{repeated, unrepeated};
@@ -12,11 +12,11 @@ ghost use Rattle.engine_statements.specs.Found.{shown_names as shown_names_lem, 
 ghost use Rattle.engine_statements.specs.Statements.{known_set, known_sets, set_columns};
 ghost use Rattle.engine_statements.specs.Calls.{condition_term};
 
-use bidel_parser::Assignment;
 use expr_lang::{Expr, ExprText};
 use op_any::{find_place, resolve_value};
 use ordinary_table::SetTo;
 use par_base::{Fault, List, Memory, Name, Refusal, read_name};
+use statements::Assignment;
 use std::alloc::Global;
 
 // The name of a row's identifier.
@@ -98,7 +98,8 @@ fn sets_column(assignment: &Assignment, column: &Name) -> bool
 }
 
 fn is_set(assignments: &[Assignment], column: &Name) -> bool
-    ensures { result ≡ list_any (λ assignment. bytes_eq column.now assignment.column) assignments.now }
+    ensures { result
+        ≡ list_any (λ assignment. bytes_eq column.now assignment.column) assignments.now }
 {
     assignments
         .iter()
@@ -121,7 +122,8 @@ fn find_repeated(assignments: &[Assignment]) -> Option<&Name>
 /// Refuses the first SET of a column that is set before. It takes time in the number of pairs of
 /// SETs.
 pub fn check_set_once(alloc: Global, assignments: &[Assignment]) -> Result<(), Fault<Refusal>>
-    ensures { Gives (λ x. x) result (unrepeated (repeated [] (set_columns (map assignment_view assignments.now)))) }
+    ensures { Gives (λ x. x) result
+        (unrepeated (repeated [] (set_columns (map assignment_view assignments.now)))) }
 {
     match find_repeated(assignments) {
         Some(column) => Err(Fault::Refused(Refusal::ColumnExists {

@@ -4,20 +4,21 @@ ghost use Rattle.std.specs.Option.{option_map};
 ghost use Rattle.std.specs.Str.{bytes_eq};
 ghost use Rattle.version_graph.specs.Sets.{In};
 ghost use Rattle.version_graph.specs.Tables.{table_named};
-ghost use Rattle.version_graph.specs.Edges.{AreEdges, numbers, set_named, working};
+ghost use Rattle.version_graph.specs.Edges.{AreEdges, numbers, working};
 ghost use Rattle.version_graph.specs.Kept.{has_name as has_name_lem, number_named};
 ghost use Rattle.op_any.specs.Checks.{Gives};
 ghost use Rattle.op_kinds.specs.Operators.{any_meaning};
 ghost use Rattle.db_state.specs.Fields.{database_of};
-ghost use Rattle.engine_statements.specs.Found.{found, known_version, set_of};
+ghost use Rattle.engine_statements.specs.Found.{found, set_of};
 ghost use Rattle.engine_statements.specs.Calls.{found_view, named_view, table_of, IsNamedIn, IsTableOf};
 
-use bidel_parser::TableName;
 use db_state::{Db, read_table};
+use engine_state::known_set;
 use expr_lang::Steps;
 use op_any::AnyOp;
 use par_base::{Fault, Memory, Name, Refusal};
 use row_store::Table;
+use statements::TableName;
 use std::alloc::Global;
 use std::sync::ledger::Ledger;
 use version_graph::{Graph, Heading};
@@ -40,24 +41,13 @@ pub struct NamedTable<'a> {
     pub heading: &'a Heading,
 }
 
-/// The working set of a version, or the refusal. It takes one comparison for each version.
-pub fn known_set(alloc: Global, graph: &Graph<AnyOp>, name: &Name) -> Result<u32, Fault<Refusal>>
-    ensures { Gives (λ set. set) result (known_version name.now (set_named graph.now.versions name.now)) }
-{
-    match graph.set_of(name) {
-        Some(set) => Ok(set),
-        None => Err(Fault::Refused(Refusal::UnknownVersion {
-            version: name.copy(alloc)?,
-        })),
-    }
-}
-
 fn find_set(
     alloc: Global,
     database: &Db<AnyOp>,
     version: &Option<Name>,
 ) -> Result<u32, Fault<Refusal>>
-    ensures gives { Gives (λ set. set) result (set_of (database_of any_meaning database.now) version.now) }
+    ensures gives { Gives (λ set. set) result
+        (set_of (database_of any_meaning database.now) version.now) }
     ensures lives { IfOk result (λ set. In set (numbers database.now.graph.edges)) }
 {
     match version {
@@ -93,7 +83,8 @@ fn find_number(graph: &Graph<AnyOp>, tables: &[u32], name: &Name) -> Option<u32>
 fn number_in(graph: &Graph<AnyOp>, set: u32, name: &Name) -> Option<u32>
     requires edges { AreEdges graph.now.edges }
     requires lives { In set (numbers graph.now.edges) }
-    ensures { result ≡ option_map (λ table. table.number) (table_named (working graph.now.edges set) name.now) }
+    ensures { result ≡ option_map (λ table. table.number)
+        (table_named (working graph.now.edges set) name.now) }
 {
     let tables = graph.tables_in(set)?;
     find_number(graph, tables, name)
@@ -102,8 +93,8 @@ fn number_in(graph: &Graph<AnyOp>, set: u32, name: &Name) -> Option<u32>
 /// The table of a live working set with this name.
 fn table_in<'a>(database: &'a Db<AnyOp>, set: u32, name: &Name) -> Option<NamedTable<'a>>
     requires { In set (numbers database.now.graph.edges) }
-    ensures found { option_map (named_view set) result
-        ≡ option_map (table_of set) (table_named (working database.entry.now.graph.edges set) name.now) }
+    ensures found { option_map (named_view set) result ≡ option_map (table_of set)
+        (table_named (working database.entry.now.graph.edges set) name.now) }
     ensures there { IfSome result (IsNamedIn database.entry.now.graph.edges set) }
 {
     let graph = database.graph();
@@ -137,16 +128,17 @@ fn read_found<'a, L: Ledger>(
     })
 }
 
-/// The table that a statement names, with a copy of its rows as they are read from what is stored, or
-/// the refusal. It takes one comparison for each version, time in the number of live tables for each
-/// table of the version, and the time of reading.
+/// The table that a statement names, with a copy of its rows as they are read from what is stored,
+/// or the refusal. It takes one comparison for each version, time in the number of live tables for
+/// each table of the version, and the time of reading.
 pub fn find_table<'a, L: Ledger>(
     alloc: Global,
     database: &'a Db<AnyOp>,
     name: &TableName,
     steps: &mut Steps<L>,
 ) -> Result<FoundTable<'a>, Fault<Refusal>>
-    ensures gives { Gives found_view result (found (database_of any_meaning database.entry.now) name.now) }
+    ensures gives { Gives found_view result
+        (found (database_of any_meaning database.entry.now) name.now) }
     ensures there { IfOk result (IsTableOf database.entry.now) }
 {
     let set = find_set(alloc, database, &name.version)?;

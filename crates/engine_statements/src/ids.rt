@@ -1,14 +1,14 @@
 //! References to identifiers that no row may have: 0, and those that aren't drawn yet.
 ghost use Rattle.std.specs.Prelude.{◌≡◌, ◌++◌, map};
-ghost use Rattle.bidel_parser.specs.Views.{assignment_view, filter_view};
+ghost use Rattle.statements.specs.Views.{assignment_view, filter_view};
 ghost use Rattle.op_any.specs.Checks.{Gives};
 ghost use Rattle.op_any.specs.NameChecks.{known_id};
 ghost use Rattle.engine_statements.specs.Found.{unknown_value, unknown_in_row, unknown_in_rows, unknown_in, condition_list, known_references};
 ghost use Rattle.engine_statements.specs.Statements.{set_values};
 
-use bidel_parser::Assignment;
 use expr_lang::{ExprText, first_unknown};
 use par_base::{Fault, Refusal, Row, Value};
+use statements::Assignment;
 
 fn unknown_value_id(value: &Value, next: u64) -> Option<u64>
     ensures { result ≡ unknown_value next value.now }
@@ -86,8 +86,9 @@ fn unknown_id_in_update(
     filter: &Option<ExprText>,
     next: u64,
 ) -> Option<u64>
-    ensures { result
-        ≡ unknown_in next (set_values (map assignment_view assignments.now) ++ condition_list (filter_view filter.now)) }
+    ensures { result ≡ unknown_in next
+        (set_values (map assignment_view assignments.now)
+        ++ condition_list (filter_view filter.now)) }
 {
     match unknown_id_in_sets(assignments, next) {
         Some(id) => Some(id),
@@ -103,14 +104,16 @@ pub fn check_update_ids(
     next: u64,
 ) -> Result<(), Fault<Refusal>>
     ensures { Gives (λ x. x) result (known_references next
-        (set_values (map assignment_view assignments.now) ++ condition_list (filter_view filter.now))) }
+        (set_values (map assignment_view assignments.now)
+        ++ condition_list (filter_view filter.now))) }
 {
     refuse_id(unknown_id_in_update(assignments, filter, next), next)
 }
 
 /// Refuses the first reference of the condition that is 0 or isn't below the next identifier.
 pub fn check_condition_ids(filter: &Option<ExprText>, next: u64) -> Result<(), Fault<Refusal>>
-    ensures { Gives (λ x. x) result (known_references next (condition_list (filter_view filter.now))) }
+    ensures { Gives (λ x. x) result
+        (known_references next (condition_list (filter_view filter.now))) }
 {
     refuse_id(unknown_id_in_condition(filter, next), next)
 }

@@ -8,16 +8,17 @@ ghost use Rattle.ordinary_table.specs.Written.{numbered};
 ghost use Rattle.engine_statements.specs.Statements.{ids_of, planned_insert};
 ghost use Rattle.engine_statements.specs.Calls.{planned_view, IsTaken, RowFits};
 
+use crate::WritePlan;
 use crate::counts::check_counts;
 use crate::found::find_table;
 use crate::ids::check_row_ids;
-use crate::{Reply, WritePlan};
-use bidel_parser::TableName;
 use db_state::Db;
+use engine_state::Reply;
 use expr_lang::Steps;
 use op_any::AnyOp;
 use ordinary_table::insert_rows;
 use par_base::{Fault, List, Memory, Refusal, Row};
+use statements::TableName;
 use std::alloc::Global;
 use std::sync::ledger::Ledger;
 

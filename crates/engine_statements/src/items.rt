@@ -4,8 +4,8 @@ ghost use Rattle.op_any.specs.Checks.{Gives};
 ghost use Rattle.engine_statements.specs.Found.{shown_names};
 ghost use Rattle.engine_statements.specs.Statements.{known_items, places_from, listed_places, listed_names};
 
-use op_any::{copy_names, find_place};
-use par_base::{Fault, List, Memory, Name, Refusal};
+use op_any::find_place;
+use par_base::{Fault, List, Memory, Name, Refusal, copy_names};
 use std::alloc::Global;
 
 #[tactic(auto, unfolding(crate::specs::Statements::known_items))]

@@ -1,10 +1,10 @@
-//! Statements on the tables of a version: INSERT, UPDATE, DELETE and SELECT, from their names to what
-//! they make.
+//! Statements on the tables of a version: INSERT, UPDATE, DELETE and SELECT, from their names to
+//! what they make.
 //!
 //! It promises the crates above what each statement makes of its version's table, or why it is
-//! refused, in the order of the checks (`specs/Statements.antt`), and that the table may get the rows
-//! that it makes. It changes nothing: what follows in other versions is the model's. It must not
-//! know how statements are written, or how replies are printed.
+//! refused, in the order of the checks (`specs/Statements.antt`), and that the table may get the
+//! rows that it makes. It changes nothing: what follows in other versions is the model's. It must
+//! not know how statements are written, or how replies are printed.
 #![tactic(auto)]
 
 mod counts;
@@ -15,16 +15,14 @@ mod ids;
 mod insert;
 mod items;
 mod laws;
-mod reply;
 mod select;
 mod update;
 mod write_plan;
 
 pub use delete::plan_delete;
-pub use found::{FoundTable, find_table, known_set};
+pub use found::{FoundTable, find_table};
 pub use insert::plan_insert;
 pub use laws::each_version_is_ordinary;
-pub use reply::{Reply, StoredOperator, StoredTable};
 pub use select::select_rows;
 pub use update::plan_update;
 pub use write_plan::WritePlan;

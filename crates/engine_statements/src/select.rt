@@ -1,22 +1,22 @@
 //! SELECT.
 ghost use Rattle.std.specs.Prelude.{◌≡◌, IfOk};
-ghost use Rattle.bidel_parser.specs.Views.{filter_view};
+ghost use Rattle.statements.specs.Views.{filter_view};
 ghost use Rattle.op_any.specs.Checks.{Gives};
 ghost use Rattle.op_kinds.specs.Operators.{any_meaning};
 ghost use Rattle.db_state.specs.Fields.{database_of};
+ghost use Rattle.engine_state.specs.Replies.{IsReply};
 ghost use Rattle.engine_statements.specs.Statements.{acted_select};
-ghost use Rattle.engine_statements.specs.Replies.{IsReply};
 
-use crate::Reply;
 use crate::expressions::{find_condition, shown_names};
 use crate::found::find_table;
 use crate::ids::check_condition_ids;
 use crate::items::{find_places, header};
-use bidel_parser::TableName;
 use db_state::Db;
+use engine_state::Reply;
 use expr_lang::{ExprText, Steps};
 use op_any::AnyOp;
 use par_base::{Fault, List, Name, Refusal};
+use statements::TableName;
 use std::alloc::Global;
 use std::sync::ledger::Ledger;
 
@@ -33,7 +33,8 @@ pub fn select_rows<L: Ledger>(
     steps: &mut Steps<L>,
 ) -> Result<Reply, Fault<Refusal>>
     ensures gives { Gives (λ reply. (reply, database_of any_meaning database.now)) result
-        (acted_select (database_of any_meaning database.now) name.now items.now (filter_view filter.now)) }
+        (acted_select (database_of any_meaning database.now)
+        name.now items.now (filter_view filter.now)) }
     ensures reply { IfOk result IsReply }
 {
     let found = find_table(alloc, database, name, steps)?;

@@ -1,23 +1,24 @@
 //! UPDATE.
 ghost use Rattle.std.specs.Prelude.{◌≡◌, IfOk, map};
 ghost use Rattle.std.specs.List.{All};
-ghost use Rattle.bidel_parser.specs.Views.{assignment_view, filter_view};
+ghost use Rattle.statements.specs.Views.{assignment_view, filter_view};
 ghost use Rattle.op_any.specs.Checks.{Gives};
 ghost use Rattle.op_kinds.specs.Operators.{any_meaning};
 ghost use Rattle.db_state.specs.Fields.{database_of};
 ghost use Rattle.engine_statements.specs.Statements.{planned_update};
 ghost use Rattle.engine_statements.specs.Calls.{planned_view, AssignmentFits, IsTaken};
 
+use crate::WritePlan;
 use crate::expressions::{check_set_once, find_condition, find_sets, shown_names};
 use crate::found::find_table;
 use crate::ids::check_update_ids;
-use crate::{Reply, WritePlan};
-use bidel_parser::{Assignment, TableName};
 use db_state::Db;
+use engine_state::Reply;
 use expr_lang::{ExprText, Steps};
 use op_any::AnyOp;
 use ordinary_table::{Changed, update_rows};
 use par_base::{Fault, Refusal};
+use statements::{Assignment, TableName};
 use std::alloc::Global;
 use std::sync::ledger::Ledger;
 

@@ -1,5 +1,5 @@
 //! What a statement makes of its version's table.
-use crate::Reply;
+use engine_state::Reply;
 use row_store::Table;
 
 /// A write that nothing but the limit of identifiers can refuse any more.

@@ -1,13 +1,11 @@
 //! Events of one engine, and the lines that answer them.
-ghost use Rattle.std.specs.Prelude.{◌≡◌, IfOk};
-ghost use Rattle.statement_texts.specs.Short.{IsShortStatement};
+ghost use Rattle.std.specs.Prelude.{◌≡◌};
 
-use bidel_parser::Statement;
+use crate::spelled::statement_in;
 use engine_core::{Engine, refusal_text, reply_text};
-use engine_statements::Reply;
+use engine_state::Reply;
 use expr_lang::Steps;
 use par_base::{Fault, Limits, Memory, Refusal, Text};
-use statement_texts::statement_of;
 use std::alloc::Global;
 use std::marker::Brand;
 use std::process::Abort;
@@ -26,16 +24,6 @@ fn lines_of(alloc: Global, answer: &Result<Reply, Fault<Refusal>>) -> Result<Tex
         Ok(reply) => reply_text(alloc, reply),
         Err(Fault::Refused(refusal)) => refusal_text(alloc, refusal),
         Err(Fault::Memory) => Err(Memory),
-    }
-}
-
-// The statement that a text spells.
-fn statement_in(alloc: Global, text: &str) -> Result<Statement, Fail>
-    ensures { IfOk result IsShortStatement }
-{
-    match statement_of(alloc, text)? {
-        Some(statement) => Ok(statement),
-        None => Err("no statement")?,
     }
 }
 

@@ -3,7 +3,7 @@ use Rattle.std.proofs.Common.{◌≡◌, ℕ, ◌+◌, List, [], ◌∷◌, leng
 use Rattle.std.specs.Prelude.{◌==◌, option_to_list}
 use Rattle.std.specs.Option.{option_map_or}
 use Rattle.std.proofs.lemmas.Bool.{cond-true, eq-eqb}
-use Rattle.bidel_parser.specs.Views.{OpView}
+use Rattle.statements.specs.Views.{OpView}
 use Rattle.version_graph.specs.Sets.{In, Each, Within}
 use Rattle.version_graph.specs.Tables.{TableVersion, headings_after, headings_of, table_named, table_numbers, taken}
 use Rattle.version_graph.specs.Edges.{AreEdges, made, made_by_edge, set_after, working}

@@ -6,7 +6,7 @@ use Rattle.par_base.specs.declared.fault.Fault.{Fault}
 use Rattle.par_base.specs.declared.fault.Fault.TheVariants.{Refused, Memory}
 use Rattle.par_base.specs.declared.refusal.Refusal.{Refusal}
 use Rattle.par_base.specs.declared.refusal.Refusal.TheVariants.{IdsSpent}
-use Rattle.bidel_parser.specs.Views.{OpView}
+use Rattle.statements.specs.Views.{OpView}
 use Rattle.version_graph.specs.Sets.{Each}
 use Rattle.version_graph.specs.Tables.{headings_of, FitInOrder}
 use Rattle.version_graph.specs.Edges.{Drawn, IsGraph, set_named, working}
@@ -20,9 +20,8 @@ use Rattle.op_kinds.specs.Operators.{AnyView, any_meaning}
 use Rattle.op_any.specs.Texts.{TextsFit}
 use Rattle.version_model.specs.Evolving.{AreBuilt, grown_state}
 use Rattle.version_model.specs.Databases.{counter_of, evolved_state, start_in, Evolves, MayEvolveTo, RefusesEvolution}
-use Rattle.engine_statements.specs.State.{State}
-use Rattle.engine_statements.specs.Found.{known_version}
-use Rattle.engine_statements.specs.Statements.{enough_ids}
+use Rattle.engine_state.specs.State.{State}
+use Rattle.engine_state.specs.SharedChecks.{known_version, enough_ids}
 use Rattle.engine_versions.specs.Evolve.{counts_of, created, edges_on, start_at, state_after, unused}
 use Rattle.engine_versions.specs.Plans.{IsPlanned, OnEach, PlansEdges}
 use Rattle.engine_versions.proofs.ChainLemmas.{then_fails, then_is}

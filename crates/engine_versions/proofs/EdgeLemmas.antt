@@ -3,7 +3,7 @@ use Rattle.std.proofs.Common.{◌≡◌, ℕ, ◌+◌, ◌<◌, ◌≤◌, List,
 use Rattle.std.specs.Prelude.{◌==◌, ◌||◌, nat_le, nat_lt, if◌then◌else◌}
 use Rattle.std.proofs.lemmas.Bool.{leb-false, ltb-false}
 use Rattle.std.proofs.lemmas.List.{append_assoc}
-use Rattle.bidel_parser.specs.Views.{OpView}
+use Rattle.statements.specs.Views.{OpView}
 use Rattle.version_graph.specs.Sets.{Each}
 use Rattle.version_graph.specs.Tables.{IsHeading, FitsSet, FitInOrder, headings_after, headings_of, headings_passing}
 use Rattle.version_graph.specs.Edges.{AreEdges, operator_limit, set_after, working}

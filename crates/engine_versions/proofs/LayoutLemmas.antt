@@ -18,8 +18,8 @@ use Rattle.version_model.specs.Databases.{Evolves, dropped_database, start_in}
 use Rattle.db_state.specs.Fields.{IsDatabase, database_of}
 use Rattle.db_state.specs.declared.parts.Parts.{Parts}
 use Rattle.migration.specs.Answers.{Drops}
-use Rattle.engine_statements.specs.State.{State}
-use Rattle.engine_statements.specs.Found.{known_version}
+use Rattle.engine_state.specs.State.{State}
+use Rattle.engine_state.specs.SharedChecks.{known_version}
 use Rattle.engine_versions.specs.Evolve.{dropped_version}
 
 module _ (p : Parts AnyView) (is : IsDatabase any_meaning p) where

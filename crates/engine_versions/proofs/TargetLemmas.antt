@@ -3,8 +3,8 @@ use Rattle.std.proofs.Common.{◌≡◌, ℕ, List, [], ◌∷◌, ◌++◌, len
 use Rattle.std.specs.Prelude.{◌||◌}
 use Rattle.std.specs.List.{remove}
 use Rattle.std.specs.Str.{bytes_eq}
-use Rattle.bidel_parser.specs.Views.{Tree, BranchView, OpView}
-use Rattle.bidel_parser.specs.Views as «text»
+use Rattle.statements.specs.Views.{Tree, BranchView, OpView}
+use Rattle.statements.specs.Views as «text»
 use Rattle.expr_lang.specs.Resolved.{place_of, resolved}
 use Rattle.version_graph.specs.declared.parts.Heading.{Heading}
 use Rattle.version_graph.specs.declared.parts.Edge.{Edge}

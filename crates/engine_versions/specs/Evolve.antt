@@ -1,7 +1,7 @@
 -- CREATE SCHEMA VERSION and DROP SCHEMA VERSION: the checks in their order, and the state after each.
 use Rattle.std.specs.Prelude.{ℕ, ◌+◌, List, [], ◌∷◌, length, Option, Some, None, Ok, Err}
 use Rattle.par_base.specs.declared.refusal.Refusal.TheVariants.{VersionExists, TooManyOperators}
-use Rattle.bidel_parser.specs.Views.{OpView, DropTable, Decompose, Split}
+use Rattle.statements.specs.Views.{OpView, DropTable, Decompose, Split}
 use Rattle.version_graph.specs.Tables.{headings_of, headings_after}
 use Rattle.version_graph.specs.Edges.{Drawn, set_named, working}
 use Rattle.version_graph.specs.Evolve.{evolved, limit_at}
@@ -12,9 +12,8 @@ use Rattle.op_kinds.specs.Operators.{AnyView, any_meaning}
 use Rattle.op_any.specs.Build.{built}
 use Rattle.version_model.specs.Evolving.{grown_state}
 use Rattle.version_model.specs.Databases.{dropped_database}
-use Rattle.engine_statements.specs.State.{State}
-use Rattle.engine_statements.specs.Found.{known_version}
-use Rattle.engine_statements.specs.Statements.{enough_ids}
+use Rattle.engine_state.specs.State.{State}
+use Rattle.engine_state.specs.SharedChecks.{known_version, enough_ids}
 use Rattle.engine_versions.specs.declared.edges.Counts.{Counts}
 
 -- ---- operators, one after the other

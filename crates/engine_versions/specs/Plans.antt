@@ -3,13 +3,13 @@ use Rattle.std.specs.Prelude.{◌≡◌, ℕ, ◌<◌, List, length, Option, Res
 use Rattle.par_base.specs.declared.fault.Fault.{Fault}
 use Rattle.par_base.specs.declared.fault.Fault.TheVariants.{Refused, Memory}
 use Rattle.par_base.specs.declared.refusal.Refusal.{Refusal}
-use Rattle.bidel_parser.specs.Views.{OpView}
+use Rattle.statements.specs.Views.{OpView}
 use Rattle.version_graph.specs.Edges.{Drawn}
 use Rattle.version_graph.specs.declared.parts.Edge.{Edge}
 use Rattle.op_any.specs.Checks.{Gives}
 use Rattle.op_kinds.specs.Operators.{AnyView, any_meaning}
 use Rattle.version_model.specs.Databases.{Evolves, MayEvolveTo}
-use Rattle.engine_statements.specs.State.{State}
+use Rattle.engine_state.specs.State.{State}
 use Rattle.engine_versions.specs.Evolve.{created}
 
 -- a database may evolve by these edges, and where it does so it has what the model creates

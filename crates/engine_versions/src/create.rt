@@ -1,7 +1,7 @@
 //! CREATE SCHEMA VERSION.
 ghost use Rattle.std.specs.Prelude.{◌≡◌, ◌<◌, map, length, OnErr};
 ghost use Rattle.std.specs.Option.{option_copied};
-ghost use Rattle.bidel_parser.specs.Views.{op_view};
+ghost use Rattle.statements.specs.Views.{op_view};
 ghost use Rattle.version_graph.specs.Sets.{Each};
 ghost use Rattle.version_graph.specs.Edges.{set_named};
 ghost use Rattle.op_any.specs.Checks.{Gives};
@@ -13,13 +13,13 @@ ghost use Rattle.engine_versions.specs.Evolve.{created, start_at, unused};
 ghost use Rattle.engine_versions.specs.Plans.{PlansEdges};
 
 use crate::edges::build_edges;
-use bidel_parser::OpText;
 use db_evolution::evolve_db;
 use db_state::Db;
-use engine_statements::known_set;
+use engine_state::known_set;
 use expr_lang::Steps;
 use op_any::AnyOp;
 use par_base::{Fault, List, Name, Refusal};
+use statements::OpText;
 use std::alloc::Global;
 use std::sync::ledger::Ledger;
 use version_graph::{Edge, Graph};
@@ -50,12 +50,12 @@ fn check_unused(alloc: Global, graph: &Graph<AnyOp>, name: &Name) -> Result<(), 
     }
 }
 
-/// The edges of the operators, each on the tables that the one before it leaves, the first on those of
-/// the version `from` or on none, while `next` is the next identifier; or the first refusal. Every
+/// The edges of the operators, each on the tables that the one before it leaves, the first on those
+/// of the version `from` or on none, while `next` is the next identifier; or the first refusal. Every
 /// database with this graph and this counter may evolve by them.
 ///
-/// It takes time in the number of live tables for each operator, in the number of pairs of names, and
-/// in the length of expressions.
+/// It takes time in the number of live tables for each operator, in the number of pairs of names,
+/// and in the length of expressions.
 pub fn plan_edges(
     alloc: Global,
     graph: &Graph<AnyOp>,
@@ -66,7 +66,8 @@ pub fn plan_edges(
 ) -> Result<List<Edge<AnyOp>>, Fault<Refusal>>
     requires some { 0 < length texts.now }
     requires fit { Each TextsFit (map op_view texts.now) }
-    ensures { PlansEdges graph.now next name.now (option_copied from.entry) (map op_view texts.now) result }
+    ensures { PlansEdges graph.now next name.now
+        (option_copied from.entry) (map op_view texts.now) result }
 {
     // What this call promises of the graph is what each edge rests on.
     let _live = graph.live_operators();
@@ -92,8 +93,10 @@ pub fn create_version<L: Ledger>(
     requires some { 0 < length texts.now }
     requires fit { Each TextsFit (map op_view texts.now) }
     ensures gives { Gives (λ _. database_of any_meaning database.new) result
-        (created (database_of any_meaning database.old) name (option_copied from.entry) (map op_view texts.now)) }
-    ensures same { OnErr result (database_of any_meaning database.new ≡ database_of any_meaning database.old) }
+        (created (database_of any_meaning database.old)
+        name (option_copied from.entry) (map op_view texts.now)) }
+    ensures same { OnErr result
+        (database_of any_meaning database.new ≡ database_of any_meaning database.old) }
     ensures layout { database.new.layout.operators
         ≡ layout_after database.old.layout.operators database.old.graph database.new.graph }
 {

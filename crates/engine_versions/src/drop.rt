@@ -28,7 +28,8 @@ pub fn drop_version<L: Ledger>(
 ) -> Result<(), Fault<Refusal>>
     ensures gives { Gives (λ _. database_of any_meaning database.new) result
         (dropped_version (database_of any_meaning database.old) name.now) }
-    ensures same { OnErr result (database_of any_meaning database.new ≡ database_of any_meaning database.old) }
+    ensures same { OnErr result
+        (database_of any_meaning database.new ≡ database_of any_meaning database.old) }
     ensures layout { database.new.layout.operators
         ≡ layout_after database.old.layout.operators database.old.graph database.new.graph }
 {

@@ -2,16 +2,16 @@
 ghost use Rattle.std.specs.Prelude.{◌≡◌, ◌+◌, ◌<◌, ◌≤◌, ◌^◌, ◌++◌, map, length, IfOk, OnOk};
 ghost use Rattle.std.specs.List.{list_any};
 ghost use Rattle.std.specs.Str.{bytes_eq};
-ghost use Rattle.bidel_parser.specs.Views.{op_view};
+ghost use Rattle.statements.specs.Views.{op_view};
 ghost use Rattle.version_graph.specs.Tables.{headings_after, headings_of, headings_passing, is_among as is_among_lem};
 ghost use Rattle.version_graph.specs.Edges.{working};
 ghost use Rattle.version_graph.specs.Evolve.{limit_at};
 ghost use Rattle.op_any.specs.Checks.{Gives};
 ghost use Rattle.engine_versions.specs.Evolve.{counts_of, edges_on, room_for, target_count as target_count_lem, with_one as with_one_lem};
 
-use bidel_parser::OpText;
-use op_any::{AnyOp, build_op, copy_names};
+use op_any::{AnyOp, build_op};
 use par_base::{Fault, List, Memory, Name, Refusal};
+use statements::OpText;
 use std::alloc::Global;
 use version_graph::{Edge, Graph, Heading};
 
@@ -57,7 +57,8 @@ fn passed_limit(counts: Counts, targets: u32) -> Option<u64>
 // The counts with one operator more, or the refusal for want of numbers.
 fn with_one(counts: Counts, text: &OpText) -> Result<Counts, Fault<Refusal>>
     ensures gives { Gives (λ _. tt) result (room_for counts (op_view text.now)) }
-    ensures more { IfOk result (λ more. more ≡ with_one_lem counts (target_count_lem (op_view text.now))) }
+    ensures more { IfOk result
+        (λ more. more ≡ with_one_lem counts (target_count_lem (op_view text.now))) }
 {
     let targets = target_count(text);
     match passed_limit(counts, targets) {
@@ -82,15 +83,6 @@ fn is_among(names: &[Name], heading: &Heading) -> bool
     names.iter().any(|name| has_name(name, &heading.name))
 }
 
-fn copy_heading(alloc: Global, heading: &Heading) -> Result<Heading, Memory>
-    ensures { IfOk result (λ made. made ≡ heading.now) }
-{
-    Ok(Heading {
-        name: heading.name.copy(alloc)?,
-        columns: copy_names(alloc, heading.columns.as_slice())?,
-    })
-}
-
 // Lets the tables go that have one of these names.
 fn keep_passing(set: &mut Vec<Heading>, names: &[Name])
     ensures { set.new.items ≡ headings_passing set.old.items names.now }
@@ -103,7 +95,7 @@ fn add_copies(alloc: Global, set: &mut List<Heading>, tables: &[Heading]) -> Res
     ensures { OnOk result (set.new ≡ set.old ++ tables.now) }
 {
     for table in tables {
-        set.push(copy_heading(alloc, table)?)?;
+        set.push(table.copy(alloc)?)?;
     }
     Ok(())
 }
@@ -156,7 +148,8 @@ pub fn build_edges(
     texts: &[OpText],
 ) -> Result<List<Edge<AnyOp>>, Fault<Refusal>>
     ensures { Gives (λ edges. edges) result
-        (edges_on (headings_of (working graph.now.edges set)) (counts_of graph.now) next (map op_view texts.now)) }
+        (edges_on (headings_of (working graph.now.edges set)) (counts_of graph.now)
+        next (map op_view texts.now)) }
 {
     let tables = graph.headings(alloc, set)?;
     let (operator, table) = graph.last_numbers();

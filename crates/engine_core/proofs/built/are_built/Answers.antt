@@ -3,7 +3,7 @@ use Rattle.std.specs.Prelude.{◌==◌, ◌&&◌, not}
 use Rattle.std.specs.List.{list_all}
 use Rattle.std.proofs.lemmas.List.{length-map}
 use Rattle.std.proofs.lemmas.List.Folds.{list_all-map}
-use Rattle.bidel_parser.specs.Views.{op_view}
+use Rattle.statements.specs.Views.{op_view}
 use Rattle.op_any.specs.Build.{is_built as is_built_operator}
 use Rattle.engine_core.proofs.built.are_built.Goals as goal
 

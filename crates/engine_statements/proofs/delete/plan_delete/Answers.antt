@@ -1,7 +1,7 @@
 use Rattle.std.proofs.Common.{length, ap, sym, subst, ◌∙◌}
 use Rattle.id_memory.specs.States.{CounterState}
 use Rattle.row_store.specs.Rows.{Rows}
-use Rattle.bidel_parser.specs.Views.{filter_view}
+use Rattle.statements.specs.Views.{filter_view}
 use Rattle.ordinary_table.specs.Shown.{condition_of}
 use Rattle.ordinary_table.specs.Laws.{IsTable}
 use Rattle.ordinary_table.proofs.KeptLemmas.{delete_keeps}

@@ -1,5 +1,5 @@
 use Rattle.std.proofs.Common.{◌≡◌, ◌++◌, drop, map, Ok}
-use Rattle.bidel_parser.specs.Views.{assignment_view}
+use Rattle.statements.specs.Views.{assignment_view}
 use Rattle.op_any.specs.Checks.{◌then◌}
 use Rattle.ordinary_table.specs.Written.{sets_of}
 use Rattle.engine_statements.specs.Statements.{known_sets}

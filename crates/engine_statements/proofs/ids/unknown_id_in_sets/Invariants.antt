@@ -1,5 +1,5 @@
 use Rattle.std.proofs.Common.{◌≡◌, drop, map}
-use Rattle.bidel_parser.specs.Views.{assignment_view}
+use Rattle.statements.specs.Views.{assignment_view}
 use Rattle.engine_statements.specs.Found.{unknown_in}
 use Rattle.engine_statements.specs.Statements.{set_values}
 use Rattle.engine_statements.proofs.ids.unknown_id_in_sets.Given as goal

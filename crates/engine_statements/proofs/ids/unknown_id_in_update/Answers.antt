@@ -1,5 +1,5 @@
 use Rattle.std.proofs.Common.{ℕ, Option, ◌∙◌, ap, map, sym}
-use Rattle.bidel_parser.specs.Views.{assignment_view, filter_view}
+use Rattle.statements.specs.Views.{assignment_view, filter_view}
 use Rattle.engine_statements.specs.Found.{first_of, unknown_in, condition_list}
 use Rattle.engine_statements.specs.Statements.{set_values}
 use Rattle.engine_statements.proofs.IdLemmas.{unknown_in-append}

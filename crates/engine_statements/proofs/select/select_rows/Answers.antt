@@ -1,7 +1,7 @@
 use Rattle.std.proofs.Common.{◌≡◌, ◌≤◌, ℕ, List, length, ap, sym, subst, ◌∙◌}
 use Rattle.std.specs.List.{All}
 use Rattle.par_base.specs.declared.value.Value.{Value}
-use Rattle.bidel_parser.specs.Views.{filter_view}
+use Rattle.statements.specs.Views.{filter_view}
 use Rattle.ordinary_table.specs.Shown.{condition_of}
 use Rattle.ordinary_table.proofs.ColumnLemmas.{selected_wide}
 use Rattle.engine_statements.specs.Found.{shown_names}

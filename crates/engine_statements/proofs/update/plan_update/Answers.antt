@@ -1,7 +1,7 @@
 use Rattle.std.proofs.Common.{◌≡◌, ℕ, List, Ok, length, map, ap, sym, subst, ◌∙◌}
 use Rattle.std.specs.List.{All}
 use Rattle.id_memory.specs.States.{CounterState}
-use Rattle.bidel_parser.specs.Views.{assignment_view, filter_view}
+use Rattle.statements.specs.Views.{assignment_view, filter_view}
 use Rattle.ordinary_table.specs.declared.update.SetTo.{SetTo}
 use Rattle.ordinary_table.specs.Shown.{condition_of}
 use Rattle.ordinary_table.specs.Fits.{SetFits}

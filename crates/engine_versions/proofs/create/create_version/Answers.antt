@@ -1,7 +1,7 @@
 use Rattle.std.proofs.Common.{◌≡◌, map, sym, ap, ◌∙◌}
 use Rattle.std.specs.Option.{option_copied}
 use Rattle.std.proofs.lemmas.Result.{err_from_is_err_and}
-use Rattle.bidel_parser.specs.Views.{op_view}
+use Rattle.statements.specs.Views.{op_view}
 use Rattle.id_memory.specs.States.{CounterState}
 use Rattle.op_kinds.specs.Operators.{any_meaning}
 use Rattle.db_state.specs.Fields.{database_of}

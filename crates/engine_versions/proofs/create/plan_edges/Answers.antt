@@ -1,7 +1,7 @@
 use Rattle.std.proofs.Common.{◌<◌, ℕ, map, sym, subst}
 use Rattle.std.specs.Option.{option_copied}
 use Rattle.std.proofs.lemmas.List.{length-map}
-use Rattle.bidel_parser.specs.Views.{op_view}
+use Rattle.statements.specs.Views.{op_view}
 use Rattle.engine_versions.proofs.CreateLemmas.{plans_built}
 use Rattle.engine_versions.proofs.create.plan_edges.Goals as goal
 

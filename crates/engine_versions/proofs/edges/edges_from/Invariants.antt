@@ -1,5 +1,5 @@
 use Rattle.std.proofs.Common.{◌≡◌, ◌++◌, drop, map, Ok}
-use Rattle.bidel_parser.specs.Views.{op_view}
+use Rattle.statements.specs.Views.{op_view}
 use Rattle.op_any.specs.Checks.{◌then◌}
 use Rattle.engine_versions.specs.Evolve.{edges_on}
 use Rattle.engine_versions.proofs.edges.edges_from.Given as goal

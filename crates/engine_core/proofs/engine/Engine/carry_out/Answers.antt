@@ -1,9 +1,9 @@
 use Rattle.std.proofs.Common.{List, sym, subst}
 use Rattle.par_base.specs.declared.limits.Target.{Target}
-use Rattle.bidel_parser.specs.declared.statement.Statement.{Statement}
-use Rattle.bidel_parser.specs.Views.{statement_view}
+use Rattle.statements.specs.declared.statement.Statement.{Statement}
+use Rattle.statements.specs.Views.{statement_view}
 use Rattle.op_any.specs.Checks.{Checked}
-use Rattle.engine_statements.specs.declared.reply.Reply.{Reply}
+use Rattle.engine_state.specs.declared.reply.Reply.{Reply}
 use Rattle.engine_layouts.specs.Laid.{Laid, materialized}
 use Rattle.engine_core.specs.Act.{acted, acted_data}
 use Rattle.engine_core.specs.Kept.{Answers, data_of, state_of}

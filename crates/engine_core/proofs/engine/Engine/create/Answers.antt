@@ -1,5 +1,5 @@
 use Rattle.std.proofs.Common.{map, refl}
-use Rattle.bidel_parser.specs.Views.{op_view}
+use Rattle.statements.specs.Views.{op_view}
 use Rattle.engine_core.proofs.TextLemmas.{operators_fit}
 use Rattle.engine_core.proofs.WriteLemmas.{both_stay}
 use Rattle.engine_core.proofs.engine.Engine.create.Goals as goal

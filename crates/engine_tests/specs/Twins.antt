@@ -1,0 +1,53 @@
+-- One state, kept twice.
+use Rattle.std.specs.Prelude.{◌≡◌, ◌≤◌, Result, Ok, Err, ⊤}
+use Rattle.par_base.specs.declared.fault.Fault.{Fault}
+use Rattle.par_base.specs.declared.fault.Fault.TheVariants.{Refused, Memory}
+use Rattle.par_base.specs.declared.refusal.IdsSpent.{IdsSpent}
+use Rattle.par_base.specs.declared.refusal.Refusal.{Refusal}
+use Rattle.version_graph.specs.Sets.{In}
+use Rattle.version_graph.specs.Edges.{numbers}
+use Rattle.op_law.specs.Calls.{first_refused}
+use Rattle.op_kinds.specs.Operators.{any_meaning}
+use Rattle.version_model.specs.Kept.{database_of}
+use Rattle.version_model.specs.Writes.{MayWrite}
+use Rattle.version_model.specs.Databases.{Writes}
+use Rattle.version_model.specs.declared.write.Written.{Written}
+use Rattle.db_state.specs.Fields.{database_of as database_under, state_of as state_under}
+use Rattle.engine_state.specs.State.{State}
+use Rattle.engine_state.specs.declared.reply.Reply.{Reply}
+use Rattle.engine_statements.specs.declared.write_plan.WritePlan.{WritePlan}
+use Rattle.engine_tests.specs.declared.kept.Twin.{Twin}
+
+-- the state of the database under a layout
+abbrev pub moved_state : Twin → State
+moved_state t = database_under any_meaning t.moved
+
+-- both stand for one state
+abbrev pub IsTwin : Twin → Type 0
+IsTwin t = database_of t.plain ≡ moved_state t
+
+-- both stand for one state again, which is the old one after a refusal; after want of memory nothing is promised
+abbrev pub Stays : {X E : Type 0} → Result X (Fault E) → Twin → Twin → Type 0
+Stays (Ok x) old new = IsTwin new
+Stays (Err (Refused r)) old new = IsTwin new × (moved_state new ≡ moved_state old)
+Stays (Err Memory) old new = ⊤
+
+-- two databases take the write, each in its own copy
+pub record IsTakenTwice (t : Twin) (first second : Written) : Type 0 where
+  pub lives : In first.set (numbers t.moved.graph.edges)
+  pub may : MayWrite t.moved.graph.edges (state_under any_meaning t.moved) first.set first.table first.rows.rows first.ids.next
+  pub drawn : first.ids.next ≤ first_refused t.moved.ids
+  pub limit : first.ids.limit ≡ t.moved.ids.limit
+  pub set : second.set ≡ first.set
+  pub table : second.table ≡ first.table
+  pub rows : second.rows.rows ≡ first.rows.rows
+  pub ids : second.ids ≡ first.ids
+
+-- the write is made or refused
+abbrev pub WritesMoved : Twin → Written → Result (Unit {0}) (Fault IdsSpent) → Twin → Type 0
+WritesMoved old w result new = Writes any_meaning (moved_state old) w.set w.table w.rows.rows w.ids.next result (moved_state new)
+
+-- the rows that a statement makes are written, or the write is refused
+abbrev pub WritesPlan : Twin → WritePlan → Result Reply (Fault Refusal) → Twin → Type 0
+WritesPlan old p (Ok reply) new = (reply ≡ p.reply) × Writes any_meaning (moved_state old) p.set p.table p.rows.rows p.next (Ok tt) (moved_state new)
+WritesPlan old p (Err fault) new = moved_state new ≡ moved_state old
