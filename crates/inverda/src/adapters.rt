@@ -4,7 +4,7 @@
 //! `contents` are None. Each error of the stream is counted as one fault.
 ghost use Rattle.std.specs.Prelude.{◌≡◌};
 
-use par_base::{Failed, Sink, Source};
+use outside::{Failed, Sink, Source};
 use std::io::{Read, Write};
 
 /// A source over a reader.

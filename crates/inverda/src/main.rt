@@ -5,7 +5,7 @@ mod adapters;
 
 use adapters::{Input, Output};
 use inverda_run::inverda;
-use par_base::SureFiles;
+use outside::SureFiles;
 use std::alloc::Global;
 use std::process::ExitCode;
 use std::rt::Env;

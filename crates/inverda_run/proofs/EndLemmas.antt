@@ -1,53 +1,39 @@
 -- How the run of a script ends.
-use Rattle.std.proofs.Common.{◌≡◌, ◌≤◌, ◌<◌, ◌==◌, ◌⊎◌, ℕ, List, [], ◌∷◌, ◌++◌, Option, None, Some, Bool, true, false, inl, inr, refl, sym, ap, subst, ◌∙◌, append-nil, take, drop, length, arith, length-append}
+use Rattle.std.proofs.Common.{◌≡◌, ◌≤◌, ◌<◌, ◌==◌, ◌⊎◌, ℕ, List, [], ◌∷◌, ◌++◌, Option, None, Some, Bool, true, false, inl, inr, refl, sym, ap, subst, ◌∙◌, append-nil, take, length, arith, length-append}
 use Rattle.std.specs.Prelude.{nat_le, min, codes}
 use Rattle.std.proofs.lemmas.List.{take_all, take-append-le}
 use Rattle.std.proofs.lemmas.Bool.{le-leb, lt-leb}
 use Rattle.std.proofs.lemmas.Bool.Decides.{eqb_tells, leb_tells}
 use Rattle.std.specs.Io.KnownBytes.{Appends, Consumes, IsAtEnd}
 use Rattle.std.proofs.KnownBytes.{Appends-nil, Appends-trans}
-use Rattle.par_base.specs.Causes.{Rose}
-use Rattle.par_base.specs.Reading.{ReadsAll}
-use Rattle.par_base.specs.declared.all.ReadAll.{ReadAll}
-use Rattle.par_base.specs.declared.all.ReadAll.TheVariants as read
+use Rattle.outside.specs.Causes.{Rose}
+use Rattle.outside.specs.Reading.{ReadsAll}
+use Rattle.outside.specs.declared.all.ReadAll.{ReadAll}
+use Rattle.outside.specs.declared.all.ReadAll.TheVariants as read
 use Rattle.bidel_lex.specs.declared.tokens.Token.{Token}
-use Rattle.bidel_lex.specs.declared.tokens.Lexed.{Lexed}
-use Rattle.bidel_lex.specs.declared.tokens.Lexed.TheVariants as lexed
 use Rattle.bidel_lex.specs.Tokens.{AreTokens, HasTokens}
-use Rattle.bidel_parser.specs.Views.{StatementView}
-use Rattle.bidel_parser.specs.Parsing.{start_of}
+use Rattle.statements.specs.Views.{StatementView}
+use Rattle.bidel_script.specs.declared.tokens.Tail.{Tail}
+use Rattle.bidel_script.specs.declared.front.Stop.{Stop}
+use Rattle.bidel_script.specs.declared.front.Stop.TheVariants as stop
+use Rattle.bidel_script.specs.Tails.{AreAll}
+use Rattle.bidel_script.specs.Script.{Comes, Outcome, Over, Fault, Long, Open}
+use Rattle.bidel_script.specs.Calls.{outcome_of}
+use Rattle.bidel_script.proofs.TokenLemmas.{all_are_tokens, wants_none}
+use Rattle.bidel_script.proofs.ScriptLemmas.{over_is_script, at_within, ended_not_open, open_not_over}
+use Rattle.bidel_script.proofs.UniqueLemmas.{one_comes}
 use Rattle.engine_core.specs.Texts.{line}
-use Rattle.inverda_run.specs.declared.tokens.Tail.{Tail}
-use Rattle.inverda_run.specs.Tails.{AreAll, earlier}
-use Rattle.inverda_run.specs.Script.{Comes, Outcome, Over, Fault, Long, Open, IsFaulty}
 use Rattle.inverda_run.specs.Output.{out_of}
 use Rattle.inverda_run.specs.Statuses as statuses
-use Rattle.inverda_run.specs.Statuses.{limit, Taken, whole, failed, above, last_line, Writes, Had, HadScript, HadFault, HadMore, PutsFront, Begun}
-use Rattle.inverda_run.specs.Calls.{outcome_of, Runs, RunsTo, RunsFront, RunsScript, RunsBytes, AtWithin, BeginsRun, PutsLine, PutsAll, EndsScript, Counts, ended_by, Ends}
-use Rattle.inverda_run.specs.declared.front.Stop.{Stop}
-use Rattle.inverda_run.specs.declared.front.Stop.TheVariants as stop
+use Rattle.inverda_run.specs.Statuses.{limit, Taken, whole, failed, above, last_line, Writes, Had, PutsFront, Begun}
+use Rattle.inverda_run.specs.Calls.{Runs, RunsTo, RunsFront, RunsScript, RunsBytes, AtWithin, BeginsRun, PutsLine, PutsAll, EndsScript, Counts, ended_by, Ends}
 use Rattle.inverda_run.specs.declared.run.Ran.{Ran}
 use Rattle.inverda_run.specs.declared.run.Ran.TheVariants as ran
 use Rattle.inverda_run.specs.declared.top.Counted.{Counted}
 use Rattle.inverda_run.specs.declared.end.End.{End}
-use Rattle.inverda_run.proofs.TokenLemmas.{all_are_tokens, are_tokens_drop, start_within, wants_none, ends_not}
-use Rattle.inverda_run.proofs.ScriptLemmas.{over_is_script}
-use Rattle.inverda_run.proofs.UniqueLemmas.{one_comes}
 use Rattle.inverda_run.proofs.FrontLemmas.{puts_none, puts_behind, begins_run}
 
 -- ---- the run of the bytes
-
-earlier_within : (last : Lexed) (at : ℕ) → earlier at last ≤ at
-earlier_within (lexed.Token t) at = omega arith
-earlier_within lexed.More at = omega arith
-earlier_within lexed.End at = omega arith
-earlier_within (lexed.BadToken bad) at = omega arith
-
--- a fault is at one of the bytes, or behind the last one
-at_within : (bytes : List ℕ) (tail : Tail) (tokens : List Token) (used at : ℕ) → AreTokens bytes tokens → IsFaulty bytes tail tokens used at → at ≤ length bytes
-at_within bytes tail tokens used at are f =
-    let start = start_of (length bytes) (drop f.token tokens) in
-    omega (arith, f.place, earlier_within tail.last start, start_within bytes (drop f.token tokens) (are_tokens_drop bytes f.token tokens are))
 
 stop_within : (bytes : List ℕ) (tail : Tail) (tokens : List Token) (held held' : Option (List ℕ)) (s : Stop) → AreTokens bytes tokens → RunsTo bytes tail tokens held held' (outcome_of s)
     → AtWithin bytes s
@@ -188,14 +174,6 @@ begun_counts (Some told) left' held held' was is bytes ended stopped t said safe
       comes = c;
       same = e ∙ moved ∙ ap (λ (l : List ℕ). out_of statements ++ l) (line_same statements o c);
     }
-
--- bytes that have come to their end leave no statement open
-ended_not_open : (bytes : List ℕ) (statements : List StatementView) → Comes bytes true statements Open → ⊥
-ended_not_open bytes statements c = wants_none bytes 0 c.tokens c.tail.last c.all.found c.behind.more
-
--- bytes that may go on are never over
-open_not_over : (bytes : List ℕ) (statements : List StatementView) → Comes bytes false statements Over → ⊥
-open_not_over bytes statements c = ends_not bytes 0 c.tokens c.tail.last c.all.found c.behind.1
 
 -- the source was read, and the bytes that count were run
 pub ends_run : {W : Type 0} (words : List W) (left left' : Option (List ℕ)) (read' read2 : ℕ) (held held' : Option (List ℕ)) (was is : ℕ) (r : ReadAll) (c : Counted) (x : Ran)

@@ -6,18 +6,18 @@ use Rattle.std.proofs.Math.Seq.{take-append-add}
 use Rattle.std.specs.Io.KnownBytes.{Appends}
 use Rattle.std.proofs.KnownBytes.{Appends-nil, Appends-trans}
 use Rattle.bidel_lex.specs.declared.tokens.Token.{Token}
-use Rattle.bidel_parser.specs.Views.{StatementView}
+use Rattle.statements.specs.Views.{StatementView}
+use Rattle.bidel_script.specs.declared.tokens.Tail.{Tail}
+use Rattle.bidel_script.specs.Tails.{AreAll}
+use Rattle.bidel_script.specs.Script.{Leads, StandsBehind}
+use Rattle.bidel_script.proofs.TokenLemmas.{all_are_one}
+use Rattle.bidel_script.proofs.UniqueLemmas.{leads_first, blocked}
 use Rattle.engine_layouts.specs.Laid.{Laid}
 use Rattle.engine_core.specs.Kept.{empty_state}
-use Rattle.inverda_run.specs.declared.tokens.Tail.{Tail}
-use Rattle.inverda_run.specs.Tails.{AreAll}
-use Rattle.inverda_run.specs.Script.{Leads, StandsBehind}
 use Rattle.inverda_run.specs.Output.{out, out_of, max_id}
 use Rattle.inverda_run.specs.Statuses.{PutsFront, last_line}
 use Rattle.inverda_run.specs.Calls.{RunsFront, BeginsRun}
-use Rattle.inverda_run.proofs.TokenLemmas.{all_are_one}
 use Rattle.inverda_run.proofs.OutputLemmas.{state_behind, out-append}
-use Rattle.inverda_run.proofs.UniqueLemmas.{leads_first, blocked}
 
 -- ---- fronts of bytes
 

@@ -1,14 +1,6 @@
-pub mod TokenLemmas
-pub mod BlankLemmas
-pub mod KnownLemmas
-pub mod ScriptLemmas
-pub mod UniqueLemmas
-pub mod LengthLemmas
-pub mod OutputLemmas
-pub mod PlaceLemmas
-pub mod FrontLemmas
-pub mod RunLemmas
-pub mod EndLemmas
-pub mod TextLemmas
-pub mod TextLimits
-pub mod MoveLemmas
+mod OutputLemmas
+mod FrontLemmas
+mod RunLemmas
+mod EndLemmas
+mod TextLemmas
+mod MoveLemmas

@@ -1,17 +1,19 @@
--- A MATERIALIZE changes no line but its own and those of SHOW LAYOUT.
-use Rattle.std.specs.Prelude.{if◌then◌else◌, Ok, Err}
-use Rattle.std.proofs.Common.{◌≡◌, ℕ, List, [], ◌∷◌, ◌++◌, Bool, true, false, not, cond, refl, sym, ap, ◌∙◌, subst}
+-- A MATERIALIZE changes no reply but its own and those of SHOW LAYOUT.
+use Rattle.std.specs.Prelude.{if◌then◌else◌, Ok, Err, Option}
+use Rattle.std.proofs.Common.{◌≡◌, ℕ, List, [], ◌∷◌, Bool, true, false, not, cond, refl, sym, ap, ◌∙◌, subst}
 use Rattle.par_base.specs.declared.refusal.Refusal.TheVariants.{NotBuilt}
 use Rattle.layout_rules.specs.Closed.{closing}
-use Rattle.bidel_parser.specs.Views.{StatementView, CreateVersion, DropVersion, Insert, Import, Update, Delete, Select, Materialize, Step, ShowLayout, Use, Session, Advise}
+use Rattle.statements.specs.Views.{StatementView, CreateVersion, DropVersion, Insert, Import, Update, Delete, Select, Materialize, Step, ShowLayout, Use, Session, Advise}
 use Rattle.op_any.specs.Checks.{Checked, ◌then◌}
-use Rattle.engine_statements.specs.State.{State}
-use Rattle.engine_statements.specs.declared.reply.Reply.{Reply}
-use Rattle.engine_statements.specs.declared.reply.Reply.TheVariants.{Moved}
+use Rattle.engine_state.specs.State.{State}
+use Rattle.engine_state.specs.declared.reply.Reply.{Reply}
+use Rattle.engine_state.specs.declared.reply.Reply.TheVariants.{Moved}
 use Rattle.engine_layouts.specs.Laid.{Laid, moved_count}
 use Rattle.engine_core.specs.Act.{act, acted_data, is_built, tells_layout, with_data}
-use Rattle.inverda_run.specs.Output.{next_state, text_of}
-use Rattle.inverda_run.specs.Moves.{answers, without_moves}
+use Rattle.engine_core.specs.Kept.{empty_state}
+use Rattle.inverda_run.specs.Output.{next_state, text_of, replies, max_id}
+use Rattle.inverda_run.specs.Moves.{heard, without_moves, MovesUnseen}
+use Rattle.inverda_run.specs.Statuses.{Done}
 
 -- a statement on the data, beside a layout
 abbrev beside : Laid → Bool → Checked (Reply × State) → Checked (Reply × Laid)
@@ -59,21 +61,27 @@ move_leaves s true (Ok new) = refl
 move_leaves s true (Err r) = refl
 move_leaves s false m = refl
 
--- a statement that isn't struck out has its lines on both sides
-both_told : (s t : Laid) (x : StatementView) (xs ys : List StatementView) → tells_layout x ≡ false → SameBut s t (act s x) (act t x) → answers (next_state s (act s x)) xs ≡ answers (next_state t (act t x)) ys → answers s (x ∷ xs) ≡ answers t (x ∷ ys)
-unfolding answers
-both_told s t x xs ys off same rest =
-    ap (λ (c : Bool). cond c [] (text_of (act s x) ∷ []) ++ answers (next_state s (act s x)) xs) off
-    ∙ ap (λ (text : List ℕ). text ∷ answers (next_state s (act s x)) xs) same.text
+-- a statement that isn't struck out has its reply on both sides
+both_heard : (s t : Laid) (x : StatementView) (xs ys : List StatementView) → tells_layout x ≡ false → SameBut s t (act s x) (act t x)
+    → heard xs (replies (next_state s (act s x)) xs) ≡ heard ys (replies (next_state t (act t x)) ys)
+    → heard (x ∷ xs) (replies s (x ∷ xs)) ≡ heard (x ∷ ys) (replies t (x ∷ ys))
+unfolding heard replies
+both_heard s t x xs ys off same rest =
+    let hx : List (List ℕ) = heard xs (replies (next_state s (act s x)) xs) in
+    let hy : List (List ℕ) = heard ys (replies (next_state t (act t x)) ys) in
+    ap (λ (c : Bool). cond c hx (text_of (act s x) ∷ hx)) off
+    ∙ ap (λ (text : List ℕ). text ∷ hx) same.text
     ∙ ap (λ (more : List (List ℕ)). text_of (act t x) ∷ more) rest
-    ∙ sym (ap (λ (c : Bool). cond c [] (text_of (act t x) ∷ []) ++ answers (next_state t (act t x)) ys) off)
+    ∙ sym (ap (λ (c : Bool). cond c hy (text_of (act t x) ∷ hy)) off)
 
-module _ (xs : List StatementView) (more : (s t : Laid) → s.database ≡ t.database → answers s xs ≡ answers t (without_moves xs)) where
-  told : (s t : Laid) → s.database ≡ t.database → (x : StatementView) → tells_layout x ≡ false → answers s (x ∷ xs) ≡ answers t (x ∷ without_moves xs)
-  told s t is x off = let same = same_act s t is x off in both_told s t x xs (without_moves xs) off same (more (next_state s (act s x)) (next_state t (act t x)) same.database)
+module _ (xs : List StatementView) (more : (s t : Laid) → s.database ≡ t.database → heard xs (replies s xs) ≡ heard (without_moves xs) (replies t (without_moves xs))) where
+  told : (s t : Laid) → s.database ≡ t.database → (x : StatementView) → tells_layout x ≡ false
+      → heard (x ∷ xs) (replies s (x ∷ xs)) ≡ heard (x ∷ without_moves xs) (replies t (x ∷ without_moves xs))
+  told s t is x off = let same = same_act s t is x off in both_heard s t x xs (without_moves xs) off same (more (next_state s (act s x)) (next_state t (act t x)) same.database)
 
-  one_more : (s t : Laid) → s.database ≡ t.database → (x : StatementView) → answers s (x ∷ xs) ≡ answers t (without_moves (x ∷ xs))
-  unfolding answers
+  one_more : (s t : Laid) → s.database ≡ t.database → (x : StatementView)
+      → heard (x ∷ xs) (replies s (x ∷ xs)) ≡ heard (without_moves (x ∷ xs)) (replies t (without_moves (x ∷ xs)))
+  unfolding heard replies
   one_more s t is (CreateVersion name from operators) = told s t is (CreateVersion name from operators) refl
   one_more s t is (DropVersion name) = told s t is (DropVersion name) refl
   one_more s t is (Insert table rows) = told s t is (Insert table rows) refl
@@ -88,8 +96,19 @@ module _ (xs : List StatementView) (more : (s t : Laid) → s.database ≡ t.dat
   one_more s t is (Session number) = told s t is (Session number) refl
   one_more s t is (Advise name) = told s t is (Advise name) refl
 
--- ALL OTHER STATEMENTS ANSWER THE SAME
-pub same_answers : (xs : List StatementView) (s t : Laid) → s.database ≡ t.database → answers s xs ≡ answers t (without_moves xs)
-unfolding answers
-same_answers [] s t is = refl
-same_answers (x ∷ xs) s t is = one_more xs (same_answers xs) s t is x
+-- ALL OTHER STATEMENTS ARE ANSWERED THE SAME
+pub same_replies : (xs : List StatementView) (s t : Laid) → s.database ≡ t.database → heard xs (replies s xs) ≡ heard (without_moves xs) (replies t (without_moves xs))
+unfolding heard replies
+same_replies [] s t is = refl
+same_replies (x ∷ xs) s t is = one_more xs (same_replies xs) s t is x
+
+-- so a run that took a script shows no move
+pub moves_unseen : (left left' held held' : Option (List ℕ)) → Done left left' held held' → MovesUnseen left left' held held'
+moves_unseen left left' held held' done = record {
+  bytes = done.bytes;
+  statements = done.statements;
+  taken = done.taken;
+  script = done.script;
+  put = done.put;
+  same = same_replies done.statements (empty_state max_id) (empty_state max_id) refl;
+}

@@ -1,9 +1,9 @@
 -- The lines that answer statements.
 use Rattle.std.proofs.Common.{◌≡◌, List, [], ◌∷◌, ◌++◌, ℕ, refl, sym, ap, ◌∙◌, append_assoc, append-nil}
-use Rattle.bidel_parser.specs.Views.{StatementView}
+use Rattle.statements.specs.Views.{StatementView}
 use Rattle.engine_layouts.specs.Laid.{Laid}
 use Rattle.engine_core.specs.Act.{act}
-use Rattle.inverda_run.specs.Output.{out, text_of, next_state}
+use Rattle.inverda_run.specs.Output.{out, replies, text_of, next_state}
 
 -- the state behind statements
 unfoldable pub state_behind : Laid → List StatementView → Laid
@@ -18,7 +18,7 @@ state_behind-more s (t ∷ ts) st = state_behind-more (next_state s (act s t)) t
 
 pub out-more : (s : Laid) (sts : List StatementView) (st : StatementView)
     → out s (sts ++ st ∷ []) ≡ out s sts ++ text_of (act (state_behind s sts) st)
-unfolding out state_behind
+unfolding replies state_behind
 out-more s [] st = append-nil (text_of (act s st))
 out-more s (t ∷ ts) st =
     let s2 = next_state s (act s t) in
@@ -26,7 +26,7 @@ out-more s (t ∷ ts) st =
 
 -- the lines of statements and of those behind them
 pub out-append : (s : Laid) (sts rest : List StatementView) → out s (sts ++ rest) ≡ out s sts ++ out (state_behind s sts) rest
-unfolding out state_behind
+unfolding replies state_behind
 out-append s [] rest = refl
 out-append s (t ∷ ts) rest =
     let s2 = next_state s (act s t) in

@@ -1,22 +1,18 @@
 -- The statements that were run so far.
-use Rattle.std.proofs.Common.{◌≡◌, ◌+◌, ◌≤◌, ℕ, List, [], ◌∷◌, ◌++◌, Option, inl, inr, refl, sym, ap, subst, ◌∙◌, drop, length, arith, length-drop}
+use Rattle.std.proofs.Common.{◌≡◌, ◌+◌, ◌≤◌, ℕ, List, [], ◌∷◌, ◌++◌, Option, refl, sym, ap, subst, ◌∙◌, drop, length, arith, length-drop}
 use Rattle.std.specs.Io.KnownBytes.{Appends}
-use Rattle.std.proofs.lemmas.List.{drop-drop}
 use Rattle.std.proofs.KnownBytes.{Appends-nil, Appends-trans}
 use Rattle.bidel_lex.specs.declared.tokens.Token.{Token}
-use Rattle.bidel_parser.specs.Views.{StatementView}
-use Rattle.bidel_parser.specs.Parsing.{start_of}
+use Rattle.statements.specs.Views.{StatementView}
+use Rattle.bidel_script.specs.declared.tokens.Tail.{Tail}
+use Rattle.bidel_script.specs.Script.{Leads, Outcome, StandsBehind}
+use Rattle.bidel_script.proofs.ScriptLemmas.{front_within, leads_more, stands_up}
 use Rattle.engine_layouts.specs.Laid.{Laid}
 use Rattle.engine_core.specs.Kept.{empty_state}
 use Rattle.engine_core.specs.Act.{act}
-use Rattle.inverda_run.specs.declared.tokens.Tail.{Tail}
-use Rattle.inverda_run.specs.Tails.{earlier}
-use Rattle.inverda_run.specs.Script.{Leads, Outcome, Over, Fault, Long, Open, StandsBehind}
-use Rattle.inverda_run.specs.Output.{out, out_of, text_of, next_state, max_id}
+use Rattle.inverda_run.specs.Output.{out, replies, out_of, text_of, next_state, max_id}
 use Rattle.inverda_run.specs.Statuses.{PutsFront}
 use Rattle.inverda_run.specs.Calls.{RunsOne, RunsTo, RunsPart, RunsFront}
-use Rattle.inverda_run.proofs.TokenLemmas.{more_open}
-use Rattle.inverda_run.proofs.ScriptLemmas.{front_within, leads_more, leads_fault, leads_begins}
 use Rattle.inverda_run.proofs.FrontLemmas.{puts_all, puts_behind}
 use Rattle.inverda_run.proofs.OutputLemmas.{state_behind, state_behind-more, out-more}
 
@@ -31,7 +27,7 @@ pub record RanSoFar (bytes : List ℕ) (tail : Tail) (tokens : List Token) (held
 -- before the first statement
 pub ran_none : (bytes : List ℕ) (tail : Tail) (tokens : List Token) (held : Option (List ℕ)) (s : Laid) → s ≡ empty_state max_id
     → RanSoFar bytes tail tokens held held s 0
-unfolding state_behind out
+unfolding state_behind replies
 ran_none bytes tail tokens held s h = record {
   statements = [];
   leads = refl;
@@ -57,30 +53,6 @@ ran_more bytes tail tokens held mid held' s s' done used r one =
           (Appends-trans held mid held' (out s0 sts) (text_of (act s st)) r.put one.put);
       state = one.next ∙ ap (λ (x : Laid). next_state x (act x st)) r.state ∙ sym (state_behind-more s0 sts st);
     }
-
--- what stands behind the tokens that are left stands behind all
-pub stands_up : (bytes : List ℕ) (tail : Tail) (tokens : List Token) (sts : List StatementView) (used : ℕ) (o : Outcome) → used ≤ length tokens
-    → Leads bytes tail tokens sts used → StandsBehind bytes tail (drop used tokens) 0 o → StandsBehind bytes tail tokens used o
-stands_up bytes tail tokens sts used Over within l h = h
-stands_up bytes tail tokens sts used (Fault at) within l h = record {
-  none = h.none;
-  short = h.short;
-  token = used + h.token;
-  within = omega (arith, within, h.within, length-drop used tokens);
-  first = leads_fault bytes tail tokens sts used l h.token h.within h.first;
-  seen = elim h.seen [
-    | inl lt ↦ inl (omega (arith, lt, length-drop used tokens))
-    | inr more ↦ inr (more.0, elim more.1 [ inl lt ↦ inl (omega (arith, lt, length-drop used tokens)) | inr bad ↦ inr bad ])
-  ];
-  place = h.place ∙ ap (λ (l : List Token). earlier (start_of (length bytes) l) tail.last) (drop-drop h.token used tokens);
-}
-stands_up bytes tail tokens sts used Long within l h = h
-stands_up bytes tail tokens sts used Open within l h = record {
-  more = h.more;
-  none = h.none;
-  begins = leads_begins bytes tail (more_open tail.last h.more) tokens sts used l h.begins;
-  short = h.short;
-}
 
 -- at what is no statement that is known to end
 pub ran_stops : (bytes : List ℕ) (tail : Tail) (tokens : List Token) (held mid held' : Option (List ℕ)) (s : Laid) (done : ℕ) (o : Outcome)

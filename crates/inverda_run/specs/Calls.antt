@@ -1,45 +1,32 @@
 -- What the inner calls give.
 use Rattle.std.specs.Prelude.{◌≡◌, ◌≢◌, ◌≤◌, ◌++◌, ℕ, Bool, true, false, List, [], take, length, Option, codes, ⊤}
 use Rattle.std.specs.Io.KnownBytes.{Appends}
-use Rattle.par_base.specs.Causes.{Rose}
+use Rattle.outside.specs.Causes.{Rose}
 use Rattle.bidel_lex.specs.declared.tokens.Token.{Token}
 use Rattle.bidel_expr.specs.Lexemes.{lexemes}
-use Rattle.bidel_parser.specs.Views.{StatementView, statement_view}
+use Rattle.statements.specs.Views.{StatementView}
 use Rattle.bidel_parser.specs.Parsing.{IsFront}
+use Rattle.bidel_script.specs.Tails.{is_over}
+use Rattle.bidel_script.specs.Lengths.{IsLong}
+use Rattle.bidel_script.specs.Script.{Leads, Comes, Outcome, StandsBehind}
+use Rattle.bidel_script.specs.Calls.{outcome_of}
+use Rattle.bidel_script.specs.declared.tokens.Tail.{Tail}
+use Rattle.bidel_script.specs.declared.front.Stop.{Stop}
+use Rattle.bidel_script.specs.declared.front.Stop.TheVariants as stop
 use Rattle.engine_layouts.specs.Laid.{Laid}
 use Rattle.engine_core.specs.Act.{act}
 use Rattle.engine_core.specs.Texts.{line}
-use Rattle.inverda_run.specs.Tails.{is_over}
-use Rattle.inverda_run.specs.Lengths.{IsLong}
-use Rattle.inverda_run.specs.Script.{Leads, Comes, Outcome, Over, Fault, Long, Open, StandsBehind}
 use Rattle.inverda_run.specs.Output.{text_of, next_state, out_of}
 use Rattle.inverda_run.specs.Statuses.{Done, Stopped, Unread, Passed, PutsFront, Writes, Begun, last_line, limit}
-use Rattle.inverda_run.specs.declared.tokens.Tail.{Tail}
 use Rattle.inverda_run.specs.declared.turn.Turn.{Turn}
 use Rattle.inverda_run.specs.declared.turn.Turn.TheVariants as turn
-use Rattle.inverda_run.specs.declared.front.Stop.{Stop}
-use Rattle.inverda_run.specs.declared.front.Stop.TheVariants as stop
-use Rattle.inverda_run.specs.declared.front.Found.{Found}
-use Rattle.inverda_run.specs.declared.front.Found.TheVariants as found
 use Rattle.inverda_run.specs.declared.run.Ran.{Ran}
 use Rattle.inverda_run.specs.declared.run.Ran.TheVariants as ran
-use Rattle.par_base.specs.declared.all.ReadAll.{ReadAll}
-use Rattle.par_base.specs.declared.all.ReadAll.TheVariants as read
+use Rattle.outside.specs.declared.all.ReadAll.{ReadAll}
+use Rattle.outside.specs.declared.all.ReadAll.TheVariants as read
 use Rattle.inverda_run.specs.declared.top.Counted.{Counted}
 use Rattle.inverda_run.specs.declared.end.End.{End}
 use Rattle.inverda_run.specs.declared.end.End.TheVariants as end
-
--- the outcome of which a stop tells
-abbrev pub outcome_of : Stop → Outcome
-outcome_of stop.Over = Over
-outcome_of (stop.Fault at) = Fault at
-outcome_of stop.Long = Long
-outcome_of stop.Open = Open
-
--- what is found at the front of the tokens: a statement that is known to end and isn't too long, or what else stands there
-abbrev pub Finds : List ℕ → Tail → List Token → Found → Type 0
-Finds bytes tail tokens (found.Whole statement used) = IsFront (is_over tail.last) (lexemes bytes tokens) (statement_view statement) used × (¬ IsLong bytes tail tokens)
-Finds bytes tail tokens (found.Stops stop) = StandsBehind bytes tail tokens 0 (outcome_of stop)
 
 -- a statement at the front of the tokens was carried out, and the lines that answer it were put
 pub record RunsOne (bytes : List ℕ) (tail : Tail) (tokens : List Token) (held held' : Option (List ℕ)) (s s' : Laid) (used : ℕ) : Type 0 where

@@ -1,12 +1,12 @@
 -- What the statuses of a run say. Source and sink tell their bytes before and now, where they know them.
-use Rattle.std.specs.Prelude.{◌≡◌, ◌++◌, ◌≤◌, ◌<◌, ◌⊎◌, ℕ, nat_le, Bool, true, false, List, [], length, take, Option, Some, None, codes, ⊤}
+use Rattle.std.specs.Prelude.{◌≡◌, ◌++◌, ◌≤◌, ◌<◌, ◌⊎◌, ℕ, nat_le, Bool, true, false, List, [], length, take, Option, Some, None, codes, decimal, ⊤}
 use Rattle.std.specs.Io.KnownBytes.{Consumes, Appends, IsAtEnd}
-use Rattle.par_base.specs.Causes.{Rose}
-use Rattle.bidel_parser.specs.Views.{StatementView}
+use Rattle.outside.specs.Causes.{Rose}
+use Rattle.statements.specs.Views.{StatementView}
+use Rattle.bidel_script.specs.Places.{Place, place_of}
+use Rattle.bidel_script.specs.Script.{IsScript, Comes, Outcome, Over, Fault, Long, Open}
 use Rattle.engine_core.specs.Texts.{line}
-use Rattle.inverda_run.specs.Script.{IsScript, Comes, Outcome, Over, Fault, Long, Open}
 use Rattle.inverda_run.specs.Output.{out_of}
-use Rattle.inverda_run.specs.Places.{place_of, fault_line}
 
 -- the greatest number of bytes of a script
 abbrev pub limit : ℕ
@@ -22,6 +22,10 @@ pub data Taken (left left' : Option (List ℕ)) (was is : ℕ) (bytes : List ℕ
   above : (taken : List ℕ) → Consumes left left' taken → limit < length taken → bytes ≡ take limit taken → ended ≡ false → Taken left left' was is bytes ended
 
 -- ---- what was put
+
+-- the last line of a run that found a fault
+abbrev pub fault_line : Place → List ℕ
+fault_line place = line (codes "syntax " ++ decimal place.line ++ codes ":" ++ decimal place.column)
 
 -- the last line of a run; where a statement is still open it is the line of what stopped the reading
 abbrev pub last_line : List ℕ → List ℕ → Outcome → List ℕ

@@ -1,8 +1,9 @@
 //! The last line of a run that found a fault.
 ghost use Rattle.std.specs.Prelude.{◌≡◌, ◌≤◌, length, IfOk};
-ghost use Rattle.inverda_run.specs.Places.{fault_line, place_of};
+ghost use Rattle.bidel_script.specs.Places.{place_of};
+ghost use Rattle.inverda_run.specs.Statuses.{fault_line};
 
-use crate::place::place_behind;
+use bidel_script::place_behind;
 use par_base::{Memory, Text};
 use std::alloc::Global;
 

@@ -1,16 +1,16 @@
 //! One statement after the other.
 ghost use Rattle.std.specs.Prelude.{◌≡◌, ◌≤◌};
 ghost use Rattle.bidel_lex.specs.Tokens.{AreTokens};
-ghost use Rattle.inverda_run.specs.Tails.{Fits};
+ghost use Rattle.bidel_script.specs.Tails.{Fits};
 ghost use Rattle.inverda_run.specs.Calls.{Runs};
 
-use crate::front::Stop;
-use crate::tokens::Tail;
 use crate::turn::{Turn, take_turn};
 use bidel_lex::Token;
+use bidel_script::{Stop, Tail};
 use engine_core::Engine;
 use expr_lang::Steps;
-use par_base::{Limits, Sink};
+use outside::Sink;
+use par_base::Limits;
 use std::alloc::Global;
 use std::sync::ledger::Ledger;
 

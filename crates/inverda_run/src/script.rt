@@ -1,15 +1,16 @@
 //! The bytes of a script, and the last line.
 ghost use Rattle.std.specs.Prelude.{◌≡◌, ◌≤◌, ◌<◌, ◌++◌, length, codes, IfOk, IfSome};
+ghost use Rattle.bidel_script.specs.Calls.{outcome_of};
 ghost use Rattle.engine_core.specs.Texts.{line};
 ghost use Rattle.inverda_run.specs.Statuses.{PutsFront, last_line};
-ghost use Rattle.inverda_run.specs.Calls.{EndsScript, AtWithin, PutsLine, RunsScript, outcome_of};
+ghost use Rattle.inverda_run.specs.Calls.{EndsScript, AtWithin, PutsLine, RunsScript};
 
-use crate::front::Stop;
 use crate::lines::syntax_line;
 use crate::run::{Ran, run_tokens};
-use crate::tokens::all_tokens;
+use bidel_script::{Stop, all_tokens};
 use expr_lang::Steps;
-use par_base::{Failed, Memory, Sink, write_all};
+use outside::{Failed, Sink, write_all};
+use par_base::Memory;
 use std::alloc::Global;
 use std::sync::ledger::{Blank, Ledger};
 

@@ -1,17 +1,19 @@
 //! The call that a program makes.
 ghost use Rattle.std.specs.Prelude.{◌≡◌, ◌≢◌, ◌⊎◌, ◌≤◌, ℕ, List, [], codes, take};
 ghost use Rattle.std.specs.Io.KnownBytes.{Appends};
-ghost use Rattle.par_base.specs.Causes.{Rose};
+ghost use Rattle.outside.specs.Causes.{Rose};
 ghost use Rattle.engine_core.specs.Texts.{line};
+ghost use Rattle.inverda_run.specs.Moves.{MovesUnseen};
 ghost use Rattle.inverda_run.specs.Statuses.{Done, Answers, Begun, Stopped, Unread, Passed};
 ghost use Rattle.inverda_run.specs.Statuses.{HadFault, HadMore, HadScript, limit};
 ghost use Rattle.inverda_run.specs.Calls.{Counts, Ends, ended_by};
 
 use crate::end::End;
-use crate::front::Stop;
 use crate::run::Ran;
 use crate::script::end_script;
-use par_base::{Failed, Files, Memory, ReadAll, Sink, Source, read_all, write_all};
+use bidel_script::Stop;
+use outside::{Failed, Files, ReadAll, Sink, Source, read_all, write_all};
+use par_base::Memory;
 use std::alloc::Global;
 use std::marker::Brand;
 use std::sync::ledger::Blank;
@@ -134,6 +136,8 @@ pub fn inverda<S: Source, K: Sink, F: Files>(
     ensures done { result ≡ 0 → (words.now ≡ [])
         × Done (S.left script.old) (S.left script.new) (K.held out.old) (K.held out.new) }
     ensures answers { result ≡ 0 → Answers (S.left script.old) (K.held out.old) (K.held out.new) }
+    ensures unseen { result ≡ 0
+        → MovesUnseen (S.left script.old) (S.left script.new) (K.held out.old) (K.held out.new) }
     ensures complete { words.now ≡ [] → HadScript (S.left script.old)
         → ¬ Rose (S.faults script.old) (S.faults script.new)
         → ¬ Rose (K.faults out.old) (K.faults out.new) → (result ≡ 0) ⊎ (result ≡ 1) }

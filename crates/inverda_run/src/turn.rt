@@ -2,21 +2,21 @@
 ghost use Rattle.std.specs.Prelude.{◌≡◌, ◌≤◌, IfOk, OnOk};
 ghost use Rattle.bidel_lex.specs.Tokens.{AreTokens};
 ghost use Rattle.expr_lang.specs.Operations.{text_limit};
-ghost use Rattle.bidel_parser.specs.Views.{statement_view};
-ghost use Rattle.bidel_parser.specs.Texts.{TextsWithin};
+ghost use Rattle.statements.specs.Views.{statement_view};
+ghost use Rattle.statements.specs.Texts.{TextsWithin};
+ghost use Rattle.bidel_script.specs.Tails.{Fits};
 ghost use Rattle.engine_core.specs.Act.{act};
 ghost use Rattle.engine_core.specs.Kept.{state_of};
 ghost use Rattle.inverda_run.specs.Output.{next_state, text_of};
-ghost use Rattle.inverda_run.specs.Tails.{Fits};
 ghost use Rattle.inverda_run.specs.Calls.{Turns};
 
-use crate::front::{Found, Stop, find_front};
-use crate::tokens::Tail;
 use bidel_lex::Token;
-use bidel_parser::Statement;
+use bidel_script::{Found, Stop, Tail, find_front};
 use engine_core::{Engine, refusal_text, reply_text};
 use expr_lang::Steps;
-use par_base::{Failed, Fault, Memory, Sink, Text, write_all};
+use outside::{Failed, Sink, write_all};
+use par_base::{Fault, Memory, Text};
+use statements::Statement;
 use std::alloc::Global;
 use std::sync::ledger::Ledger;
 

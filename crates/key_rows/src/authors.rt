@@ -1,7 +1,7 @@
 //! Authors as a column of the first release and as a table of a later one: where they come from, when they go, and
 //! references that dangle.
-use crate::runs::{expect_everywhere, expect_script};
 use crate::tasky::{PAPER, VERSIONS};
+use row_runs::{expect_everywhere, expect_script};
 use std::test::Fail;
 
 #[test]
@@ -28,7 +28,7 @@ fn a_task_of_the_app_brings_its_author(rt: HostRuntime) -> Result<(), Fail> {
             "p|name\n#5|'Ann'\n#6|'Ben'\n#8|'Eve'\nrows 3",
         ),
     ];
-    expect_everywhere(&rt, rt.alloc(), &[&PAPER, &script], &VERSIONS)
+    expect_everywhere(rt.alloc(), &[&PAPER, &script], &VERSIONS)
 }
 
 #[test]
@@ -75,8 +75,8 @@ rows 5",
         ),
     ];
     let alloc = rt.alloc();
-    expect_everywhere(&rt, alloc, &[&PAPER, &gone], &VERSIONS)?;
-    expect_everywhere(&rt, alloc, &[&PAPER, &alone], &VERSIONS)
+    expect_everywhere(alloc, &[&PAPER, &gone], &VERSIONS)?;
+    expect_everywhere(alloc, &[&PAPER, &alone], &VERSIONS)
 }
 
 #[test]
@@ -93,7 +93,7 @@ fn an_author_goes_with_the_last_task(rt: HostRuntime) -> Result<(), Fail> {
             "p|author|task|prio\n#5|'Ann'|null|null\nrows 1",
         ),
     ];
-    expect_everywhere(&rt, rt.alloc(), &[&PAPER, &script], &VERSIONS)
+    expect_everywhere(rt.alloc(), &[&PAPER, &script], &VERSIONS)
 }
 
 #[test]
@@ -163,8 +163,8 @@ ok",
         ),
     ];
     let alloc = rt.alloc();
-    expect_everywhere(&rt, alloc, &[&PAPER, &script], &VERSIONS)?;
-    expect_script(&rt, alloc, &[&PAPER, &layout])
+    expect_everywhere(alloc, &[&PAPER, &script], &VERSIONS)?;
+    expect_script(alloc, &[&PAPER, &layout])
 }
 
 #[test]
@@ -251,8 +251,8 @@ rows 4",
         ),
     ];
     let alloc = rt.alloc();
-    expect_everywhere(&rt, alloc, &[&PAPER, &script, &again], &VERSIONS)?;
-    expect_script(&rt, alloc, &[&PAPER, &script, &kept, &again])
+    expect_everywhere(alloc, &[&PAPER, &script, &again], &VERSIONS)?;
+    expect_script(alloc, &[&PAPER, &script, &kept, &again])
 }
 
 #[test]
@@ -323,5 +323,5 @@ rows 5",
         ("DELETE FROM TasKy.task WHERE task IS NULL;", "deleted 1"),
         ("SELECT * FROM TasKy2.author;", "p|name\n#6|'Ben'\nrows 1"),
     ];
-    expect_everywhere(&rt, rt.alloc(), &[&PAPER, &script], &VERSIONS)
+    expect_everywhere(rt.alloc(), &[&PAPER, &script], &VERSIONS)
 }

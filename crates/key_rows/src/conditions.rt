@@ -1,5 +1,5 @@
 //! JOIN on a condition: pairs that match, are deleted, come again, are made by hand or are taken.
-use crate::runs::{Given, expect_everywhere, expect_script};
+use row_runs::{Given, expect_everywhere, expect_script};
 use std::test::Fail;
 
 /// Two tables, and their rows joined where the one isn't above the other.
@@ -84,7 +84,7 @@ fn rows_that_match_are_shown(rt: HostRuntime) -> Result<(), Fail> {
         ("SELECT * FROM a.s;", "p|x\n#1|1\n#2|2\n#8|100\nrows 3"),
         ("SELECT * FROM b.r;", "p|x|y\n#5|1|1\n#7|2|8\nrows 2"),
     ];
-    expect_everywhere(&rt, rt.alloc(), &[&PAIRS, &script], &VERSIONS)
+    expect_everywhere(rt.alloc(), &[&PAIRS, &script], &VERSIONS)
 }
 
 #[test]
@@ -139,7 +139,7 @@ ok",
         ("SELECT * FROM a.s;", "p|x\n#1|1\n#2|2\n#8|100\nrows 3"),
         ("SELECT * FROM b.r;", "p|x|y\n#7|2|8\nrows 1"),
     ];
-    expect_script(&rt, rt.alloc(), &[&PAIRS, &script])
+    expect_script(rt.alloc(), &[&PAIRS, &script])
 }
 
 #[test]
@@ -180,8 +180,8 @@ fn a_pair_that_is_taken_gets_a_row_of_its_own(rt: HostRuntime) -> Result<(), Fai
         ),
     ];
     let alloc = rt.alloc();
-    expect_everywhere(&rt, alloc, &[&PAIRS, &script], &VERSIONS)?;
-    expect_everywhere(&rt, alloc, &[&PAIRS, &both], &VERSIONS)
+    expect_everywhere(alloc, &[&PAIRS, &script], &VERSIONS)?;
+    expect_everywhere(alloc, &[&PAIRS, &both], &VERSIONS)
 }
 
 #[test]
@@ -209,7 +209,7 @@ fn a_deleted_pair_stays_away_until_it_matches_anew(rt: HostRuntime) -> Result<()
             "p|x|y\n#8|1|1\n#10|1|2\n#11|2|2\nrows 3",
         ),
     ];
-    expect_everywhere(&rt, rt.alloc(), &[&PAIRS, &script], &VERSIONS)
+    expect_everywhere(rt.alloc(), &[&PAIRS, &script], &VERSIONS)
 }
 
 #[test]
@@ -235,7 +235,7 @@ fn a_row_that_is_written_takes_the_first_equal_rows(rt: HostRuntime) -> Result<(
         ("SELECT * FROM a.s;", "p|x\n#1|1\n#7|1\nrows 2"),
         ("SELECT * FROM a.t;", "p|y\n#3|1\nrows 1"),
     ];
-    expect_everywhere(&rt, rt.alloc(), &[&EQUAL, &script], &VERSIONS)
+    expect_everywhere(rt.alloc(), &[&EQUAL, &script], &VERSIONS)
 }
 
 #[test]
@@ -255,8 +255,8 @@ fn pairs_are_made_by_hand_where_none_matches(rt: HostRuntime) -> Result<(), Fail
         ("SELECT * FROM a.t;", "p|y\nrows 0"),
     ];
     let alloc = rt.alloc();
-    expect_everywhere(&rt, alloc, &[&NEVER, &script], &VERSIONS)?;
-    expect_everywhere(&rt, alloc, &[&NULL, &script], &VERSIONS)
+    expect_everywhere(alloc, &[&NEVER, &script], &VERSIONS)?;
+    expect_everywhere(alloc, &[&NULL, &script], &VERSIONS)
 }
 
 #[test]
@@ -302,5 +302,5 @@ rows 8",
             "p|x|y\n#7|2|30\n#8|2|40\n#10|2|30\n#11|2|40\n#14|2|7\n#15|2|7\nrows 6",
         ),
     ];
-    expect_everywhere(&rt, rt.alloc(), &[&ALWAYS, &script], &VERSIONS)
+    expect_everywhere(rt.alloc(), &[&ALWAYS, &script], &VERSIONS)
 }

@@ -1,6 +1,6 @@
 //! Refusals of DECOMPOSE: lists that repeat a column, leave one out or name one that isn't there, foreign key
 //! columns, names that are taken, and which check comes first.
-use crate::runs::expect_each;
+use row_runs::expect_each;
 use std::test::Fail;
 
 const FRONT: &str = "CREATE SCHEMA VERSION a WITH CREATE TABLE t(x, y); CREATE TABLE q(z);
@@ -11,7 +11,6 @@ const FRONT_REPLIES: &str = "ok\ninserted 1 #1\n";
 #[test]
 fn a_list_names_columns_of_the_table(rt: HostRuntime) -> Result<(), Fail> {
     expect_each(
-        &rt,
         rt.alloc(),
         FRONT,
         FRONT_REPLIES,
@@ -64,7 +63,6 @@ fn a_list_names_columns_of_the_table(rt: HostRuntime) -> Result<(), Fail> {
 #[test]
 fn two_lists_share_the_columns_among_them(rt: HostRuntime) -> Result<(), Fail> {
     expect_each(
-        &rt,
         rt.alloc(),
         FRONT,
         FRONT_REPLIES,
@@ -171,7 +169,6 @@ fn two_lists_share_the_columns_among_them(rt: HostRuntime) -> Result<(), Fail> {
 #[test]
 fn a_foreign_key_column_is_a_new_one(rt: HostRuntime) -> Result<(), Fail> {
     expect_each(
-        &rt,
         rt.alloc(),
         FRONT,
         FRONT_REPLIES,
@@ -221,7 +218,6 @@ fn a_foreign_key_column_is_a_new_one(rt: HostRuntime) -> Result<(), Fail> {
 #[test]
 fn a_condition_is_over_the_columns_of_the_table(rt: HostRuntime) -> Result<(), Fail> {
     expect_each(
-        &rt,
         rt.alloc(),
         FRONT,
         FRONT_REPLIES,

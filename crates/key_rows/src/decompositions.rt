@@ -1,5 +1,5 @@
 //! DECOMPOSE on a condition: each row becomes a pair of rows, and pairs that match become rows.
-use crate::runs::{Given, expect_everywhere, expect_script};
+use row_runs::{Given, expect_everywhere, expect_script};
 use std::test::Fail;
 
 const NO_ROWS: [Given; 2] = [
@@ -46,7 +46,7 @@ fn a_row_becomes_a_pair(rt: HostRuntime) -> Result<(), Fail> {
             "p|x|y\n#1|3|3\n#2|3|3\n#7|3|3\n#8|3|3\n#12|5|5\nrows 5",
         ),
     ];
-    expect_everywhere(&rt, rt.alloc(), &[&NO_ROWS, &script], &VERSIONS)
+    expect_everywhere(rt.alloc(), &[&NO_ROWS, &script], &VERSIONS)
 }
 
 #[test]
@@ -62,7 +62,7 @@ fn rows_that_match_no_more_go(rt: HostRuntime) -> Result<(), Fail> {
         ("SELECT * FROM b.s;", "p|x\n#3|5\nrows 1"),
         ("SELECT * FROM b.u;", "p|y\n#4|4\n#6|5\nrows 2"),
     ];
-    expect_everywhere(&rt, rt.alloc(), &[&NO_ROWS, &script], &VERSIONS)
+    expect_everywhere(rt.alloc(), &[&NO_ROWS, &script], &VERSIONS)
 }
 
 #[test]
@@ -117,7 +117,7 @@ rows 8",
 rows 8",
         ),
     ];
-    expect_everywhere(&rt, rt.alloc(), &[&ROWS, &script], &VERSIONS)
+    expect_everywhere(rt.alloc(), &[&ROWS, &script], &VERSIONS)
 }
 
 #[test]
@@ -160,7 +160,7 @@ ok",
             "p|z|x\n#6|'a'|1\n#9|'a'|1\n#10|'b'|2\n#12|null|null\n#14|'d'|9\nrows 5",
         ),
     ];
-    expect_script(&rt, rt.alloc(), &[&ROWS, &script])
+    expect_script(rt.alloc(), &[&ROWS, &script])
 }
 
 #[test]
@@ -185,7 +185,7 @@ fn pairs_are_joined_again(rt: HostRuntime) -> Result<(), Fail> {
         ("DELETE FROM c.r WHERE x = 5;", "deleted 1"),
         ("SELECT * FROM a.t;", "p|x|y\nrows 0"),
     ];
-    expect_everywhere(&rt, rt.alloc(), &[&NO_ROWS, &script], &["c", "a", "b"])
+    expect_everywhere(rt.alloc(), &[&NO_ROWS, &script], &["c", "a", "b"])
 }
 
 #[test]
@@ -205,5 +205,5 @@ fn a_version_that_is_dropped_forgets_its_pairs(rt: HostRuntime) -> Result<(), Fa
         ("INSERT INTO b.u VALUES (3);", "inserted 1 #9"),
         ("SELECT * FROM a.t;", "p|x|y\n#1|3|3\n#10|3|3\nrows 2"),
     ];
-    expect_everywhere(&rt, rt.alloc(), &[&NO_ROWS, &script], &VERSIONS)
+    expect_everywhere(rt.alloc(), &[&NO_ROWS, &script], &VERSIONS)
 }

@@ -1,5 +1,5 @@
 //! The scripts of `examples/` that the gate doesn't give to the program itself, with their replies.
-use crate::runs::expect_replies;
+use row_runs::expect_replies;
 use std::test::Fail;
 
 // `examples/moving.bidel`
@@ -76,7 +76,7 @@ table 1 task rows 5
 operator 1 create_table target aux 0
 ok
 ";
-    expect_replies(&rt, rt.alloc(), script, replies)
+    expect_replies(rt.alloc(), script, replies)
 }
 
 // `examples/conditions.bidel`
@@ -181,5 +181,5 @@ p|door|seats
 #16|'A'|8
 rows 2
 ";
-    expect_replies(&rt, rt.alloc(), script, replies)
+    expect_replies(rt.alloc(), script, replies)
 }

@@ -1,5 +1,5 @@
 //! DECOMPOSE on a foreign key: one row for equal values, nulls, and references that are written by hand.
-use crate::runs::{Given, expect_everywhere};
+use row_runs::{Given, expect_everywhere};
 use std::test::Fail;
 
 const DECOMPOSED: [Given; 3] = [
@@ -77,7 +77,7 @@ rows 10",
 rows 10",
         ),
     ];
-    expect_everywhere(&rt, rt.alloc(), &[&DECOMPOSED, &script], &VERSIONS)
+    expect_everywhere(rt.alloc(), &[&DECOMPOSED, &script], &VERSIONS)
 }
 
 #[test]
@@ -138,5 +138,5 @@ rows 5",
         ("DELETE FROM a.t WHERE x = 9;", "deleted 3"),
         ("SELECT * FROM b.u;", "p|z|y\n#7|5|'k'\n#8|null|'k'\nrows 2"),
     ];
-    expect_everywhere(&rt, rt.alloc(), &[&DECOMPOSED, &script], &VERSIONS)
+    expect_everywhere(rt.alloc(), &[&DECOMPOSED, &script], &VERSIONS)
 }

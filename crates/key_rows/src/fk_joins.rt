@@ -1,6 +1,6 @@
 //! JOIN on a foreign key: the rows that refer to one, what a write through them draws, and what is kept of both
 //! tables beside them.
-use crate::runs::{Given, expect_everywhere, expect_script};
+use row_runs::{Given, expect_everywhere, expect_script};
 use std::test::Fail;
 
 const TABLES: [Given; 4] = [
@@ -105,7 +105,7 @@ rows 7",
 rows 7",
         ),
     ];
-    expect_everywhere(&rt, rt.alloc(), &[&TABLES, &script], &VERSIONS)
+    expect_everywhere(rt.alloc(), &[&TABLES, &script], &VERSIONS)
 }
 
 #[test]
@@ -130,7 +130,7 @@ fn rows_come_and_go_with_their_reference(rt: HostRuntime) -> Result<(), Fail> {
         ("SELECT * FROM a.s;", "p|x|f|w\n#7|4|#4|'d'\nrows 1"),
         ("SELECT * FROM a.u;", "p|y\n#1|'k'\n#2|'m'\n#3|null\nrows 3"),
     ];
-    expect_everywhere(&rt, rt.alloc(), &[&TABLES, &script], &VERSIONS)
+    expect_everywhere(rt.alloc(), &[&TABLES, &script], &VERSIONS)
 }
 
 #[test]
@@ -162,7 +162,7 @@ rows 6",
             "p|y\n#1|'k'\n#2|'m'\n#3|null\n#9|'k'\n#10|'k'\n#12|'new'\nrows 6",
         ),
     ];
-    expect_everywhere(&rt, rt.alloc(), &[&TABLES, &script], &VERSIONS)
+    expect_everywhere(rt.alloc(), &[&TABLES, &script], &VERSIONS)
 }
 
 #[test]
@@ -215,7 +215,7 @@ ok",
             "p|x|f|w\n#5|2|#2|'b'\n#6|3|null|'c'\n#7|4|#3|'d'\n#8|5|#2|'e'\n#9|6|#10|'f'\nrows 5",
         ),
     ];
-    expect_script(&rt, rt.alloc(), &[&TABLES, &script])
+    expect_script(rt.alloc(), &[&TABLES, &script])
 }
 
 #[test]
@@ -282,5 +282,5 @@ rows 8",
             "p|x|y\n#5|null|'k'\n#9|null|'n'\nrows 2",
         ),
     ];
-    expect_everywhere(&rt, rt.alloc(), &[&CHAIN, &script], &["d", "a", "c", "b"])
+    expect_everywhere(rt.alloc(), &[&CHAIN, &script], &["d", "a", "c", "b"])
 }

@@ -1,6 +1,6 @@
 //! OUTER JOIN on a foreign key: references that stand, that dangle or are none, null rows on either
 //! side, equal rows, and rows to which nothing refers.
-use crate::runs::{Given, expect_everywhere, expect_script};
+use row_runs::{Given, expect_everywhere, expect_script};
 use std::test::Fail;
 
 const JOINED: [Given; 4] = [
@@ -47,7 +47,7 @@ fn a_row_shows_what_it_refers_to(rt: HostRuntime) -> Result<(), Fail> {
             "p|x|y\n#2|null|'m'\n#3|1|'k'\n#4|2|'m'\nrows 3",
         ),
     ];
-    expect_everywhere(&rt, rt.alloc(), &[&JOINED, &script], &VERSIONS)
+    expect_everywhere(rt.alloc(), &[&JOINED, &script], &VERSIONS)
 }
 
 #[test]
@@ -96,7 +96,7 @@ fn what_is_no_reference_shows_nulls(rt: HostRuntime) -> Result<(), Fail> {
             "p|x|f\n#3|11|#1\n#4|12|#1\n#5|16|null\n#6|17|#1\nrows 4",
         ),
     ];
-    expect_everywhere(&rt, rt.alloc(), &[&JOINED, &script], &VERSIONS)
+    expect_everywhere(rt.alloc(), &[&JOINED, &script], &VERSIONS)
 }
 
 #[test]
@@ -163,8 +163,8 @@ ok",
         ),
     ];
     let alloc = rt.alloc();
-    expect_everywhere(&rt, alloc, &[&JOINED, &script], &VERSIONS)?;
-    expect_script(&rt, alloc, &[&JOINED, &layout])
+    expect_everywhere(alloc, &[&JOINED, &script], &VERSIONS)?;
+    expect_script(alloc, &[&JOINED, &layout])
 }
 
 #[test]
@@ -210,7 +210,7 @@ fn null_rows_stand_on_either_side(rt: HostRuntime) -> Result<(), Fail> {
             "p|x|y\n#2|9|null\n#3|9|null\n#4|9|null\n#6|null|null\n#7|null|'n'\nrows 5",
         ),
     ];
-    expect_everywhere(&rt, rt.alloc(), &[&NO_ROWS, &script], &VERSIONS)
+    expect_everywhere(rt.alloc(), &[&NO_ROWS, &script], &VERSIONS)
 }
 
 #[test]
@@ -243,7 +243,7 @@ fn a_row_without_references_stands_alone(rt: HostRuntime) -> Result<(), Fail> {
         ("DELETE FROM b.r WHERE p = #2;", "deleted 1"),
         ("SELECT * FROM a.u;", "p|y\n#1|null\n#5|'k'\nrows 2"),
     ];
-    expect_everywhere(&rt, rt.alloc(), &[&JOINED, &script], &VERSIONS)
+    expect_everywhere(rt.alloc(), &[&JOINED, &script], &VERSIONS)
 }
 
 #[test]
@@ -286,5 +286,5 @@ fn the_first_equal_row_that_is_not_alone_is_taken(rt: HostRuntime) -> Result<(),
         ),
         ("SELECT * FROM a.u;", "p|y\n#9|'n'\nrows 1"),
     ];
-    expect_everywhere(&rt, rt.alloc(), &[&NO_ROWS, &script], &VERSIONS)
+    expect_everywhere(rt.alloc(), &[&NO_ROWS, &script], &VERSIONS)
 }

@@ -1,7 +1,6 @@
 //! Refusals of JOIN and OUTER JOIN: tables and columns that aren't there, that are there twice or are taken, and
 //! which check comes first.
-use crate::runs::expect_each;
-use std::alloc::Global;
+use row_runs::{columns, expect_each};
 use std::test::Fail;
 
 const FRONT: &str =
@@ -10,19 +9,9 @@ INSERT INTO a.u VALUES ('k'); INSERT INTO a.s VALUES (1, #1); CREATE SCHEMA VERS
 
 const FRONT_REPLIES: &str = "ok\ninserted 1 #1\ninserted 1 #2\n";
 
-// The names c1, c2 and so on of some columns.
-fn columns(alloc: Global, count: u64) -> Result<String, Fail> {
-    let mut names = String::from_str(alloc, "c1")?;
-    for number in 2..=count {
-        write!(names, ", c{number}")?;
-    }
-    Ok(names)
-}
-
 #[test]
 fn tables_of_a_join_are_there_and_differ(rt: HostRuntime) -> Result<(), Fail> {
     expect_each(
-        &rt,
         rt.alloc(),
         FRONT,
         FRONT_REPLIES,
@@ -92,7 +81,6 @@ fn tables_of_a_join_are_there_and_differ(rt: HostRuntime) -> Result<(), Fail> {
 #[test]
 fn columns_of_a_join_are_there_once(rt: HostRuntime) -> Result<(), Fail> {
     expect_each(
-        &rt,
         rt.alloc(),
         FRONT,
         FRONT_REPLIES,
@@ -187,7 +175,6 @@ fn columns_of_a_join_are_there_once(rt: HostRuntime) -> Result<(), Fail> {
 #[test]
 fn an_outer_join_on_a_condition_is_not_built(rt: HostRuntime) -> Result<(), Fail> {
     expect_each(
-        &rt,
         rt.alloc(),
         FRONT,
         FRONT_REPLIES,
@@ -221,7 +208,6 @@ CREATE SCHEMA VERSION b FROM a WITH "
     )?;
     let wide = "refused 14 too many columns r, limit 64";
     expect_each(
-        &rt,
         alloc,
         front.as_str(),
         "ok\n",

@@ -24,8 +24,6 @@ mod join_refusals;
 #[cfg(test)]
 mod primary_keys;
 #[cfg(test)]
-mod runs;
-#[cfg(test)]
 mod sizes;
 #[cfg(test)]
 mod tasky;

@@ -1,6 +1,6 @@
 //! DECOMPOSE into one table, and DECOMPOSE, JOIN and OUTER JOIN on the primary key: the parts of a row under
 //! one identifier, null rows on either side, and rows that one side lacks.
-use crate::runs::{Given, expect_everywhere, expect_script};
+use row_runs::{Given, expect_everywhere, expect_script};
 use std::test::Fail;
 
 const COLUMNS: [Given; 3] = [
@@ -75,7 +75,7 @@ fn some_columns_are_shown(rt: HostRuntime) -> Result<(), Fail> {
             "p|x|y|z\n#3|8|null|7\n#4|null|null|null\n#5|null|null|null\nrows 3",
         ),
     ];
-    expect_everywhere(&rt, rt.alloc(), &[&COLUMNS, &script], &["b", "c", "a"])
+    expect_everywhere(rt.alloc(), &[&COLUMNS, &script], &["b", "c", "a"])
 }
 
 #[test]
@@ -118,7 +118,7 @@ ok",
             "p|x|y|z\n#2|4|5|6\n#3|8|null|7\nrows 2",
         ),
     ];
-    expect_script(&rt, rt.alloc(), &[&COLUMNS, &script])
+    expect_script(rt.alloc(), &[&COLUMNS, &script])
 }
 
 #[test]
@@ -148,7 +148,7 @@ fn parts_that_are_null_are_no_rows(rt: HostRuntime) -> Result<(), Fail> {
             "p|x|y\n#2|5|6\n#3|5|null\n#4|7|null\nrows 3",
         ),
     ];
-    expect_everywhere(&rt, rt.alloc(), &[&PARTS, &script], &["c", "b", "a"])
+    expect_everywhere(rt.alloc(), &[&PARTS, &script], &["c", "b", "a"])
 }
 
 #[test]
@@ -171,7 +171,7 @@ fn null_rows_of_a_part_are_rows(rt: HostRuntime) -> Result<(), Fail> {
         ("DELETE FROM b.u;", "deleted 3"),
         ("SELECT * FROM a.t;", "p|x|y\n#4|null|null\nrows 1"),
     ];
-    expect_everywhere(&rt, rt.alloc(), &[&NO_ROWS, &script], &["b", "a"])
+    expect_everywhere(rt.alloc(), &[&NO_ROWS, &script], &["b", "a"])
 }
 
 #[test]
@@ -209,7 +209,7 @@ ok",
         ),
         ("SELECT * FROM b.s;", "p|x\n#1|null\n#5|1\nrows 2"),
     ];
-    expect_script(&rt, rt.alloc(), &[&NO_ROWS, &script])
+    expect_script(rt.alloc(), &[&NO_ROWS, &script])
 }
 
 #[test]
@@ -244,7 +244,7 @@ fn rows_of_both_tables_are_joined(rt: HostRuntime) -> Result<(), Fail> {
         ("SELECT * FROM a.s;", "p|x\n#1|2\n#2|3\n#4|11\nrows 3"),
         ("SELECT * FROM a.u;", "p|y\n#3|3\nrows 1"),
     ];
-    expect_everywhere(&rt, rt.alloc(), &[&TWO_TABLES, &script], &["b", "a"])
+    expect_everywhere(rt.alloc(), &[&TWO_TABLES, &script], &["b", "a"])
 }
 
 #[test]
@@ -274,7 +274,7 @@ fn rows_of_either_table_are_joined(rt: HostRuntime) -> Result<(), Fail> {
         ("SELECT * FROM a.s;", "p|x\n#1|6\n#3|6\n#4|6\n#5|6\nrows 4"),
         ("SELECT * FROM a.u;", "p|y\n#1|9\n#3|3\nrows 2"),
     ];
-    expect_everywhere(&rt, rt.alloc(), &[&TWO_TABLES, &script], &["b", "a"])
+    expect_everywhere(rt.alloc(), &[&TWO_TABLES, &script], &["b", "a"])
 }
 
 #[test]
@@ -331,6 +331,6 @@ ok",
         ),
     ];
     let alloc = rt.alloc();
-    expect_script(&rt, alloc, &[&TWO_TABLES, &inner])?;
-    expect_script(&rt, alloc, &[&TWO_TABLES, &outer])
+    expect_script(alloc, &[&TWO_TABLES, &inner])?;
+    expect_script(alloc, &[&TWO_TABLES, &outer])
 }

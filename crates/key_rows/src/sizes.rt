@@ -1,5 +1,5 @@
 //! Tables of many rows: decomposed, moved and joined again, by values and by pairs.
-use crate::runs::{expect_replies, inserted};
+use row_runs::{expect_replies, inserted};
 use std::alloc::Global;
 use std::test::Fail;
 
@@ -57,7 +57,7 @@ SELECT * FROM b.s WHERE p > #19999; SELECT * FROM a.t WHERE p > #19999; MATERIAL
 {pair}moved 2\n{pair}updated 1\n{twice}p|x|f\n#20000|7|#20001\nrows 1
 p|x|y\n#20000|7|1\n#40000|null|20000\nrows 2\nmoved 2\n{twice}"
     )?;
-    expect_replies(&rt, alloc, script.as_str(), replies.as_str())
+    expect_replies(alloc, script.as_str(), replies.as_str())
 }
 
 #[test]
@@ -87,5 +87,5 @@ deleted 10\nmoved 1\np|y\n#600|305\nrows 1
 inserted 1 #3603\np|x\n#300|299\n#3604|299\nrows 2
 p\n#3591\n#3592\n#3593\n#3594\n#3595\n#3596\n#3597\n#3598\n#3603\nrows 9\n"
     )?;
-    expect_replies(&rt, alloc, script.as_str(), replies.as_str())
+    expect_replies(alloc, script.as_str(), replies.as_str())
 }

@@ -1,6 +1,6 @@
 //! The to-do list of the paper: an app for what is urgent and a release with authors of their own, beside the
 //! first release, all written at once.
-use crate::runs::{Given, expect_each, expect_everywhere, expect_script};
+use row_runs::{Given, expect_each, expect_everywhere, expect_script};
 use std::alloc::Global;
 use std::test::Fail;
 
@@ -63,7 +63,7 @@ pub const VERSIONS: [&str; 3] = ["TasKy2", "Do!", "TasKy"];
 
 #[test]
 fn all_releases_show_the_tasks(rt: HostRuntime) -> Result<(), Fail> {
-    expect_everywhere(&rt, rt.alloc(), &[&PAPER, &SHOWN], &VERSIONS)
+    expect_everywhere(rt.alloc(), &[&PAPER, &SHOWN], &VERSIONS)
 }
 
 #[test]
@@ -109,7 +109,6 @@ ok",
         ),
     ];
     expect_script(
-        &rt,
         rt.alloc(),
         &[
             &PAPER,
@@ -141,7 +140,7 @@ fn layouts_that_share_a_table_are_refused(rt: HostRuntime) -> Result<(), Fail> {
         ("MATERIALIZE TasKy2.author, TasKy2.task;", "moved 0"),
         ("MATERIALIZE TasKy2, Do!;", "refused 11 invalid layout task"),
     ];
-    expect_script(&rt, rt.alloc(), &[&PAPER, &script, &SHOWN])
+    expect_script(rt.alloc(), &[&PAPER, &script, &SHOWN])
 }
 
 #[test]
@@ -179,8 +178,8 @@ ok",
         ),
     ];
     let alloc = rt.alloc();
-    expect_script(&rt, alloc, &[&PAPER, &script, &end])?;
-    expect_everywhere(&rt, alloc, &[&PAPER, &script], &VERSIONS)
+    expect_script(alloc, &[&PAPER, &script, &end])?;
+    expect_everywhere(alloc, &[&PAPER, &script], &VERSIONS)
 }
 
 #[test]
@@ -240,7 +239,6 @@ rows 4",
         ("SELECT * FROM Do!.todo;", "p|author|task\nrows 0"),
     ];
     expect_everywhere(
-        &rt,
         rt.alloc(),
         &[&PAPER, &script],
         &["flat", "TasKy", "TasKy2", "Do!"],
@@ -286,7 +284,7 @@ operator 6 join_fk target aux 3
 ok",
         ),
     ];
-    expect_script(&rt, rt.alloc(), &[&PAPER, &script])
+    expect_script(rt.alloc(), &[&PAPER, &script])
 }
 
 #[test]
@@ -334,7 +332,7 @@ fn what_is_refused_changes_nothing(rt: HostRuntime) -> Result<(), Fail> {
             "refused 16 same table task",
         ),
     ];
-    expect_everywhere(&rt, rt.alloc(), &[&PAPER, &script, &SHOWN], &VERSIONS)
+    expect_everywhere(rt.alloc(), &[&PAPER, &script, &SHOWN], &VERSIONS)
 }
 
 // So many operators, each of which makes a table.
@@ -360,5 +358,5 @@ CREATE SCHEMA VERSION TasKy2 FROM TasKy WITH DECOMPOSE TABLE task INTO task(task
 CREATE SCHEMA VERSION x WITH ";
     let full = "refused 13 too many operators, limit 1024";
     let cases = [(more.as_str(), full), (some.as_str(), "ok")];
-    expect_each(&rt, alloc, front, "ok\nok\nok\n", &cases)
+    expect_each(alloc, front, "ok\nok\nok\n", &cases)
 }

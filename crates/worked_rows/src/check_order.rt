@@ -1,11 +1,11 @@
 //! Statements to which two refusals apply: the earlier check is told.
-use crate::runs::{EVOLUTION, ROW, ROW_REPLIES, expect_each};
+use crate::refusals::{EVOLUTION, ROW, ROW_REPLIES};
+use row_runs::expect_each;
 use std::test::Fail;
 
 #[test]
 fn a_statement_on_a_table_is_checked_in_order(rt: HostRuntime) -> Result<(), Fail> {
     expect_each(
-        &rt,
         rt.alloc(),
         ROW,
         ROW_REPLIES,
@@ -84,7 +84,6 @@ fn a_statement_on_a_table_is_checked_in_order(rt: HostRuntime) -> Result<(), Fai
 #[test]
 fn a_versions_names_are_checked_before_its_operators(rt: HostRuntime) -> Result<(), Fail> {
     expect_each(
-        &rt,
         rt.alloc(),
         ROW,
         ROW_REPLIES,
@@ -116,7 +115,6 @@ fn a_versions_names_are_checked_before_its_operators(rt: HostRuntime) -> Result<
 #[test]
 fn an_operator_is_checked_in_order(rt: HostRuntime) -> Result<(), Fail> {
     expect_each(
-        &rt,
         rt.alloc(),
         EVOLUTION,
         ROW_REPLIES,
@@ -169,7 +167,6 @@ fn an_operator_is_checked_in_order(rt: HostRuntime) -> Result<(), Fail> {
 #[test]
 fn an_earlier_operator_is_checked_before_a_later_one(rt: HostRuntime) -> Result<(), Fail> {
     expect_each(
-        &rt,
         rt.alloc(),
         EVOLUTION,
         ROW_REPLIES,

@@ -1,11 +1,11 @@
 //! Columns that aren't there, and names that a table would have twice: what is refused, and what just isn't.
-use crate::runs::{EVOLUTION, ROW, ROW_REPLIES, expect_each};
+use crate::refusals::{EVOLUTION, ROW, ROW_REPLIES};
+use row_runs::expect_each;
 use std::test::Fail;
 
 #[test]
 fn a_column_that_is_read_listed_or_set_is_unknown(rt: HostRuntime) -> Result<(), Fail> {
     expect_each(
-        &rt,
         rt.alloc(),
         ROW,
         ROW_REPLIES,
@@ -61,7 +61,6 @@ fn a_column_that_is_read_listed_or_set_is_unknown(rt: HostRuntime) -> Result<(),
 #[test]
 fn a_column_that_an_operator_takes_is_unknown(rt: HostRuntime) -> Result<(), Fail> {
     expect_each(
-        &rt,
         rt.alloc(),
         EVOLUTION,
         ROW_REPLIES,
@@ -112,7 +111,6 @@ fn a_column_that_an_operator_takes_is_unknown(rt: HostRuntime) -> Result<(), Fai
 #[test]
 fn a_column_exists_where_its_name_would_stand_twice(rt: HostRuntime) -> Result<(), Fail> {
     expect_each(
-        &rt,
         rt.alloc(),
         EVOLUTION,
         ROW_REPLIES,
@@ -148,7 +146,6 @@ fn a_column_exists_where_its_name_would_stand_twice(rt: HostRuntime) -> Result<(
 #[test]
 fn a_column_exists_where_it_is_set_twice(rt: HostRuntime) -> Result<(), Fail> {
     expect_each(
-        &rt,
         rt.alloc(),
         ROW,
         ROW_REPLIES,

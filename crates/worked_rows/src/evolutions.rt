@@ -1,5 +1,5 @@
 //! Writes through one version, seen in all others: tables and columns that are renamed, added and dropped.
-use crate::runs::expect_replies;
+use row_runs::expect_replies;
 use std::test::Fail;
 
 #[test]
@@ -30,7 +30,7 @@ refused 5 unknown column y
 refused 3 unknown table u
 refused 5 unknown column z
 ";
-    expect_replies(&rt, rt.alloc(), script, replies)
+    expect_replies(rt.alloc(), script, replies)
 }
 
 #[test]
@@ -57,7 +57,7 @@ p|x
 #3|7
 rows 2
 ";
-    expect_replies(&rt, rt.alloc(), script, replies)
+    expect_replies(rt.alloc(), script, replies)
 }
 
 #[test]
@@ -90,7 +90,7 @@ p|z
 #3|5
 rows 1
 ";
-    expect_replies(&rt, rt.alloc(), script, replies)
+    expect_replies(rt.alloc(), script, replies)
 }
 
 #[test]
@@ -126,7 +126,7 @@ p|x|y|z
 #4|4|5|6
 rows 3
 ";
-    expect_replies(&rt, rt.alloc(), script, replies)
+    expect_replies(rt.alloc(), script, replies)
 }
 
 #[test]
@@ -161,7 +161,7 @@ p|x|y
 #3|3|3
 rows 2
 ";
-    expect_replies(&rt, rt.alloc(), script, replies)
+    expect_replies(rt.alloc(), script, replies)
 }
 
 #[test]
@@ -191,7 +191,7 @@ y
 45
 rows 1
 ";
-    expect_replies(&rt, rt.alloc(), script, replies)
+    expect_replies(rt.alloc(), script, replies)
 }
 
 #[test]
@@ -220,7 +220,7 @@ p|x|y
 #3|5|500
 rows 3
 ";
-    expect_replies(&rt, rt.alloc(), script, replies)
+    expect_replies(rt.alloc(), script, replies)
 }
 
 #[test]
@@ -245,7 +245,7 @@ rows 2
 refused 7 wrong count 1 of 0
 refused 5 unknown column x
 ";
-    expect_replies(&rt, rt.alloc(), script, replies)
+    expect_replies(rt.alloc(), script, replies)
 }
 
 #[test]
@@ -277,7 +277,7 @@ p|y
 #4|5
 rows 1
 ";
-    expect_replies(&rt, rt.alloc(), script, replies)
+    expect_replies(rt.alloc(), script, replies)
 }
 
 #[test]
@@ -308,7 +308,7 @@ ok
 ok
 inserted 1 #3
 ";
-    expect_replies(&rt, rt.alloc(), script, replies)
+    expect_replies(rt.alloc(), script, replies)
 }
 
 #[test]
@@ -339,7 +339,7 @@ p|x|y|z
 #3|7|12|42
 rows 2
 ";
-    expect_replies(&rt, rt.alloc(), script, replies)
+    expect_replies(rt.alloc(), script, replies)
 }
 
 #[test]
@@ -377,5 +377,5 @@ ok
 refused 1 unknown version c
 refused 1 unknown version a
 ";
-    expect_replies(&rt, rt.alloc(), script, replies)
+    expect_replies(rt.alloc(), script, replies)
 }

@@ -1,5 +1,6 @@
-//! Worked scripts with their replies, run through the top call. This crate has nothing but tests:
-//! they show printed lines, statuses at failing ends, and that a run with ample memory ends well.
+//! Worked scripts with their replies, run through the top call. This crate has nothing but tests: of
+//! rows that are written in one version and seen in all others, of the names that versions, tables and
+//! columns have, and of each refusal.
 #![tactic(auto)]
 
 #[cfg(test)]
@@ -7,17 +8,7 @@ mod check_order;
 #[cfg(test)]
 mod column_refusals;
 #[cfg(test)]
-mod ends;
-#[cfg(test)]
 mod evolutions;
-#[cfg(test)]
-mod faults;
-#[cfg(test)]
-mod limits;
-#[cfg(test)]
-mod moves;
-#[cfg(test)]
-mod not_built;
 #[cfg(test)]
 mod references;
 #[cfg(test)]
@@ -25,12 +16,8 @@ mod refusals;
 #[cfg(test)]
 mod replies;
 #[cfg(test)]
-mod runs;
-#[cfg(test)]
-mod sizes;
-#[cfg(test)]
 mod splits;
 #[cfg(test)]
-mod statements;
-#[cfg(test)]
 mod versions;
+#[cfg(test)]
+mod written;

@@ -1,5 +1,5 @@
 //! References in rows, conditions and operators, and identifiers that aren't drawn yet.
-use crate::runs::{expect_each, expect_replies};
+use row_runs::{expect_each, expect_replies};
 use std::test::Fail;
 
 const FRONT: &str =
@@ -13,7 +13,6 @@ inserted 2 #1 #2
 #[test]
 fn a_row_names_identifiers_that_are_drawn(rt: HostRuntime) -> Result<(), Fail> {
     expect_each(
-        &rt,
         rt.alloc(),
         FRONT,
         FRONT_REPLIES,
@@ -61,7 +60,6 @@ fn a_row_names_identifiers_that_are_drawn(rt: HostRuntime) -> Result<(), Fail> {
 #[test]
 fn a_changed_row_names_identifiers_that_are_drawn(rt: HostRuntime) -> Result<(), Fail> {
     expect_each(
-        &rt,
         rt.alloc(),
         FRONT,
         FRONT_REPLIES,
@@ -94,7 +92,6 @@ fn a_changed_row_names_identifiers_that_are_drawn(rt: HostRuntime) -> Result<(),
 #[test]
 fn a_condition_names_identifiers_that_are_drawn(rt: HostRuntime) -> Result<(), Fail> {
     expect_each(
-        &rt,
         rt.alloc(),
         FRONT,
         FRONT_REPLIES,
@@ -124,7 +121,6 @@ fn a_condition_names_identifiers_that_are_drawn(rt: HostRuntime) -> Result<(), F
 #[test]
 fn an_operator_names_identifiers_that_are_drawn(rt: HostRuntime) -> Result<(), Fail> {
     expect_each(
-        &rt,
         rt.alloc(),
         FRONT,
         FRONT_REPLIES,
@@ -179,7 +175,7 @@ p|a
 #2|#1
 rows 1
 ";
-    expect_replies(&rt, rt.alloc(), script, replies)
+    expect_replies(rt.alloc(), script, replies)
 }
 
 #[test]
@@ -203,5 +199,5 @@ p|x|y
 #2|#2|#1
 rows 2
 ";
-    expect_replies(&rt, rt.alloc(), script, replies)
+    expect_replies(rt.alloc(), script, replies)
 }

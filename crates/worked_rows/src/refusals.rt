@@ -1,11 +1,22 @@
 //! Refusals of versions, tables, rows and names without a version: what meets each, and what just doesn't.
-use crate::runs::{EVOLUTION, ROW, ROW_REPLIES, expect_each, expect_replies};
+use row_runs::{expect_each, expect_replies};
 use std::test::Fail;
+
+/// The version `v` with the table `t`, which has two columns and one row.
+pub const ROW: &str =
+    "CREATE SCHEMA VERSION v WITH CREATE TABLE t(a, b); INSERT INTO v.t VALUES (1, 2);\n";
+
+/// The same, and a version `w` from `v` up to its first operator.
+pub const EVOLUTION: &str =
+    "CREATE SCHEMA VERSION v WITH CREATE TABLE t(a, b); INSERT INTO v.t VALUES (1, 2);
+CREATE SCHEMA VERSION w FROM v WITH ";
+
+/// The replies to `ROW`.
+pub const ROW_REPLIES: &str = "ok\ninserted 1 #1\n";
 
 #[test]
 fn a_version_that_does_not_live_is_unknown(rt: HostRuntime) -> Result<(), Fail> {
     expect_each(
-        &rt,
         rt.alloc(),
         ROW,
         ROW_REPLIES,
@@ -43,7 +54,6 @@ fn a_version_that_does_not_live_is_unknown(rt: HostRuntime) -> Result<(), Fail> 
 #[test]
 fn a_live_versions_name_exists(rt: HostRuntime) -> Result<(), Fail> {
     expect_each(
-        &rt,
         rt.alloc(),
         ROW,
         ROW_REPLIES,
@@ -69,7 +79,6 @@ fn a_live_versions_name_exists(rt: HostRuntime) -> Result<(), Fail> {
 #[test]
 fn a_table_that_is_not_there_is_unknown(rt: HostRuntime) -> Result<(), Fail> {
     expect_each(
-        &rt,
         rt.alloc(),
         ROW,
         ROW_REPLIES,
@@ -92,7 +101,6 @@ fn a_table_that_is_not_there_is_unknown(rt: HostRuntime) -> Result<(), Fail> {
 #[test]
 fn a_table_that_an_operator_takes_is_unknown(rt: HostRuntime) -> Result<(), Fail> {
     expect_each(
-        &rt,
         rt.alloc(),
         EVOLUTION,
         ROW_REPLIES,
@@ -123,7 +131,6 @@ fn a_table_that_an_operator_takes_is_unknown(rt: HostRuntime) -> Result<(), Fail
 #[test]
 fn a_name_of_another_table_exists(rt: HostRuntime) -> Result<(), Fail> {
     expect_each(
-        &rt,
         rt.alloc(),
         EVOLUTION,
         ROW_REPLIES,
@@ -155,7 +162,6 @@ fn a_name_of_another_table_exists(rt: HostRuntime) -> Result<(), Fail> {
 #[test]
 fn a_row_has_one_value_for_each_column(rt: HostRuntime) -> Result<(), Fail> {
     expect_each(
-        &rt,
         rt.alloc(),
         ROW,
         ROW_REPLIES,
@@ -188,7 +194,6 @@ fn a_row_has_one_value_for_each_column(rt: HostRuntime) -> Result<(), Fail> {
 #[test]
 fn no_version_is_in_use(rt: HostRuntime) -> Result<(), Fail> {
     expect_each(
-        &rt,
         rt.alloc(),
         ROW,
         ROW_REPLIES,
@@ -235,5 +240,5 @@ ok
 p|x
 rows 0
 ";
-    expect_replies(&rt, rt.alloc(), script, replies)
+    expect_replies(rt.alloc(), script, replies)
 }

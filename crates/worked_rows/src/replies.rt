@@ -1,5 +1,5 @@
 //! Scripts that end well, with their replies.
-use crate::runs::{Ends, expect_run};
+use row_runs::expect_replies;
 use std::test::Fail;
 
 const FIRST: &str = "CREATE SCHEMA VERSION a WITH CREATE TABLE t(x); INSERT INTO a.t VALUES (1);
@@ -27,26 +27,19 @@ rows 3
 
 #[test]
 fn rows_written_in_one_version_are_seen_in_the_other(rt: HostRuntime) -> Result<(), Fail> {
-    expect_run(&rt, rt.alloc(), FIRST, &Ends::sure(), 0, FIRST_REPLIES)
+    expect_replies(rt.alloc(), FIRST, FIRST_REPLIES)
 }
 
 #[test]
 fn an_empty_script_gives_no_byte(rt: HostRuntime) -> Result<(), Fail> {
-    expect_run(&rt, rt.alloc(), "", &Ends::sure(), 0, "")?;
-    expect_run(&rt, rt.alloc(), " -- nothing", &Ends::sure(), 0, "")
+    expect_replies(rt.alloc(), "", "")?;
+    expect_replies(rt.alloc(), " -- nothing", "")
 }
 
 #[test]
 fn an_empty_table_shows_its_header(rt: HostRuntime) -> Result<(), Fail> {
     let script = "CREATE SCHEMA VERSION v WITH CREATE TABLE t(a); SELECT * FROM v.t;";
-    expect_run(
-        &rt,
-        rt.alloc(),
-        script,
-        &Ends::sure(),
-        0,
-        "ok\np|a\nrows 0\n",
-    )
+    expect_replies(rt.alloc(), script, "ok\np|a\nrows 0\n")
 }
 
 #[test]
@@ -66,7 +59,7 @@ refused 3 unknown table u
 refused 2 version exists a
 inserted 1 #1
 ";
-    expect_run(&rt, rt.alloc(), script, &Ends::sure(), 0, replies)
+    expect_replies(rt.alloc(), script, replies)
 }
 
 #[test]
@@ -87,7 +80,7 @@ p|a|b|c
 #2|3|-4|12
 rows 2
 ";
-    expect_run(&rt, rt.alloc(), script, &Ends::sure(), 0, replies)
+    expect_replies(rt.alloc(), script, replies)
 }
 
 #[test]
@@ -119,7 +112,7 @@ p
 #3
 rows 1
 ";
-    expect_run(&rt, rt.alloc(), script, &Ends::sure(), 0, replies)
+    expect_replies(rt.alloc(), script, replies)
 }
 
 #[test]
@@ -138,5 +131,5 @@ p|x|y|q|r|s|u|v|w
 #2|2|null|3|null|1|0|null|2
 rows 2
 ";
-    expect_run(&rt, rt.alloc(), script, &Ends::sure(), 0, replies)
+    expect_replies(rt.alloc(), script, replies)
 }

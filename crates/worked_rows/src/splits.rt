@@ -1,5 +1,5 @@
 //! SPLIT and MERGE: rows with a twin in either table, in one, or in none, written on either side.
-use crate::runs::{expect_each, expect_replies};
+use row_runs::{expect_each, expect_replies};
 use std::test::Fail;
 
 // A row that meets both conditions.
@@ -32,7 +32,7 @@ fn a_lost_twin_stays_lost_until_its_condition_alone_holds(rt: HostRuntime) -> Re
             "deleted 1\ndeleted 1\np|x\nrows 0",
         ),
     ];
-    expect_each(&rt, rt.alloc(), SPLIT, SPLIT_REPLIES, cases.as_slice())
+    expect_each(rt.alloc(), SPLIT, SPLIT_REPLIES, cases.as_slice())
 }
 
 #[test]
@@ -55,7 +55,7 @@ fn twins_that_differ_are_written_apart(rt: HostRuntime) -> Result<(), Fail> {
             "updated 1\np|x\n#1|50\nrows 1\np|x\n#1|50\nrows 1\np|x\n#1|7\nrows 1",
         ),
     ];
-    expect_each(&rt, rt.alloc(), SPLIT, SPLIT_REPLIES, cases.as_slice())
+    expect_each(rt.alloc(), SPLIT, SPLIT_REPLIES, cases.as_slice())
 }
 
 #[test]
@@ -81,7 +81,7 @@ p|x
 #1|101
 rows 1
 ";
-    expect_replies(&rt, rt.alloc(), script, replies)
+    expect_replies(rt.alloc(), script, replies)
 }
 
 #[test]
@@ -114,7 +114,7 @@ p|x
 #1|9
 rows 1
 ";
-    expect_replies(&rt, rt.alloc(), script, replies)
+    expect_replies(rt.alloc(), script, replies)
 }
 
 #[test]
@@ -143,7 +143,7 @@ p|author|task
 #5|'Eve'|'Buy cake'
 rows 2
 ";
-    expect_replies(&rt, rt.alloc(), script, replies)
+    expect_replies(rt.alloc(), script, replies)
 }
 
 #[test]
@@ -211,5 +211,5 @@ CREATE SCHEMA VERSION b FROM a WITH ";
         ),
         ("MERGE TABLE r (1), q (0) INTO q;", "ok"),
     ];
-    expect_each(&rt, rt.alloc(), front, "ok\n", cases.as_slice())
+    expect_each(rt.alloc(), front, "ok\n", cases.as_slice())
 }

@@ -1,5 +1,5 @@
 //! Names of versions, tables and columns: given, given again, and written in other letters.
-use crate::runs::expect_replies;
+use row_runs::expect_replies;
 use std::test::Fail;
 
 #[test]
@@ -35,7 +35,7 @@ p|z
 #2|#1
 rows 1
 ";
-    expect_replies(&rt, rt.alloc(), script, replies)
+    expect_replies(rt.alloc(), script, replies)
 }
 
 #[test]
@@ -57,7 +57,7 @@ rows 1
 refused 3 unknown table u
 inserted 1 #4
 ";
-    expect_replies(&rt, rt.alloc(), script, replies)
+    expect_replies(rt.alloc(), script, replies)
 }
 
 #[test]
@@ -88,7 +88,7 @@ refused 3 unknown table t1
 ok
 refused 1 unknown version main!
 ";
-    expect_replies(&rt, rt.alloc(), script, replies)
+    expect_replies(rt.alloc(), script, replies)
 }
 
 #[test]
@@ -120,7 +120,7 @@ p|x
 #2|4
 rows 1
 ";
-    expect_replies(&rt, rt.alloc(), script, replies)
+    expect_replies(rt.alloc(), script, replies)
 }
 
 #[test]
@@ -147,5 +147,5 @@ p|y
 #2|3
 rows 1
 ";
-    expect_replies(&rt, rt.alloc(), script, replies)
+    expect_replies(rt.alloc(), script, replies)
 }

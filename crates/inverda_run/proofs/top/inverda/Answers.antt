@@ -1,7 +1,12 @@
 use Rattle.std.proofs.Common.{◌≡◌, inl, inr}
-use Rattle.inverda_run.specs.Script.{Outcome, Over, Fault, Long, Open}
+use Rattle.bidel_script.specs.Script.{Outcome, Over, Fault, Long, Open}
 use Rattle.inverda_run.proofs.EndLemmas.{had_done, had_stopped, had_passed}
+use Rattle.inverda_run.proofs.MoveLemmas.{moves_unseen}
 use Rattle.inverda_run.proofs.top.inverda.Goals as goal
+
+pub returns-in-Done-clause-unseen : goal.returns-in-Done-clause-unseen
+returns-in-Done-clause-unseen g c = λ zero.
+    moves_unseen (g.S.Source.left c.args.script.now) (g.S.Source.left c.run.new.script) (g.K.Sink.held c.args.out.now) (g.K.Sink.held c.run.new.out) c.in-Done.ensures.ends.1
 
 pub returns-in-Done-clause-stops : goal.returns-in-Done-clause-stops
 returns-in-Done-clause-stops g c = λ none had safe write.

@@ -1,8 +1,8 @@
 use Rattle.std.proofs.Common.{◌∙◌, subst}
 use Rattle.std.specs.Io.KnownBytes.{Appends}
-use Rattle.bidel_parser.specs.Views.{statement_view}
+use Rattle.statements.specs.Views.{statement_view}
+use Rattle.bidel_script.proofs.TextLimits.{texts_within}
 use Rattle.inverda_run.specs.Statuses.{PutsFront}
-use Rattle.inverda_run.proofs.TextLimits.{texts_within}
 use Rattle.inverda_run.proofs.turn.take_turn.Goals as goal
 
 pub answer-requires : goal.answer-requires

@@ -1,5 +1,0 @@
-use Rattle.inverda_run.proofs.UniqueLemmas.{fault_is_no_script}
-use Rattle.inverda_run.proofs.laws.fault_is_no_script.Goals as goal
-
-pub returns : goal.returns
-returns c = fault_is_no_script

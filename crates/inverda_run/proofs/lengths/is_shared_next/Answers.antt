@@ -1,5 +1,0 @@
-use Rattle.bidel_expr.proofs.TokensWithin.{tokens_within}
-use Rattle.inverda_run.proofs.lengths.is_shared_next.Goals as goal
-
-pub invariant_of-cursor : goal.invariant_of-cursor
-invariant_of-cursor c = record { within = tokens_within c.args.bytes.now c.args.tokens.now c.requires }
