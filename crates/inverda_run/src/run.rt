@@ -1,5 +1,5 @@
 //! One statement after the other.
-ghost use Rattle.std.specs.Prelude.{◌≡◌, ◌≤◌};
+ghost use Rattle.std.specs.Prelude.{◌≤◌};
 ghost use Rattle.bidel_lex.specs.Tokens.{AreTokens};
 ghost use Rattle.bidel_script.specs.Tails.{Fits};
 ghost use Rattle.inverda_run.specs.Calls.{Runs};

@@ -1,8 +1,7 @@
 //! The bytes of a script, and the last line.
-ghost use Rattle.std.specs.Prelude.{◌≡◌, ◌≤◌, ◌<◌, ◌++◌, length, codes, IfOk, IfSome};
+ghost use Rattle.std.specs.Prelude.{◌≡◌, ◌≤◌};
 ghost use Rattle.bidel_script.specs.Calls.{outcome_of};
-ghost use Rattle.engine_core.specs.Texts.{line};
-ghost use Rattle.inverda_run.specs.Statuses.{PutsFront, last_line};
+ghost use Rattle.inverda_run.specs.Statuses.{last_line};
 ghost use Rattle.inverda_run.specs.Calls.{EndsScript, AtWithin, PutsLine, RunsScript};
 
 use crate::lines::syntax_line;
