@@ -10,14 +10,14 @@ use Rattle.phrases.specs.Phrases.{Nothing, Seq, Either, OneOf}
 use Rattle.phrases.specs.Reading.{starts, and_then, one_at, done, is, none, or}
 use Rattle.phrases.specs.Reads.{Reads}
 use Rattle.phrases.specs.Chains.{Part, Item, Within, opens}
-use Rattle.phrases.proofs.Readers.{then-reads, done-reads, unless-reads, either-reads, respell, word as then_word, closed, begins_one, known, starts_left, starts_right, or_right}
-use Rattle.phrases.proofs.Lists.{made-reads}
-use Rattle.phrases.proofs.Chains.{part, part_is, opens-append}
+use Rattle.phrases.proofs.ReadersLaws.{then-reads, done-reads, unless-reads, either-reads, respell, word as then_word, closed, begins_one, known, starts_left, starts_right, or_right}
+use Rattle.phrases.proofs.ListsLaws.{made-reads}
+use Rattle.phrases.proofs.ChainsLaws.{part, part_is, opens-append}
 use Rattle.bidel_expr.specs.Lexemes.{Lexeme, word, symbol}
 use Rattle.bidel_expr.specs.Literals.{null_of}
 use Rattle.bidel_expr.specs.Operators.{not_of, is_of, compare_of}
 use Rattle.bidel_expr.specs.Expressions.{Tree, Spelling, cost, weight, NullTest, CompTail, CompRule, null_test_at, comp_tail}
-use Rattle.bidel_expr.proofs.WordLemmas.{by_keyword, keyword_is}
+use Rattle.bidel_expr.proofs.WordLaws.{by_keyword, keyword_is}
 use Rattle.bidel_expr.proofs.OperatorLemmas.{by_compare}
 
 -- what holds of one token holds of tokens that are that one alone

@@ -13,19 +13,19 @@ use Rattle.phrases.specs.Reading.{Read, and_then, done, starts, is, none, or}
 use Rattle.phrases.specs.Reads.{Reads}
 use Rattle.phrases.specs.Chains.{Part, Item, Within, opens, Chain}
 use Rattle.phrases.specs.Levels.{Minuses}
-use Rattle.phrases.proofs.Readers.{either-reads, respell, begins_one, begins_first, known}
-use Rattle.phrases.proofs.Lists.{made-reads}
-use Rattle.phrases.proofs.Chains.{chain-reads, chain_first, part, part_is}
-use Rattle.phrases.proofs.Prefixes.{prefix-reads}
-use Rattle.phrases.proofs.Signs.{unary-reads}
-use Rattle.phrases.proofs.Groups.{grouped-reads}
-use Rattle.phrases.proofs.Bounded.{chain_bounded, prefix_bounded, unary_bounded, grouped_bounded}
+use Rattle.phrases.proofs.ReadersLaws.{either-reads, respell, begins_one, begins_first, known}
+use Rattle.phrases.proofs.ListsLaws.{made-reads}
+use Rattle.phrases.proofs.ChainsLaws.{chain-reads, chain_first, part, part_is}
+use Rattle.phrases.proofs.PrefixesLaws.{prefix-reads}
+use Rattle.phrases.proofs.SignsLaws.{unary-reads}
+use Rattle.phrases.proofs.GroupsLaws.{grouped-reads}
+use Rattle.phrases.proofs.BoundedLaws.{chain_bounded, prefix_bounded, unary_bounded, grouped_bounded}
 use Rattle.bidel_expr.specs.Lexemes.{Lexeme, word, number, symbol, name_of, negative_of, unsigned_of}
 use Rattle.bidel_expr.specs.Literals.{open_of, close_of, minus_of}
 use Rattle.bidel_expr.specs.Operators.{or_of, and_of, not_of, is_of, compare_of, sum_of, product_of}
 pub use Rattle.bidel_expr.specs.Expressions.{expression_goes}
 use Rattle.bidel_expr.specs.Expressions.{Tree, Spelling, cost, weight, Atom, PrimaryRule, UnaryRule, ProductRule, SumRule, CompRule, NegRule, ConjRule, Levels, PrimaryIn, IsExpr, Expression, most_operators, most_parentheses, atom_at, atom_item, unary_item, product_item, sum_item, comp_item, neg_item, conj_item, expr_item, primary_item, expression_at}
-use Rattle.bidel_expr.proofs.WordLemmas.{by_keyword, by_sign, keyword_is, sign_is, name_is, name_not, name_differs, by_unsigned, by_negative}
+use Rattle.bidel_expr.proofs.WordLaws.{by_keyword, by_sign, keyword_is, sign_is, name_is, name_not, name_differs, by_unsigned, by_negative}
 use Rattle.bidel_expr.proofs.OperatorLemmas.{by_or, by_and, by_compare, by_sum, by_product}
 use Rattle.bidel_expr.proofs.LiteralLaws.{name_x, name-reads, unsigned-reads}
 use Rattle.bidel_expr.proofs.Comparisons.{halves, one_free, comp-reads, comp_bounded}

@@ -9,15 +9,15 @@ use Rattle.expr_lang.specs.declared.tree.BinaryOp.{BinaryOp}
 use Rattle.phrases.specs.Reading.{Read, ◌>>=◌, and_then, starts, taken, one_at, done, either, is, is_some, or}
 use Rattle.phrases.specs.Chains.{Part, Item, joined}
 use Rattle.phrases.specs.Levels.{prefix_at, signed_at, unary_at}
-use Rattle.phrases.proofs.Readers.{same_answer}
-use Rattle.phrases.proofs.Steps.{one_starts}
+use Rattle.phrases.proofs.ReadersLaws.{same_answer}
+use Rattle.phrases.proofs.StepsLaws.{one_starts}
 use Rattle.bidel_expr.specs.Lexemes.{Lexeme, symbol, negative_of}
 use Rattle.bidel_expr.specs.Literals.{open_of, close_of, minus_of}
 use Rattle.bidel_expr.specs.Operators.{not_of, is_of, compare_of, op_of}
 use Rattle.bidel_expr.specs.Expressions.{Tree, atom_item, unary_item, product_item, sum_item, null_test_at, comp_tail, comp_item, neg_item, conj_item, expr_item, primary_item, operand_item, level_item}
 use Rattle.bidel_expr.specs.declared.levels.Level.{Level}
 use Rattle.bidel_expr.specs.declared.levels.Level.TheVariants.{Disjunction, Conjunction, Sum, Product}
-use Rattle.bidel_expr.proofs.WordLemmas.{sign_is}
+use Rattle.bidel_expr.proofs.WordLaws.{sign_is}
 
 -- a token that f doesn't know is a fault
 one_stops : {A : Type 0} (f : Lexeme → Option A) (ts : List Lexeme) → starts (is f) ts ≡ false → one_at f ts ≡ Err ts

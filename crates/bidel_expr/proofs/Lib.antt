@@ -1,12 +1,12 @@
-pub mod DigitLemmas
-pub mod Cursors
-pub mod TokensWithin
-pub mod TextLemmas
-pub mod WordLemmas
+mod DigitLemmas
+pub mod CursorsLaws
+pub mod TokensWithinLaws
+mod TextLemmas
+pub mod WordLaws
 pub mod LiteralLaws
-pub mod OperatorLemmas
-pub mod Comparisons
+mod OperatorLemmas
+mod Comparisons
 pub mod ExpressionLaws
-pub mod ExpressionSteps
-pub mod TokenValues
-pub mod WorkedExpressions
+mod ExpressionSteps
+mod TokenValues
+mod WorkedExpressions

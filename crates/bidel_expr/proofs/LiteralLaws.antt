@@ -8,11 +8,11 @@ use Rattle.par_base.specs.declared.value.Value.TheVariants.{Null, Int}
 use Rattle.phrases.specs.Phrases.{OneOf, Behind}
 use Rattle.phrases.specs.Reading.{starts, is, none, or, one_at, behind_at}
 use Rattle.phrases.specs.Reads.{Reads}
-use Rattle.phrases.proofs.Readers.{either-reads, one-reads, word as then_word, begins_one, begins_token, known}
-use Rattle.phrases.proofs.Lists.{enclosed-reads}
+use Rattle.phrases.proofs.ReadersLaws.{either-reads, one-reads, word as then_word, begins_one, begins_token, known}
+use Rattle.phrases.proofs.ListsLaws.{enclosed-reads}
 use Rattle.bidel_expr.specs.Lexemes.{Lexeme, word, number, «text», symbol, name_of, number_of, negative_of, text_of, unsigned_of}
 use Rattle.bidel_expr.specs.Literals.{comma_of, open_of, close_of, minus_of, Names, Literal, Tuple, name_at, names_at, literal_at, begins_literal, tuple_at}
-use Rattle.bidel_expr.proofs.WordLemmas.{by_sign, by_unsigned}
+use Rattle.bidel_expr.proofs.WordLaws.{by_sign, by_unsigned}
 
 signed-reads : Reads none (Behind minus_of (OneOf negative_of)) (behind_at minus_of (one_at negative_of))
 signed-reads = then_word none minus_of (symbol (codes "-")) tt refl (λ _. OneOf negative_of) (λ _. one_at negative_of) (λ _. one-reads none negative_of (number 0) (Int (neg_ℤ (pos 0))) refl)

@@ -5,7 +5,7 @@ use Rattle.expr_lang.specs.declared.tree.BinaryOp.{BinaryOp}
 use Rattle.expr_lang.specs.declared.tree.BinaryOp.TheVariants.{Or, And}
 use Rattle.bidel_expr.specs.Lexemes.{Lexeme, word, number, reference, «text», symbol}
 use Rattle.bidel_expr.specs.Operators.{look_up, comparisons, sums, products, or_of, and_of, compare_of, sum_of, product_of}
-use Rattle.bidel_expr.proofs.WordLemmas.{when_some, same_bytes}
+use Rattle.bidel_expr.proofs.WordLaws.{when_some, same_bytes}
 
 -- something holds of each symbol of a table
 abbrev pub Each : {X : Type 0} → (Lexeme → X) → X → List (List ℕ × BinaryOp) → Type 0

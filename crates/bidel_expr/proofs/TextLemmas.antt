@@ -5,7 +5,7 @@ use Rattle.std.specs.Str.{is_utf8}
 use Rattle.std.proofs.lemmas.Str.{IsUtf8-from_is_utf8, is_utf8-from_IsUtf8}
 use Rattle.std.proofs.lemmas.List.{take-append-le, take_all}
 use Rattle.par_base.specs.Literals.{undoubled, quoted, doubled}
-use Rattle.par_base.proofs.LiteralLemmas.{undoubled-doubled}
+use Rattle.par_base.proofs.LiteralLaws.{undoubled-doubled}
 use Rattle.bidel_lex.specs.declared.tokens.TokenKind.TheVariants as kind
 use Rattle.bidel_lex.specs.Spelled.{IsText, doubled as doubled_bytes}
 use Rattle.bidel_expr.specs.Lexemes.{lexeme_of, between, text_of}

@@ -7,7 +7,7 @@ use Rattle.par_base.specs.Literals.{literal_of}
 use Rattle.bidel_lex.specs.declared.tokens.TokenKind.{TokenKind}
 use Rattle.bidel_lex.specs.declared.tokens.TokenKind.TheVariants as kind
 use Rattle.bidel_lex.specs.Spelled.{Spells, IsReference}
-use Rattle.bidel_lex.proofs.Found.{spelled}
+use Rattle.bidel_lex.proofs.FoundLaws.{spelled}
 use Rattle.bidel_expr.specs.Lexemes.{lexeme_of, text_of, number_of, reference_of}
 use Rattle.bidel_expr.specs.Laws.{TextsHaveValue, NumbersHaveValue, ReferencesHaveValue}
 use Rattle.bidel_expr.proofs.DigitLemmas.{digits_have_value}

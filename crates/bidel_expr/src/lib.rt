@@ -8,6 +8,9 @@
 //! To the crates above it promises that each reader takes exactly what its rule of the grammar spells, and stops at the first
 //! token with which nothing so spelled goes on (`laws`); and that a number, a reference and a text of the bytes have the values
 //! that are written in them. An expression has at most 128 operators and 256 opening parentheses. It knows nothing of statements.
+//!
+//! Lemmas that crates above may use stand in proofs/: `CursorsLaws`, `TokensWithinLaws`,
+//! `WordLaws`, `LiteralLaws` and `ExpressionLaws`.
 #![tactic(auto)]
 
 mod cursor;

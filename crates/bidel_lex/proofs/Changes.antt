@@ -19,9 +19,9 @@ use Rattle.bidel_lex.specs.declared.next.Turn.TheVariants.{Go, Stop}
 use Rattle.bidel_lex.specs.Words.{number_with, reference_with, value_with}
 use Rattle.bidel_lex.specs.Next.{after_turn, answer_at_end, first_of, found, kind_of, lexed_at, next_of, step_of, step_turn, turn_at}
 use Rattle.bidel_lex.specs.Laws.{CanChange, MoreExactly}
-use Rattle.bidel_lex.proofs.Stable.{stable}
+use Rattle.bidel_lex.proofs.StableLaws.{stable}
 use Rattle.bidel_lex.proofs.Turns.{CanStop, CanTurn, can_turn}
-use Rattle.bidel_lex.proofs.Within.{within_along}
+use Rattle.bidel_lex.proofs.WithinLaws.{within_along}
 
 -- some bytes that change the answer at the end of the input
 record Change (part : Part) (at : ℕ) (bytes : List ℕ) : Type 0 where

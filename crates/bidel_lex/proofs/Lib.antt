@@ -1,14 +1,14 @@
-pub mod Again
-pub mod ByteTests
-pub mod Changes
-pub mod Characters
-pub mod Faults
-pub mod Found
-pub mod Held
-pub mod Listed
-pub mod ReadBack
-pub mod Runs
-pub mod Stable
-pub mod TextRuns
-pub mod Turns
-pub mod Within
+mod Again
+mod ByteTests
+mod Changes
+mod Characters
+mod Faults
+pub mod FoundLaws
+mod Held
+pub mod ListedLaws
+pub mod ReadBackLaws
+mod Runs
+pub mod StableLaws
+mod TextRuns
+mod Turns
+pub mod WithinLaws

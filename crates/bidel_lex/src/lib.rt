@@ -10,6 +10,9 @@
 //! `More` comes exactly where bytes that may follow could change the answer, and every other answer stays the same
 //! however the bytes go on. A fault stands at the first byte that shows it. The lexer takes no memory. It knows
 //! nothing of the grammar: reserved words and names are both words here.
+//!
+//! Lemmas that crates above may use stand in proofs/: `FoundLaws`, `ListedLaws`, `ReadBackLaws`,
+//! `StableLaws` and `WithinLaws`.
 #![tactic(auto)]
 
 mod classes;

@@ -4,11 +4,11 @@ use Rattle.std.specs.Prelude.{Option, Some, None}
 use Rattle.phrases.specs.Phrases.{Nothing, Seq, Either, OneOf, Begins}
 use Rattle.phrases.specs.Reading.{Read, starts, is, is_some, none, or}
 use Rattle.phrases.specs.Reads.{Reads}
-use Rattle.phrases.proofs.Readers.{done-reads, either-reads, respell, or_right, starts_left}
-use Rattle.phrases.proofs.Lists.{made-reads}
-use Rattle.phrases.proofs.Lookahead.{GoesOn}
+use Rattle.phrases.proofs.ReadersLaws.{done-reads, either-reads, respell, or_right, starts_left}
+use Rattle.phrases.proofs.ListsLaws.{made-reads}
+use Rattle.phrases.proofs.LookaheadLaws.{GoesOn}
 use Rattle.bidel_expr.specs.Lexemes.{Lexeme, word, keyword}
-use Rattle.bidel_expr.proofs.WordLemmas.{is_keyword}
+use Rattle.bidel_expr.proofs.WordLaws.{is_keyword}
 use Rattle.bidel_parser.specs.Words.{choice_of, Flag, flag_at}
 
 -- ---- words and what they stand for

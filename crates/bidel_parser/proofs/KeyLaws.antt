@@ -6,8 +6,8 @@ use Rattle.phrases.specs.Phrases.{Nothing, Seq}
 use Rattle.phrases.specs.Reading.{starts, is}
 use Rattle.phrases.specs.Reads.{Reads}
 use Rattle.phrases.specs.Levels.{prefix_at, unary_at}
-use Rattle.phrases.proofs.Readers.{done-reads, either-reads, word as then_word, begins_one, begins_first, known}
-use Rattle.phrases.proofs.Lists.{made-reads}
+use Rattle.phrases.proofs.ReadersLaws.{done-reads, either-reads, word as then_word, begins_one, begins_first, known}
+use Rattle.phrases.proofs.ListsLaws.{made-reads}
 use Rattle.bidel_expr.specs.Lexemes.{Lexeme, word}
 use Rattle.bidel_expr.specs.Expressions.{Tree, Expression, expression_goes, expression_at, expr_item, conj_item, neg_item, comp_item, sum_item, product_item, unary_item, primary_item}
 use Rattle.bidel_expr.proofs.ExpressionLaws.{expression-reads}

@@ -1,12 +1,12 @@
-pub mod WordLaws
-pub mod ChoiceLaws
-pub mod KeyLaws
-pub mod OperatorLaws
-pub mod OperatorListLaws
-pub mod TableLaws
+mod WordLaws
+mod ChoiceLaws
+mod KeyLaws
+mod OperatorLaws
+mod OperatorListLaws
+mod TableLaws
 pub mod StatementLaws
-pub mod ReadSteps
-pub mod ParsingLaws
+mod ReadSteps
+mod ParsingLaws
 pub mod ScriptLaws
-pub mod TextLaws
-pub mod TextLengths
+mod TextLaws
+pub mod TextLengthsLaws

@@ -4,8 +4,8 @@ use Rattle.std.specs.Prelude.{Some, None, codes}
 use Rattle.phrases.specs.Phrases.{Nothing, Seq, Behind, Optional}
 use Rattle.phrases.specs.Reading.{Read, and_then, starts, is, none, or, done, behind_at}
 use Rattle.phrases.specs.Reads.{Reads}
-use Rattle.phrases.proofs.Readers.{then-reads, done-reads, respell, word as then_word, closed, or_right, starts_right}
-use Rattle.phrases.proofs.Lists.{made-reads, optional-reads}
+use Rattle.phrases.proofs.ReadersLaws.{then-reads, done-reads, respell, word as then_word, closed, or_right, starts_right}
+use Rattle.phrases.proofs.ListsLaws.{made-reads, optional-reads}
 use Rattle.bidel_expr.specs.Lexemes.{Lexeme, word}
 use Rattle.bidel_expr.specs.Literals.{comma_of, Names, name_at, names_at}
 use Rattle.bidel_expr.specs.Expressions.{Expression, expression_goes, expression_at}

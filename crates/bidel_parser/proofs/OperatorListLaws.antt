@@ -4,11 +4,11 @@ use Rattle.std.specs.Prelude.{Some, ◌||◌, codes}
 use Rattle.phrases.specs.Phrases.{Many, Begins}
 use Rattle.phrases.specs.Reading.{is}
 use Rattle.phrases.specs.Reads.{ReadsLast}
-use Rattle.phrases.proofs.Readers.{known, headed}
-use Rattle.phrases.proofs.Lasts.{closed-then, made-last}
-use Rattle.phrases.proofs.Lookahead.{Begun, by_one, by_two, GoesOn, items-last}
+use Rattle.phrases.proofs.ReadersLaws.{known, headed}
+use Rattle.phrases.proofs.LastsLaws.{closed-then, made-last}
+use Rattle.phrases.proofs.LookaheadLaws.{Begun, by_one, by_two, GoesOn, items-last}
 use Rattle.bidel_expr.specs.Lexemes.{Lexeme, word, keyword}
-use Rattle.bidel_expr.proofs.WordLemmas.{keyword_is}
+use Rattle.bidel_expr.proofs.WordLaws.{keyword_is}
 use Rattle.bidel_parser.specs.declared.first_words.OperatorWord.{OperatorWord}
 use Rattle.bidel_parser.specs.declared.first_words.OperatorWord.TheVariants as first
 use Rattle.bidel_parser.specs.Words.{choice_of, is_word}

@@ -2,7 +2,7 @@
 use Rattle.std.proofs.Common.{◌≡◌, ◌-◌, ◌≤◌, ◌<◌, ◌⊎◌, ℕ, zero, suc, List, [], ◌∷◌, Bool, true, false, Ok, refl, ◌∙◌, sym, subst, length, ◌==◌, take, drop, arith, inl, inr, length-drop}
 use Rattle.std.proofs.lemmas.List.{length-map, take_all}
 use Rattle.phrases.specs.Phrases.{Begins}
-use Rattle.phrases.proofs.Fronts.{whole_front, no_front, first_fault, begins_all, rest_within, fault_within}
+use Rattle.phrases.proofs.FrontsLaws.{whole_front, no_front, first_fault, begins_all, rest_within, fault_within}
 use Rattle.bidel_lex.specs.declared.tokens.Token.{Token}
 use Rattle.bidel_expr.specs.declared.cursor.Cursor.{Cursor}
 use Rattle.bidel_expr.specs.declared.read_error.ReadError.TheVariants.{Left}
@@ -11,7 +11,7 @@ use Rattle.statements.specs.Views.{StatementView}
 use Rattle.bidel_parser.specs.Statements.{IsStatement, Script, stays_open, statement_at}
 use Rattle.bidel_parser.specs.Parsing.{IsFront, NoFront, FirstFault, start_of, IsFault}
 use Rattle.bidel_expr.specs.Answers.{ahead, Fails}
-use Rattle.bidel_expr.proofs.Cursors.{ahead_length}
+use Rattle.bidel_expr.proofs.CursorsLaws.{ahead_length}
 use Rattle.bidel_parser.proofs.StatementLaws.{statement-last, script_over}
 
 module _ (bytes : List ℕ) (tokens : List Token) (ended : Bool) where

@@ -2,7 +2,7 @@
 use Rattle.std.proofs.Common.{◌≡◌, ◌∷◌, [], ◌≤◌, List, Bool, true, false, Result, Ok, Err, refl, ap, ◌∙◌, arith, length}
 use Rattle.std.specs.Prelude.{Option, Some, None, not, ◌||◌, ◌&&◌}
 use Rattle.phrases.specs.Reading.{Read, ◌>>=◌, and_then, starts, one_at, is, is_some, either, done, with_front}
-use Rattle.phrases.proofs.Steps.{one_starts, either_left}
+use Rattle.phrases.proofs.StepsLaws.{one_starts, either_left}
 use Rattle.bidel_expr.specs.Lexemes.{Lexeme}
 use Rattle.bidel_expr.specs.declared.cursor.Cursor.{Cursor}
 use Rattle.bidel_expr.specs.declared.read_error.ReadError.{ReadError}

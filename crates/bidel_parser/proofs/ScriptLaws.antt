@@ -3,8 +3,8 @@ use Rattle.std.proofs.Common.{◌≡◌, ◌++◌, ◌∷◌, [], ◌+◌, ◌<�
 use Rattle.std.specs.Prelude.{Some, codes}
 use Rattle.phrases.specs.Phrases.{Begins}
 use Rattle.phrases.specs.Fronts.{ShowsEnd}
-use Rattle.phrases.proofs.Fronts as fronts
-use Rattle.phrases.proofs.Lookahead.{stays_shown, front_shown}
+use Rattle.phrases.proofs.FrontsLaws as fronts
+use Rattle.phrases.proofs.LookaheadLaws.{stays_shown, front_shown}
 use Rattle.bidel_expr.specs.Lexemes.{Lexeme, word}
 use Rattle.bidel_parser.specs.declared.first_words.OperatorWord.{OperatorWord}
 use Rattle.bidel_parser.specs.declared.first_words.StatementWord.{StatementWord}

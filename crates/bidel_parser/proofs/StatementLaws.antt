@@ -6,12 +6,12 @@ use Rattle.phrases.specs.Phrases.{Nothing, Seq, Optional, Separated}
 use Rattle.phrases.specs.Reading.{Read, starts, none, done, and_then, separated_at}
 use Rattle.phrases.specs.Reads.{Reads, ReadsLast}
 use Rattle.phrases.specs.Fronts.{IsOver}
-use Rattle.phrases.proofs.Readers.{then-reads, done-reads, word as then_one, headed}
-use Rattle.phrases.proofs.Lasts.{closed-last, then-last, made-last, word-last}
-use Rattle.phrases.proofs.Lookahead.{not_begun, not_begun_both}
+use Rattle.phrases.proofs.ReadersLaws.{then-reads, done-reads, word as then_one, headed}
+use Rattle.phrases.proofs.LastsLaws.{closed-last, then-last, made-last, word-last}
+use Rattle.phrases.proofs.LookaheadLaws.{not_begun, not_begun_both}
 use Rattle.bidel_expr.specs.Lexemes.{Lexeme, word, number, symbol, «text», keyword, text_of}
 use Rattle.bidel_expr.specs.Literals.{comma_of, Tuple, tuple_at}
-use Rattle.bidel_expr.proofs.WordLemmas.{keyword_is}
+use Rattle.bidel_expr.proofs.WordLaws.{keyword_is}
 use Rattle.bidel_parser.specs.declared.first_words.StatementWord.{StatementWord}
 use Rattle.bidel_parser.specs.declared.first_words.StatementWord.TheVariants as first
 use Rattle.bidel_parser.specs.Words.{Word, Sign, Name, Flag, choice_of, session_of, sign_at}

@@ -4,12 +4,12 @@ use Rattle.std.specs.Prelude.{Some, None, codes}
 use Rattle.phrases.specs.Phrases.{Nothing, Seq, Behind, Optional, Separated}
 use Rattle.phrases.specs.Reading.{is, none, or, separated_at}
 use Rattle.phrases.specs.Reads.{Reads}
-use Rattle.phrases.proofs.Readers.{done-reads, either-reads, begins_first, begins_token}
-use Rattle.phrases.proofs.Lists.{made-reads, optional-reads, separated-reads}
+use Rattle.phrases.proofs.ReadersLaws.{done-reads, either-reads, begins_first, begins_token}
+use Rattle.phrases.proofs.ListsLaws.{made-reads, optional-reads, separated-reads}
 use Rattle.bidel_expr.specs.Lexemes.{Lexeme, symbol, name_of}
 use Rattle.bidel_expr.specs.Literals.{comma_of, dot_of, star_of, Tuple, name_at, tuple_at}
 use Rattle.bidel_expr.specs.Expressions.{Expression, expression_goes, expression_at}
-use Rattle.bidel_expr.proofs.WordLemmas.{is_sign, name_is}
+use Rattle.bidel_expr.proofs.WordLaws.{is_sign, name_is}
 use Rattle.bidel_expr.proofs.LiteralLaws.{name-reads, tuple-reads}
 use Rattle.bidel_expr.proofs.ExpressionLaws.{expression-reads}
 use Rattle.bidel_parser.specs.Words.{Word, Sign, Name, Flag, is_word}

@@ -11,7 +11,7 @@ use Rattle.expr_lang.specs.declared.tree.UnaryOp.TheVariants.{Not, Negate}
 use Rattle.expr_lang.specs.declared.tree.BinaryOp.{BinaryOp}
 use Rattle.phrases.specs.Phrases.{Nothing, Seq, OneOf}
 use Rattle.phrases.specs.Chains.{Chain}
-use Rattle.phrases.proofs.Carries.{Carries, nothing-carries, one-carries, either-carries, behind-carries, then-carries, made-carries, many-carries, optional-carries, separated-carries, enclosed-carries, chain-carries, prefix-carries, unary-carries, grouped-carries}
+use Rattle.phrases.proofs.CarriesLaws.{Carries, nothing-carries, one-carries, either-carries, behind-carries, then-carries, made-carries, many-carries, optional-carries, separated-carries, enclosed-carries, chain-carries, prefix-carries, unary-carries, grouped-carries}
 use Rattle.bidel_expr.specs.Lexemes.{Lexeme, word, number, reference, «text», symbol, negative_of, unsigned_of, text_of}
 use Rattle.bidel_expr.specs.Literals.{open_of, comma_of, close_of, minus_of, Literal as LiteralRule, Tuple}
 use Rattle.bidel_expr.specs.Operators.{not_of, product_of, sum_of, and_of, or_of}

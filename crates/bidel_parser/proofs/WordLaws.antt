@@ -6,11 +6,11 @@ use Prim.Native.String.{String}
 use Rattle.phrases.specs.Phrases.{Seq}
 use Rattle.phrases.specs.Reading.{Read, starts, and_then}
 use Rattle.phrases.specs.Reads.{Reads, ReadsLast}
-use Rattle.phrases.proofs.Readers.{one-reads, word as then_one, begins_one}
-use Rattle.phrases.proofs.Lasts.{word-last}
+use Rattle.phrases.proofs.ReadersLaws.{one-reads, word as then_one, begins_one}
+use Rattle.phrases.proofs.LastsLaws.{word-last}
 use Rattle.bidel_expr.specs.Lexemes.{Lexeme, word, symbol, keyword, sign, name_of}
 use Rattle.bidel_expr.specs.Literals.{name_at}
-use Rattle.bidel_expr.proofs.WordLemmas.{by_keyword, by_sign}
+use Rattle.bidel_expr.proofs.WordLaws.{by_keyword, by_sign}
 use Rattle.bidel_expr.proofs.LiteralLaws.{name_x}
 use Rattle.bidel_parser.specs.Words.{Word, Sign, Name, word_at, sign_at}
 

@@ -8,6 +8,9 @@
 //! exactly where one stands at the front and its end is fixed, `More` only where no statement stands there yet and a script begins
 //! so, and a fault at the first token with which no script goes on. Its laws (`laws`) say how a script is made of such fronts, and
 //! that the texts of a statement (`specs/Texts.antt`) are no longer than its tokens. It knows nothing of what statements mean.
+//!
+//! Lemmas that crates above may use stand in proofs/: `StatementLaws`, `ScriptLaws` and
+//! `TextLengthsLaws`.
 #![tactic(auto)]
 
 mod choices;

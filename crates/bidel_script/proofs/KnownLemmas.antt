@@ -10,9 +10,9 @@ use Rattle.bidel_lex.specs.Blanks.{Blanks}
 use Rattle.bidel_lex.specs.Next.{next_of}
 use Rattle.bidel_lex.specs.Spelled.{CanFollow}
 use Rattle.bidel_lex.specs.Tokens.{is_token}
-use Rattle.bidel_lex.proofs.ReadBack.{token_exactly}
-use Rattle.bidel_lex.proofs.Within.{within_along}
-use Rattle.bidel_lex.proofs.Stable.{stable}
+use Rattle.bidel_lex.proofs.ReadBackLaws.{token_exactly}
+use Rattle.bidel_lex.proofs.WithinLaws.{within_along}
+use Rattle.bidel_lex.proofs.StableLaws.{stable}
 use Rattle.bidel_script.specs.Tails.{shown_end, TokensAreKnown}
 
 -- what some first bytes show, more of them show

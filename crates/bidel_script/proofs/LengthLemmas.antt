@@ -3,13 +3,13 @@ use Rattle.std.proofs.Common.{◌≡◌, ◌≢◌, ◌≤◌, ◌<◌, ◌-◌,
 use Rattle.std.specs.Prelude.{Some, None, slice_get, min}
 use Rattle.std.proofs.lemmas.List.{length-map}
 use Rattle.phrases.specs.Reading.{Read}
-use Rattle.phrases.proofs.Fronts.{whole_front, no_front, first_fault}
+use Rattle.phrases.proofs.FrontsLaws.{whole_front, no_front, first_fault}
 use Rattle.bidel_lex.specs.declared.tokens.Token.{Token}
 use Rattle.bidel_lex.specs.declared.tokens.Lexed.{Lexed}
 use Rattle.bidel_lex.specs.declared.tokens.Lexed.TheVariants as lexed
 use Rattle.bidel_lex.specs.Next.{next_of}
 use Rattle.bidel_lex.specs.Tokens.{AreTokens, is_token}
-use Rattle.bidel_lex.proofs.Within.{within_along}
+use Rattle.bidel_lex.proofs.WithinLaws.{within_along}
 use Rattle.bidel_expr.specs.Lexemes.{Lexeme, lexeme, lexemes}
 use Rattle.statements.specs.Views.{StatementView, statement_view}
 use Rattle.statements.specs.declared.statement.Statement.{Statement}
@@ -23,9 +23,9 @@ use Rattle.bidel_script.specs.declared.front.Stop.TheVariants as stop
 use Rattle.bidel_script.specs.declared.front.Found.{Found}
 use Rattle.bidel_script.specs.declared.front.Found.TheVariants as found
 use Rattle.bidel_script.specs.Lengths.{IsLong, is_long_front, is_long_fault, whole, part}
-use Rattle.bidel_script.proofs.TokenLemmas.{same_token}
-use Rattle.bidel_script.proofs.ScriptLemmas.{front_at_end}
-use Rattle.bidel_script.proofs.UniqueLemmas.{first_once, no_front_at, fronts_are_one}
+use Rattle.bidel_script.proofs.TokenLaws.{same_token}
+use Rattle.bidel_script.proofs.ScriptLaws.{front_at_end}
+use Rattle.bidel_script.proofs.UniqueLaws.{first_once, no_front_at, fronts_are_one}
 
 -- ---- tokens and where they start
 

@@ -1,9 +1,9 @@
-pub mod TokenLemmas
+pub mod TokenLaws
 mod BlankLemmas
 mod KnownLemmas
-pub mod ScriptLemmas
-pub mod UniqueLemmas
+pub mod ScriptLaws
+pub mod UniqueLaws
 mod LengthLemmas
 mod PlaceLemmas
-pub mod ComesLemmas
-pub mod TextLimits
+pub mod ComesLaws
+pub mod TextLimitsLaws

@@ -13,6 +13,9 @@
 //! lemmas for the crates above are on tokens (`TokenLemmas`), on the statements in front of others (`ScriptLemmas`, `UniqueLemmas`,
 //! `ComesLemmas`), and on the texts of a statement, which are within the limit of texts (`TextLimits`). It knows nothing of what
 //! statements mean, where bytes come from, or what is put for them.
+//!
+//! Lemmas that crates above may use stand in proofs/: `TokenLaws`, `ScriptLaws`, `UniqueLaws`,
+//! `ComesLaws` and `TextLimitsLaws`.
 #![tactic(auto)]
 
 mod front;

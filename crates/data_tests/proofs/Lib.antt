@@ -1,1 +1,1 @@
-pub mod FitLemmas
+mod FitLemmas

@@ -10,7 +10,7 @@ use Rattle.version_model.specs.States.{State, empty_at}
 use Rattle.version_model.specs.Steps.{mapped, pair_in}
 use Rattle.version_model.specs.Evolving.{with_link}
 use Rattle.version_model.specs.Making.{MayMake, with_links}
-use Rattle.version_model.proofs.PutLemmas.{map_same}
+use Rattle.version_model.proofs.PutLaws.{map_same}
 
 put_same : {A : Type 0} (f g : ℕ → A) (ks : List ℕ) (vs : List A) (n : ℕ) → f n ≡ g n → put f ks vs n ≡ put g ks vs n
 put_same f g [] vs n same = same

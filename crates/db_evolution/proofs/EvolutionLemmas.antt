@@ -20,9 +20,9 @@ use Rattle.version_graph.specs.Finished.{IsFinished}
 use Rattle.version_graph.specs.Forest.{Link, crossing, forest}
 use Rattle.version_graph.specs.declared.parts.Edge.{Edge}
 use Rattle.version_graph.specs.declared.parts.Placed.{Placed}
-use Rattle.version_graph.proofs.SetLemmas.{each_at, each_of, in_append, in_left, in_right}
-use Rattle.version_graph.proofs.TableLemmas.{rises_apart}
-use Rattle.version_graph.proofs.WalkLemmas.{in_reverse}
+use Rattle.version_graph.proofs.SetLaws.{each_at, each_of, in_append, in_left, in_right}
+use Rattle.version_graph.proofs.TableLaws.{rises_apart}
+use Rattle.version_graph.proofs.WalkStepLaws.{in_reverse}
 use Rattle.op_law.specs.Tables.{Tables}
 use Rattle.op_law.specs.Meaning.{Meaning, PairState}
 use Rattle.op_law.specs.Premises.{IsPair}
@@ -32,7 +32,7 @@ use Rattle.op_law.specs.declared.side.Aux.{Aux}
 use Rattle.layout_rules.specs.Changes.{creates_next, evolved_layout}
 use Rattle.layout_rules.specs.Layouts.{IsStored}
 use Rattle.layout_rules.specs.declared.layout.Layout.{Layout}
-use Rattle.layout_rules.proofs.ChangeLemmas.{evolved_valid, link_number}
+use Rattle.layout_rules.proofs.ChangeLaws.{evolved_valid, link_number}
 use Rattle.version_model.specs.States.{State, headings}
 use Rattle.version_model.specs.Steps.{IsRelated, pair_in, way}
 use Rattle.version_model.specs.Laws.{EvolutionKeeps}
@@ -40,15 +40,15 @@ use Rattle.version_model.specs.Kept.{Database, HasSides, pairs_at, rows_at}
 use Rattle.version_model.specs.Databases.{Evolves, MayEvolveTo, RefusesEvolution, counter_of, evolved_state, start_in}
 use Rattle.version_model.specs.Making.{MayMake, newer, refusal_for, with_links}
 use Rattle.version_model.specs.declared.numbered.Numbered.{Numbered}
-use Rattle.version_model.proofs.EvolveLemmas.{MayGrow, evolution_keeps}
-use Rattle.version_model.proofs.EvolvedLemmas.{few_made, links_may_make, newer_links, sides_more, start_known}
-use Rattle.version_model.proofs.GrownLemmas.{grown_by_links, grown_links}
+use Rattle.version_model.proofs.EvolveLaws.{MayGrow, evolution_keeps}
+use Rattle.version_model.proofs.EvolvedLaws.{few_made, links_may_make, newer_links, sides_more, start_known}
+use Rattle.version_model.proofs.GrownLaws.{grown_by_links, grown_links}
 use Rattle.storage_law.specs.Storage.{StandsOver, aux_of, stored_way}
-use Rattle.storage_law.proofs.LinkLemmas.{same_test}
+use Rattle.storage_law.proofs.LinkLaws.{same_test}
 use Rattle.db_state.specs.Calls.{IsRelatedAt}
 use Rattle.db_state.specs.Fields.{IsDatabase, auxes_at, database_of, numbers_in, state_of, storage_in}
 use Rattle.db_state.specs.declared.parts.Parts.{Parts}
-use Rattle.db_state.proofs.FieldLemmas.{IsShaped, Store, is_database}
+use Rattle.db_state.proofs.FieldLaws.{IsShaped, Store, is_database}
 use Rattle.db_evolution.specs.Calls.{Fills, Installs, IsFilled, MayFill, filled_state, sources_state}
 use Rattle.db_evolution.specs.News.{created_in, creates_in, newer_edges}
 use Rattle.db_evolution.specs.Sources.{AreSources}

@@ -9,7 +9,7 @@ use Rattle.id_memory.specs.States.{CounterState, MemoryState}
 use Rattle.version_graph.specs.Sets.{In, Each}
 use Rattle.version_graph.specs.Edges.{numbers}
 use Rattle.version_graph.specs.Forest.{Link}
-use Rattle.version_graph.proofs.SetLemmas.{each_at, in_right}
+use Rattle.version_graph.proofs.SetLaws.{each_at, in_right}
 use Rattle.op_law.specs.Meaning.{Meaning}
 use Rattle.op_law.specs.Calls.{first_refused, tables_of}
 use Rattle.op_law.specs.declared.side.Aux.{Aux}

@@ -11,17 +11,17 @@ use Rattle.version_graph.specs.Evolve.{grown, numbers_after, placed_next}
 use Rattle.version_graph.specs.Forest.{Link, forest, link}
 use Rattle.version_graph.specs.declared.parts.Edge.{Edge}
 use Rattle.version_graph.specs.declared.parts.Placed.{Placed}
-use Rattle.version_graph.proofs.GrowLemmas.{rises_after, top_after}
-use Rattle.version_graph.proofs.SetLemmas.{in_append, in_left, in_right}
-use Rattle.version_graph.proofs.TableLemmas.{distinct_append}
+use Rattle.version_graph.proofs.GrowLaws.{rises_after, top_after}
+use Rattle.version_graph.proofs.SetLaws.{in_append, in_left, in_right}
+use Rattle.version_graph.proofs.TableLaws.{distinct_append}
 use Rattle.layout_rules.specs.Changes.{creates_next, is_empty}
 use Rattle.layout_rules.specs.Layouts.{IsCreate}
-use Rattle.layout_rules.proofs.ChangeLemmas.{no_name}
-use Rattle.version_graph.proofs.PlaceLemmas.{rises_from}
-use Rattle.version_model.proofs.AscendingLemmas.{reverse_first}
-use Rattle.version_model.proofs.EvolveLemmas.{before_grown}
-use Rattle.version_model.proofs.GrownLemmas.{grown_links}
-use Rattle.version_model.proofs.HeadingLemmas.{made_more, numbers_within}
+use Rattle.layout_rules.proofs.ChangeLaws.{no_name}
+use Rattle.version_graph.proofs.PlaceLaws.{rises_from}
+use Rattle.version_model.proofs.AscendingLaws.{reverse_first}
+use Rattle.version_model.proofs.EvolveLaws.{before_grown}
+use Rattle.version_model.proofs.GrownLaws.{grown_links}
+use Rattle.version_model.proofs.HeadingLaws.{made_more, numbers_within}
 use Rattle.db_evolution.specs.News.{created_in, creates_in, newer_edges}
 use Rattle.db_evolution.proofs.LaidLemmas.{of_reverse}
 

@@ -14,21 +14,21 @@ use Rattle.version_graph.specs.Evolve.{grown, placed_next, start_of}
 use Rattle.version_graph.specs.declared.parts.Edge.{Edge}
 use Rattle.version_graph.specs.declared.parts.Heading.{Heading}
 use Rattle.version_graph.specs.declared.parts.Placed.{Placed}
-use Rattle.version_graph.proofs.NameLemmas.{name_is, same_name}
-use Rattle.version_graph.proofs.NodeLemmas.{tables_or_none}
-use Rattle.version_graph.proofs.SetLemmas.{each_more, each_of, in_append, in_map, origin}
-use Rattle.version_graph.proofs.TableLemmas.{in_filter, numbers_made, working_made}
-use Rattle.version_graph.proofs.TakenLemmas.{found_passes, heading_known}
-use Rattle.layout_rules.proofs.ChangeLemmas.{filter_in}
-use Rattle.layout_rules.proofs.LookupLemmas.{any_true}
+use Rattle.version_graph.proofs.NameLaws.{name_is, same_name}
+use Rattle.version_graph.proofs.NodeLaws.{tables_or_none}
+use Rattle.version_graph.proofs.SetLaws.{each_more, each_of, in_append, in_map, origin}
+use Rattle.version_graph.proofs.TableLaws.{in_filter, numbers_made, working_made}
+use Rattle.version_graph.proofs.TakenLaws.{found_passes, heading_known}
+use Rattle.layout_rules.proofs.ChangeLaws.{filter_in}
+use Rattle.layout_rules.proofs.LookupLaws.{any_true}
 use Rattle.version_model.specs.States.{State}
 use Rattle.version_model.specs.Kept.{rows_at}
 use Rattle.version_model.specs.declared.numbered.Numbered.{Numbered}
-use Rattle.version_model.proofs.EvolveLemmas.{before_grown}
-use Rattle.version_model.proofs.GrownLemmas.{grown_links}
-use Rattle.version_model.proofs.HeadingLemmas.{made_more, numbers_within}
+use Rattle.version_model.proofs.EvolveLaws.{before_grown}
+use Rattle.version_model.proofs.GrownLaws.{grown_links}
+use Rattle.version_model.proofs.HeadingLaws.{made_more, numbers_within}
 use Rattle.db_state.specs.Fields.{numbers_in}
-use Rattle.db_state.proofs.FieldLemmas.{none_at}
+use Rattle.db_state.proofs.FieldLaws.{none_at}
 use Rattle.db_evolution.specs.Sources.{AreRead, AreSources, first_tables, is_named, is_source}
 use Rattle.db_evolution.proofs.AgreeLemmas.{TakesAmong}
 use Rattle.db_evolution.proofs.LaidLemmas.{stands_at}

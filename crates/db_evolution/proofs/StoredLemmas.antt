@@ -7,14 +7,14 @@ use Rattle.version_graph.specs.Evolve.{grown}
 use Rattle.version_graph.specs.Forest.{Link, crossing, forest}
 use Rattle.version_graph.specs.declared.parts.Edge.{Edge}
 use Rattle.version_graph.specs.declared.parts.Placed.{Placed}
-use Rattle.version_graph.proofs.SetLemmas.{each_at, in_append, in_left, in_right}
+use Rattle.version_graph.proofs.SetLaws.{each_at, in_append, in_left, in_right}
 use Rattle.version_graph.proofs.WalkLaws.{Of, all_of, is_forest}
 use Rattle.layout_rules.specs.Changes.{creates_next}
 use Rattle.layout_rules.specs.Layouts.{IsStored}
-use Rattle.layout_rules.proofs.ChangeLemmas.{link_number}
-use Rattle.version_model.proofs.CrossingLemmas.{IsWithin, is_within}
-use Rattle.version_model.proofs.EvolveLemmas.{before_grown}
-use Rattle.version_model.proofs.GrownLemmas.{grown_links}
+use Rattle.layout_rules.proofs.ChangeLaws.{link_number}
+use Rattle.version_model.proofs.CrossingLaws.{IsWithin, is_within}
+use Rattle.version_model.proofs.EvolveLaws.{before_grown}
+use Rattle.version_model.proofs.GrownLaws.{grown_links}
 use Rattle.db_evolution.specs.News.{created_in}
 use Rattle.db_evolution.proofs.NewLemmas.{IsNew, are_new, create_above, create_of, created_by, grown_edges, grown_new, grown_old, grown_split}
 

@@ -6,7 +6,7 @@ use Rattle.version_graph.specs.Edges.{AreEdges, edge_of, is_in, sources_at}
 use Rattle.version_graph.specs.Forest.{Crossing, Link, crossing, forest, told}
 use Rattle.version_graph.specs.declared.parts.Placed.{Placed}
 use Rattle.version_graph.specs.declared.parts.Step.{Step}
-use Rattle.version_graph.proofs.SetLemmas.{each_at, in_append}
+use Rattle.version_graph.proofs.SetLaws.{each_at, in_append}
 use Rattle.op_law.specs.Calls.{tables_of}
 use Rattle.op_law.specs.Meaning.{Meaning, PairState}
 use Rattle.op_law.specs.Premises.{SomePair}
@@ -17,10 +17,10 @@ use Rattle.op_law.specs.Tables.{Tables}
 use Rattle.version_model.specs.States.{State, headings}
 use Rattle.version_model.specs.Steps.{pair_in, way}
 use Rattle.version_model.specs.declared.numbered.Numbered.{Numbered}
-use Rattle.version_model.proofs.CarryLemmas.{some_is, told_is}
-use Rattle.version_model.proofs.CrossingLemmas.{crossings_live}
+use Rattle.version_model.proofs.CarryLaws.{some_is, told_is}
+use Rattle.version_model.proofs.CrossingLaws.{crossings_live}
 use Rattle.storage_law.specs.Storage.{aux_of, stored_way}
-use Rattle.storage_law.proofs.CanonicalLemmas.{either_way}
+use Rattle.storage_law.proofs.CanonicalLaws.{either_way}
 use Rattle.db_state.specs.Calls.{AreAuxesOf, IsAuxOf, IsRelatedAt}
 
 module _ {O : Type 0} (es : List (Placed O)) (edges : AreEdges es) where

@@ -13,15 +13,15 @@ use Rattle.version_graph.specs.Sets.{In}
 use Rattle.version_graph.specs.Edges.{Drawn, numbers}
 use Rattle.version_graph.specs.Forest.{Crossing, Link, crossing, forest, told}
 use Rattle.version_graph.specs.declared.parts.Placed.{Placed}
-use Rattle.version_graph.proofs.SetLemmas.{each_at}
-use Rattle.version_graph.proofs.WalkLemmas.{in_reverse}
+use Rattle.version_graph.proofs.SetLaws.{each_at}
+use Rattle.version_graph.proofs.WalkStepLaws.{in_reverse}
 use Rattle.op_law.specs.Tables.{Tables}
 use Rattle.op_law.specs.Calls.{tables_of}
 use Rattle.op_law.specs.Laws.{Laws}
 use Rattle.op_law.specs.Meaning.{Meaning}
 use Rattle.op_law.specs.Premises.{SomeStored}
 use Rattle.op_law.specs.declared.side.Aux.{Aux}
-use Rattle.layout_rules.proofs.LinkLemmas.{number_listed}
+use Rattle.layout_rules.proofs.LinkLaws.{number_listed}
 use Rattle.version_graph.specs.declared.parts.Step.{Step}
 use Rattle.version_model.specs.Calls.{IsCrossing, IsTold}
 use Rattle.version_model.specs.Kept.{HasSides, pairs_at, rows_now, value_of}
@@ -29,12 +29,12 @@ use Rattle.version_model.specs.Put.{put}
 use Rattle.version_model.specs.States.{State, headings}
 use Rattle.version_model.specs.Steps.{way}
 use Rattle.version_model.specs.declared.numbered.Numbered.{Numbered}
-use Rattle.version_model.proofs.CarryLemmas.{told_is}
-use Rattle.version_model.proofs.CrossingLemmas.{numbers_linked}
-use Rattle.version_model.proofs.NumberedLemmas.{looked, value_of_first}
-use Rattle.version_model.proofs.PutLemmas.{map_same}
+use Rattle.version_model.proofs.CarryLaws.{told_is}
+use Rattle.version_model.proofs.CrossingLaws.{numbers_linked}
+use Rattle.version_model.proofs.NumberedLaws.{looked, value_of_first}
+use Rattle.version_model.proofs.PutLaws.{map_same}
 use Rattle.storage_law.specs.Storage.{aux_of, stored_way}
-use Rattle.storage_law.proofs.ReadLemmas.{IsRead, far_right, put_in, read_at, still_right}
+use Rattle.storage_law.proofs.ReadLaws.{IsRead, far_right, put_in, read_at, still_right}
 use Rattle.db_state.specs.Fields.{IsDatabase, auxes_at, numbers_in, state_of, storage_in}
 use Rattle.db_state.specs.Passes.{Settles}
 use Rattle.db_state.specs.declared.parts.Parts.{Parts}

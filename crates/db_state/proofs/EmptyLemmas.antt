@@ -10,12 +10,12 @@ use Rattle.layout_rules.specs.declared.layout.Layout.{Layout}
 use Rattle.version_model.specs.States.{State, empty_at}
 use Rattle.version_model.specs.Databases.{empty_database}
 use Rattle.version_model.specs.declared.numbered.Numbered.{Numbered}
-use Rattle.version_graph.proofs.EvolveLemmas.{drawn_is}
-use Rattle.version_model.proofs.EvolveLemmas.{empty_sound}
+use Rattle.version_graph.proofs.EvolveLaws.{drawn_is}
+use Rattle.version_model.proofs.EvolveLaws.{empty_sound}
 use Rattle.storage_law.specs.Reading.{ReadsSources}
 use Rattle.db_state.specs.Fields.{IsDatabase, database_of}
 use Rattle.db_state.specs.declared.parts.Parts.{Parts}
-use Rattle.db_state.proofs.FieldLemmas.{IsShaped, Store, is_database}
+use Rattle.db_state.proofs.FieldLaws.{IsShaped, Store, is_database}
 
 -- the fields without anything
 abbrev bare : {O : Type 0} → ℕ → Parts O

@@ -1,4 +1,4 @@
-pub mod FieldLemmas
+pub mod FieldLaws
 mod EmptyLemmas
 mod AuxLemmas
 mod OnceLemmas

@@ -7,7 +7,7 @@ use Rattle.version_model.specs.Kept.{Database}
 use Rattle.version_model.specs.States.{State}
 use Rattle.storage_law.specs.Canonical.{SameStored}
 use Rattle.storage_law.specs.Storage.{Stands}
-use Rattle.storage_law.proofs.CanonicalLemmas.{parts_are_one}
+use Rattle.storage_law.proofs.CanonicalLaws.{parts_are_one}
 use Rattle.db_state.specs.Fields.{IsDatabase, database_of, state_of, storage_in}
 use Rattle.db_state.specs.declared.parts.Parts.{Parts}
 

@@ -6,13 +6,13 @@ use Rattle.row_store.specs.Rows.{Rows}
 use Rattle.version_graph.specs.Sets.{In}
 use Rattle.version_graph.specs.Edges.{is_in}
 use Rattle.version_graph.specs.Forest.{Link}
-use Rattle.version_graph.proofs.SetLemmas.{in_right, is_in_true}
+use Rattle.version_graph.proofs.SetLaws.{in_right, is_in_true}
 use Rattle.version_graph.proofs.WalkLaws.{IsForest, link_targets}
 use Rattle.layout_rules.specs.Layouts.{IsTaken}
-use Rattle.layout_rules.proofs.DownLemmas.{forest_end}
-use Rattle.layout_rules.proofs.LinkLemmas.{in_or_out, number_listed, same_link, source_made, taker_newer, target_link}
+use Rattle.layout_rules.proofs.DownLaws.{forest_end}
+use Rattle.layout_rules.proofs.LinkLaws.{in_or_out, number_listed, same_link, source_made, taker_newer, target_link}
 use Rattle.storage_law.specs.Storage.{stored_way}
-use Rattle.storage_law.proofs.LinkLemmas.{not_in_false}
+use Rattle.storage_law.proofs.LinkLaws.{not_in_false}
 use Rattle.db_state.specs.Covered.{Covers, CoversItself}
 use Rattle.db_state.specs.Passes.{IsDownTo, IsUpTo, Settles}
 

@@ -9,21 +9,21 @@ use Rattle.version_graph.specs.Sets.{In}
 use Rattle.version_graph.specs.Edges.{AreEdges, Drawn, is_in}
 use Rattle.version_graph.specs.Forest.{Link, crossing, forest}
 use Rattle.version_graph.specs.declared.parts.Placed.{Placed}
-use Rattle.version_graph.proofs.SetLemmas.{in_of_test, is_in_true}
+use Rattle.version_graph.proofs.SetLaws.{in_of_test, is_in_true}
 use Rattle.version_graph.proofs.WalkLaws.{is_forest}
 use Rattle.layout_rules.specs.declared.layout.Layout.{Layout}
-use Rattle.layout_rules.proofs.DownLemmas.{Beside, below, below_all, below_next, below_past, beside, link_listed}
-use Rattle.layout_rules.proofs.LookupLemmas.{and_true, not_off, not_on}
-use Rattle.layout_rules.proofs.NeededLemmas.{both_true}
+use Rattle.layout_rules.proofs.DownLaws.{Beside, below, below_all, below_next, below_past, beside, link_listed}
+use Rattle.layout_rules.proofs.LookupLaws.{and_true, not_off, not_on}
+use Rattle.layout_rules.proofs.NeededLaws.{both_true}
 use Rattle.op_law.specs.Meaning.{Meaning}
 use Rattle.row_store.specs.States.{TableState}
 use Rattle.version_model.specs.Kept.{rows_now}
 use Rattle.version_model.specs.Making.{ascending}
 use Rattle.version_model.specs.declared.numbered.Numbered.{Numbered}
-use Rattle.version_model.proofs.AscendingLemmas.{edge_there, some_there}
-use Rattle.version_model.proofs.CarryLemmas.{some_is}
-use Rattle.version_model.proofs.CrossingLemmas.{targets_linked}
-use Rattle.version_model.proofs.MakingLemmas.{stands_at}
+use Rattle.version_model.proofs.AscendingLaws.{edge_there, some_there}
+use Rattle.version_model.proofs.CarryLaws.{some_is}
+use Rattle.version_model.proofs.CrossingLaws.{targets_linked}
+use Rattle.version_model.proofs.MakingLaws.{stands_at}
 use Rattle.db_state.specs.Fields.{IsDatabase, state_of}
 use Rattle.db_state.specs.declared.parts.Parts.{Parts}
 use Rattle.db_state.specs.declared.read.Pass.{Pass}

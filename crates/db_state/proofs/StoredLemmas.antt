@@ -5,12 +5,12 @@ use Rattle.std.proofs.Common.{◌≡◌, ℕ, List, [], Bor, Option, Some, None,
 use Rattle.row_store.specs.States.{TableState}
 use Rattle.version_graph.specs.Sets.{In}
 use Rattle.op_law.specs.Meaning.{Meaning}
-use Rattle.layout_rules.proofs.LinkLemmas.{in_or_out}
+use Rattle.layout_rules.proofs.LinkLaws.{in_or_out}
 use Rattle.version_model.specs.Kept.{latest_of, newer_rows, rows_at, rows_now, value_of}
 use Rattle.version_model.specs.declared.numbered.Numbered.{Numbered}
 use Rattle.db_state.specs.Fields.{IsDatabase, numbers_in, state_of}
 use Rattle.db_state.specs.declared.parts.Parts.{Parts}
-use Rattle.db_state.proofs.FieldLemmas.{none_at}
+use Rattle.db_state.proofs.FieldLaws.{none_at}
 
 -- the number of a value is listed
 in_numbers : {T : Type 0} (items : List (Numbered T)) (n : ℕ) (x : T) → Some x ≡ value_of items n → In n (numbers_in items)

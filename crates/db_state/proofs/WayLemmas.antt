@@ -6,14 +6,14 @@ use Rattle.version_graph.specs.Sets.{In}
 use Rattle.version_graph.specs.Edges.{is_in}
 use Rattle.version_graph.specs.Forest.{Link, forest}
 use Rattle.version_graph.specs.declared.parts.Placed.{Placed}
-use Rattle.version_graph.proofs.SetLemmas.{is_in_true}
+use Rattle.version_graph.proofs.SetLaws.{is_in_true}
 use Rattle.version_graph.proofs.WalkLaws.{IsForest}
 use Rattle.layout_rules.specs.Layouts.{IsValid}
 use Rattle.layout_rules.specs.Ways.{IsOnWay, ReadsFrom, ReadsOver}
-use Rattle.layout_rules.proofs.LinkLemmas.{same_link}
-use Rattle.layout_rules.proofs.WayLemmas.{reads_on}
+use Rattle.layout_rules.proofs.LinkLaws.{same_link}
+use Rattle.layout_rules.proofs.WayLaws.{reads_on}
 use Rattle.storage_law.specs.Storage.{stored_way}
-use Rattle.storage_law.proofs.LinkLemmas.{not_in_false}
+use Rattle.storage_law.proofs.LinkLaws.{not_in_false}
 use Rattle.db_state.specs.Covered.{Covers, CoversItself}
 
 module _ {O : Type 0} (es : List (Link O)) (forest : IsForest es) (layout : List ℕ) (valid : IsValid es layout) (table : ℕ) where

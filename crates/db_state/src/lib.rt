@@ -6,6 +6,8 @@
 //! and row from the tables on the way to storage alone. The crates above change a database by
 //! `take_parts` and `put_parts` alone, so each of them proves that it leaves canonical storage. The
 //! crate knows operators by their laws alone, and nothing of names in statements.
+//!
+//! Lemmas that crates above may use stand in proofs/: `FieldLaws`.
 #![tactic(auto)]
 
 mod auxes;

@@ -11,7 +11,7 @@ use Rattle.op_kinds.specs.Operators.{AnyView, Built, CreateTable, DropTable, Ren
 use Rattle.layout_rules.specs.Changes.{layout_after}
 use Rattle.version_model.specs.Databases.{empty_database}
 use Rattle.storage_law.specs.Reading.{ReadsSources}
-use Rattle.layout_rules.proofs.AfterLemmas.{same_layout}
+use Rattle.layout_rules.proofs.AfterLaws.{same_layout}
 use Rattle.db_state.specs.Fields.{IsDatabase, database_of}
 use Rattle.db_state.specs.declared.parts.Parts.{Parts}
 use Rattle.engine_state.specs.State.{State}

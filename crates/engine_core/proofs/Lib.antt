@@ -1,4 +1,4 @@
-pub mod TextLemmas
+pub mod TextLaws
 mod PlanLemmas
 mod WriteLemmas
 mod LaidLemmas

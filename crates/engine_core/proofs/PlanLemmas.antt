@@ -8,7 +8,7 @@ use Rattle.engine_state.specs.State.{State}
 use Rattle.engine_state.specs.Replies.{IsReply}
 use Rattle.engine_statements.specs.Found.{condition_list, found, known_condition, known_references, unknown_in_rows}
 use Rattle.engine_statements.specs.Statements.{Planned, columns_of, known_sets, planned_delete, planned_insert, planned_update, right_counts, set_columns, set_values}
-use Rattle.engine_versions.proofs.ChainLemmas.{both_give, ok_is}
+use Rattle.engine_versions.proofs.ChainLaws.{both_give, ok_is}
 use Rattle.engine_core.specs.Act.{planned}
 
 insert_replies : (s : State) (t : TableName) (rows : List (List Value)) (p : Planned) → planned_insert s t rows ≡ Ok p → IsReply p.reply

@@ -10,7 +10,7 @@ use Rattle.par_base.specs.declared.refusal.Refusal.TheVariants.{IdsSpent}
 use Rattle.version_graph.specs.Edges.{AreEdges, Drawn}
 use Rattle.layout_rules.specs.Changes.{layout_after}
 use Rattle.layout_rules.specs.declared.layout.Layout.{Layout}
-use Rattle.layout_rules.proofs.AfterLemmas.{same_layout}
+use Rattle.layout_rules.proofs.AfterLaws.{same_layout}
 use Rattle.op_law.specs.Calls.{first_refused}
 use Rattle.op_any.specs.Checks.{◌then◌}
 use Rattle.op_kinds.specs.Operators.{AnyView, any_laws, any_meaning}
@@ -19,7 +19,7 @@ use Rattle.db_state.specs.declared.parts.Parts.{Parts}
 use Rattle.version_model.specs.Sound.{IsSound}
 use Rattle.version_model.specs.Databases.{Writes}
 use Rattle.version_model.specs.Laws.{WriteIsOrdinary}
-use Rattle.version_model.proofs.WriteLemmas.{write_is_ordinary}
+use Rattle.version_model.proofs.WriteLaws.{write_is_ordinary}
 use Rattle.engine_state.specs.State.{State}
 use Rattle.engine_statements.specs.Statements.{Planned, state_with, wrote}
 use Rattle.engine_statements.specs.Calls.{planned_view, IsTaken}

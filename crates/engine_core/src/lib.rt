@@ -8,6 +8,8 @@
 //! A statement whose form isn't carried out yet is refused as not built before every other check.
 //! The crate must not know how statements are written, or where their bytes come from and where the
 //! lines go.
+//!
+//! Lemmas that crates above may use stand in proofs/: `TextLaws`.
 #![tactic(auto)]
 
 mod built;

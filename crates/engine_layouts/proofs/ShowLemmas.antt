@@ -13,15 +13,15 @@ use Rattle.version_graph.specs.Tables.{TableVersion}
 use Rattle.version_graph.specs.Edges.{Drawn, Rises, heading_of, made}
 use Rattle.version_graph.specs.Forest.{Link, forest, link}
 use Rattle.version_graph.specs.declared.parts.Placed.{Placed}
-use Rattle.version_graph.proofs.SetLemmas.{each_at, each_of, origin}
-use Rattle.version_graph.proofs.TableLemmas.{rises_above}
-use Rattle.version_graph.proofs.TakenLemmas.{heading_known}
+use Rattle.version_graph.proofs.SetLaws.{each_at, each_of, origin}
+use Rattle.version_graph.proofs.TableLaws.{rises_above}
+use Rattle.version_graph.proofs.TakenLaws.{heading_known}
 use Rattle.op_law.specs.Tables.{Tables, contents}
 use Rattle.op_law.specs.declared.side.Aux.{Aux}
 use Rattle.op_kinds.specs.Operators.{AnyView, any_meaning}
 use Rattle.layout_rules.specs.Layouts.{IsStored}
 use Rattle.layout_rules.specs.Lookups.{is_stored, tables_up}
-use Rattle.layout_rules.proofs.PassLemmas.{reverse_next, stored_listed, stored_rise, take_next, target_up, up_made}
+use Rattle.layout_rules.proofs.PassLaws.{reverse_next, stored_listed, stored_rise, take_next, target_up, up_made}
 use Rattle.version_model.specs.Kept.{value_of}
 use Rattle.version_model.specs.States.{headings}
 use Rattle.version_model.specs.declared.numbered.Numbered.{Numbered}

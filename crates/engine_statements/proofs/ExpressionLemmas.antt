@@ -9,17 +9,17 @@ use Rattle.expr_lang.specs.declared.tree.Expr.{Expr}
 use Rattle.expr_lang.specs.Terms.{Term}
 use Rattle.expr_lang.specs.Val.{fits_row}
 use Rattle.expr_lang.specs.Resolved.{place_of, resolved, first_unknown_id}
-use Rattle.expr_lang.proofs.Resolving.{resolved-fits}
+use Rattle.expr_lang.proofs.ResolvingLaws.{resolved-fits}
 use Rattle.statements.specs.Views.{Tree, AssignmentView}
 use Rattle.op_law.specs.SoundTerms.{TermSound}
 use Rattle.op_any.specs.Checks.{Checked, ◌then◌}
 use Rattle.op_any.specs.NameChecks.{known_column, known_columns}
 use Rattle.op_any.specs.Texts.{TermFits}
-use Rattle.op_any.proofs.SoundTexts.{resolved_sound}
+use Rattle.op_any.proofs.SoundTextsLaws.{resolved_sound}
 use Rattle.ordinary_table.specs.Shown.{condition_of}
 use Rattle.ordinary_table.specs.Written.{SetTerm}
 use Rattle.ordinary_table.specs.Fits.{condition_fits, SetFits}
-use Rattle.ordinary_table.proofs.KeptLemmas.{all_behind}
+use Rattle.ordinary_table.proofs.KeptLaws.{all_behind}
 use Rattle.engine_statements.specs.Found.{shown_names, known_expression, known_condition, some_term, unknown_in}
 use Rattle.engine_statements.specs.Statements.{known_set, known_sets, set_values}
 use Rattle.engine_statements.specs.Calls.{condition_term, AssignmentFits}

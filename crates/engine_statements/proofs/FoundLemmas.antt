@@ -8,10 +8,10 @@ use Rattle.version_graph.specs.Edges.{AreEdges, Drawn, numbers, made, working, t
 use Rattle.version_graph.specs.Kept.{number_named}
 use Rattle.version_graph.specs.declared.parts.Heading.{Heading}
 use Rattle.version_graph.specs.declared.parts.Placed.{Placed}
-use Rattle.version_graph.proofs.SetLemmas.{in_map}
-use Rattle.version_graph.proofs.TableLemmas.{working_made}
-use Rattle.version_graph.proofs.TakenLemmas.{found_passes, heading_known, known_set, number_found}
-use Rattle.version_graph.proofs.NodeLemmas.{above_zero, live_edge, not_zero}
+use Rattle.version_graph.proofs.SetLaws.{in_map}
+use Rattle.version_graph.proofs.TableLaws.{working_made}
+use Rattle.version_graph.proofs.TakenLaws.{found_passes, heading_known, known_set, number_found}
+use Rattle.version_graph.proofs.NodeLaws.{above_zero, live_edge, not_zero}
 use Rattle.engine_statements.specs.Calls.{table_of}
 
 -- a live working set has tables

@@ -10,7 +10,7 @@ use Rattle.statements.specs.Views.{Tree}
 use Rattle.op_law.specs.Sound.{IsBelow, ValueSound, ValuesSound}
 use Rattle.op_any.specs.NameChecks.{known_id}
 use Rattle.op_any.specs.Texts.{ValueFits}
-use Rattle.ordinary_table.proofs.KeptLemmas.{all_behind}
+use Rattle.ordinary_table.proofs.KeptLaws.{all_behind}
 use Rattle.engine_statements.specs.Found.{first_of, unknown_in, unknown_value, unknown_in_row}
 
 first_of-first : (a b c : Option ℕ) → first_of a (first_of b c) ≡ first_of (first_of a b) c

@@ -9,7 +9,7 @@ use Rattle.row_store.specs.Rows.{Rows}
 use Rattle.op_any.specs.Checks.{Checked}
 use Rattle.ordinary_table.specs.Written.{numbered}
 use Rattle.ordinary_table.specs.Laws.{IsNewRow}
-use Rattle.ordinary_table.proofs.KeptLemmas.{all_behind}
+use Rattle.ordinary_table.proofs.KeptLaws.{all_behind}
 use Rattle.engine_statements.specs.Found.{unknown_in_row, unknown_in_rows}
 use Rattle.engine_statements.specs.Statements.{ids_of, right_counts, places_from}
 use Rattle.engine_statements.specs.Calls.{RowFits}

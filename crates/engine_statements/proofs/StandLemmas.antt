@@ -7,8 +7,8 @@ use Rattle.row_store.specs.Rows.{Rows}
 use Rattle.version_graph.specs.Sets.{In, Each}
 use Rattle.version_graph.specs.Edges.{Drawn, numbers, heading_of, set_named, version_sets}
 use Rattle.version_graph.specs.declared.parts.Heading.{Heading}
-use Rattle.version_graph.proofs.SetLemmas.{each_at}
-use Rattle.version_graph.proofs.NodeLemmas.{set_listed}
+use Rattle.version_graph.proofs.SetLaws.{each_at}
+use Rattle.version_graph.proofs.NodeLaws.{set_listed}
 use Rattle.op_law.specs.Tables.{RowsWide}
 use Rattle.op_any.specs.Checks.{Gives}
 use Rattle.op_kinds.specs.Operators.{AnyView, any_meaning}

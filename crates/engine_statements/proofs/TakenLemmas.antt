@@ -8,7 +8,7 @@ use Rattle.statements.specs.Views.{Tree, AssignmentView}
 use Rattle.op_kinds.specs.Operators.{AnyView, any_meaning}
 use Rattle.ordinary_table.specs.Laws.{IsTable}
 use Rattle.ordinary_table.specs.Written.{SetTerm, inserted, updated}
-use Rattle.ordinary_table.proofs.KeptLemmas.{insert_keeps, update_keeps}
+use Rattle.ordinary_table.proofs.KeptLaws.{insert_keeps, update_keeps}
 use Rattle.db_state.specs.Fields.{state_of}
 use Rattle.db_state.specs.declared.parts.Parts.{Parts}
 use Rattle.version_model.specs.Writes.{MayWrite}

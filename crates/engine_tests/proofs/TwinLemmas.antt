@@ -19,7 +19,7 @@ use Rattle.db_state.specs.declared.parts.Parts.{Parts}
 use Rattle.engine_state.specs.State.{State}
 use Rattle.engine_versions.specs.Evolve.{created}
 use Rattle.engine_versions.specs.Plans.{PlansEdges}
-use Rattle.engine_versions.proofs.ChainLemmas.{ok_is}
+use Rattle.engine_versions.proofs.ChainLaws.{ok_is}
 use Rattle.engine_tests.specs.Twins.{IsTakenTwice, IsTwin, Stays, moved_state}
 use Rattle.engine_tests.specs.declared.kept.Twin.{Twin}
 

@@ -12,19 +12,19 @@ use Rattle.version_graph.specs.Calls.{CanGrow}
 use Rattle.version_graph.specs.declared.parts.Heading.{Heading}
 use Rattle.version_graph.specs.declared.parts.Edge.{Edge}
 use Rattle.version_graph.specs.declared.parts.Placed.{Placed}
-use Rattle.version_graph.proofs.SetLemmas.{in_append, in_left}
-use Rattle.version_graph.proofs.TableLemmas.{headings_made, headings_next, numbers_made, working_made}
-use Rattle.version_graph.proofs.TakenLemmas.{found_passes, heading_known}
-use Rattle.version_graph.proofs.GrowLemmas.{can_next, length_after}
+use Rattle.version_graph.proofs.SetLaws.{in_append, in_left}
+use Rattle.version_graph.proofs.TableLaws.{headings_made, headings_next, numbers_made, working_made}
+use Rattle.version_graph.proofs.TakenLaws.{found_passes, heading_known}
+use Rattle.version_graph.proofs.GrowLaws.{can_next, length_after}
 use Rattle.version_model.specs.States.{as_seen, headings}
 use Rattle.version_model.specs.Evolving.{AreBuilt}
-use Rattle.version_model.proofs.HeadingLemmas.{made_more}
+use Rattle.version_model.proofs.HeadingLaws.{made_more}
 use Rattle.op_law.specs.Tables.{Heading as SeenHeading}
 use Rattle.op_kinds.specs.Operators.{AnyView, any_meaning}
 use Rattle.op_any.specs.Laws.{headings_taken}
 use Rattle.op_any.specs.Texts.{TextsFit}
 use Rattle.op_any.proofs.BuiltLaws.{built_suits}
-use Rattle.op_any.proofs.TableLists.{headings_taken-of}
+use Rattle.op_any.proofs.TableListsLaws.{headings_taken-of}
 use Rattle.engine_versions.specs.declared.edges.Counts.{Counts}
 use Rattle.engine_versions.specs.Evolve.{edges_on, target_count, with_one}
 use Rattle.engine_versions.proofs.EdgeLemmas.{headings_well, none_built, splits}

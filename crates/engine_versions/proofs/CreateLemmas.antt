@@ -13,7 +13,7 @@ use Rattle.version_graph.specs.Edges.{Drawn, IsGraph, set_named, working}
 use Rattle.version_graph.specs.Evolve.{limit_passed, refusal_of, start_of, MayEvolve}
 use Rattle.version_graph.specs.Calls.{CanGrow}
 use Rattle.version_graph.specs.declared.parts.Edge.{Edge}
-use Rattle.version_graph.proofs.EvolveLemmas.{can_evolve, no_refusal}
+use Rattle.version_graph.proofs.EvolveLaws.{can_evolve, no_refusal}
 use Rattle.op_law.specs.Calls.{first_refused}
 use Rattle.op_any.specs.Checks.{◌then◌, Gives}
 use Rattle.op_kinds.specs.Operators.{AnyView, any_meaning}
@@ -24,7 +24,7 @@ use Rattle.engine_state.specs.State.{State}
 use Rattle.engine_state.specs.SharedChecks.{known_version, enough_ids}
 use Rattle.engine_versions.specs.Evolve.{counts_of, created, edges_on, start_at, state_after, unused}
 use Rattle.engine_versions.specs.Plans.{IsPlanned, OnEach, PlansEdges}
-use Rattle.engine_versions.proofs.ChainLemmas.{then_fails, then_is}
+use Rattle.engine_versions.proofs.ChainLaws.{then_fails, then_is}
 use Rattle.engine_versions.proofs.EdgeLemmas.{few_tables, fit_in_order, headings_well, limits_kept, numbers_fit, some_edges}
 use Rattle.engine_versions.proofs.BuiltLemmas.{are_built}
 

@@ -11,8 +11,8 @@ use Rattle.version_graph.specs.declared.parts.Placed.{Placed}
 use Rattle.version_graph.specs.Evolve.{limit_at, limit_passed, later, targets_in, number_limit}
 use Rattle.version_graph.specs.declared.parts.Heading.{Heading}
 use Rattle.version_graph.specs.declared.parts.Edge.{Edge}
-use Rattle.version_graph.proofs.SetLemmas.{each_append, each_of, each_at}
-use Rattle.version_graph.proofs.TableLemmas.{in_filter, headings_next}
+use Rattle.version_graph.proofs.SetLaws.{each_append, each_of, each_at}
+use Rattle.version_graph.proofs.TableLaws.{in_filter, headings_next}
 use Rattle.op_any.specs.Checks.{Checked, ◌then◌}
 use Rattle.op_kinds.specs.Operators.{AnyView}
 use Rattle.op_any.specs.Build.{built}
@@ -20,7 +20,7 @@ use Rattle.op_any.proofs.BuiltLaws.{built_suits}
 use Rattle.version_model.specs.Evolving.{HasFewTables}
 use Rattle.engine_versions.specs.declared.edges.Counts.{Counts}
 use Rattle.engine_versions.specs.Evolve.{edges_on, room_for, target_count, with_one}
-use Rattle.engine_versions.proofs.ChainLemmas.{both_give, ok_is, then_is}
+use Rattle.engine_versions.proofs.ChainLaws.{both_give, ok_is, then_is}
 use Rattle.engine_versions.proofs.TargetLemmas.{targets_counted}
 
 -- ---- limits

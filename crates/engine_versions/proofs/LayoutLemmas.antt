@@ -11,7 +11,7 @@ use Rattle.version_graph.specs.Edges.{Drawn, set_named}
 use Rattle.version_graph.specs.declared.parts.Edge.{Edge}
 use Rattle.layout_rules.specs.Changes.{evolved_layout, layout_after}
 use Rattle.layout_rules.specs.declared.layout.Layout.{Layout}
-use Rattle.layout_rules.proofs.AfterLemmas.{layout_dropped, layout_evolved, same_layout}
+use Rattle.layout_rules.proofs.AfterLaws.{layout_dropped, layout_evolved, same_layout}
 use Rattle.op_any.specs.Checks.{◌then◌, Gives}
 use Rattle.op_kinds.specs.Operators.{AnyView, any_meaning}
 use Rattle.version_model.specs.Databases.{Evolves, dropped_database, start_in}

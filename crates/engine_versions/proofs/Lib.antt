@@ -1,4 +1,4 @@
-pub mod ChainLemmas
+pub mod ChainLaws
 mod TargetLemmas
 mod EdgeLemmas
 mod BuiltLemmas

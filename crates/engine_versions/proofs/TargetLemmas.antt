@@ -13,7 +13,7 @@ use Rattle.op_any.specs.NameChecks.{heading_named, is_passing, repeated, known_p
 use Rattle.op_any.specs.Build.{creating_table, dropping_table, renaming_table, renaming_column, adding_column, dropping_column, splitting_in_one, splitting_in_two, splitting_table, merging_tables, planned, with_text, built}
 use Rattle.op_any.specs.BuildJoins.{parting, divided, decomposing_in_one, decomposing_table, joining_tables, decomposing_on_pk, decomposing_on_fk, decomposing_on, meeting, columns_of_both, joining_on_pk, joining_on_fk, joining_on}
 use Rattle.engine_versions.specs.Evolve.{target_count}
-use Rattle.engine_versions.proofs.ChainLemmas.{both_give, ok_is}
+use Rattle.engine_versions.proofs.ChainLaws.{both_give, ok_is}
 
 abbrev many : {O : Type 0} → Edge O → ℕ
 many e = length e.targets

@@ -6,6 +6,8 @@
 //! tables change; a drop takes the name, and each operator that no name needs any longer. After any
 //! error nothing has changed. It must not know how statements are written, or how replies are
 //! printed, nor what the operators do to rows.
+//!
+//! Lemmas that crates above may use stand in proofs/: `ChainLaws`.
 #![tactic(auto)]
 
 mod create;

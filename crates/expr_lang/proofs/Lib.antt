@@ -1,3 +1,3 @@
-pub mod Places
-pub mod References
-pub mod Resolving
+mod Places
+pub mod ReferencesLaws
+pub mod ResolvingLaws

@@ -5,6 +5,8 @@
 //! that is no column, that `eval` gives the value of the expression at the row in one step, and
 //! that a resolved expression has the value that the text has by names. It knows nothing of
 //! tables, statements or the spelling of expressions.
+//!
+//! Lemmas that crates above may use stand in proofs/: `ReferencesLaws` and `ResolvingLaws`.
 #![tactic(auto)]
 
 mod copy;

@@ -44,7 +44,7 @@ fn place(columns: &[Name], name: &Name) -> Option<usize>
 }
 
 /// The first reference literal, from the left, that is 0 or isn't below the next identifier.
-#[tactic(auto, using(crate::proofs::References::both), unfolding(crate::specs::Resolved::first_unknown_id))]
+#[tactic(auto, using(crate::proofs::ReferencesLaws::both), unfolding(crate::specs::Resolved::first_unknown_id))]
 pub fn first_unknown(text: &ExprText, next: u64) -> Option<u64>
     ensures { result ≡ first_unknown_id next (text_term text.now) }
 {

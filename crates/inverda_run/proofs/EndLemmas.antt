@@ -19,9 +19,9 @@ use Rattle.bidel_script.specs.declared.front.Stop.TheVariants as stop
 use Rattle.bidel_script.specs.Tails.{AreAll}
 use Rattle.bidel_script.specs.Script.{Comes, Outcome, Over, Fault, Long, Open}
 use Rattle.bidel_script.specs.Calls.{outcome_of}
-use Rattle.bidel_script.proofs.TokenLemmas.{all_are_tokens, wants_none}
-use Rattle.bidel_script.proofs.ScriptLemmas.{over_is_script, at_within, ended_not_open, open_not_over}
-use Rattle.bidel_script.proofs.UniqueLemmas.{one_comes}
+use Rattle.bidel_script.proofs.TokenLaws.{all_are_tokens, wants_none}
+use Rattle.bidel_script.proofs.ScriptLaws.{over_is_script, at_within, ended_not_open, open_not_over}
+use Rattle.bidel_script.proofs.UniqueLaws.{one_comes}
 use Rattle.engine_core.specs.Texts.{line}
 use Rattle.inverda_run.specs.Output.{out_of}
 use Rattle.inverda_run.specs.Statuses as statuses

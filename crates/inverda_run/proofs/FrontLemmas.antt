@@ -10,8 +10,8 @@ use Rattle.statements.specs.Views.{StatementView}
 use Rattle.bidel_script.specs.declared.tokens.Tail.{Tail}
 use Rattle.bidel_script.specs.Tails.{AreAll}
 use Rattle.bidel_script.specs.Script.{Leads, StandsBehind}
-use Rattle.bidel_script.proofs.TokenLemmas.{all_are_one}
-use Rattle.bidel_script.proofs.UniqueLemmas.{leads_first, blocked}
+use Rattle.bidel_script.proofs.TokenLaws.{all_are_one}
+use Rattle.bidel_script.proofs.UniqueLaws.{leads_first, blocked}
 use Rattle.engine_layouts.specs.Laid.{Laid}
 use Rattle.engine_core.specs.Kept.{empty_state}
 use Rattle.inverda_run.specs.Output.{out, out_of, max_id}

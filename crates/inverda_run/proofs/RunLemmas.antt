@@ -6,7 +6,7 @@ use Rattle.bidel_lex.specs.declared.tokens.Token.{Token}
 use Rattle.statements.specs.Views.{StatementView}
 use Rattle.bidel_script.specs.declared.tokens.Tail.{Tail}
 use Rattle.bidel_script.specs.Script.{Leads, Outcome, StandsBehind}
-use Rattle.bidel_script.proofs.ScriptLemmas.{front_within, leads_more, stands_up}
+use Rattle.bidel_script.proofs.ScriptLaws.{front_within, leads_more, stands_up}
 use Rattle.engine_layouts.specs.Laid.{Laid}
 use Rattle.engine_core.specs.Kept.{empty_state}
 use Rattle.engine_core.specs.Act.{act}

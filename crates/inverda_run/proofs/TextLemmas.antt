@@ -2,7 +2,7 @@
 use Rattle.std.proofs.Common.{List, ◌++◌, refl, ap, ◌∙◌}
 use Rattle.statements.specs.Views.{StatementView}
 use Rattle.bidel_script.specs.Script.{Outcome}
-use Rattle.bidel_script.proofs.ComesLemmas.{run_is_one}
+use Rattle.bidel_script.proofs.ComesLaws.{run_is_one}
 use Rattle.inverda_run.specs.Output.{out_of}
 use Rattle.inverda_run.specs.Statuses.{OneText, last_line}
 

@@ -11,13 +11,13 @@ use Rattle.par_base.specs.declared.refusal.Refusal.{Refusal}
 use Rattle.par_base.specs.declared.refusal.Refusal.TheVariants.{InvalidLayout}
 use Rattle.version_graph.specs.declared.parts.Heading.{Heading}
 use Rattle.version_graph.specs.Edges.{AreEdges, Drawn, heading_of}
-use Rattle.version_graph.proofs.NodeLemmas.{find_past}
+use Rattle.version_graph.proofs.NodeLaws.{find_past}
 use Rattle.layout_rules.specs.Closing.{first_unknown, named_trees}
 use Rattle.layout_rules.specs.Calls.{KnowsTables, SharesNone, StoresAll}
 use Rattle.layout_rules.specs.Lookups.{is_shared, numbers_up, stays, stores_found, tables_up}
 use Rattle.layout_rules.specs.Closed.{GivesLayout, IsClosing, closed_layout, closing, closing_refusal, first_shared, first_unstored, or_else, tells_table, tells_target, unless, wanted}
 use Rattle.layout_rules.specs.declared.layout.Layout.{Layout}
-use Rattle.layout_rules.proofs.CloseLemmas.{close_done, close_shared, close_unknown, close_unstored, heading_known}
+use Rattle.layout_rules.proofs.CloseLaws.{close_done, close_shared, close_unknown, close_unstored, heading_known}
 
 -- where all pass, none is found that fails
 none_fails : {X : Type 0} (test : X → Bool) (xs : List X) → list_all test xs ≡ true → find (λ x. not (test x)) xs ≡ None

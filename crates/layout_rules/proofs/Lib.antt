@@ -1,13 +1,13 @@
-pub mod LinkLemmas
+pub mod LinkLaws
 mod MoveLemmas
-pub mod ChangeLemmas
+pub mod ChangeLaws
 mod TreeLemmas
-pub mod NeededLemmas
-pub mod LookupLemmas
-pub mod PassLemmas
-pub mod DownLemmas
-pub mod CloseLemmas
-pub mod WayLemmas
+pub mod NeededLaws
+pub mod LookupLaws
+pub mod PassLaws
+pub mod DownLaws
+pub mod CloseLaws
+pub mod WayLaws
 mod WayPassLemmas
-pub mod AfterLemmas
+pub mod AfterLaws
 mod ClosedLemmas

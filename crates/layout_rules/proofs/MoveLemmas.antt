@@ -7,7 +7,7 @@ use Rattle.version_graph.specs.Forest.{Link}
 use Rattle.version_graph.proofs.WalkLaws.{Fits, IsForest}
 use Rattle.layout_rules.specs.Layouts.{IsValid, Lives}
 use Rattle.layout_rules.specs.Moves.{Flips, IsDown, IsUp, Moves, PutsIn, SameOperators, TakesOut}
-use Rattle.layout_rules.proofs.LinkLemmas.{in_or_out, maker_in, number_listed, same_link, taker_newer}
+use Rattle.layout_rules.proofs.LinkLaws.{in_or_out, maker_in, number_listed, same_link, taker_newer}
 
 module _ {O : Type 0} (es : List (Link O)) (forest : IsForest es) (layout goal : List ℕ) (valid : IsValid es layout) (valid_goal : IsValid es goal) where
   -- an operator that the goal lacks goes to its source side

@@ -5,10 +5,10 @@ use Rattle.std.proofs.lemmas.Bool.{cond-false, cond-true, eq-eqb, eqb-true, ne_e
 use Rattle.version_graph.specs.Sets.{In}
 use Rattle.version_graph.specs.Edges.{is_in}
 use Rattle.version_graph.specs.Forest.{Link, minus, tables_in, tree}
-use Rattle.version_graph.proofs.SetLemmas.{in_append}
-use Rattle.version_graph.proofs.TableLemmas.{in_filter}
+use Rattle.version_graph.proofs.SetLaws.{in_append}
+use Rattle.version_graph.proofs.TableLaws.{in_filter}
 use Rattle.version_graph.proofs.WalkLaws.{Fits, IsForest, link_numbers, tables_made, targets_apart}
-use Rattle.layout_rules.proofs.LinkLemmas.{number_listed, source_made, target_listed}
+use Rattle.layout_rules.proofs.LinkLaws.{number_listed, source_made, target_listed}
 
 module _ {O : Type 0} where
   older : (x : Link O) (es : List (Link O)) (n : ℕ) → Fits es x → In n (link_numbers es) → tree (x ∷ es) n ≡ tree es n

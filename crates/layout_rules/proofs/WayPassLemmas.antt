@@ -7,20 +7,20 @@ use Rattle.version_graph.specs.Sets.{In}
 use Rattle.version_graph.specs.Edges.{AreEdges, Rises, is_in}
 use Rattle.version_graph.specs.Forest.{Link, forest, link}
 use Rattle.version_graph.specs.declared.parts.Placed.{Placed}
-use Rattle.version_graph.proofs.SetLemmas.{in_append, in_left, in_of_test, in_right, is_in_true}
+use Rattle.version_graph.proofs.SetLaws.{in_append, in_left, in_of_test, in_right, is_in_true}
 use Rattle.version_graph.proofs.WalkLaws.{is_forest}
-use Rattle.version_graph.proofs.WalkLemmas.{in_reverse}
+use Rattle.version_graph.proofs.WalkStepLaws.{in_reverse}
 use Rattle.layout_rules.specs.Layouts.{IsValid}
 use Rattle.layout_rules.specs.Passes.{meet}
 use Rattle.layout_rules.specs.Ways.{IsOnWay, ReadsOver}
 use Rattle.layout_rules.specs.Lookups.{sources_or_none}
 use Rattle.layout_rules.specs.Reached.{down_from, down_with, goes_down, goes_up, up_from, up_with, way_along, way_with}
-use Rattle.layout_rules.proofs.NeededLemmas.{both_true, either_true, meet_at, meet_true}
-use Rattle.layout_rules.proofs.LookupLemmas.{and_true, not_off, not_on, sources_link}
-use Rattle.layout_rules.proofs.PassLemmas.{map_reverse, rises_lower, take_next}
-use Rattle.layout_rules.proofs.DownLemmas.{Beside, SameSides, below, below_next, beside, link_listed}
-use Rattle.layout_rules.proofs.CloseLemmas.{numbers_rise}
-use Rattle.layout_rules.proofs.WayLemmas.{all_reached, reached, reached_read}
+use Rattle.layout_rules.proofs.NeededLaws.{both_true, either_true, meet_at, meet_true}
+use Rattle.layout_rules.proofs.LookupLaws.{and_true, not_off, not_on, sources_link}
+use Rattle.layout_rules.proofs.PassLaws.{map_reverse, rises_lower, take_next}
+use Rattle.layout_rules.proofs.DownLaws.{Beside, SameSides, below, below_next, beside, link_listed}
+use Rattle.layout_rules.proofs.CloseLaws.{numbers_rise}
+use Rattle.layout_rules.proofs.WayLaws.{all_reached, reached, reached_read}
 
 as_cond : {X : Type 0} (b : Bool) (x y : X) → (if b then x else y) ≡ cond b x y
 as_cond true x y = refl

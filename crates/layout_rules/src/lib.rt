@@ -10,6 +10,9 @@
 //! (`specs/Moves.antt`), and evolutions, drops and closing leave valid ones (`specs/Changes.antt`).
 //! All of this is over numbers of operators and tables. The crate knows nothing of what an operator
 //! does, nor of rows: `O` is any type.
+//!
+//! Lemmas that crates above may use stand in proofs/: `LinkLaws`, `ChangeLaws`, `NeededLaws`,
+//! `LookupLaws`, `PassLaws`, `DownLaws`, `CloseLaws`, `WayLaws` and `AfterLaws`.
 #![tactic(auto)]
 
 mod closing;

@@ -6,7 +6,7 @@ use Rattle.version_graph.specs.Forest.{Link, crossing, forest}
 use Rattle.version_graph.specs.declared.parts.Placed.{Placed}
 use Rattle.version_graph.proofs.WalkLaws.{is_forest}
 use Rattle.layout_rules.specs.Layouts.{IsStored, IsValid}
-use Rattle.layout_rules.proofs.LinkLemmas.{maker_in, same_maker}
+use Rattle.layout_rules.proofs.LinkLaws.{maker_in, same_maker}
 use Rattle.db_state.specs.Covered.{Covers, CoversItself}
 use Rattle.migration.specs.Sides.{changing}
 use Rattle.migration.proofs.SideLemmas.{comes, goes, listed_side, side_listed}

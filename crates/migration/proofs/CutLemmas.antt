@@ -11,34 +11,34 @@ use Rattle.version_graph.specs.Dropped.{dropped, other_versions, staying}
 use Rattle.version_graph.specs.Finished.{IsFinished}
 use Rattle.version_graph.specs.Forest.{forest}
 use Rattle.version_graph.specs.declared.parts.Placed.{Placed}
-use Rattle.version_graph.proofs.SetLemmas.{each_at, each_of, in_of_test, is_in_true}
-use Rattle.version_graph.proofs.StayLemmas.{dropped_graph, edges_stay, fewer_numbers}
-use Rattle.version_graph.proofs.TableLemmas.{in_filter, passes, rises_above}
+use Rattle.version_graph.proofs.SetLaws.{each_at, each_of, in_of_test, is_in_true}
+use Rattle.version_graph.proofs.StayLaws.{dropped_graph, edges_stay, fewer_numbers}
+use Rattle.version_graph.proofs.TableLaws.{in_filter, passes, rises_above}
 use Rattle.op_law.specs.Calls.{tables_of}
 use Rattle.op_law.specs.Laws.{Laws}
 use Rattle.op_law.specs.Meaning.{Meaning}
 use Rattle.op_law.specs.declared.side.Aux.{Aux}
 use Rattle.layout_rules.specs.Layouts.{IsStored, IsValid}
 use Rattle.layout_rules.specs.Lookups.{numbers_up}
-use Rattle.layout_rules.proofs.ChangeLemmas.{dropped_valid, filter_in}
-use Rattle.layout_rules.proofs.CloseLemmas.{numbers_rise}
-use Rattle.layout_rules.proofs.LinkLemmas.{target_listed}
-use Rattle.layout_rules.proofs.PassLemmas.{rises_filter}
+use Rattle.layout_rules.proofs.ChangeLaws.{dropped_valid, filter_in}
+use Rattle.layout_rules.proofs.CloseLaws.{numbers_rise}
+use Rattle.layout_rules.proofs.LinkLaws.{target_listed}
+use Rattle.layout_rules.proofs.PassLaws.{rises_filter}
 use Rattle.version_model.specs.Databases.{dropped_database}
 use Rattle.version_model.specs.Dropping.{staying_state}
 use Rattle.version_model.specs.Kept.{HasSides, pairs_at, rows_at}
 use Rattle.version_model.specs.Sound.{IsSound}
 use Rattle.version_model.specs.States.{State}
 use Rattle.version_model.specs.declared.numbered.Numbered.{Numbered}
-use Rattle.version_model.proofs.CrossingLemmas.{targets_linked}
-use Rattle.version_model.proofs.DropLemmas.{drop_sound, fewer_links}
-use Rattle.version_model.proofs.LiveLemmas.{read_passes}
+use Rattle.version_model.proofs.CrossingLaws.{targets_linked}
+use Rattle.version_model.proofs.DropLaws.{drop_sound, fewer_links}
+use Rattle.version_model.proofs.LiveLaws.{read_passes}
 use Rattle.storage_law.specs.Changes.{GoFromSources, staying_storage}
 use Rattle.storage_law.specs.Storage.{Stands, Storage}
-use Rattle.storage_law.proofs.DropLemmas.{drop_stands, stored_before, stored_now}
+use Rattle.storage_law.proofs.DropLaws.{drop_stands, stored_before, stored_now}
 use Rattle.db_state.specs.Fields.{IsDatabase, auxes_at, database_of, numbers_in, state_of, storage_in}
 use Rattle.db_state.specs.declared.parts.Parts.{Parts}
-use Rattle.db_state.proofs.FieldLemmas.{state_is}
+use Rattle.db_state.proofs.FieldLaws.{state_is}
 use Rattle.migration.proofs.SideLemmas.{up_in, up_lives}
 
 -- ---- ascending lists

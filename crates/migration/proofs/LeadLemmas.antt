@@ -8,7 +8,7 @@ use Rattle.version_graph.specs.Tables.{table_numbers}
 use Rattle.version_graph.specs.Edges.{AreEdges, Rises, is_in, made}
 use Rattle.version_graph.specs.Forest.{Link, crossing, forest}
 use Rattle.version_graph.specs.declared.parts.Placed.{Placed}
-use Rattle.version_graph.proofs.SetLemmas.{each_at, each_of}
+use Rattle.version_graph.proofs.SetLaws.{each_at, each_of}
 use Rattle.version_graph.proofs.WalkLaws.{is_forest}
 use Rattle.op_law.specs.Tables.{Tables}
 use Rattle.op_law.specs.Calls.{tables_of}
@@ -18,21 +18,21 @@ use Rattle.op_law.specs.Premises.{IsPair}
 use Rattle.op_law.specs.declared.side.Aux.{Aux}
 use Rattle.layout_rules.specs.declared.layout.Layout.{Layout}
 use Rattle.layout_rules.specs.Layouts.{IsStored, IsValid}
-use Rattle.layout_rules.proofs.ChangeLemmas.{link_number}
-use Rattle.layout_rules.proofs.LinkLemmas.{source_made, target_listed}
+use Rattle.layout_rules.proofs.ChangeLaws.{link_number}
+use Rattle.layout_rules.proofs.LinkLaws.{source_made, target_listed}
 use Rattle.version_model.specs.Kept.{HasSides, latest_of, pairs_at, renewed, rows_at, rows_now, value_of}
 use Rattle.version_model.specs.States.{State, headings}
 use Rattle.version_model.specs.Steps.{IsRelated, pair_in, way}
 use Rattle.version_model.specs.declared.numbered.Numbered.{Numbered}
-use Rattle.version_model.proofs.CrossingLemmas.{targets_linked}
-use Rattle.version_model.proofs.HeadingLemmas.{in_or_not}
-use Rattle.version_model.proofs.PutLemmas.{map_same}
+use Rattle.version_model.proofs.CrossingLaws.{targets_linked}
+use Rattle.version_model.proofs.HeadingLaws.{in_or_not}
+use Rattle.version_model.proofs.PutLaws.{map_same}
 use Rattle.storage_law.specs.Storage.{StandsOver, aux_of, stored_way}
 use Rattle.db_state.specs.Calls.{AreAuxesOf, IsRelatedAt}
 use Rattle.db_state.specs.Covered.{Covers}
 use Rattle.db_state.specs.Fields.{IsDatabase, auxes_at, database_of, numbers_in, state_of, storage_in}
 use Rattle.db_state.specs.declared.parts.Parts.{Parts}
-use Rattle.db_state.proofs.FieldLemmas.{IsShaped, Store, is_database, none_at}
+use Rattle.db_state.proofs.FieldLaws.{IsShaped, Store, is_database, none_at}
 use Rattle.migration.specs.Moved.{Adopts, Leads}
 use Rattle.migration.specs.Places.{AreStoredPlaces, IsPlace, place_rows}
 use Rattle.migration.specs.Sides.{changing}

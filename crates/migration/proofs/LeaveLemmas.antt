@@ -6,18 +6,18 @@ use Rattle.version_graph.specs.Edges.{AreEdges, Drawn, is_in, numbers, version_s
 use Rattle.version_graph.specs.Dropped.{doomed, other_versions, staying}
 use Rattle.version_graph.specs.Forest.{Link, forest}
 use Rattle.version_graph.specs.declared.parts.Placed.{Placed}
-use Rattle.version_graph.proofs.SetLemmas.{in_of_test, is_in_true}
-use Rattle.version_graph.proofs.TableLemmas.{in_filter, passes}
-use Rattle.version_graph.proofs.UnneededLemmas.{goes_taken, taken_goes}
+use Rattle.version_graph.proofs.SetLaws.{in_of_test, is_in_true}
+use Rattle.version_graph.proofs.TableLaws.{in_filter, passes}
+use Rattle.version_graph.proofs.UnneededLaws.{goes_taken, taken_goes}
 use Rattle.layout_rules.specs.Changes.{is_empty}
 use Rattle.layout_rules.specs.Layouts.{IsCreate, IsValid}
 use Rattle.layout_rules.specs.Lookups.{sources_or_none}
-use Rattle.layout_rules.proofs.ChangeLemmas.{filter_in, link_number}
-use Rattle.layout_rules.proofs.LinkLemmas.{in_or_out}
-use Rattle.layout_rules.proofs.LookupLemmas.{sources_link}
+use Rattle.layout_rules.proofs.ChangeLaws.{filter_in, link_number}
+use Rattle.layout_rules.proofs.LinkLaws.{in_or_out}
+use Rattle.layout_rules.proofs.LookupLaws.{sources_link}
 use Rattle.storage_law.specs.Changes.{GoFromSources, LeavesTo}
-use Rattle.storage_law.proofs.DropLemmas.{leaving_valid}
-use Rattle.storage_law.proofs.LinkLemmas.{not_in_false}
+use Rattle.storage_law.proofs.DropLaws.{leaving_valid}
+use Rattle.storage_law.proofs.LinkLaws.{not_in_false}
 use Rattle.migration.specs.Sides.{keeps_side, leaving_layout}
 
 -- what passes the first test passes the second one

@@ -7,7 +7,7 @@ use Rattle.version_graph.specs.Sets.{In, Each}
 use Rattle.version_graph.specs.Edges.{Rises}
 use Rattle.version_graph.specs.Forest.{forest}
 use Rattle.version_graph.specs.declared.parts.Placed.{Placed}
-use Rattle.version_graph.proofs.SetLemmas.{each_append}
+use Rattle.version_graph.proofs.SetLaws.{each_append}
 use Rattle.layout_rules.specs.Layouts.{IsStored}
 use Rattle.version_model.specs.declared.numbered.Numbered.{Numbered}
 use Rattle.db_state.specs.Fields.{numbers_in}

@@ -14,8 +14,8 @@ use Rattle.version_model.specs.States.{State}
 use Rattle.version_model.specs.declared.numbered.Numbered.{Numbered}
 use Rattle.version_model.specs.declared.progress.Before.{Before}
 use Rattle.version_model.specs.declared.progress.Made.{Made}
-use Rattle.version_model.proofs.NowLemmas.{no_pairs}
-use Rattle.version_model.proofs.ProgressLemmas.{state_is}
+use Rattle.version_model.proofs.NowLaws.{no_pairs}
+use Rattle.version_model.proofs.ProgressLaws.{state_is}
 use Rattle.db_state.specs.Calls.{AreAuxesOf, IsRelatedAt}
 use Rattle.db_state.specs.Covered.{Covers, CoversItself}
 use Rattle.db_state.specs.Fields.{IsDatabase, state_of}

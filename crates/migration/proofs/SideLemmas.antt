@@ -7,14 +7,14 @@ use Rattle.version_graph.specs.Sets.{In}
 use Rattle.version_graph.specs.Edges.{is_in, numbers}
 use Rattle.version_graph.specs.Forest.{Link, forest}
 use Rattle.version_graph.specs.declared.parts.Placed.{Placed}
-use Rattle.version_graph.proofs.SetLemmas.{is_in_true}
-use Rattle.version_graph.proofs.TableLemmas.{in_filter, passes}
-use Rattle.version_graph.proofs.WalkLemmas.{in_reverse}
+use Rattle.version_graph.proofs.SetLaws.{is_in_true}
+use Rattle.version_graph.proofs.TableLaws.{in_filter, passes}
+use Rattle.version_graph.proofs.WalkStepLaws.{in_reverse}
 use Rattle.layout_rules.specs.Layouts.{Lives}
 use Rattle.layout_rules.specs.Lookups.{numbers_up}
-use Rattle.layout_rules.proofs.ChangeLemmas.{filter_in, link_number, number_lives}
-use Rattle.layout_rules.proofs.LinkLemmas.{in_or_out}
-use Rattle.storage_law.proofs.LinkLemmas.{not_in_false, same_test}
+use Rattle.layout_rules.proofs.ChangeLaws.{filter_in, link_number, number_lives}
+use Rattle.layout_rules.proofs.LinkLaws.{in_or_out}
+use Rattle.storage_law.proofs.LinkLaws.{not_in_false, same_test}
 use Rattle.migration.specs.Sides.{changes_side, changing}
 
 -- a number is among the ascending operators exactly where it lives

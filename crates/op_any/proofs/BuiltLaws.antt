@@ -19,7 +19,7 @@ use Rattle.op_any.specs.BuildJoins.{decomposing_table, joining_tables}
 use Rattle.op_any.specs.Texts.{TextsFit}
 use Rattle.op_any.specs.Laws.{as_seen, headings_taken, is_create_table}
 use Rattle.op_any.proofs.NameLists.{distinct_insert, distinct_remove, distinct_front, insert-remove}
-use Rattle.op_any.proofs.TableLists.{found_stands, stands_named, none_passing, source_gone}
+use Rattle.op_any.proofs.TableListsLaws.{found_stands, stands_named, none_passing, source_gone}
 use Rattle.op_any.proofs.Suits.{Suits, if_then, at_ok, table_is, is_new, column_is, expression_is, are_few, ids_known, new_once, place_within, heading_at, without_column, reads_columns, is_closed, one_fits, one_taken}
 use Rattle.op_any.proofs.SplitMergeLaws.{splitting_suits, merging_suits}
 use Rattle.op_any.proofs.DecomposeLaws.{decomposing_suits, decomposing_on_pk_suits, decomposing_on_fk_suits, decomposing_on_suits}

@@ -23,7 +23,7 @@ use Rattle.op_any.specs.BuildJoins.{Parts, parting, divided, with_column, decomp
 use Rattle.op_any.specs.Laws.{as_seen, headings_taken, is_create_table}
 use Rattle.op_any.specs.Texts.{TextsFit}
 use Rattle.op_any.proofs.NameLists.{either}
-use Rattle.op_any.proofs.TableLists.{found_stands, stands_named, none_passing}
+use Rattle.op_any.proofs.TableListsLaws.{found_stands, stands_named, none_passing}
 use Rattle.op_any.proofs.Suits.{Suits, if_then, at_ok, table_is, is_new, names_differ, expression_is, are_few, ids_known, new_once, heading_at, reads_columns, is_closed, one_fits, two_targets_fit, one_taken}
 use Rattle.op_any.proofs.Placed.{ArePlaced, placed_at, placed_once, many_placed, some_columns, listed_once, divided_names, names_divide, distinct_left, distinct_right}
 

@@ -23,7 +23,7 @@ use Rattle.op_any.specs.BuildJoins.{Sources, places_from, meeting, columns_of_bo
 use Rattle.op_any.specs.Laws.{as_seen, headings_taken, is_create_table}
 use Rattle.op_any.specs.Texts.{TextsFit}
 use Rattle.op_any.proofs.NameLists.{distinct_remove, insert-remove}
-use Rattle.op_any.proofs.TableLists.{found_stands, stands_named, none_passing}
+use Rattle.op_any.proofs.TableListsLaws.{found_stands, stands_named, none_passing}
 use Rattle.op_any.proofs.Suits.{Suits, if_then, at_ok, table_is, is_new, sources_differ, column_is, expression_is, are_few, ids_known, new_once, place_within, heading_at, reads_columns, is_closed, two_sources_fit, two_taken}
 use Rattle.op_any.proofs.Ranges.{length-range, ranges_divide, first_names, second_names}
 

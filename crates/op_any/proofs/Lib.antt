@@ -1,13 +1,13 @@
-pub mod NameLists
-pub mod TableLists
-pub mod SoundTexts
-pub mod Suits
-pub mod Placed
-pub mod Ranges
-pub mod SplitMergeLaws
-pub mod DecomposeLaws
-pub mod JoinLaws
+mod NameLists
+pub mod TableListsLaws
+pub mod SoundTextsLaws
+mod Suits
+mod Placed
+mod Ranges
+mod SplitMergeLaws
+mod DecomposeLaws
+mod JoinLaws
 pub mod BuiltLaws
-pub mod Decides
-pub mod JoinForms
-pub mod BuiltForms
+mod Decides
+mod JoinForms
+mod BuiltForms

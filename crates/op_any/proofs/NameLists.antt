@@ -7,9 +7,9 @@ use Rattle.std.specs.Str.{bytes_eq}
 use Rattle.std.proofs.lemmas.Bool.{false≢true}
 use Rattle.std.proofs.lemmas.List.{append_assoc, append-nil}
 use Rattle.version_graph.specs.Sets.{In, Apart, Distinct}
-use Rattle.version_graph.proofs.SetLemmas.{in_left, in_right}
-use Rattle.version_graph.proofs.TableLemmas.{distinct_append}
-use Rattle.version_graph.proofs.NameLemmas.{same_name, name_is}
+use Rattle.version_graph.proofs.SetLaws.{in_left, in_right}
+use Rattle.version_graph.proofs.TableLaws.{distinct_append}
+use Rattle.version_graph.proofs.NameLaws.{same_name, name_is}
 use Rattle.op_any.specs.NameChecks.{repeated}
 use Rattle.op_any.specs.Laws.{IsFirstRepeated}
 

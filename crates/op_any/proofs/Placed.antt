@@ -12,8 +12,8 @@ use Rattle.expr_lang.specs.Resolved.{place_of}
 use Rattle.version_graph.specs.Sets.{In, Distinct, Within}
 use Rattle.version_graph.specs.Tables.{IsHeading, row_name}
 use Rattle.version_graph.specs.declared.parts.Heading.{Heading}
-use Rattle.version_graph.proofs.SetLemmas.{in_append, in_left, in_right}
-use Rattle.version_graph.proofs.NameLemmas.{same_name}
+use Rattle.version_graph.proofs.SetLaws.{in_append, in_left, in_right}
+use Rattle.version_graph.proofs.NameLaws.{same_name}
 use Rattle.row_parts.specs.RowCells.{by_test}
 use Rattle.row_parts.specs.Places.{has_place, AreOnce, names_at}
 use Rattle.row_parts.specs.Partition.{Divides, divides}

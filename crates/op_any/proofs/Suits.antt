@@ -11,14 +11,14 @@ use Rattle.par_base.specs.declared.refusal.Refusal.TheVariants.{TooManyColumns, 
 use Rattle.expr_lang.specs.Terms.{Term}
 use Rattle.expr_lang.specs.Val.{fits_row}
 use Rattle.expr_lang.specs.Resolved.{place_of, resolved, first_unknown_id}
-use Rattle.expr_lang.proofs.Resolving.{resolved-fits}
+use Rattle.expr_lang.proofs.ResolvingLaws.{resolved-fits}
 use Rattle.statements.specs.Views.{Tree, OpView}
 use Rattle.version_graph.specs.Sets.{In, Distinct, Each}
 use Rattle.version_graph.specs.Tables.{IsHeading, FitsSet, row_name, heading_names, headings_passing}
 use Rattle.version_graph.specs.declared.parts.Heading.{Heading}
 use Rattle.version_graph.specs.declared.parts.Edge.{Edge}
-use Rattle.version_graph.proofs.SetLemmas.{each_at}
-use Rattle.version_graph.proofs.NameLemmas.{name_is}
+use Rattle.version_graph.proofs.SetLaws.{each_at}
+use Rattle.version_graph.proofs.NameLaws.{name_is}
 use Rattle.op_law.specs.SoundTerms.{TermSound}
 use Rattle.op_any.specs.Checks.{Checked, ◌then◌}
 use Rattle.op_kinds.specs.Operators.{Built, meaning_of}
@@ -26,8 +26,8 @@ use Rattle.op_any.specs.NameChecks.{heading_named, known_table, other_table, new
 use Rattle.op_any.specs.Texts.{TermFits, TextsFit}
 use Rattle.op_any.specs.Laws.{as_seen, headings_taken, is_create_table}
 use Rattle.op_any.proofs.NameLists.{distinct_remove, unrepeated_distinct}
-use Rattle.op_any.proofs.TableLists.{found_stands}
-use Rattle.op_any.proofs.SoundTexts.{resolved_sound}
+use Rattle.op_any.proofs.TableListsLaws.{found_stands}
+use Rattle.op_any.proofs.SoundTextsLaws.{resolved_sound}
 
 -- ---- what the checks say
 

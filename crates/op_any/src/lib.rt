@@ -5,6 +5,9 @@
 //! an edge which is built fits the working set, and its operator its tables; and that the operator
 //! keeps its text. The one form for which `is_built` is false, OUTER JOIN on a condition, is refused
 //! as not built yet. It knows nothing of versions, of limits on operators, or of stored tables.
+//!
+//! Lemmas that crates above may use stand in proofs/: `TableListsLaws`, `SoundTextsLaws` and
+//! `BuiltLaws`.
 #![tactic(auto)]
 
 mod build;

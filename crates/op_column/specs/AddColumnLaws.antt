@@ -8,7 +8,7 @@ use Rattle.expr_lang.specs.Val.{val}
 use Rattle.op_law.specs.Tables.{Heading}
 use Rattle.op_law.specs.Sound.{ValueSound}
 use Rattle.op_law.specs.SoundTerms.{TermSound}
-use Rattle.op_law.proofs.SoundTermLemmas.{place_sound, val_sound, term_more}
+use Rattle.op_law.proofs.SoundTermLaws.{place_sound, val_sound, term_more}
 use Rattle.op_rows.specs.Cells.{Cells, first_cell, CellWide, AreCellsOf, CellSound}
 use Rattle.op_rows.specs.RowMeaning.{RowHalf, RowLaws, flip_row}
 use Rattle.op_column.specs.OneTable.{widths, one_cell, one_wide, one_long, first_sound}

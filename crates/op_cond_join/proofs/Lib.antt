@@ -1,4 +1,4 @@
-pub mod WorkedRows
+mod WorkedRows
 mod RowLemmas
 mod ShowingLemmas
 mod ChangedLemmas

@@ -5,7 +5,7 @@ use Rattle.row_store.specs.Rows.{Rows, RiseFrom, row_of}
 use Rattle.id_memory.specs.Pairs.{Pairs, RiseFrom as PairsRise, pair_of}
 use Rattle.op_law.specs.Tables.{RowsWide}
 use Rattle.op_law.specs.Sound.{IsBelow, ValuesSound, RowsSound, PairsSound}
-use Rattle.op_law.proofs.SoundLemmas.{rows_more}
+use Rattle.op_law.proofs.SoundLaws.{rows_more}
 use Rattle.op_rows.specs.Cells.{with_row}
 use Rattle.row_parts.specs.Places.{pick as part, ArePartition}
 use Rattle.row_parts.specs.RowCells.{Cell, map_cell, by_test, by_option}

@@ -5,7 +5,7 @@ use Rattle.par_base.specs.declared.value.Value.{Value}
 use Rattle.row_store.specs.Rows.{Rows, RiseFrom, AreBelow, row_of}
 use Rattle.op_law.specs.Tables.{RowsWide}
 use Rattle.op_law.specs.Sound.{ValuesSound, RowsSound}
-use Rattle.op_law.proofs.SoundLemmas.{rows_more, values_more}
+use Rattle.op_law.proofs.SoundLaws.{rows_more, values_more}
 use Rattle.row_parts.specs.Places.{pick as part}
 use Rattle.row_parts.specs.RowCells.{Cell, by_test}
 use Rattle.pair_rows.specs.Numbers.{same_number, is_own}

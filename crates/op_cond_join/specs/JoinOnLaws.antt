@@ -5,8 +5,8 @@ use Rattle.row_store.specs.Rows.{Rows}
 use Rattle.id_memory.specs.Pairs.{Pairs, has_pair}
 use Rattle.op_law.specs.Tables.{Tables, Heading, empty_tables}
 use Rattle.op_law.specs.Sound.{RowsSound, PairsSound, HasRow}
-use Rattle.op_law.proofs.SoundLemmas.{rows_more}
-use Rattle.op_law.proofs.SoundTermLemmas.{term_more}
+use Rattle.op_law.proofs.SoundLaws.{rows_more}
+use Rattle.op_law.proofs.SoundTermLaws.{term_more}
 use Rattle.op_law.specs.Meaning.{PairState, flip, exchanged}
 use Rattle.op_law.specs.Premises.{IsPair, MayMap}
 use Rattle.op_law.specs.Laws.{HalfLaws, Laws, InPair}

@@ -6,7 +6,7 @@ use Rattle.row_store.specs.Rows.{Rows, RiseFrom, row_of}
 use Rattle.id_memory.specs.Pairs.{Pairs, RiseFrom as PairsRise, IsOneToOne, pair_of, has_pair}
 use Rattle.op_law.specs.Tables.{RowsWide}
 use Rattle.op_law.specs.Sound.{IsBelow, RowsSound, PairsSound}
-use Rattle.op_law.proofs.SoundLemmas.{rows_more, pairs_more}
+use Rattle.op_law.proofs.SoundLaws.{rows_more, pairs_more}
 use Rattle.op_rows.specs.Cells.{with_row, CellSound}
 use Rattle.row_parts.specs.RowCells.{Cell, by_test, by_option}
 use Rattle.pair_rows.specs.Numbers.{same_number}

@@ -13,7 +13,7 @@ use Rattle.op_law.specs.Laws.{HalfLaws, InPair}
 use Rattle.op_law.specs.Calls.{IsMapped, Admits, first_refused}
 use Rattle.op_law.specs.Chained.{MayChain, chain_forward, AreMapped, ChainStored, chain_read, ChainAdmits}
 use Rattle.op_law.specs.ChainLaws.{ChainKept, ChainBelowNext, ChainLaws}
-use Rattle.op_law.proofs.SoundLemmas.{tables_more, pairs_more}
+use Rattle.op_law.proofs.SoundLaws.{tables_more, pairs_more}
 
 -- the second mapping may be made after the first
 pub second_may : (a b : Meaning) → HalfLaws a → HalfLaws b → (near : Tables) (first second : PairState) (n : ℕ) → (c : MayChain a b near first second n) → MayMap b c.hm c.ht (a.forward near first n).far second (a.forward near first n).next

@@ -1,3 +1,3 @@
-pub mod SoundLemmas
-pub mod SoundTermLemmas
-pub mod ChainLemmas
+pub mod SoundLaws
+pub mod SoundTermLaws
+mod ChainLemmas

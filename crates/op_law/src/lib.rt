@@ -4,6 +4,8 @@
 //! a target side, a mapping either way, and auxiliary tables with which either side gives back the
 //! other. The crates above rest on these laws alone. It knows no single operator, and nothing of
 //! versions or of where tables are stored.
+//!
+//! Lemmas that crates above may use stand in proofs/: `SoundLaws` and `SoundTermLaws`.
 #![tactic(auto)]
 
 mod chain;

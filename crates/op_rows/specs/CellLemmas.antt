@@ -6,7 +6,7 @@ use Rattle.std.proofs.lemmas.Bool.{cases_order}
 use mathlib.Core.Logic.{inl, inr}
 use Rattle.par_base.specs.declared.value.Value.{Value}
 use Rattle.row_store.specs.Rows.{Rows, RiseFrom, row_of}
-use Rattle.row_store.proofs.UndoLemmas.{ext}
+use Rattle.row_store.proofs.UndoLaws.{ext}
 use Rattle.op_law.specs.Tables.{Tables}
 use Rattle.op_law.specs.Sound.{IsBelow, RowsSound, TablesSound, HasRow}
 use Rattle.op_law.specs.Identifiers.{put_id, ids_in, ids_over}

@@ -4,7 +4,7 @@ use Rattle.std.proofs.Common.{inr, ◌∙◌, ap, subst}
 use Rattle.expr_lang.specs.Terms.{Term}
 use Rattle.expr_lang.specs.Val.{holds_at}
 use Rattle.op_law.specs.Tables.{Heading}
-use Rattle.op_law.proofs.SoundTermLemmas.{term_more}
+use Rattle.op_law.proofs.SoundTermLaws.{term_more}
 use Rattle.op_rows.specs.Cells.{Cells, nones, CellWide, AreCellsOf, CellSound}
 use Rattle.op_rows.specs.RowMeaning.{RowHalf, RowLaws, flip_row}
 use Rattle.op_split_merge.specs.Twins.{Cell, first_to, second_to, AreTwinsOf, rest_of}

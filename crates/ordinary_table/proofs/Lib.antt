@@ -1,6 +1,6 @@
-pub mod RowLemmas
-pub mod KeptLemmas
-pub mod RowOfLemmas
-pub mod ColumnLemmas
+mod RowLemmas
+pub mod KeptLaws
+mod RowOfLemmas
+pub mod ColumnLaws
 mod SetLemmas
 mod StepLemmas

@@ -10,7 +10,7 @@ use Rattle.expr_lang.specs.Terms.{Term}
 use Rattle.row_store.specs.Rows.{Rows, RiseFrom, AreBelow, row_of}
 use Rattle.ordinary_table.specs.Shown.{meets}
 use Rattle.ordinary_table.specs.Written.{SetTerm, numbered, inserted, updated_row, updated, deleted}
-use Rattle.ordinary_table.proofs.KeptLemmas.{rises_deleted}
+use Rattle.ordinary_table.proofs.KeptLaws.{rises_deleted}
 
 none_under : (n : ℕ) (rows : Rows) (id : ℕ) → RiseFrom n rows → id < n → row_of rows id ≡ None
 none_under n [] id rise h = refl

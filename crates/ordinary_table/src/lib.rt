@@ -3,6 +3,8 @@
 //! It promises the crates above what each of these makes of a table, row by row, and that tables
 //! stay sound. Every version of a database is such an ordinary database for its own writes; but
 //! this crate knows nothing of versions and operators, nor of names, statements and their texts.
+//!
+//! Lemmas that crates above may use stand in proofs/: `KeptLaws` and `ColumnLaws`.
 #![tactic(auto)]
 
 mod changed;

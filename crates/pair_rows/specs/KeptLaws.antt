@@ -1,7 +1,7 @@
 -- The source is read back from the target, the memory and the rows in no pair.
 use Rattle.std.proofs.Common.{◌≡◌, ℕ, ◌==◌, List, [], ◌∷◌, if◌then◌else◌, Bool, true, false, cond, not, Some, None, refl, ap, sym, ◌∙◌, arith}
 use Rattle.row_store.specs.Rows.{Rows, RiseFrom, row_of}
-use Rattle.row_store.proofs.UndoLemmas.{ext}
+use Rattle.row_store.proofs.UndoLaws.{ext}
 use Rattle.id_memory.specs.Pairs.{Pairs}
 use Rattle.op_law.specs.Identifiers.{ids_in}
 use Rattle.op_rows.specs.Cells.{first_cell}

@@ -1,3 +1,3 @@
-pub mod LiteralLemmas
-pub mod NameText
+pub mod LiteralLaws
+mod NameText
 mod SameLemmas

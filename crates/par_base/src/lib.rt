@@ -4,6 +4,8 @@
 //! It promises the crates above that the literal text of a value reads back as that value and as
 //! no other, that a `Name` is always a name in lower case, and that values and rows are told the
 //! same exactly where they are equal. It knows nothing of statements, tables or versions.
+//!
+//! Lemmas that crates above may use stand in proofs/: `LiteralLaws`.
 #![tactic(auto)]
 
 mod fault;

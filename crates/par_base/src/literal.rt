@@ -52,7 +52,7 @@ fn quoted_text(alloc: Global, text: &str) -> Result<Text, Memory>
 }
 
 // Adds the character, and a quote twice.
-#[tactic(auto, using(crate::proofs::LiteralLemmas::plain_char, crate::proofs::LiteralLemmas::quote_char))]
+#[tactic(auto, using(crate::proofs::LiteralLaws::plain_char, crate::proofs::LiteralLaws::quote_char))]
 fn push_doubled(made: &mut String, c: char) -> Result<(), Memory>
     ensures { OnOk result (string_bytes made.new ≡ string_bytes made.old ++ flat_map doubled (encode_utf8 c)) }
 {
@@ -82,7 +82,7 @@ pub fn read_literal(alloc: Global, bytes: &[u8]) -> Result<Option<Value>, Memory
 }
 
 /// Two values with one literal text are equal.
-#[tactic(auto, using(crate::proofs::LiteralLemmas::same_value))]
+#[tactic(auto, using(crate::proofs::LiteralLaws::same_value))]
 pub fn one_literal()
     ensures { (value other : Value) → IsValue value → IsValue other → literal_of value ≡ literal_of other → value ≡ other }
 {}
@@ -169,7 +169,7 @@ fn inner_candidate(alloc: Global, inner: &[u8]) -> Result<Option<Value>, Memory>
 }
 
 /// The bytes without the second quote of each pair.
-#[tactic(auto, using(crate::proofs::LiteralLemmas::undoubling))]
+#[tactic(auto, using(crate::proofs::LiteralLaws::undoubling))]
 pub fn without_doubling(alloc: Global, bytes: &[u8]) -> Result<Vec<u8>, Memory>
     ensures { IfOk result (λ made. made.items ≡ undoubled false bytes.now) }
 {

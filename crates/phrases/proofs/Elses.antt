@@ -3,7 +3,7 @@ use Rattle.std.proofs.Common.{◌≡◌, ◌++◌, ◌∷◌, [], ◌<◌, List,
 use Rattle.phrases.specs.Reading.{Read, next, test, starts, either}
 use Rattle.phrases.specs.Phrases.{Begins}
 use Rattle.phrases.specs.Reads.{Reads, OrElse}
-use Rattle.phrases.proofs.Readers.{next_same, yes, no, chosen}
+use Rattle.phrases.proofs.ReadersLaws.{next_same, yes, no, chosen}
 
 module _ {Tok A : Type 0} (c g : Tok → Bool) (S T : List Tok → A → Type 0) (p q : List Tok → Read Tok A) (rp : Reads c S p) (rq : Reads c T q)
     (begins : (front us : List Tok) (a : A) → S front a → starts g (front ++ us) ≡ true)

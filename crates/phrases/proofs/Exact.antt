@@ -3,7 +3,7 @@ use Rattle.std.proofs.Common.{◌≡◌, ◌≢◌, ◌++◌, ◌∷◌, [], Lis
 use Rattle.std.specs.Prelude.{Some}
 use Rattle.phrases.specs.Reading.{Read, next}
 use Rattle.phrases.specs.Reads.{Reads, FaultAt}
-use Rattle.phrases.proofs.Readers.{same_answer}
+use Rattle.phrases.proofs.ReadersLaws.{same_answer}
 
 module _ {Tok A : Type 0} (c : Tok → Bool) (S : List Tok → A → Type 0) (p : List Tok → Read Tok A) (r : Reads c S p) where
   pub exact_read : (ts : List Tok) (a : A) → p ts ≡ Ok (a, []) → S ts a

@@ -1,15 +1,15 @@
-pub mod Readers
-pub mod Lasts
-pub mod Manys
-pub mod Elses
-pub mod Exact
-pub mod Chains
-pub mod Fronts
-pub mod Steps
-pub mod Lists
-pub mod Lookahead
-pub mod Prefixes
-pub mod Signs
-pub mod Groups
-pub mod Bounded
-pub mod Carries
+pub mod ReadersLaws
+pub mod LastsLaws
+mod Manys
+mod Elses
+mod Exact
+pub mod ChainsLaws
+pub mod FrontsLaws
+pub mod StepsLaws
+pub mod ListsLaws
+pub mod LookaheadLaws
+pub mod PrefixesLaws
+pub mod SignsLaws
+pub mod GroupsLaws
+pub mod BoundedLaws
+pub mod CarriesLaws

@@ -3,7 +3,7 @@ use Rattle.std.proofs.Common.{◌≡◌, ◌≢◌, ◌++◌, ◌∷◌, [], ℕ
 use Rattle.phrases.specs.Reading.{Read, ◌>>=◌, and_then, next, test, starts, done, or, many_at, rest_at}
 use Rattle.phrases.specs.Phrases.{Begins, Many}
 use Rattle.phrases.specs.Reads.{Reads}
-use Rattle.phrases.proofs.Readers.{bind_ok, bind_err, at_first, at_second, same_answer, next_same, Chosen, yes, no, chosen, starts_left, starts_right}
+use Rattle.phrases.proofs.ReadersLaws.{bind_ok, bind_err, at_first, at_second, same_answer, next_same, Chosen, yes, no, chosen, starts_left, starts_right}
 
 module _ {Tok A : Type 0} (ci g : Tok → Bool) (S : List Tok → A → Type 0) (item : List Tok → Read Tok A) (items : Reads ci S item)
     (begins : (front us : List Tok) (a : A) → S front a → starts g (front ++ us) ≡ true)

@@ -4,6 +4,10 @@
 //! reading tokens from the left, and `specs/Reads.antt` says what it means that a reader reads a phrase: what it takes is spelled
 //! so, what is spelled so it takes, and where it stops no phrase goes on. The functions below say the laws by which readers are
 //! put together as their phrases are; the lemmas in `proofs/` say the same of phrases that no test decides.
+//!
+//! Lemmas that crates above may use stand in proofs/: `ReadersLaws`, `LastsLaws`, `ChainsLaws`,
+//! `FrontsLaws`, `StepsLaws`, `ListsLaws`, `LookaheadLaws`, `PrefixesLaws`, `SignsLaws`,
+//! `GroupsLaws`, `BoundedLaws` and `CarriesLaws`.
 #![tactic(auto)]
 
 ghost use Rattle.phrases.specs.Laws.{ThenReads, OneReads, EitherReads, ManyReads, ThenLast, ReadsFronts};

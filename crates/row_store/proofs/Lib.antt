@@ -2,4 +2,4 @@ mod ChangeLemmas
 mod OneTable
 mod PassLemmas
 mod PlaceLemmas
-pub mod UndoLemmas
+pub mod UndoLaws

@@ -3,6 +3,8 @@
 //! It promises the crates above that a table is the ascending list of its identifiers with their
 //! rows, that changes which fit a table are applied and undone without memory once there is room,
 //! and that room which was made stays. It knows nothing of columns, versions or operators.
+//!
+//! Lemmas that crates above may use stand in proofs/: `UndoLaws`.
 #![tactic(auto)]
 
 mod change;

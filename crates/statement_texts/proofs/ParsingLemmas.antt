@@ -5,7 +5,7 @@ use Rattle.std.proofs.lemmas.List.Elements.{All-nil, All-cons}
 use Rattle.bidel_lex.specs.declared.tokens.Token.{Token}
 use Rattle.bidel_lex.specs.declared.tokens.Lexed.TheVariants as lexed
 use Rattle.bidel_lex.specs.Tokens.{AreTokens}
-use Rattle.bidel_lex.proofs.Within.{within_along}
+use Rattle.bidel_lex.proofs.WithinLaws.{within_along}
 
 -- no token is longer than the bytes
 abbrev IsNoLonger : ℕ → Token → Type 0

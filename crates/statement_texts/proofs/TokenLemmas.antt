@@ -5,7 +5,7 @@ use Rattle.bidel_lex.specs.declared.tokens.Lexed.{Lexed}
 use Rattle.bidel_lex.specs.declared.tokens.Lexed.TheVariants as lexed
 use Rattle.bidel_lex.specs.Next.{next_of}
 use Rattle.bidel_lex.specs.Tokens.{AreTokens, HasTokens, is_token}
-use Rattle.bidel_lex.proofs.Listed.{listed}
+use Rattle.bidel_lex.proofs.ListedLaws.{listed}
 
 -- an answer that is no token
 pub no_token : (last : Lexed) → ((token : Token) → last ≡ lexed.Token token → ⊥) → is_token last ≡ false

@@ -6,26 +6,26 @@ use Rattle.version_graph.specs.Sets.{In}
 use Rattle.version_graph.specs.Edges.{AreEdges, is_in, numbers}
 use Rattle.version_graph.specs.Forest.{Crossing, Link, crossing, forest}
 use Rattle.version_graph.specs.declared.parts.Placed.{Placed}
-use Rattle.version_graph.proofs.SetLemmas.{each_at, each_of, is_in_true}
+use Rattle.version_graph.proofs.SetLaws.{each_at, each_of, is_in_true}
 use Rattle.version_graph.proofs.WalkLaws.{IsForest, is_forest}
 use Rattle.op_law.specs.Tables.{Tables}
 use Rattle.op_law.specs.Meaning.{Meaning, PairState}
 use Rattle.op_law.specs.Laws.{Laws}
 use Rattle.layout_rules.specs.Layouts.{IsMade, IsStored, IsValid}
-use Rattle.layout_rules.proofs.ChangeLemmas.{link_number}
+use Rattle.layout_rules.proofs.ChangeLaws.{link_number}
 use Rattle.layout_rules.specs.Laws.{MovesStayValid}
 use Rattle.layout_rules.specs.Moves.{Flips, PutsIn, TakesOut}
 use Rattle.version_model.specs.Put.{put}
 use Rattle.version_model.specs.States.{State, headings}
 use Rattle.version_model.specs.Steps.{pair_in, way}
-use Rattle.version_model.proofs.PutLemmas.{map_same, put_else, put_one, put_other}
+use Rattle.version_model.proofs.PutLaws.{map_same, put_else, put_one, put_other}
 use Rattle.storage_law.specs.Storage.{Storage, Stands, StandsOver, aux_of, stored_way}
 use Rattle.storage_law.specs.Reading.{ReadsSources, far_read}
 use Rattle.storage_law.specs.Flips.{MovesStorage, Turns, flipped, none_for, pair_read}
-use Rattle.layout_rules.proofs.LinkLemmas.{in_or_out, same_link, same_maker}
-use Rattle.storage_law.proofs.LinkLemmas.{apart_at, not_in_false, same_test}
-use Rattle.storage_law.proofs.ReadLemmas.{IsRead, far_right, put_in, read_at}
-use Rattle.storage_law.proofs.CanonicalLemmas.{either_way}
+use Rattle.layout_rules.proofs.LinkLaws.{in_or_out, same_link, same_maker}
+use Rattle.storage_law.proofs.LinkLaws.{apart_at, not_in_false, same_test}
+use Rattle.storage_law.proofs.ReadLaws.{IsRead, far_right, put_in, read_at}
+use Rattle.storage_law.proofs.CanonicalLaws.{either_way}
 
 -- ---- layouts that differ at one operator
 

@@ -8,27 +8,27 @@ use Rattle.version_graph.specs.Evolve.{placed_next}
 use Rattle.version_graph.specs.Forest.{Link, crossing, forest, link}
 use Rattle.version_graph.specs.declared.parts.Edge.{Edge}
 use Rattle.version_graph.specs.declared.parts.Placed.{Placed}
-use Rattle.version_graph.proofs.SetLemmas.{each_at, each_of, in_append, in_left, in_of_test, in_right, is_in_true}
+use Rattle.version_graph.proofs.SetLaws.{each_at, each_of, in_append, in_left, in_of_test, in_right, is_in_true}
 use Rattle.version_graph.proofs.WalkLaws.{Fits, IsForest, Of, all_of, is_forest, leaves_front}
 use Rattle.op_law.specs.Meaning.{Meaning, PairState}
 use Rattle.op_law.specs.Laws.{Laws}
 use Rattle.layout_rules.specs.Changes.{creates_next, is_empty}
-use Rattle.layout_rules.proofs.ChangeLemmas.{joined, no_name, link_number}
+use Rattle.layout_rules.proofs.ChangeLaws.{joined, no_name, link_number}
 use Rattle.layout_rules.specs.Layouts.{IsMade, IsStored}
 use Rattle.version_model.specs.States.{State, empty_at, headings}
 use Rattle.version_model.specs.Sound.{IsSound}
 use Rattle.version_model.specs.Steps.{IsRelated, mapped, pair_in, way}
 use Rattle.version_model.specs.Evolving.{with_link}
-use Rattle.version_model.proofs.PutLemmas.{put_else, put_one, put_other}
-use Rattle.version_model.proofs.RunLemmas.{leaves_pair}
-use Rattle.version_model.proofs.EvolveLemmas.{MayGrow, first_edges, link_sound, rest_may}
+use Rattle.version_model.proofs.PutLaws.{put_else, put_one, put_other}
+use Rattle.version_model.proofs.RunLaws.{leaves_pair}
+use Rattle.version_model.proofs.EvolveLaws.{MayGrow, first_edges, link_sound, rest_may}
 use Rattle.storage_law.specs.Storage.{Storage, Stands, StandsOver, aux_of, stored_way}
 use Rattle.storage_law.specs.Changes.{with_storage}
 use Rattle.storage_law.specs.Laws.{GrownStand}
-use Rattle.layout_rules.proofs.LinkLemmas.{in_or_out, target_listed}
-use Rattle.storage_law.proofs.LinkLemmas.{not_in_false, same_test, split, stored_here}
-use Rattle.storage_law.proofs.CanonicalLemmas.{either_way}
-use Rattle.storage_law.proofs.ReadLemmas.{put_in}
+use Rattle.layout_rules.proofs.LinkLaws.{in_or_out, target_listed}
+use Rattle.storage_law.proofs.LinkLaws.{not_in_false, same_test, split, stored_here}
+use Rattle.storage_law.proofs.CanonicalLaws.{either_way}
+use Rattle.storage_law.proofs.ReadLaws.{put_in}
 
 -- ---- the layout with one operator more
 

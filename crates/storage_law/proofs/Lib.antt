@@ -1,6 +1,6 @@
-pub mod LinkLemmas
-pub mod ReadLemmas
-pub mod CanonicalLemmas
+pub mod LinkLaws
+pub mod ReadLaws
+pub mod CanonicalLaws
 mod FlipLemmas
 mod GrowLemmas
-pub mod DropLemmas
+pub mod DropLaws

@@ -9,7 +9,7 @@ use Rattle.version_graph.specs.Finished.{HasBelow, are_needed, way}
 use Rattle.version_graph.specs.Kept.{placed_in, needed_by}
 use Rattle.version_graph.specs.declared.node.Node.{Node}
 use Rattle.version_graph.specs.declared.parts.Placed.{Placed}
-use Rattle.version_graph.proofs.SetLemmas.{each_at, each_more, each_of, in_of_test, is_in_true}
+use Rattle.version_graph.proofs.SetLaws.{each_at, each_more, each_of, in_of_test, is_in_true}
 use Rattle.version_graph.proofs.ShedLemmas.{above, opened}
 
 first_holds : (a b : Bool) → (a && b) ≡ true → a ≡ true

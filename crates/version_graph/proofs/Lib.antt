@@ -1,18 +1,18 @@
-pub mod LookLemmas
-pub mod NameLemmas
-pub mod NodeLemmas
-pub mod SetLemmas
-pub mod TableLemmas
-pub mod TakenLemmas
-pub mod GrowLemmas
-pub mod EvolveLemmas
-pub mod WalkLemmas
-pub mod ShedLemmas
-pub mod StayLemmas
-pub mod Example
+mod LookLemmas
+pub mod NameLaws
+pub mod NodeLaws
+pub mod SetLaws
+pub mod TableLaws
+pub mod TakenLaws
+pub mod GrowLaws
+pub mod EvolveLaws
+pub mod WalkStepLaws
+mod ShedLemmas
+pub mod StayLaws
+mod Example
 pub mod WalkLaws
-pub mod PlaceLemmas
-pub mod FinishLemmas
-pub mod UnneededLemmas
+pub mod PlaceLaws
+mod FinishLemmas
+pub mod UnneededLaws
 pub mod TreeLaws
-pub mod BackLemmas
+pub mod BackLaws

@@ -12,7 +12,7 @@ use Rattle.version_graph.specs.Dropped.{doomed}
 use Rattle.version_graph.specs.Kept.{placed_in, needed_by, staying_nodes}
 use Rattle.version_graph.specs.declared.parts.Placed.{Placed}
 use Rattle.version_graph.specs.declared.node.Node.{Node}
-use Rattle.version_graph.proofs.GrowLemmas.{last_first}
+use Rattle.version_graph.proofs.GrowLaws.{last_first}
 
 -- ---- lists
 

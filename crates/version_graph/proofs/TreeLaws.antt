@@ -8,8 +8,8 @@ use Rattle.version_graph.specs.Edges.{AreEdges, numbers}
 use Rattle.version_graph.specs.Forest.{Crossing, crossing, forest, link, rest, tree, up, walk}
 use Rattle.version_graph.specs.Laws.{crossed}
 use Rattle.version_graph.specs.declared.parts.Placed.{Placed}
-use Rattle.version_graph.proofs.SetLemmas.{in_append, in_left, in_right}
-use Rattle.version_graph.proofs.NodeLemmas.{above_zero}
+use Rattle.version_graph.proofs.SetLaws.{in_append, in_left, in_right}
+use Rattle.version_graph.proofs.NodeLaws.{above_zero}
 use Rattle.version_graph.proofs.FinishLemmas.{not_older}
 
 module _ {O : Type 0} where

@@ -9,10 +9,10 @@ use Rattle.version_graph.specs.Edges.{AreEdges, is_in, numbers, working, set_aft
 use Rattle.version_graph.specs.Forest.{Link, Crossing, crossing, forest, minus, tables_in, up, rest, tree, walk}
 use Rattle.version_graph.specs.Laws.{Leaves, Ordered}
 use Rattle.version_graph.specs.declared.parts.Placed.{Placed}
-use Rattle.version_graph.proofs.SetLemmas.{each_more, each_both, each_append, in_append, in_left, in_right, in_map, origin, is_in_true}
-use Rattle.version_graph.proofs.NameLemmas.{same_name}
-use Rattle.version_graph.proofs.TableLemmas.{in_filter, passes, numbers_made, rises_apart, tables_once, names_once}
-use Rattle.version_graph.proofs.TakenLemmas.{same_item, found_passes, passing_numbers}
+use Rattle.version_graph.proofs.SetLaws.{each_more, each_both, each_append, in_append, in_left, in_right, in_map, origin, is_in_true}
+use Rattle.version_graph.proofs.NameLaws.{same_name}
+use Rattle.version_graph.proofs.TableLaws.{in_filter, passes, numbers_made, rises_apart, tables_once, names_once}
+use Rattle.version_graph.proofs.TakenLaws.{same_item, found_passes, passing_numbers}
 
 abbrev pub link_numbers : {O : Type 0} → List (Link O) → List ℕ
 link_numbers [] = []

@@ -11,6 +11,10 @@
 //! graphs are so, evolutions and drops leave them so, and the end of placing asks for it. It keeps
 //! of each edge its source tables, its working set and its tree, so that no look-up goes the way up.
 //! It knows nothing of what an operator does: `O` is any type.
+//!
+//! Lemmas that crates above may use stand in proofs/: `NameLaws`, `NodeLaws`, `SetLaws`,
+//! `TableLaws`, `TakenLaws`, `GrowLaws`, `EvolveLaws`, `WalkStepLaws`, `StayLaws`, `WalkLaws`,
+//! `PlaceLaws`, `UnneededLaws`, `TreeLaws` and `BackLaws`.
 #![tactic(auto)]
 
 mod build;

@@ -12,9 +12,9 @@ use Rattle.id_memory.specs.Pairs.{Pairs}
 use Rattle.id_memory.specs.States.{CounterState, MemoryState}
 use Rattle.version_graph.specs.Tables.{table_numbers}
 use Rattle.version_graph.specs.Edges.{Drawn, numbers, made as made_tables}
-use Rattle.version_graph.proofs.SetLemmas.{each_at, each_of}
-use Rattle.version_graph.proofs.EvolveLemmas.{drawn_is}
-use Rattle.version_model.proofs.EvolveLemmas.{empty_sound}
+use Rattle.version_graph.proofs.SetLaws.{each_at, each_of}
+use Rattle.version_graph.proofs.EvolveLaws.{drawn_is}
+use Rattle.version_model.proofs.EvolveLaws.{empty_sound}
 use Rattle.op_law.specs.Meaning.{Meaning}
 use Rattle.op_law.specs.Laws.{Laws}
 use Rattle.op_law.specs.Calls.{first_refused, IsSpent}
@@ -28,9 +28,9 @@ use Rattle.version_model.specs.declared.numbered.Numbered.{Numbered}
 use Rattle.version_model.specs.declared.progress.Before.{Before}
 use Rattle.version_model.specs.declared.progress.Made.{Made}
 use Rattle.version_model.specs.declared.write.Written.{Written}
-use Rattle.version_model.proofs.ProgressLemmas.{state_is}
-use Rattle.version_model.proofs.CarryLemmas.{same_refused}
-use Rattle.version_model.proofs.WriteLemmas.{write_is_ordinary}
+use Rattle.version_model.proofs.ProgressLaws.{state_is}
+use Rattle.version_model.proofs.CarryLaws.{same_refused}
+use Rattle.version_model.proofs.WriteLaws.{write_is_ordinary}
 
 renewed_some : {T : Type 0} (o l : Option T) → IsSome o → IsSome (renewed o l)
 renewed_some None l h = absurd (false≢true h)

@@ -11,6 +11,11 @@
 //! made whole, or is refused for the cause that `specs/Databases.antt` names, or wants memory, and
 //! then nothing has changed; a drop takes no memory and isn't refused. It knows operators by their
 //! laws alone, and nothing of names in statements, of layouts or of replies.
+//!
+//! Lemmas that crates above may use stand in proofs/: `NumberedLaws`, `NowLaws`, `PutLaws`,
+//! `RunLaws`, `CrossingLaws`, `TreeLaws`, `WriteLaws`, `HeadingLaws`, `EvolveLaws`, `DropLaws`,
+//! `GrownLaws`, `ProgressLaws`, `CarryLaws`, `AscendingLaws`, `MakingLaws`, `EvolvedLaws` and
+//! `LiveLaws`.
 #![tactic(auto)]
 
 mod carry;

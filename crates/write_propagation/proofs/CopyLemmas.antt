@@ -7,14 +7,14 @@ use Rattle.version_graph.specs.Sets.{In}
 use Rattle.version_graph.specs.Tables.{table_numbers}
 use Rattle.version_graph.specs.Edges.{is_in, made as made_tables}
 use Rattle.version_graph.specs.Forest.{Link, forest}
-use Rattle.version_graph.proofs.SetLemmas.{is_in_true}
+use Rattle.version_graph.proofs.SetLaws.{is_in_true}
 use Rattle.op_law.specs.Meaning.{Meaning}
 use Rattle.layout_rules.specs.Ways.{ReadsOver}
 use Rattle.version_model.specs.Kept.{pairs_at, rows_at, rows_now}
 use Rattle.version_model.specs.declared.numbered.Numbered.{Numbered}
-use Rattle.version_model.proofs.HeadingLemmas.{in_or_not}
+use Rattle.version_model.proofs.HeadingLaws.{in_or_not}
 use Rattle.storage_law.specs.Storage.{stored_way}
-use Rattle.storage_law.proofs.LinkLemmas.{not_in_false}
+use Rattle.storage_law.proofs.LinkLaws.{not_in_false}
 use Rattle.db_state.specs.Covered.{Covers, CoversItself}
 use Rattle.db_state.specs.Fields.{state_of}
 use Rattle.db_state.specs.declared.parts.Parts.{Parts}

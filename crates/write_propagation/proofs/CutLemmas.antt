@@ -7,7 +7,7 @@ use Rattle.version_graph.specs.Sets.{In, Each}
 use Rattle.version_graph.specs.Edges.{is_in}
 use Rattle.version_graph.specs.Forest.{Crossing, Link, crossing, forest, walk}
 use Rattle.version_graph.specs.declared.parts.Placed.{Placed}
-use Rattle.version_graph.proofs.SetLemmas.{each_at, each_more, each_of, is_in_true}
+use Rattle.version_graph.proofs.SetLaws.{each_at, each_more, each_of, is_in_true}
 use Rattle.op_law.specs.Tables.{Heading, RowsWide, Tables, empty_tables}
 use Rattle.op_law.specs.Sound.{PairsSound, RowsSound}
 use Rattle.op_law.specs.Laws.{Laws}
@@ -18,11 +18,11 @@ use Rattle.version_model.specs.Sound.{IsSound}
 use Rattle.version_model.specs.States.{State, empty_at, headings}
 use Rattle.version_model.specs.Steps.{IsRelated, after, mapped, pair_in, run, way}
 use Rattle.version_model.specs.Writes.{write, written}
-use Rattle.version_model.proofs.EvolveLemmas.{empty_are, empty_map}
-use Rattle.version_model.proofs.HeadingLemmas.{in_or_not}
-use Rattle.version_model.proofs.PutLemmas.{map_same, put_else}
-use Rattle.version_model.proofs.RunLemmas.{run_memory, run_table}
-use Rattle.storage_law.proofs.LinkLemmas.{not_in_false}
+use Rattle.version_model.proofs.EvolveLaws.{empty_are, empty_map}
+use Rattle.version_model.proofs.HeadingLaws.{in_or_not}
+use Rattle.version_model.proofs.PutLaws.{map_same, put_else}
+use Rattle.version_model.proofs.RunLaws.{run_memory, run_table}
+use Rattle.storage_law.proofs.LinkLaws.{not_in_false}
 use Rattle.write_propagation.specs.Trees.{IsWhole, cut}
 use Rattle.write_propagation.specs.declared.tree.Tree.{Tree}
 use Rattle.write_propagation.proofs.WholeLemmas.{IsInside}

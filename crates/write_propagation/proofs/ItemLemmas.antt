@@ -6,15 +6,15 @@ use Rattle.std.proofs.lemmas.List.{append-nil, reverse-reverse}
 use Rattle.std.proofs.lemmas.List.Elements.{filter-append}
 use mathlib.Core.List.{reverse}
 use Rattle.version_graph.specs.Sets.{In}
-use Rattle.version_graph.proofs.SetLemmas.{in_map, origin}
-use Rattle.version_graph.proofs.WalkLemmas.{in_reverse}
+use Rattle.version_graph.proofs.SetLaws.{in_map, origin}
+use Rattle.version_graph.proofs.WalkStepLaws.{in_reverse}
 use Rattle.version_model.specs.Kept.{latest_of, renewed, value_of}
 use Rattle.version_model.specs.declared.numbered.Numbered.{Numbered}
-use Rattle.version_model.proofs.AscendingLemmas.{reverse_first}
-use Rattle.version_model.proofs.LiveLemmas.{value_passes}
-use Rattle.version_model.proofs.NumberedLemmas.{looked, value_of_first}
+use Rattle.version_model.proofs.AscendingLaws.{reverse_first}
+use Rattle.version_model.proofs.LiveLaws.{value_passes}
+use Rattle.version_model.proofs.NumberedLaws.{looked, value_of_first}
 use Rattle.db_state.specs.Fields.{numbers_in}
-use Rattle.db_state.proofs.FieldLemmas.{none_at}
+use Rattle.db_state.proofs.FieldLaws.{none_at}
 
 -- what was turned twice is as it was
 pub in_turned : {X : Type 0} (x : X) (xs : List X) → In x (reverse xs) → In x xs

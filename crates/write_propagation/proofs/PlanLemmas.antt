@@ -14,9 +14,9 @@ use Rattle.version_graph.specs.Sets.{In, Each}
 use Rattle.version_graph.specs.Edges.{Drawn, Rises, is_in, numbers}
 use Rattle.version_graph.specs.Forest.{Link, crossing, forest}
 use Rattle.version_graph.specs.declared.parts.Placed.{Placed}
-use Rattle.version_graph.proofs.SetLemmas.{each_at, each_of, is_in_true}
-use Rattle.version_graph.proofs.TableLemmas.{in_filter}
-use Rattle.version_graph.proofs.WalkLemmas.{in_reverse}
+use Rattle.version_graph.proofs.SetLaws.{each_at, each_of, is_in_true}
+use Rattle.version_graph.proofs.TableLaws.{in_filter}
+use Rattle.version_graph.proofs.WalkStepLaws.{in_reverse}
 use Rattle.op_law.specs.Tables.{Tables}
 use Rattle.op_law.specs.Calls.{IsSpent, first_refused, tables_of}
 use Rattle.op_law.specs.Laws.{Laws}
@@ -24,7 +24,7 @@ use Rattle.op_law.specs.Meaning.{Meaning, PairState}
 use Rattle.op_law.specs.declared.side.Aux.{Aux}
 use Rattle.layout_rules.specs.Layouts.{IsStored}
 use Rattle.layout_rules.specs.declared.layout.Layout.{Layout}
-use Rattle.layout_rules.proofs.ChangeLemmas.{filter_in, link_number}
+use Rattle.layout_rules.proofs.ChangeLaws.{filter_in, link_number}
 use Rattle.version_model.specs.Calls.{MayWriteRows, WritesRows, before_state, made_state}
 use Rattle.version_model.specs.Kept.{HasSides, latest_of, newer_pairs, pairs_at, renewed, rows_at, rows_now, value_of}
 use Rattle.version_model.specs.Sound.{IsSound}
@@ -35,16 +35,16 @@ use Rattle.version_model.specs.declared.numbered.Numbered.{Numbered}
 use Rattle.version_model.specs.declared.progress.Before.{Before}
 use Rattle.version_model.specs.declared.progress.Made.{Made}
 use Rattle.version_model.specs.declared.write.Written.{Written}
-use Rattle.version_model.proofs.CarryLemmas.{same_refused}
-use Rattle.version_model.proofs.HeadingLemmas.{in_or_not}
-use Rattle.version_model.proofs.ProgressLemmas.{state_is}
-use Rattle.version_model.proofs.WriteLemmas.{write_is_ordinary}
+use Rattle.version_model.proofs.CarryLaws.{same_refused}
+use Rattle.version_model.proofs.HeadingLaws.{in_or_not}
+use Rattle.version_model.proofs.ProgressLaws.{state_is}
+use Rattle.version_model.proofs.WriteLaws.{write_is_ordinary}
 use Rattle.storage_law.specs.Storage.{StandsOver, aux_of, stored_way}
-use Rattle.storage_law.proofs.LinkLemmas.{not_in_false}
+use Rattle.storage_law.proofs.LinkLaws.{not_in_false}
 use Rattle.db_state.specs.Calls.{IsRelatedAt}
 use Rattle.db_state.specs.Fields.{IsDatabase, auxes_at, database_of, numbers_in, state_of, storage_in}
 use Rattle.db_state.specs.declared.parts.Parts.{Parts}
-use Rattle.db_state.proofs.FieldLemmas.{IsShaped, Store, is_database}
+use Rattle.db_state.proofs.FieldLaws.{IsShaped, Store, is_database}
 use Rattle.write_propagation.specs.Calls.{CopiesTree, IsMadeFor}
 use Rattle.write_propagation.specs.Plans.{Plans, Puts}
 use Rattle.write_propagation.specs.Trees.{IsTree, IsWhole, cut}

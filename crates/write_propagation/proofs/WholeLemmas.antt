@@ -6,18 +6,18 @@ use Rattle.version_graph.specs.Tables.{table_numbers}
 use Rattle.version_graph.specs.Edges.{AreEdges, edge_of, working}
 use Rattle.version_graph.specs.Forest.{Crossing, Link, crossing, forest, told, tree as root_in, walk}
 use Rattle.version_graph.specs.declared.parts.Step.{Step}
-use Rattle.version_graph.proofs.TakenLemmas.{map_map}
+use Rattle.version_graph.proofs.TakenLaws.{map_map}
 use Rattle.std.proofs.lemmas.List.{append_assoc, append-nil, take_more}
 use Rattle.version_graph.specs.Laws.{crossed}
 use Rattle.version_graph.specs.declared.parts.Placed.{Placed}
-use Rattle.version_graph.proofs.SetLemmas.{each_at, each_of, in_append, in_left, in_map, in_right, origin}
+use Rattle.version_graph.proofs.SetLaws.{each_at, each_of, in_append, in_left, in_map, in_right, origin}
 use Rattle.version_graph.proofs.TreeLaws.{tree_in_walk, walk_in_tree}
 use Rattle.version_graph.proofs.WalkLaws.{is_forest, sets_linked}
-use Rattle.layout_rules.proofs.ChangeLemmas.{link_number}
-use Rattle.layout_rules.proofs.LinkLemmas.{target_listed}
+use Rattle.layout_rules.proofs.ChangeLaws.{link_number}
+use Rattle.layout_rules.proofs.LinkLaws.{target_listed}
 use Rattle.version_model.specs.Calls.{IsCrossing}
-use Rattle.version_model.proofs.CrossingLemmas.{GoesOver, crossings_live, targets_linked, walk_goes_over}
-use Rattle.version_model.proofs.TreeLemmas.{MadeIn, one_tree, sources_in_tree, tables_in_tree, targets_in_tree, trees_together}
+use Rattle.version_model.proofs.CrossingLaws.{GoesOver, crossings_live, targets_linked, walk_goes_over}
+use Rattle.version_model.proofs.TreeLaws.{MadeIn, one_tree, sources_in_tree, tables_in_tree, targets_in_tree, trees_together}
 use Rattle.write_propagation.specs.Trees.{IsBeside, IsTree, IsWhole, targets_at}
 use Rattle.write_propagation.specs.declared.tree.Tree.{Tree}
 

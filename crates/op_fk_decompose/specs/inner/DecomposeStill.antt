@@ -3,7 +3,7 @@ use Rattle.std.proofs.Common.{◌≡◌, ℕ, List, [], Bool, true, false, not, 
 use Rattle.par_base.specs.declared.value.Value.{Value}
 use Rattle.par_base.specs.declared.value.Value.TheVariants.{Reference}
 use Rattle.row_store.specs.Rows.{Rows, row_of}
-use Rattle.row_store.proofs.UndoLemmas.{ext}
+use Rattle.row_store.proofs.UndoLaws.{ext}
 use Rattle.row_parts.specs.RowCells.{Cell, is_there, row_or, map_cell, by_test, by_option}
 use Rattle.foreign_keys.specs.Parts.{FkParts, FkWell}
 use Rattle.foreign_keys.specs.References.{goal_of, at_goal, referred, far_part}

@@ -3,7 +3,7 @@ use Rattle.std.proofs.Common.{◌≡◌, ℕ, List, [], ◌∷◌, Bool, true, f
 use mathlib.Core.Logic.{inr}
 use Rattle.par_base.specs.declared.value.Value.{Value}
 use Rattle.row_store.specs.Rows.{Rows, RiseFrom, row_of}
-use Rattle.row_store.proofs.UndoLemmas.{ext}
+use Rattle.row_store.proofs.UndoLaws.{ext}
 use Rattle.op_law.specs.Tables.{Heading, RowsWide}
 use Rattle.op_law.specs.Identifiers.{ids_over}
 use Rattle.op_law.specs.Meaning.{Meaning, PairState, flip}

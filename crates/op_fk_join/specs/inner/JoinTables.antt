@@ -3,7 +3,7 @@ use Rattle.std.proofs.Common.{◌≡◌, ℕ, ◌+◌, ◌≤◌, List, [], ◌�
 use Rattle.par_base.specs.declared.value.Value.{Value}
 use Rattle.par_base.specs.declared.value.Value.TheVariants.{Reference}
 use Rattle.row_store.specs.Rows.{Rows, RiseFrom, row_of}
-use Rattle.row_store.proofs.UndoLemmas.{ext}
+use Rattle.row_store.proofs.UndoLaws.{ext}
 use Rattle.op_law.specs.Tables.{RowsWide}
 use Rattle.op_law.specs.Sound.{ValueSound, RowsSound, TablesSound}
 use Rattle.op_law.specs.Identifiers.{ids_over}
@@ -14,7 +14,7 @@ use Rattle.foreign_keys.specs.Parts.{FkParts, FkWell}
 use Rattle.foreign_keys.specs.References.{goal_of, at_goal}
 use Rattle.foreign_keys.specs.Drawn.{numbered, place}
 use Rattle.op_tables.specs.Lookups.{sound_at, wide_at, two_at, two_rise, wide_table, sound_table}
-use Rattle.op_law.proofs.SoundLemmas.{below_more, value_more, rows_more}
+use Rattle.op_law.proofs.SoundLaws.{below_more, value_more, rows_more}
 use Rattle.foreign_keys.specs.DrawnLemmas.{place_under, numbered_from, distinct, has_needed, numbered_rise, drawn_none, drawn_wide, drawn_sound}
 use Rattle.op_fk_join.specs.Join.{joined_row, stays_at, key_kept, first_with, draws_join, needs_join, join_drawn, ref_join, left_in, join_first_in, join_first, join_second, s_before, t_before}
 use Rattle.foreign_keys.specs.Shared.{Ready}

@@ -1,5 +1,5 @@
 use Rattle.phrases.specs.Laws.{Decided}
-use Rattle.phrases.proofs.Readers.{either-reads}
+use Rattle.phrases.proofs.ReadersLaws.{either-reads}
 use Rattle.phrases.proofs.either_reads.Goals as goal
 
 pub returns : goal.returns

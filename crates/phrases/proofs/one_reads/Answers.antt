@@ -1,5 +1,5 @@
 use Rattle.phrases.specs.Reading.{none}
-use Rattle.phrases.proofs.Readers.{one-reads}
+use Rattle.phrases.proofs.ReadersLaws.{one-reads}
 use Rattle.phrases.proofs.one_reads.Goals as goal
 
 pub returns : goal.returns

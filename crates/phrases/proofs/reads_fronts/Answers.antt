@@ -1,5 +1,5 @@
 use Rattle.phrases.specs.Laws.{Decided}
-use Rattle.phrases.proofs.Fronts.{fronts}
+use Rattle.phrases.proofs.FrontsLaws.{fronts}
 use Rattle.phrases.proofs.reads_fronts.Goals as goal
 
 pub returns : goal.returns

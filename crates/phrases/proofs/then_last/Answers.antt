@@ -1,5 +1,5 @@
 use Rattle.phrases.specs.Laws.{Decided}
-use Rattle.phrases.proofs.Lasts.{closed-then}
+use Rattle.phrases.proofs.LastsLaws.{closed-then}
 use Rattle.phrases.proofs.then_last.Goals as goal
 
 pub returns : goal.returns

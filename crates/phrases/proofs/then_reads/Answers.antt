@@ -1,5 +1,5 @@
 use Rattle.phrases.specs.Laws.{Decided}
-use Rattle.phrases.proofs.Readers.{then-reads}
+use Rattle.phrases.proofs.ReadersLaws.{then-reads}
 use Rattle.phrases.proofs.then_reads.Goals as goal
 
 pub returns : goal.returns

@@ -1,4 +1,4 @@
-use Rattle.bidel_expr.proofs.TokensWithin.{lexemes_stay}
+use Rattle.bidel_expr.proofs.TokensWithinLaws.{lexemes_stay}
 use Rattle.bidel_expr.proofs.laws.lexemes_stay.Goals as goal
 
 pub returns : goal.returns

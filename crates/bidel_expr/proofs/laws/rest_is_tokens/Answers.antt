@@ -1,4 +1,4 @@
-use Rattle.bidel_expr.proofs.TokensWithin.{rest_is_tokens}
+use Rattle.bidel_expr.proofs.TokensWithinLaws.{rest_is_tokens}
 use Rattle.bidel_expr.proofs.laws.rest_is_tokens.Goals as goal
 
 pub returns : goal.returns

@@ -1,4 +1,4 @@
-use Rattle.bidel_lex.proofs.Within.{within}
+use Rattle.bidel_lex.proofs.WithinLaws.{within}
 use Rattle.bidel_lex.proofs.laws.answers_lie_within.Goals as goal
 
 pub returns : goal.returns

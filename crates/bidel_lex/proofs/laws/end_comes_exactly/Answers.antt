@@ -1,4 +1,4 @@
-use Rattle.bidel_lex.proofs.ReadBack.{end_exactly}
+use Rattle.bidel_lex.proofs.ReadBackLaws.{end_exactly}
 use Rattle.bidel_lex.proofs.laws.end_comes_exactly.Goals as goal
 
 pub returns : goal.returns

@@ -1,4 +1,4 @@
-use Rattle.bidel_lex.proofs.Listed.{listed}
+use Rattle.bidel_lex.proofs.ListedLaws.{listed}
 use Rattle.bidel_lex.proofs.laws.found_tokens_are_tokens.Goals as goal
 
 pub returns : goal.returns

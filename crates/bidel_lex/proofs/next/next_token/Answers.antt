@@ -1,6 +1,6 @@
 use Rattle.std.proofs.Common.{◌∙◌, sym, arith}
 use Rattle.bidel_lex.proofs.Turns.{lexing_finishes, lexing_stops}
-use Rattle.bidel_lex.proofs.Within.{within_along}
+use Rattle.bidel_lex.proofs.WithinLaws.{within_along}
 use Rattle.bidel_lex.proofs.next.next_token.Goals as goal
 
 pub returns-in-Stop-clause-within : goal.returns-in-Stop-clause-within

@@ -1,4 +1,4 @@
-use Rattle.bidel_parser.proofs.TextLengths.{texts_are_said, texts_are_within}
+use Rattle.bidel_parser.proofs.TextLengthsLaws.{texts_are_said, texts_are_within}
 use Rattle.bidel_parser.proofs.laws.texts_are_no_longer.Goals as goal
 
 pub returns-clause-said : goal.returns-clause-said

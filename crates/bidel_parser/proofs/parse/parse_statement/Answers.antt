@@ -1,6 +1,6 @@
 use Rattle.std.proofs.Common.{refl, ◌-◌, length, arith, sym, inl, inr, ap, ℕ, ◌∙◌}
 use Rattle.bidel_parser.specs.Parsing.{start_of}
-use Rattle.bidel_expr.proofs.TokensWithin.{tokens_within}
+use Rattle.bidel_expr.proofs.TokensWithinLaws.{tokens_within}
 use Rattle.bidel_parser.proofs.ParsingLaws.{whole, whole_within, left_within, none_whole, begins, fault, rest_is, some_length}
 use Rattle.bidel_parser.proofs.parse.parse_statement.Goals as goal
 use Rattle.bidel_parser.proofs.parse.parse_statement.Goals.{else-ended-via-then-ended+else-is_empty, else-ended-via-else-ended}

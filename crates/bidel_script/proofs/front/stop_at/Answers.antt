@@ -1,7 +1,7 @@
 use Rattle.std.proofs.Common.{◌∙◌, ℕ, sym, ap, inl, inr}
 use Rattle.bidel_script.specs.Tails.{earlier, is_over}
 use Rattle.bidel_script.specs.Lengths.{part}
-use Rattle.bidel_script.proofs.TokenLemmas.{fault_within}
+use Rattle.bidel_script.proofs.TokenLaws.{fault_within}
 use Rattle.bidel_script.proofs.LengthLemmas.{none_true, fault_token, fault_short}
 use Rattle.bidel_script.proofs.front.stop_at.Goals as goal
 

@@ -1,4 +1,4 @@
-use Rattle.bidel_script.proofs.ScriptLemmas.{over_is_script}
+use Rattle.bidel_script.proofs.ScriptLaws.{over_is_script}
 use Rattle.bidel_script.proofs.laws.over_is_script.Goals as goal
 
 pub returns : goal.returns

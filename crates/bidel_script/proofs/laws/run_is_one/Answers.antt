@@ -1,4 +1,4 @@
-use Rattle.bidel_script.proofs.ComesLemmas.{run_is_one}
+use Rattle.bidel_script.proofs.ComesLaws.{run_is_one}
 use Rattle.bidel_script.proofs.laws.run_is_one.Goals as goal
 
 pub returns : goal.returns

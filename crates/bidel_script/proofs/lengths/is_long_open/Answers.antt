@@ -3,7 +3,7 @@ use Rattle.bidel_expr.specs.Lexemes.{lexemes}
 use Rattle.statements.specs.Views.{statement_view}
 use Rattle.bidel_parser.specs.Parsing.{IsFront, start_of}
 use Rattle.bidel_script.specs.Lengths.{whole, part}
-use Rattle.bidel_script.proofs.TokenLemmas.{fault_within}
+use Rattle.bidel_script.proofs.TokenLaws.{fault_within}
 use Rattle.bidel_script.proofs.LengthLemmas.{front_short, fault_short, none_empty, first_empty, fault_token}
 use Rattle.bidel_script.proofs.lengths.is_long_open.Goals as goal
 

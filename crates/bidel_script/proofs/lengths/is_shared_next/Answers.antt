@@ -1,4 +1,4 @@
-use Rattle.bidel_expr.proofs.TokensWithin.{tokens_within}
+use Rattle.bidel_expr.proofs.TokensWithinLaws.{tokens_within}
 use Rattle.bidel_script.proofs.lengths.is_shared_next.Goals as goal
 
 pub invariant_of-cursor : goal.invariant_of-cursor

@@ -3,7 +3,7 @@ use Rattle.bidel_lex.specs.declared.tokens.Token.{Token}
 use Rattle.bidel_lex.specs.Tokens.{HasTokens}
 use Rattle.bidel_script.specs.Tails.{begun_at, last_end}
 use Rattle.bidel_script.proofs.LengthLemmas.{not_token}
-use Rattle.bidel_script.proofs.TokenLemmas.{last_end-push, bad_within, begun_other}
+use Rattle.bidel_script.proofs.TokenLaws.{last_end-push, bad_within, begun_other}
 use Rattle.bidel_script.proofs.tokens.all_tokens.Goals as goal
 use Rattle.bidel_script.proofs.tokens.all_tokens.Goals.{in-End, in_default-last}
 

@@ -1,7 +1,7 @@
 use Rattle.std.proofs.Common.{sym, ap, ◌∙◌, not}
 use Rattle.version_graph.specs.Edges.{numbers}
-use Rattle.version_graph.proofs.PlaceLemmas.{live_known}
-use Rattle.version_graph.proofs.SetLemmas.{in_of_test}
+use Rattle.version_graph.proofs.PlaceLaws.{live_known}
+use Rattle.version_graph.proofs.SetLaws.{in_of_test}
 use Rattle.data_tests.proofs.steps.walk.Goals as goal
 
 pub walk-requires : goal.walk-requires

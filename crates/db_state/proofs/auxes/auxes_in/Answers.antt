@@ -1,6 +1,6 @@
 use Rattle.std.proofs.Common.{◌+◌, List, take, sym, subst}
-use Rattle.version_graph.proofs.SetLemmas.{each_at}
-use Rattle.version_graph.proofs.WalkLemmas.{in_at}
+use Rattle.version_graph.proofs.SetLaws.{each_at}
+use Rattle.version_graph.proofs.WalkStepLaws.{in_at}
 use Rattle.op_law.specs.declared.side.Aux.{Aux}
 use Rattle.version_model.specs.Calls.{made_state}
 use Rattle.version_model.specs.declared.numbered.Numbered.{Numbered}

@@ -1,10 +1,10 @@
 use Rattle.std.proofs.Common.{◌≡◌, ◌+◌, ◌-◌, ◌<◌, ℕ, List, length, sym, ◌∙◌, subst, arith}
 use Rattle.version_graph.specs.Forest.{forest}
 use Rattle.version_graph.specs.Edges.{Drawn}
-use Rattle.layout_rules.proofs.DownLemmas.{below}
+use Rattle.layout_rules.proofs.DownLaws.{below}
 use Rattle.version_model.specs.Kept.{rows_now}
 use Rattle.version_model.specs.Making.{ascending}
-use Rattle.version_model.proofs.AscendingLemmas.{length_ascending}
+use Rattle.version_model.proofs.AscendingLaws.{length_ascending}
 use Rattle.db_state.specs.Fields.{state_of}
 use Rattle.db_state.specs.Passes.{IsDownTo}
 use Rattle.db_state.proofs.PlaceLemmas.{down_end, down_start, goes_down, may_down}

@@ -4,7 +4,7 @@ use Rattle.version_graph.specs.Forest.{forest}
 use Rattle.version_graph.proofs.WalkLaws.{is_forest}
 use Rattle.version_model.specs.Kept.{rows_now}
 use Rattle.version_model.specs.Making.{ascending}
-use Rattle.version_model.proofs.AscendingLemmas.{length_ascending}
+use Rattle.version_model.proofs.AscendingLaws.{length_ascending}
 use Rattle.db_state.specs.Fields.{state_of}
 use Rattle.db_state.proofs.PassLemmas.{turned}
 use Rattle.db_state.proofs.PlaceLemmas.{goes_up, may_up, up_end}

@@ -1,5 +1,5 @@
 use Rattle.version_graph.specs.Forest.{forest}
-use Rattle.layout_rules.proofs.DownLemmas.{below}
+use Rattle.layout_rules.proofs.DownLaws.{below}
 use Rattle.version_model.specs.Kept.{rows_now}
 use Rattle.db_state.specs.Fields.{state_of}
 use Rattle.db_state.specs.Passes.{IsUpTo}

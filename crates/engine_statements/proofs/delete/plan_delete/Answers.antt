@@ -4,7 +4,7 @@ use Rattle.row_store.specs.Rows.{Rows}
 use Rattle.statements.specs.Views.{filter_view}
 use Rattle.ordinary_table.specs.Shown.{condition_of}
 use Rattle.ordinary_table.specs.Laws.{IsTable}
-use Rattle.ordinary_table.proofs.KeptLemmas.{delete_keeps}
+use Rattle.ordinary_table.proofs.KeptLaws.{delete_keeps}
 use Rattle.engine_statements.specs.Found.{shown_names}
 use Rattle.engine_statements.proofs.ExpressionLemmas.{lent_reads}
 use Rattle.engine_statements.proofs.StandLemmas.{may_get_same}

@@ -1,7 +1,7 @@
 use Rattle.std.proofs.Common.{◌≡◌, ℕ, Ok, ap, sym, subst, ◌∙◌}
 use Rattle.id_memory.specs.States.{CounterState}
 use Rattle.row_store.specs.Rows.{AreBelow}
-use Rattle.ordinary_table.proofs.KeptLemmas.{sound_below}
+use Rattle.ordinary_table.proofs.KeptLaws.{sound_below}
 use Rattle.engine_statements.specs.Found.{unknown_in_rows}
 use Rattle.engine_statements.specs.Statements.{right_counts}
 use Rattle.engine_statements.proofs.IdLemmas.{known_none}

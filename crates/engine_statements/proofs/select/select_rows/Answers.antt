@@ -3,7 +3,7 @@ use Rattle.std.specs.List.{All}
 use Rattle.par_base.specs.declared.value.Value.{Value}
 use Rattle.statements.specs.Views.{filter_view}
 use Rattle.ordinary_table.specs.Shown.{condition_of}
-use Rattle.ordinary_table.proofs.ColumnLemmas.{selected_wide}
+use Rattle.ordinary_table.proofs.ColumnLaws.{selected_wide}
 use Rattle.engine_statements.specs.Found.{shown_names}
 use Rattle.engine_statements.proofs.ExpressionLemmas.{lent_reads}
 use Rattle.engine_statements.proofs.ItemLemmas.{header_many, places_within}

@@ -2,7 +2,7 @@ use Rattle.std.proofs.Common.{sym, subst, ◌∙◌}
 use Rattle.version_graph.specs.Sets.{In}
 use Rattle.version_graph.specs.Tables.{table_numbers}
 use Rattle.version_graph.specs.Edges.{Drawn, made}
-use Rattle.version_graph.proofs.SetLemmas.{in_of_test}
+use Rattle.version_graph.proofs.SetLaws.{in_of_test}
 use Rattle.op_kinds.specs.Operators.{AnyView}
 use Rattle.engine_tests.proofs.compare.expect_if_live.Goals as goal
 

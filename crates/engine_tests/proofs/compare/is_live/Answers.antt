@@ -1,6 +1,6 @@
 use Rattle.std.proofs.Common.{ap, ◌∙◌}
 use Rattle.std.specs.Prelude.{is_some}
-use Rattle.version_model.proofs.LiveLemmas.{live_table, lent_is_some}
+use Rattle.version_model.proofs.LiveLaws.{live_table, lent_is_some}
 use Rattle.engine_tests.proofs.compare.is_live.Goals as goal
 
 pub returns : goal.returns

@@ -1,4 +1,4 @@
-use Rattle.expr_lang.proofs.Resolving.{resolved-fits}
+use Rattle.expr_lang.proofs.ResolvingLaws.{resolved-fits}
 use Rattle.expr_lang.proofs.laws.resolve_keeps.Goals as goal
 
 pub returns : goal.returns

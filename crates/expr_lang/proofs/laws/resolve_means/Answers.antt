@@ -1,4 +1,4 @@
-use Rattle.expr_lang.proofs.Resolving.{resolved-means}
+use Rattle.expr_lang.proofs.ResolvingLaws.{resolved-means}
 use Rattle.expr_lang.proofs.laws.resolve_means.Goals as goal
 
 pub returns : goal.returns

@@ -1,4 +1,4 @@
-use Rattle.expr_lang.proofs.Resolving.{resolved-refused}
+use Rattle.expr_lang.proofs.ResolvingLaws.{resolved-refused}
 use Rattle.expr_lang.proofs.laws.resolve_refuses.Goals as goal
 
 pub returns : goal.returns

@@ -5,8 +5,8 @@ use Rattle.bidel_expr.specs.Lexemes.{lexemes}
 use Rattle.bidel_script.specs.Script.{StandsBehind}
 use Rattle.bidel_script.specs.Tails.{is_over}
 use Rattle.bidel_script.specs.Calls.{outcome_of}
-use Rattle.bidel_script.proofs.TokenLemmas.{are_tokens_drop, rest_is}
-use Rattle.bidel_script.proofs.ScriptLemmas.{front_some, front_within}
+use Rattle.bidel_script.proofs.TokenLaws.{are_tokens_drop, rest_is}
+use Rattle.bidel_script.proofs.ScriptLaws.{front_some, front_within}
 use Rattle.engine_core.specs.Kept.{state_of}
 use Rattle.inverda_run.specs.Calls.{RunsOne, RunsPart}
 use Rattle.inverda_run.proofs.RunLemmas.{ran_none, ran_more, ran_stops, ran_front, ran_part}

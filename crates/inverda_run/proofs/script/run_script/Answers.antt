@@ -1,6 +1,6 @@
 use Rattle.std.proofs.Common.{sym, subst}
 use Rattle.bidel_lex.specs.Tokens.{AreTokens}
-use Rattle.bidel_script.proofs.TokenLemmas.{all_are_tokens}
+use Rattle.bidel_script.proofs.TokenLaws.{all_are_tokens}
 use Rattle.inverda_run.proofs.EndLemmas.{runs_script}
 use Rattle.inverda_run.proofs.script.run_script.Goals as goal
 

@@ -1,7 +1,7 @@
 use Rattle.std.proofs.Common.{◌∙◌, subst}
 use Rattle.std.specs.Io.KnownBytes.{Appends}
 use Rattle.statements.specs.Views.{statement_view}
-use Rattle.bidel_script.proofs.TextLimits.{texts_within}
+use Rattle.bidel_script.proofs.TextLimitsLaws.{texts_within}
 use Rattle.inverda_run.specs.Statuses.{PutsFront}
 use Rattle.inverda_run.proofs.turn.take_turn.Goals as goal
 

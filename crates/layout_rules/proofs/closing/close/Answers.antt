@@ -1,7 +1,7 @@
 use Rattle.std.proofs.Common.{sym, ◌∙◌}
 use Rattle.std.proofs.lemmas.Result.{err_from_is_err_and}
 use Rattle.layout_rules.specs.Closing.{named_tables, named_trees}
-use Rattle.layout_rules.proofs.CloseLemmas.{close_done, close_shared, close_unknown, close_unstored, new_is, wanted_is}
+use Rattle.layout_rules.proofs.CloseLaws.{close_done, close_shared, close_unknown, close_unstored, new_is, wanted_is}
 use Rattle.layout_rules.proofs.ClosedLemmas.{computed_done, computed_shared, computed_unknown, computed_unstored}
 use Rattle.layout_rules.proofs.closing.close.Goals as goal
 

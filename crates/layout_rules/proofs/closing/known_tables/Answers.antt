@@ -1,5 +1,5 @@
 use Rattle.std.proofs.lemmas.Result.{err_from_is_err_and}
-use Rattle.layout_rules.proofs.CloseLemmas.{add_refused, known_more, tables_more}
+use Rattle.layout_rules.proofs.CloseLaws.{add_refused, known_more, tables_more}
 use Rattle.layout_rules.proofs.closing.known_tables.Goals as goal
 
 pub returns-in_err-push_tables : goal.returns-in_err-push_tables

@@ -1,4 +1,4 @@
-use Rattle.layout_rules.proofs.CloseLemmas.{trees_next}
+use Rattle.layout_rules.proofs.CloseLaws.{trees_next}
 use Rattle.layout_rules.proofs.closing.named_trees.Goals as goal
 
 pub loop-target-preserved : goal.loop-target-preserved

@@ -1,5 +1,5 @@
 use Rattle.std.proofs.Common.{sym, ◌∙◌}
-use Rattle.layout_rules.proofs.CloseLemmas.{unstored_here}
+use Rattle.layout_rules.proofs.CloseLaws.{unstored_here}
 use Rattle.layout_rules.proofs.closing.refuse_unstored.Goals as goal
 
 pub returns-then-not-branch : goal.returns-then-not-branch

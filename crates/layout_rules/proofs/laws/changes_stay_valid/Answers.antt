@@ -1,4 +1,4 @@
-use Rattle.layout_rules.proofs.ChangeLemmas.{dropped_valid, evolved_valid}
+use Rattle.layout_rules.proofs.ChangeLaws.{dropped_valid, evolved_valid}
 use Rattle.layout_rules.proofs.laws.changes_stay_valid.Goals as goal
 
 pub returns-clause-evolved : goal.returns-clause-evolved

@@ -1,6 +1,6 @@
 use Rattle.version_graph.specs.Forest.{forest}
 use Rattle.version_graph.proofs.WalkLaws.{is_forest}
-use Rattle.layout_rules.proofs.NeededLemmas.{closed_valid, found, found_has, found_needed}
+use Rattle.layout_rules.proofs.NeededLaws.{closed_valid, found, found_has, found_needed}
 use Rattle.layout_rules.proofs.laws.closing_stays_valid.Goals as goal
 
 pub returns-clause-least : goal.returns-clause-least

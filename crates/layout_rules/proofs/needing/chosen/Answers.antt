@@ -1,5 +1,5 @@
 use Rattle.layout_rules.specs.Lookups.{numbers_up, stays}
-use Rattle.layout_rules.proofs.PassLemmas.{filter_all, filter_next, past_numbers}
+use Rattle.layout_rules.proofs.PassLaws.{filter_all, filter_next, past_numbers}
 use Rattle.layout_rules.proofs.needing.chosen.Goals as goal
 
 pub loop-place-preserved : goal.loop-place-preserved

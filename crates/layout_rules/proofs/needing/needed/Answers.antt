@@ -1,7 +1,7 @@
 use Rattle.std.proofs.Common.{ℕ, List, ◌++◌, ap, ◌∙◌, arith}
 use Rattle.layout_rules.specs.Lookups.{in_trees, needed_with, tables_with}
 use Rattle.layout_rules.specs.Passes.{needed}
-use Rattle.layout_rules.proofs.DownLemmas.{below, below_all, need_step}
+use Rattle.layout_rules.proofs.DownLaws.{below, below_all, need_step}
 use Rattle.layout_rules.proofs.needing.needed.Goals as goal
 
 pub loop-left-init : goal.loop-left-init

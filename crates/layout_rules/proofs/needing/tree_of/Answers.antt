@@ -1,6 +1,6 @@
 use Rattle.std.proofs.Common.{ap, ◌∙◌, arith}
 use Rattle.version_graph.specs.Forest.{tree}
-use Rattle.layout_rules.proofs.DownLemmas.{below_all, step_up}
+use Rattle.layout_rules.proofs.DownLaws.{below_all, step_up}
 use Rattle.layout_rules.proofs.needing.tree_of.Goals as goal
 
 pub loop-left-init : goal.loop-left-init

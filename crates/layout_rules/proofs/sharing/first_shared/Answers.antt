@@ -1,7 +1,7 @@
 use Rattle.std.proofs.Common.{sym, ◌∙◌}
 use mathlib.Core.List.{reverse}
 use Rattle.layout_rules.specs.Lookups.{is_shared}
-use Rattle.layout_rules.proofs.CloseLemmas.{along_found, along_none}
+use Rattle.layout_rules.proofs.CloseLaws.{along_found, along_none}
 use Rattle.layout_rules.proofs.sharing.first_shared.Goals as goal
 
 pub returns-then-is_some-clause-value : goal.returns-then-is_some-clause-value

@@ -1,5 +1,5 @@
 use Rattle.layout_rules.specs.Lookups.{is_shared}
-use Rattle.layout_rules.proofs.CloseLemmas.{heading_known}
+use Rattle.layout_rules.proofs.CloseLaws.{heading_known}
 use Rattle.layout_rules.proofs.sharing.refuse_shared.Goals as goal
 
 pub told-requires : goal.told-requires

@@ -1,6 +1,6 @@
 use mathlib.Core.List.{reverse}
 use Rattle.layout_rules.specs.Lookups.{is_stored}
-use Rattle.layout_rules.proofs.PassLemmas.{past_edges, tables_all, tables_next}
+use Rattle.layout_rules.proofs.PassLaws.{past_edges, tables_all, tables_next}
 use Rattle.layout_rules.proofs.storing.all_stored.Goals as goal
 
 pub loop-place-preserved : goal.loop-place-preserved

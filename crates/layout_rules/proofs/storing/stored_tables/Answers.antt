@@ -5,7 +5,7 @@ use Rattle.version_graph.specs.Edges.{Rises}
 use Rattle.version_graph.specs.Forest.{forest}
 use Rattle.layout_rules.specs.Layouts.{IsStored}
 use Rattle.layout_rules.specs.Lookups.{is_stored, tables_up}
-use Rattle.layout_rules.proofs.PassLemmas.{if_ok_more, stored_listed, stored_rise}
+use Rattle.layout_rules.proofs.PassLaws.{if_ok_more, stored_listed, stored_rise}
 use Rattle.layout_rules.proofs.storing.stored_tables.Goals as goal
 
 pub returns-clause-stored : goal.returns-clause-stored

@@ -1,6 +1,6 @@
 use Rattle.std.proofs.Common.{List, ℕ, ap, ◌∙◌}
 use Rattle.layout_rules.specs.Lookups.{is_valid}
-use Rattle.layout_rules.proofs.LookupLemmas.{valid_iff}
+use Rattle.layout_rules.proofs.LookupLaws.{valid_iff}
 use Rattle.layout_rules.proofs.validity.is_valid.Goals as goal
 
 pub returns : goal.returns

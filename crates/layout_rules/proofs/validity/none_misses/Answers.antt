@@ -1,6 +1,6 @@
 use Rattle.std.proofs.Common.{refl, sym, ◌∙◌}
 use Rattle.layout_rules.specs.Lookups.{may_miss, numbers_up}
-use Rattle.layout_rules.proofs.PassLemmas.{all_pass, past_numbers, place_fails, place_passes}
+use Rattle.layout_rules.proofs.PassLaws.{all_pass, past_numbers, place_fails, place_passes}
 use Rattle.layout_rules.proofs.validity.none_misses.Goals as goal
 
 pub returns-then-not-may_miss_at-clause-value : goal.returns-then-not-may_miss_at-clause-value

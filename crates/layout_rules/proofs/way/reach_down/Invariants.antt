@@ -1,6 +1,6 @@
 use Rattle.std.proofs.Common.{◌≡◌}
 use Rattle.layout_rules.specs.Reached.{down_from}
-use Rattle.layout_rules.proofs.DownLemmas.{below}
+use Rattle.layout_rules.proofs.DownLaws.{below}
 use Rattle.layout_rules.proofs.way.reach_down.Given as goal
 
 abbrev pub invariant-loop-place : goal.invariant-loop-place

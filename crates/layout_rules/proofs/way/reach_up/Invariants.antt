@@ -1,7 +1,7 @@
 use Rattle.std.proofs.Common.{◌≡◌, ◌≤◌, length}
 use Rattle.version_graph.specs.Forest.{forest}
 use Rattle.layout_rules.specs.Reached.{up_from}
-use Rattle.layout_rules.proofs.DownLemmas.{below}
+use Rattle.layout_rules.proofs.DownLaws.{below}
 use Rattle.layout_rules.proofs.way.reach_up.Given as goal
 
 abbrev pub invariant-loop-left : goal.invariant-loop-left

@@ -6,7 +6,7 @@ use Rattle.version_graph.specs.Edges.{Rises}
 use Rattle.version_graph.specs.Forest.{forest}
 use Rattle.layout_rules.specs.Reached.{way_along}
 use Rattle.layout_rules.specs.Ways.{IsOnWay}
-use Rattle.layout_rules.proofs.PassLemmas.{if_ok_more}
+use Rattle.layout_rules.proofs.PassLaws.{if_ok_more}
 use Rattle.layout_rules.proofs.WayPassLemmas.{way_is, way_listed, way_rise}
 use Rattle.layout_rules.proofs.way.way_to_storage.Goals as goal
 

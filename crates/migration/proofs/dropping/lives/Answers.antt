@@ -1,6 +1,6 @@
 use Rattle.std.specs.Prelude.{is_some}
 use Rattle.std.proofs.Common.{ap, ◌∙◌}
-use Rattle.version_model.proofs.LiveLemmas.{lent_is_some, live_operator}
+use Rattle.version_model.proofs.LiveLaws.{lent_is_some, live_operator}
 use Rattle.migration.proofs.dropping.lives.Goals as goal
 
 pub returns : goal.returns

@@ -5,7 +5,7 @@ use Rattle.version_graph.specs.Edges.{Drawn, Rises, is_in, numbers, set_named, v
 use Rattle.version_graph.specs.Forest.{forest}
 use Rattle.layout_rules.specs.declared.layout.Layout.{Layout}
 use Rattle.layout_rules.specs.Layouts.{IsValid}
-use Rattle.layout_rules.proofs.PassLemmas.{rises_filter}
+use Rattle.layout_rules.proofs.PassLaws.{rises_filter}
 use Rattle.storage_law.specs.Changes.{GoFromSources}
 use Rattle.migration.specs.Sides.{keeps_side}
 use Rattle.migration.proofs.LeaveLemmas.{leaving_is, leaving_right, same_left}

@@ -1,8 +1,8 @@
 use Rattle.std.proofs.Common.{ℕ, List, [], ◌∷◌, sym, ap, ◌∙◌, subst}
 use Rattle.version_graph.specs.Edges.{Drawn, Rises}
 use Rattle.layout_rules.specs.Lookups.{numbers_up}
-use Rattle.layout_rules.proofs.CloseLemmas.{numbers_rise}
-use Rattle.layout_rules.proofs.PassLemmas.{rises_filter}
+use Rattle.layout_rules.proofs.CloseLaws.{numbers_rise}
+use Rattle.layout_rules.proofs.PassLaws.{rises_filter}
 use Rattle.migration.specs.Sides.{changes_side, flipped_layout}
 use Rattle.migration.proofs.flip.prepare_flip.Goals as goal
 

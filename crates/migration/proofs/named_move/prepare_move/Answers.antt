@@ -4,7 +4,7 @@ use Rattle.version_graph.specs.Forest.{forest}
 use Rattle.version_graph.proofs.WalkLaws.{is_forest}
 use Rattle.layout_rules.specs.Closing.{named_tables, named_trees}
 use Rattle.layout_rules.specs.declared.layout.Layout.{Layout}
-use Rattle.layout_rules.proofs.NeededLemmas.{closed_valid}
+use Rattle.layout_rules.proofs.NeededLaws.{closed_valid}
 use Rattle.migration.specs.Sides.{flip_count}
 use Rattle.migration.proofs.CloseLemmas.{closes_into, closes_there, computed_refused, gives_there, move_refused}
 use Rattle.migration.proofs.named_move.prepare_move.Goals as goal

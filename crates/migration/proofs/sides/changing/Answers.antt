@@ -1,5 +1,5 @@
 use Rattle.layout_rules.specs.Lookups.{numbers_up}
-use Rattle.layout_rules.proofs.PassLemmas.{filter_all, filter_next, past_numbers}
+use Rattle.layout_rules.proofs.PassLaws.{filter_all, filter_next, past_numbers}
 use Rattle.migration.specs.Sides.{changes_side}
 use Rattle.migration.proofs.sides.changing.Goals as goal
 

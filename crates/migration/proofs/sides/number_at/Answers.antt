@@ -1,4 +1,4 @@
-use Rattle.layout_rules.proofs.PassLemmas.{number_place}
+use Rattle.layout_rules.proofs.PassLaws.{number_place}
 use Rattle.migration.proofs.sides.number_at.Goals as goal
 
 pub returns-in-Some : goal.returns-in-Some

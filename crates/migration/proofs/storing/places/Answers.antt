@@ -1,5 +1,5 @@
 use Rattle.std.proofs.Common.{ℕ, List, subst}
-use Rattle.layout_rules.proofs.PassLemmas.{if_ok_more}
+use Rattle.layout_rules.proofs.PassLaws.{if_ok_more}
 use Rattle.migration.specs.Places.{ArePlaces, AreStoredPlaces}
 use Rattle.migration.proofs.PlaceLemmas.{stored_places}
 use Rattle.migration.proofs.storing.places.Goals as goal

@@ -1,5 +1,5 @@
 use Rattle.op_any.proofs.BuiltLaws.{built_suits}
-use Rattle.op_any.proofs.TableLists.{headings_taken-of}
+use Rattle.op_any.proofs.TableListsLaws.{headings_taken-of}
 use Rattle.op_any.proofs.laws.built_edges_fit.Goals as goal
 
 pub returns-clause-set : goal.returns-clause-set

@@ -1,4 +1,4 @@
-use Rattle.op_law.proofs.SoundLemmas.{tables_more, pairs_more}
+use Rattle.op_law.proofs.SoundLaws.{tables_more, pairs_more}
 use Rattle.op_law.proofs.laws.sound_stays_sound.Goals as goal
 
 pub returns-clause-tables : goal.returns-clause-tables

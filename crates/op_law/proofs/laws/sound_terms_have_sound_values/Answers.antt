@@ -1,4 +1,4 @@
-use Rattle.op_law.proofs.SoundTermLemmas.{val_sound, term_more}
+use Rattle.op_law.proofs.SoundTermLaws.{val_sound, term_more}
 use Rattle.op_law.proofs.laws.sound_terms_have_sound_values.Goals as goal
 
 pub returns-clause-values : goal.returns-clause-values

@@ -1,4 +1,4 @@
-use Rattle.ordinary_table.proofs.ColumnLemmas.{columns_set, columns_kept}
+use Rattle.ordinary_table.proofs.ColumnLaws.{columns_set, columns_kept}
 use Rattle.ordinary_table.proofs.laws.sets_see_the_old_row.Goals as goal
 
 pub returns-clause-set : goal.returns-clause-set

@@ -1,4 +1,4 @@
-use Rattle.ordinary_table.proofs.KeptLemmas.{insert_keeps, update_keeps, delete_keeps}
+use Rattle.ordinary_table.proofs.KeptLaws.{insert_keeps, update_keeps, delete_keeps}
 use Rattle.ordinary_table.proofs.laws.writes_keep_tables.Goals as goal
 
 pub returns-clause-insert : goal.returns-clause-insert

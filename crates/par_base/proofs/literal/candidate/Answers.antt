@@ -1,5 +1,5 @@
 use Rattle.std.proofs.Common.{◌∙◌, sym, arith}
-use Rattle.par_base.proofs.LiteralLemmas.{text_answers, reference_only, null_only, int_only}
+use Rattle.par_base.proofs.LiteralLaws.{text_answers, reference_only, null_only, int_only}
 use Rattle.par_base.proofs.literal.candidate.Goals as goal
 
 pub returns-in-39 : goal.returns-in-39

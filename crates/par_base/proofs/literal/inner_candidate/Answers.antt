@@ -2,7 +2,7 @@ use Rattle.std.proofs.Common.{◌≡◌, ◌∙◌, sym, ap, subst, ℕ, List, I
 use Rattle.std.specs.Prelude.{Some}
 use Rattle.par_base.specs.declared.value.Value.TheVariants.{Text}
 use Rattle.par_base.specs.Literals.{undoubled}
-use Rattle.par_base.proofs.LiteralLemmas.{undoubled-doubled}
+use Rattle.par_base.proofs.LiteralLaws.{undoubled-doubled}
 use Rattle.par_base.proofs.literal.inner_candidate.Goals as goal
 
 pub returns-in-Ok : goal.returns-in-Ok

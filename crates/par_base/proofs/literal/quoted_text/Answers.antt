@@ -1,4 +1,4 @@
-use Rattle.par_base.proofs.LiteralLemmas.{quoted_more}
+use Rattle.par_base.proofs.LiteralLaws.{quoted_more}
 use Rattle.par_base.proofs.literal.quoted_text.Goals as goal
 
 pub loop-c-preserved : goal.loop-c-preserved

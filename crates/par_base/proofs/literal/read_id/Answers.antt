@@ -1,7 +1,7 @@
 use Rattle.std.proofs.Common.{◌∙◌, sym, ap, subst, IsUtf8}
 use Rattle.std.specs.Result.{result_ok}
 use Rattle.std.proofs.lemmas.Fmt.{parse-decimal}
-use Rattle.par_base.proofs.LiteralLemmas.{id_is_utf8}
+use Rattle.par_base.proofs.LiteralLaws.{id_is_utf8}
 use Rattle.par_base.proofs.literal.read_id.Goals as goal
 
 pub returns-in-Ok : goal.returns-in-Ok

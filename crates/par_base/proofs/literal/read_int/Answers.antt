@@ -2,7 +2,7 @@ use Rattle.std.proofs.Common.{◌∙◌, sym, ap, subst, IsUtf8}
 use Rattle.std.specs.Int.{w64}
 use Rattle.std.specs.Result.{result_ok}
 use Rattle.std.proofs.lemmas.Fmt.{parse-signed_decimal}
-use Rattle.par_base.proofs.LiteralLemmas.{int_is_utf8}
+use Rattle.par_base.proofs.LiteralLaws.{int_is_utf8}
 use Rattle.par_base.proofs.literal.read_int.Goals as goal
 
 pub returns-in-Ok : goal.returns-in-Ok

@@ -1,9 +1,9 @@
 use Rattle.std.proofs.Common.{ℕ, arith, subst, sym}
 use Rattle.version_graph.specs.Sets.{In}
 use Rattle.version_graph.specs.Edges.{numbers}
-use Rattle.layout_rules.proofs.ChangeLemmas.{link_number}
+use Rattle.layout_rules.proofs.ChangeLaws.{link_number}
 use Rattle.storage_law.proofs.GrowLemmas.{grown_stand}
-use Rattle.storage_law.proofs.DropLemmas.{drop_stands, leaving_valid}
+use Rattle.storage_law.proofs.DropLaws.{drop_stands, leaving_valid}
 use Rattle.storage_law.proofs.laws.changes_move_no_data.Goals as goal
 
 pub returns-clause-evolved : goal.returns-clause-evolved

@@ -1,6 +1,6 @@
 use Rattle.version_model.specs.States.{headings}
 use Rattle.storage_law.specs.Storage.{stored_way}
-use Rattle.storage_law.proofs.ReadLemmas.{far_right, one_state, read_at, read_back}
+use Rattle.storage_law.proofs.ReadLaws.{far_right, one_state, read_at, read_back}
 use Rattle.storage_law.proofs.laws.parts_have_one_state.Goals as goal
 
 pub returns-clause-one : goal.returns-clause-one

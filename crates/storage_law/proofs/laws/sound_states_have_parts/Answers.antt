@@ -1,4 +1,4 @@
-use Rattle.storage_law.proofs.CanonicalLemmas.{parts_are_one, sound_stands}
+use Rattle.storage_law.proofs.CanonicalLaws.{parts_are_one, sound_stands}
 use Rattle.storage_law.proofs.laws.sound_states_have_parts.Goals as goal
 
 pub returns-clause-stand : goal.returns-clause-stand

@@ -1,7 +1,7 @@
 use Rattle.std.proofs.Common.{ℕ, List, ◌++◌, ap, ◌∙◌, refl}
 use Rattle.version_graph.specs.Kept.{edges_of, numbers_named}
 use Rattle.version_graph.specs.Forest.{minus}
-use Rattle.version_graph.proofs.TakenLemmas.{node_right}
+use Rattle.version_graph.proofs.TakenLaws.{node_right}
 use Rattle.version_graph.proofs.build.node_on.Goals as goal
 
 pub returns-clause-right : goal.returns-clause-right

@@ -3,7 +3,7 @@ use Rattle.std.proofs.Common.{sym, ◌∙◌}
 use Rattle.std.proofs.lemmas.Bool.{cond-false, ne_eqb}
 use Rattle.version_graph.specs.Forest.{forest, tree}
 use Rattle.version_graph.specs.Kept.{edges_of}
-use Rattle.version_graph.proofs.NodeLemmas.{tree_of_node, has_node}
+use Rattle.version_graph.proofs.NodeLaws.{tree_of_node, has_node}
 use Rattle.version_graph.proofs.build.tree_on.Goals as goal
 
 pub returns-in-Some : goal.returns-in-Some

@@ -2,7 +2,7 @@ use Rattle.std.proofs.Common.{◌≡◌, length, subst, sym}
 use Rattle.std.specs.Prelude.{OnOk}
 use Rattle.version_graph.specs.Calls.{AddsNode}
 use Rattle.version_graph.specs.declared.parts.Placed.{Placed}
-use Rattle.version_graph.proofs.GrowLemmas.{length_after}
+use Rattle.version_graph.proofs.GrowLaws.{length_after}
 use Rattle.version_graph.proofs.grow.add_edge.Goals as goal
 
 pub add_placed-requires-clause-counted : goal.add_placed-requires-clause-counted

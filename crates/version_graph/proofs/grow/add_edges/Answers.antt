@@ -1,4 +1,4 @@
-use Rattle.version_graph.proofs.GrowLemmas.{grow_step}
+use Rattle.version_graph.proofs.GrowLaws.{grow_step}
 use Rattle.version_graph.proofs.grow.add_edges.Goals as goal
 
 pub loop-edge-preserved : goal.loop-edge-preserved

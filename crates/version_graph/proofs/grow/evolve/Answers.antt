@@ -3,11 +3,11 @@ use Rattle.std.specs.Prelude.{unwrap_or}
 use Rattle.std.specs.Option.{option_copied}
 use Rattle.version_graph.specs.Kept.{drawn, edges_of}
 use Rattle.version_graph.specs.declared.node.Node.{Node}
-use Rattle.version_graph.proofs.EvolveLemmas.{goes_from, goes_can, goes_no_refusal, goes_to, goes_is_graph}
+use Rattle.version_graph.proofs.EvolveLaws.{goes_from, goes_can, goes_no_refusal, goes_to, goes_is_graph}
 use Rattle.version_graph.specs.Edges.{Drawn}
 use Rattle.version_graph.specs.Evolve.{start_of}
 use Rattle.version_graph.specs.Finished.{IsFinished}
-use Rattle.version_graph.proofs.UnneededLemmas.{evolved_finished}
+use Rattle.version_graph.proofs.UnneededLaws.{evolved_finished}
 use Rattle.version_graph.proofs.grow.evolve.Goals as goal
 
 pub grow_and_name-requires-clause-can : goal.grow_and_name-requires-clause-can

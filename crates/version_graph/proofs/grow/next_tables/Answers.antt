@@ -1,6 +1,6 @@
 use Rattle.std.proofs.Common.{◌≡◌, ℕ, ◌+◌, List, [], ◌∷◌, ◌++◌, take, arith, sym, ap, ◌∙◌}
 use Rattle.version_graph.specs.Evolve.{numbers_after}
-use Rattle.version_graph.proofs.GrowLemmas.{after_more}
+use Rattle.version_graph.proofs.GrowLaws.{after_more}
 use Rattle.version_graph.proofs.grow.next_tables.Goals as goal
 
 pub loop-target-preserved : goal.loop-target-preserved

@@ -3,7 +3,7 @@ use mathlib.Core.List.{reverse}
 use Rattle.version_graph.specs.Edges.{Drawn, IsGraph}
 use Rattle.version_graph.specs.Kept.{drawn, AreRight}
 use Rattle.version_graph.specs.declared.node.Node.{Node}
-use Rattle.version_graph.proofs.BackLemmas.{back_to, front_right}
+use Rattle.version_graph.proofs.BackLaws.{back_to, front_right}
 use Rattle.version_graph.proofs.grow.take_back.Goals as goal
 
 pub returns-clause-back : goal.returns-clause-back

@@ -1,5 +1,5 @@
 use Rattle.version_graph.specs.Laws.{other_sets}
-use Rattle.version_graph.proofs.UnneededLemmas.{below_stays, goes_taken, stays_below, taken_goes}
+use Rattle.version_graph.proofs.UnneededLaws.{below_stays, goes_taken, stays_below, taken_goes}
 use Rattle.version_graph.proofs.laws.drops_take_unneeded.Goals as goal
 
 pub returns-clause-doomed : goal.returns-clause-doomed

@@ -1,6 +1,6 @@
 use Rattle.std.proofs.Common.{sym, ap, ◌∙◌}
 use Rattle.std.specs.Prelude.{option_map}
-use Rattle.version_graph.proofs.NodeLemmas.{edge_of_place}
+use Rattle.version_graph.proofs.NodeLaws.{edge_of_place}
 use Rattle.version_graph.specs.declared.node.Node.{Node}
 use Rattle.version_graph.proofs.look.edge_at.Goals as goal
 

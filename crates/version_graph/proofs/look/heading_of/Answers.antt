@@ -2,7 +2,7 @@ use mathlib.Core.List.{reverse}
 use Rattle.std.proofs.Common.{sym, ap, ◌∙◌}
 use Rattle.std.specs.Prelude.{option_and_then}
 use Rattle.version_graph.specs.Kept.{heading_in}
-use Rattle.version_graph.proofs.NodeLemmas.{heading_of_node, counted_maker}
+use Rattle.version_graph.proofs.NodeLaws.{heading_of_node, counted_maker}
 use Rattle.version_graph.specs.declared.node.Node.{Node}
 use Rattle.version_graph.proofs.look.heading_of.Goals as goal
 

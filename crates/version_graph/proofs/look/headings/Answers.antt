@@ -4,7 +4,7 @@ use Rattle.std.proofs.lemmas.List.{take_all}
 use Rattle.version_graph.specs.Edges.{heading_of}
 use Rattle.version_graph.specs.Kept.{edges_of}
 use Rattle.version_graph.specs.declared.parts.Heading.{Heading}
-use Rattle.version_graph.proofs.TakenLemmas.{headings_more, headings_found}
+use Rattle.version_graph.proofs.TakenLaws.{headings_more, headings_found}
 use Rattle.version_graph.proofs.look.headings.Goals as goal
 
 pub loop-table-preserved : goal.loop-table-preserved

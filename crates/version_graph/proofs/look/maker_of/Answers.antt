@@ -1,7 +1,7 @@
 use mathlib.Core.List.{reverse}
 use Rattle.std.proofs.Common.{sym, ap, ◌∙◌}
 use Rattle.std.specs.Prelude.{option_map}
-use Rattle.version_graph.proofs.NodeLemmas.{maker_of_node}
+use Rattle.version_graph.proofs.NodeLaws.{maker_of_node}
 use Rattle.version_graph.specs.declared.node.Node.{Node}
 use Rattle.version_graph.proofs.look.maker_of.Goals as goal
 

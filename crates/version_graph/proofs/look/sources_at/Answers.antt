@@ -1,7 +1,7 @@
 use mathlib.Core.List.{reverse}
 use Rattle.std.proofs.Common.{sym, ap, ◌∙◌}
 use Rattle.std.specs.Prelude.{option_map}
-use Rattle.version_graph.proofs.NodeLemmas.{sources_of_node}
+use Rattle.version_graph.proofs.NodeLaws.{sources_of_node}
 use Rattle.version_graph.specs.declared.node.Node.{Node}
 use Rattle.version_graph.proofs.look.sources_at.Goals as goal
 

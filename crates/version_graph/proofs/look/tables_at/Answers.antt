@@ -2,7 +2,7 @@ use mathlib.Core.List.{reverse}
 use Rattle.version_graph.specs.Kept.{edges_of}
 use Rattle.std.proofs.Common.{sym, ap, ◌∙◌}
 use Rattle.std.specs.Prelude.{option_map}
-use Rattle.version_graph.proofs.NodeLemmas.{set_of_node, not_zero}
+use Rattle.version_graph.proofs.NodeLaws.{set_of_node, not_zero}
 use Rattle.version_graph.specs.declared.node.Node.{Node}
 use Rattle.version_graph.proofs.look.tables_at.Goals as goal
 

@@ -1,7 +1,7 @@
 use Rattle.std.proofs.Common.{List, ℕ, [], ap, ◌∙◌}
 use Rattle.std.specs.Prelude.{Option, unwrap_or}
 use Rattle.version_graph.specs.Kept.{edges_of}
-use Rattle.version_graph.proofs.NodeLemmas.{tables_or_none}
+use Rattle.version_graph.proofs.NodeLaws.{tables_or_none}
 use Rattle.version_graph.proofs.look.tables_of_set.Goals as goal
 
 pub returns-in-Some : goal.returns-in-Some

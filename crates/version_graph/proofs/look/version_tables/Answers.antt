@@ -3,7 +3,7 @@ use Rattle.std.specs.Prelude.{option_map}
 use Rattle.version_graph.specs.Tables.{table_numbers}
 use Rattle.version_graph.specs.Edges.{working}
 use Rattle.version_graph.specs.Kept.{edges_of}
-use Rattle.version_graph.proofs.NodeLemmas.{version_tables}
+use Rattle.version_graph.proofs.NodeLaws.{version_tables}
 use Rattle.version_graph.proofs.look.version_tables.Goals as goal
 
 pub returns-in-Some : goal.returns-in-Some

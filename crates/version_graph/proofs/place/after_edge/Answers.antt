@@ -4,8 +4,8 @@ use Rattle.version_graph.specs.Edges.{is_in, numbers}
 use Rattle.version_graph.specs.Kept.{edges_of}
 use Rattle.version_graph.specs.Placing.{top_of}
 use Rattle.version_graph.specs.declared.node.Node.{Node}
-use Rattle.version_graph.proofs.SetLemmas.{in_of_test}
-use Rattle.version_graph.proofs.PlaceLemmas.{no_top, not_in, top_is}
+use Rattle.version_graph.proofs.SetLaws.{in_of_test}
+use Rattle.version_graph.proofs.PlaceLaws.{no_top, not_in, top_is}
 use Rattle.version_graph.proofs.place.after_edge.Goals as goal
 use Rattle.version_graph.proofs.place.after_edge.Goals.{else-placed-ne0-via-then-placed-ne0+else-not-is_live, else-placed-ne0-via-else-placed-ne0}
 

@@ -3,7 +3,7 @@ use Rattle.version_graph.specs.Edges.{version_sets}
 use Rattle.version_graph.specs.Finished.{are_needed}
 use Rattle.version_graph.specs.Kept.{drawn, edges_of}
 use Rattle.version_graph.specs.declared.node.Node.{Node}
-use Rattle.version_graph.proofs.PlaceLemmas.{last_graph}
+use Rattle.version_graph.proofs.PlaceLaws.{last_graph}
 use Rattle.version_graph.proofs.FinishLemmas.{below_needed, needed_below}
 use Rattle.version_graph.proofs.place.end_placing.Goals as goal
 

@@ -1,6 +1,6 @@
 use Rattle.std.proofs.Common.{◌∙◌}
 use Rattle.version_graph.specs.Kept.{edges_of}
-use Rattle.version_graph.proofs.PlaceLemmas.{live_known}
+use Rattle.version_graph.proofs.PlaceLaws.{live_known}
 use Rattle.version_graph.proofs.place.is_live.Goals as goal
 
 pub returns : goal.returns

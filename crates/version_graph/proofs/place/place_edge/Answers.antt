@@ -1,8 +1,8 @@
 use Rattle.std.proofs.Common.{sym, subst}
 use Rattle.version_graph.specs.Edges.{Drawn, IsGraph}
 use Rattle.version_graph.specs.Kept.{drawn, edges_of}
-use Rattle.version_graph.proofs.GrowLemmas.{added}
-use Rattle.version_graph.proofs.PlaceLemmas.{edge_graph, edge_is}
+use Rattle.version_graph.proofs.GrowLaws.{added}
+use Rattle.version_graph.proofs.PlaceLaws.{edge_graph, edge_is}
 use Rattle.version_graph.proofs.place.place_edge.Goals as goal
 
 pub returns-clause-kept : goal.returns-clause-kept

@@ -3,8 +3,8 @@ use Rattle.version_graph.specs.Edges.{Drawn, IsGraph, is_in, numbers, version_se
 use Rattle.version_graph.specs.Kept.{drawn, edges_of}
 use Rattle.version_graph.specs.Placing.{CanName}
 use Rattle.version_graph.specs.declared.node.Node.{Node}
-use Rattle.version_graph.proofs.SetLemmas.{in_of_test}
-use Rattle.version_graph.proofs.PlaceLemmas.{none_of, not_in, version_graph, version_is}
+use Rattle.version_graph.proofs.SetLaws.{in_of_test}
+use Rattle.version_graph.proofs.PlaceLaws.{none_of, not_in, version_graph, version_is}
 use Rattle.version_graph.proofs.place.place_version.Goals as goal
 
 pub returns-then-not-is_live-clause-answers : goal.returns-then-not-is_live-clause-answers

@@ -4,9 +4,9 @@ use Rattle.version_graph.specs.Edges.{Drawn, IsGraph, version_sets}
 use Rattle.version_graph.specs.Dropped.{other_versions, staying}
 use Rattle.version_graph.specs.Kept.{AreRight, drawn, edges_of}
 use Rattle.version_graph.specs.declared.node.Node.{Node}
-use Rattle.version_graph.proofs.StayLemmas.{nodes_stay, dropped_graph, dropped_is, stays_as}
+use Rattle.version_graph.proofs.StayLaws.{nodes_stay, dropped_graph, dropped_is, stays_as}
 use Rattle.version_graph.specs.Finished.{IsFinished}
-use Rattle.version_graph.proofs.UnneededLemmas.{dropped_finished}
+use Rattle.version_graph.proofs.UnneededLaws.{dropped_finished}
 use Rattle.version_graph.proofs.shed.drop_version.Goals as goal
 
 pub returns-clause-dropped : goal.returns-clause-dropped

@@ -1,7 +1,7 @@
 use mathlib.Core.List.{reverse}
 use Rattle.std.proofs.Common.{sym, inr, arith}
 use Rattle.version_graph.specs.Kept.{edges_of}
-use Rattle.version_graph.proofs.NodeLemmas.{tree_of_node, has_node, above_zero}
+use Rattle.version_graph.proofs.NodeLaws.{tree_of_node, has_node, above_zero}
 use Rattle.version_graph.proofs.walk.tree_of.Goals as goal
 
 pub returns-in-Some : goal.returns-in-Some

@@ -4,7 +4,7 @@ use Rattle.std.specs.Prelude.{◌==◌, IfOk}
 use Rattle.version_graph.specs.declared.parts.Step.{Step}
 use Rattle.version_graph.specs.Forest.{forest, tree, told, up, rest}
 use Rattle.version_graph.specs.Kept.{edges_of}
-use Rattle.version_graph.proofs.WalkLemmas.{on_way, in_tree, elsewhere, same_tree, other_tree, walked}
+use Rattle.version_graph.proofs.WalkStepLaws.{on_way, in_tree, elsewhere, same_tree, other_tree, walked}
 use Rattle.version_graph.proofs.walk.walk.Goals as goal
 
 pub loop-left-preserved-then-at-operator : goal.loop-left-preserved-then-at-operator

@@ -2,7 +2,7 @@ use Rattle.std.proofs.Common.{◌≤◌, false, sym, ◌∙◌, subst}
 use Rattle.std.proofs.lemmas.Result.{err_from_is_err_and}
 use Rattle.op_law.specs.Calls.{first_refused}
 use Rattle.version_model.specs.States.{State}
-use Rattle.version_model.proofs.CarryLemmas.{may_step, step_at, crosses_at, step_made, step_refused, walk_made, no_more}
+use Rattle.version_model.proofs.CarryLaws.{may_step, step_at, crosses_at, step_made, step_refused, walk_made, no_more}
 use Rattle.version_model.proofs.carry.carry.Goals as goal
 
 pub make_step-requires : goal.make_step-requires

@@ -3,7 +3,7 @@ use Rattle.version_graph.specs.Forest.{Crossing}
 use Rattle.op_law.specs.Meaning.{PairState}
 use Rattle.version_model.specs.Steps.{pair_in}
 use Rattle.version_model.specs.Calls.{before_state, crossing_of, Crosses}
-use Rattle.version_model.proofs.CarryLemmas.{told_is}
+use Rattle.version_model.proofs.CarryLaws.{told_is}
 use Rattle.version_model.proofs.carry.make_step.Goals as goal
 
 pub returns : goal.returns

@@ -1,7 +1,7 @@
 use Rattle.std.proofs.Common.{◌<◌, ◌≤◌, sym, ◌∙◌, subst, ℕ}
 use Rattle.std.proofs.lemmas.Result.{err_from_is_err_and}
-use Rattle.version_model.proofs.AscendingLemmas.{length_ascending}
-use Rattle.version_model.proofs.MakingLemmas.{may_make_at, one_made, one_refused, all_made}
+use Rattle.version_model.proofs.AscendingLaws.{length_ascending}
+use Rattle.version_model.proofs.MakingLaws.{may_make_at, one_made, one_refused, all_made}
 use Rattle.version_model.proofs.evolve.make_newer.Goals as goal
 
 pub make_at-requires : goal.make_at-requires

@@ -1,4 +1,4 @@
-use Rattle.version_model.proofs.MakingLemmas.{SoFar}
+use Rattle.version_model.proofs.MakingLaws.{SoFar}
 use Rattle.version_model.proofs.evolve.make_newer.Given as goal
 
 abbrev pub invariant-loop-place : goal.invariant-loop-place

@@ -1,4 +1,4 @@
-use Rattle.version_model.proofs.AscendingLemmas.{way_there, some_there}
+use Rattle.version_model.proofs.AscendingLaws.{way_there, some_there}
 use Rattle.version_model.proofs.evolve.way_at.Goals as goal
 
 pub returns-in_err-placed : goal.returns-in_err-placed

@@ -1,5 +1,5 @@
-use Rattle.version_model.proofs.DropLemmas.{drop_keeps}
-use Rattle.version_model.proofs.EvolveLemmas.{empty_sound}
+use Rattle.version_model.proofs.DropLaws.{drop_keeps}
+use Rattle.version_model.proofs.EvolveLaws.{empty_sound}
 use Rattle.version_model.proofs.laws.drops_keep_the_state.Goals as goal
 
 pub returns-clause-drop : goal.returns-clause-drop

@@ -1,5 +1,5 @@
 use Rattle.std.proofs.Common.{arith}
-use Rattle.version_model.proofs.EvolveLemmas.{evolution_keeps}
+use Rattle.version_model.proofs.EvolveLaws.{evolution_keeps}
 use Rattle.version_model.proofs.laws.evolutions_keep_the_state.Goals as goal
 
 pub returns : goal.returns

@@ -1,4 +1,4 @@
-use Rattle.version_model.proofs.WriteLemmas.{write_is_ordinary}
+use Rattle.version_model.proofs.WriteLaws.{write_is_ordinary}
 use Rattle.version_model.proofs.laws.writes_keep_the_state.Goals as goal
 
 pub returns : goal.returns

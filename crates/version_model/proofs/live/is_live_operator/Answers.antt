@@ -1,6 +1,6 @@
 use Rattle.std.proofs.Common.{ap, ◌∙◌}
 use Rattle.std.specs.Prelude.{is_some}
-use Rattle.version_model.proofs.LiveLemmas.{live_operator, lent_is_some}
+use Rattle.version_model.proofs.LiveLaws.{live_operator, lent_is_some}
 use Rattle.version_model.proofs.live.is_live_operator.Goals as goal
 
 pub returns : goal.returns

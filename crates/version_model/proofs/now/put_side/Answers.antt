@@ -3,7 +3,7 @@ use Rattle.row_store.specs.States.{TableState}
 use Rattle.version_model.specs.Put.{put}
 use Rattle.version_model.specs.Kept.{rows_now}
 use Rattle.version_model.specs.declared.numbered.Numbered.{Numbered}
-use Rattle.version_model.proofs.NowLemmas.{rows_push, one_put, nothing_left}
+use Rattle.version_model.proofs.NowLaws.{rows_push, one_put, nothing_left}
 use Rattle.version_model.proofs.now.put_side.Goals as goal
 
 pub loop-value-preserved : goal.loop-value-preserved

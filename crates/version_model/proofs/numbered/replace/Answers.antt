@@ -2,7 +2,7 @@ use Rattle.std.specs.List.{position}
 use Rattle.std.proofs.Common.{◌==◌, List, map, slice_set, ap, sym, ◌∙◌}
 use Rattle.version_model.specs.Kept.{value_of}
 use Rattle.version_model.specs.declared.numbered.Numbered.{Numbered}
-use Rattle.version_model.proofs.NumberedLemmas.{numbers_set, renewed_there, renewed_nowhere}
+use Rattle.version_model.proofs.NumberedLaws.{numbers_set, renewed_there, renewed_nowhere}
 use Rattle.version_model.proofs.numbered.replace.Goals as goal
 
 pub returns-in-Some-clause-values : goal.returns-in-Some-clause-values

@@ -3,7 +3,7 @@ use Rattle.std.proofs.lemmas.List.{reverse-append}
 use mathlib.Core.List.{reverse}
 use Rattle.version_model.specs.Kept.{value_of, latest_of, renewed}
 use Rattle.version_model.specs.declared.numbered.Numbered.{Numbered}
-use Rattle.version_model.proofs.NumberedLemmas.{renewed_more}
+use Rattle.version_model.proofs.NumberedLaws.{renewed_more}
 use Rattle.version_model.proofs.numbered.replace_all.Goals as goal
 
 pub loop-item-preserved : goal.loop-item-preserved

@@ -5,9 +5,9 @@ use Rattle.version_model.specs.Steps.{way}
 use Rattle.version_model.specs.Kept.{rows_now}
 use Rattle.version_model.specs.Calls.{crossing_of, seen_from}
 use Rattle.version_model.specs.declared.numbered.Numbered.{Numbered}
-use Rattle.version_model.proofs.RunLemmas.{way_laws}
-use Rattle.version_model.proofs.ProgressLemmas.{made_long, crosses}
-use Rattle.version_model.proofs.MakingLemmas.{has_tables, has_memories}
+use Rattle.version_model.proofs.RunLaws.{way_laws}
+use Rattle.version_model.proofs.ProgressLaws.{made_long, crosses}
+use Rattle.version_model.proofs.MakingLaws.{has_tables, has_memories}
 use Rattle.version_model.proofs.progress.cross.Goals as goal
 
 pub put_side-requires : goal.put_side-requires

@@ -1,8 +1,8 @@
 use Rattle.std.proofs.Common.{refl}
 use Rattle.std.proofs.lemmas.Result.{err_from_is_err_and}
-use Rattle.version_model.proofs.NowLemmas.{first_rows, no_pairs}
-use Rattle.version_model.proofs.ProgressLemmas.{state_is}
-use Rattle.version_model.proofs.CarryLemmas.{write_refused}
+use Rattle.version_model.proofs.NowLaws.{first_rows, no_pairs}
+use Rattle.version_model.proofs.ProgressLaws.{state_is}
+use Rattle.version_model.proofs.CarryLaws.{write_refused}
 use Rattle.version_model.proofs.write.write_rows.Goals as goal
 
 pub returns-in_err-carry : goal.returns-in_err-carry

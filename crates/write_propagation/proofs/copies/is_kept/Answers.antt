@@ -1,6 +1,6 @@
 use Rattle.std.proofs.Common.{ap, ◌∙◌}
 use Rattle.std.specs.Prelude.{is_some}
-use Rattle.version_model.proofs.LiveLemmas.{lent_is_some}
+use Rattle.version_model.proofs.LiveLaws.{lent_is_some}
 use Rattle.write_propagation.proofs.copies.is_kept.Goals as goal
 
 pub returns : goal.returns

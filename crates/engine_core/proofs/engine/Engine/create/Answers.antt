@@ -1,6 +1,6 @@
 use Rattle.std.proofs.Common.{map, refl}
 use Rattle.statements.specs.Views.{op_view}
-use Rattle.engine_core.proofs.TextLemmas.{operators_fit}
+use Rattle.engine_core.proofs.TextLaws.{operators_fit}
 use Rattle.engine_core.proofs.WriteLemmas.{both_stay}
 use Rattle.engine_core.proofs.engine.Engine.create.Goals as goal
 

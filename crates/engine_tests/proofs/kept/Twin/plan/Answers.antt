@@ -2,7 +2,7 @@ use Rattle.std.proofs.Common.{map, sym, subst}
 use Rattle.std.specs.List.{All}
 use Rattle.statements.specs.Views.{assignment_view}
 use Rattle.engine_statements.specs.Calls.{AssignmentFits}
-use Rattle.engine_core.proofs.TextLemmas.{assignments_fit}
+use Rattle.engine_core.proofs.TextLaws.{assignments_fit}
 use Rattle.engine_tests.proofs.kept.Twin.plan.Goals as goal
 
 pub plan_update-requires : goal.plan_update-requires

@@ -3,7 +3,7 @@ use Rattle.std.proofs.lemmas.Grind.{common_steps}
 use Rattle.std.specs.Vec.{with_items}
 use Rattle.row_store.specs.Changes.{ChangesRise}
 use Rattle.row_store.specs.Passes.{exchanged}
-use Rattle.row_store.proofs.UndoLemmas.{exchanged_rise}
+use Rattle.row_store.proofs.UndoLaws.{exchanged_rise}
 use Rattle.row_store.proofs.change.Changes.exchange.Goals as goal
 
 pub invariant_of-self : goal.invariant_of-self

@@ -2,7 +2,7 @@ use Rattle.std.proofs.Common.{ap, subst, ◌∙◌}
 use Rattle.row_store.specs.Rows.{Rows, RiseFrom, row_of}
 use Rattle.row_store.specs.States.{TableState}
 use Rattle.row_store.specs.Changes.{after, reverse_of}
-use Rattle.row_store.proofs.UndoLemmas.{after_all}
+use Rattle.row_store.proofs.UndoLaws.{after_all}
 use Rattle.row_store.proofs.table.Table.apply.Goals as goal
 
 pub returns-clause-applied : goal.returns-clause-applied

@@ -2,7 +2,7 @@ use Rattle.std.proofs.Common.{◌≡◌, ◌≤◌, ◌-◌, length, vec_capacit
 use Rattle.row_store.specs.Rows.{Rows}
 use Rattle.row_store.specs.States.{TableState}
 use Rattle.row_store.specs.Changes.{WasApplied}
-use Rattle.row_store.proofs.UndoLemmas.{room_added, room_others, undone}
+use Rattle.row_store.proofs.UndoLaws.{room_added, room_others, undone}
 use Rattle.row_store.proofs.table.Table.undo.Goals as goal
 
 pub exchange-requires-clause-room : goal.exchange-requires-clause-room

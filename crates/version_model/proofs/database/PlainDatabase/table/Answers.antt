@@ -3,7 +3,7 @@ use Rattle.std.proofs.Common.{List, Option, ap, sym, ◌∙◌, subst}
 use Rattle.row_store.specs.States.{TableState}
 use Rattle.version_graph.specs.Tables.{table_numbers}
 use Rattle.version_graph.specs.Edges.{made}
-use Rattle.version_graph.proofs.SetLemmas.{each_at}
+use Rattle.version_graph.proofs.SetLaws.{each_at}
 use Rattle.version_model.specs.Kept.{Kept, IsKept, value_of}
 use Rattle.version_model.specs.declared.numbered.Numbered.{Numbered}
 use Rattle.version_model.proofs.DatabaseLemmas.{lent_some}
