@@ -4,5 +4,5 @@ pub mod Answers
 pub mod Literals
 pub mod Operators
 pub mod Expressions
-pub mod Parts
 pub mod Laws
+pub mod inner

@@ -11,7 +11,7 @@ ghost use Rattle.bidel_expr.specs.Lexemes.{Lexeme};
 ghost use Rattle.bidel_expr.specs.Operators.{compare_of};
 ghost use Rattle.bidel_expr.specs.Expressions.{Tree, null_test_at, comp_tail, comp_item, neg_item, unary_item, sum_item, primary_item, atom_item, operand_item, level_item, further_item, expression_at};
 ghost use Rattle.bidel_expr.specs.Answers.{ahead, Gives, Makes};
-ghost use Rattle.bidel_expr.specs.Parts.{GivesPart};
+ghost use Rattle.bidel_expr.specs.inner.Parts.{GivesPart};
 
 use crate::cursor::Cursor;
 use crate::levels::{Level, next_comparison, next_operator};

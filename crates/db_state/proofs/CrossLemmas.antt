@@ -36,7 +36,7 @@ use Rattle.version_model.proofs.PutLaws.{map_same}
 use Rattle.storage_law.specs.Storage.{aux_of, stored_way}
 use Rattle.storage_law.proofs.ReadLaws.{IsRead, far_right, put_in, read_at, still_right}
 use Rattle.db_state.specs.Fields.{IsDatabase, auxes_at, numbers_in, state_of, storage_in}
-use Rattle.db_state.specs.Passes.{Settles}
+use Rattle.db_state.specs.inner.Passes.{Settles}
 use Rattle.db_state.specs.declared.parts.Parts.{Parts}
 use Rattle.db_state.proofs.AuxLemmas.{few_on}
 

@@ -14,7 +14,7 @@ use Rattle.layout_rules.proofs.LinkLaws.{in_or_out, number_listed, same_link, so
 use Rattle.storage_law.specs.Storage.{stored_way}
 use Rattle.storage_law.proofs.LinkLaws.{not_in_false}
 use Rattle.db_state.specs.Covered.{Covers, CoversItself}
-use Rattle.db_state.specs.Passes.{IsDownTo, IsUpTo, Settles}
+use Rattle.db_state.specs.inner.Passes.{IsDownTo, IsUpTo, Settles}
 
 module _ {O : Type 0} where
   -- an operator of the layout takes the table, or none does

@@ -28,7 +28,7 @@ use Rattle.db_state.specs.Fields.{IsDatabase, state_of}
 use Rattle.db_state.specs.declared.parts.Parts.{Parts}
 use Rattle.db_state.specs.declared.read.Pass.{Pass}
 use Rattle.db_state.specs.Covered.{CoversItself}
-use Rattle.db_state.specs.Passes.{AreRead, Crosses, IsDown, IsDownTo, IsUpTo, MayCross, MayPass, Passes, Settles, is_passed}
+use Rattle.db_state.specs.inner.Passes.{AreRead, Crosses, IsDown, IsDownTo, IsUpTo, MayCross, MayPass, Passes, Settles, is_passed}
 use Rattle.db_state.proofs.AuxLemmas.{crosses}
 use Rattle.db_state.proofs.PassLemmas.{all_right, down_step, near_down, near_up, up_step}
 

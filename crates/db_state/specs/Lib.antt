@@ -1,5 +1,5 @@
 pub mod Fields
 pub mod Covered
-pub mod Passes
 pub mod Calls
 pub mod Laws
+pub mod inner

@@ -12,7 +12,7 @@ ghost use Rattle.version_model.specs.Kept.{rows_now};
 ghost use Rattle.version_model.specs.Steps.{way};
 ghost use Rattle.db_state.specs.Fields.{state_of};
 ghost use Rattle.db_state.specs.Covered.{Covers, CoversItself};
-ghost use Rattle.db_state.specs.Passes.{is_passed as is_passed_lem, AreRead, Crosses, IsDown, MayCross, MayPass, Passes};
+ghost use Rattle.db_state.specs.inner.Passes.{is_passed as is_passed_lem, AreRead, Crosses, IsDown, MayCross, MayPass, Passes};
 
 use crate::Db;
 use expr_lang::Steps;

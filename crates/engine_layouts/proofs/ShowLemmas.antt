@@ -31,7 +31,7 @@ use Rattle.db_state.specs.declared.parts.Parts.{Parts}
 use Rattle.engine_state.specs.declared.reply.Reply.TheVariants.{Layout}
 use Rattle.engine_state.specs.declared.reply.StoredOperator.{StoredOperator}
 use Rattle.engine_state.specs.declared.reply.StoredTable.{StoredTable}
-use Rattle.engine_layouts.specs.Calls.{HasHeadings, shown_edge, shown_item}
+use Rattle.engine_layouts.specs.inner.Calls.{HasHeadings, shown_edge, shown_item}
 use Rattle.engine_layouts.specs.Laid.{laid_of}
 use Rattle.engine_layouts.specs.Shown.{row_count, shown_operator, shown_operators, shown_table, shown_tables}
 

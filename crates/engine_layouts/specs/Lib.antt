@@ -1,3 +1,3 @@
 pub mod Laid
 pub mod Shown
-pub mod Calls
+pub mod inner

@@ -6,7 +6,7 @@ ghost use Rattle.version_graph.specs.Edges.{heading_of};
 ghost use Rattle.op_law.specs.Tables.{contents};
 ghost use Rattle.db_state.specs.Fields.{auxes_at};
 ghost use Rattle.engine_layouts.specs.Laid.{laid_of};
-ghost use Rattle.engine_layouts.specs.Calls.{shown_edge, shown_item, HasHeadings};
+ghost use Rattle.engine_layouts.specs.inner.Calls.{shown_edge, shown_item, HasHeadings};
 ghost use Rattle.engine_layouts.specs.Shown.{name_at, row_count as row_count_lem, shown_operators, shown_tables};
 
 use crate::kinds::kind_text;

@@ -5,6 +5,4 @@ pub mod Seeking
 pub mod Least
 pub mod Shared
 pub mod Calls
-pub mod DrawnLemmas
-pub mod ReferenceLemmas
-pub mod SeekLemmas
+pub mod inner

@@ -3,7 +3,7 @@ use Rattle.std.specs.Prelude.{◌≡◌, ℕ, ◌==◌, List, [], ◌∷◌, Boo
 use Rattle.par_base.specs.declared.value.Value.{Value}
 use Rattle.par_base.specs.declared.value.Value.TheVariants.{Null, Int, Text, Reference}
 use Rattle.row_store.specs.Rows.{Rows, row_of}
-use Rattle.op_rows.specs.CellLemmas.{has_id}
+use Rattle.op_rows.specs.inner.CellLemmas.{has_id}
 use Rattle.row_parts.specs.RowCells.{Cell, is_there, row_or}
 use Rattle.foreign_keys.specs.Parts.{FkParts}
 

@@ -6,7 +6,7 @@ use Rattle.std.proofs.lemmas.Bool.{cases_lt}
 use mathlib.Core.Logic.{inl, inr}
 use Rattle.id_memory.specs.Pairs.{Pairs, RiseFrom, IsOneToOne, pair_of, id_of, has_pair}
 use Rattle.id_memory.specs.PairKeys.{SortedFrom, has_key, is_triple}
-use Rattle.id_memory.specs.Calls.{CountsMore, CountsLess}
+use Rattle.id_memory.specs.inner.Calls.{CountsMore, CountsLess}
 use Rattle.id_memory.specs.Indexed.{IsIndexed, by_pair, by_turned_pair}
 use Rattle.id_memory.proofs.EntryLemmas.{eq_self, same_number, entry, none_under}
 use Rattle.id_memory.proofs.KeyLemmas.{count_cons, count_yes, count_no, and_parts}

@@ -1,7 +1,7 @@
 //! Entries (p, s, t) sorted by identifier, each identifier once.
 ghost use Rattle.std.specs.Prelude.{◌≡◌, ◌+◌, ◌<◌, vec_len, vec_capacity, Some, None};
 ghost use Rattle.id_memory.specs.Pairs.{RiseFrom, pair_of, place_of_id, IsWith};
-ghost use Rattle.id_memory.specs.Calls.{CountsMore, CountsLess};
+ghost use Rattle.id_memory.specs.inner.Calls.{CountsMore, CountsLess};
 
 /// The first place whose identifier isn't below this one.
 fn place_of(entries: &[(u64, u64, u64)], p: u64) -> usize

@@ -1,7 +1,7 @@
 //! Triples sorted by the pair of their first two numbers, each pair once.
 ghost use Rattle.std.specs.Prelude.{◌≡◌, ◌+◌, ◌<◌, ◌==◌, count_by, vec_len, vec_capacity, IfSome, IfNone};
 ghost use Rattle.id_memory.specs.PairKeys.{SortedFrom, place_of_key, key, is_under, has_key, is_triple};
-ghost use Rattle.id_memory.specs.Calls.{AddsTriple, LosesTriple};
+ghost use Rattle.id_memory.specs.inner.Calls.{AddsTriple, LosesTriple};
 
 /// Whether the triple's pair is below this one.
 fn is_below(item: &(u64, u64, u64), a: u64, b: u64) -> bool

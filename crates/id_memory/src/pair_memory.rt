@@ -2,7 +2,7 @@
 ghost use Rattle.std.specs.Prelude.{◌≡◌, ◌+◌, ◌<◌, ◌≤◌, [], length, count_by, vec_len, vec_capacity, IfOk, OnOk, Some, None, is_some, if◌then◌else◌};
 ghost use Rattle.id_memory.specs.Pairs.{RiseFrom, IsOneToOne, pair_of, id_of, with_first, with_second, IsWith};
 ghost use Rattle.id_memory.specs.PairKeys.{SortedFrom, has_key, is_triple};
-ghost use Rattle.id_memory.specs.Calls.{AddsTriple, LosesTriple};
+ghost use Rattle.id_memory.specs.inner.Calls.{AddsTriple, LosesTriple};
 
 use crate::{PairIter, entry_list, pair_list};
 use par_base::Memory;

@@ -10,7 +10,7 @@ use Rattle.version_graph.proofs.WalkLaws.{IsForest, link_targets, sources_older,
 use Rattle.layout_rules.specs.Layouts.{IsMade, IsValid}
 use Rattle.layout_rules.specs.Passes.{meet}
 use Rattle.layout_rules.specs.Ways.{Reads, ReadsFrom}
-use Rattle.layout_rules.specs.Reached.{down_from, up_from}
+use Rattle.layout_rules.specs.inner.Reached.{down_from, up_from}
 use Rattle.layout_rules.proofs.LinkLaws.{maker_in, source_made}
 use Rattle.layout_rules.proofs.NeededLaws.{both_true, meet_at, meet_true}
 use Rattle.layout_rules.proofs.LookupLaws.{and_true, not_off, not_on}

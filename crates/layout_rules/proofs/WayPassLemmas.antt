@@ -14,7 +14,7 @@ use Rattle.layout_rules.specs.Layouts.{IsValid}
 use Rattle.layout_rules.specs.Passes.{meet}
 use Rattle.layout_rules.specs.Ways.{IsOnWay, ReadsOver}
 use Rattle.layout_rules.specs.Lookups.{sources_or_none}
-use Rattle.layout_rules.specs.Reached.{down_from, down_with, goes_down, goes_up, up_from, up_with, way_along, way_with}
+use Rattle.layout_rules.specs.inner.Reached.{down_from, down_with, goes_down, goes_up, up_from, up_with, way_along, way_with}
 use Rattle.layout_rules.proofs.NeededLaws.{both_true, either_true, meet_at, meet_true}
 use Rattle.layout_rules.proofs.LookupLaws.{and_true, not_off, not_on, sources_link}
 use Rattle.layout_rules.proofs.PassLaws.{map_reverse, rises_lower, take_next}

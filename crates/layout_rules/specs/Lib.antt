@@ -6,7 +6,7 @@ pub mod Passes
 pub mod Lookups
 pub mod Choices
 pub mod Calls
-pub mod Reached
 pub mod Ways
 pub mod Laws
 pub mod Closed
+pub mod inner

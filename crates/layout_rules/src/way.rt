@@ -9,7 +9,7 @@ ghost use Rattle.version_graph.specs.Edges.{AreEdges, Rises};
 ghost use Rattle.version_graph.specs.Forest.{forest};
 ghost use Rattle.layout_rules.specs.Layouts.{IsValid};
 ghost use Rattle.layout_rules.specs.Ways.{IsOnWay};
-ghost use Rattle.layout_rules.specs.Reached.{down_from, down_with, goes_down as goes_down_lem, goes_up as goes_up_lem, up_from, up_with, way_along, way_with};
+ghost use Rattle.layout_rules.specs.inner.Reached.{down_from, down_with, goes_down as goes_down_lem, goes_up as goes_up_lem, up_from, up_with, way_along, way_with};
 
 use crate::Layout;
 use crate::storing::{holds, sources_of};

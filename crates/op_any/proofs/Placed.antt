@@ -17,7 +17,7 @@ use Rattle.version_graph.proofs.NameLaws.{same_name}
 use Rattle.row_parts.specs.RowCells.{by_test}
 use Rattle.row_parts.specs.Places.{has_place, AreOnce, names_at}
 use Rattle.row_parts.specs.Partition.{Divides, divides}
-use Rattle.row_parts.specs.PlaceLemmas.{length-names}
+use Rattle.row_parts.specs.inner.PlaceLemmas.{length-names}
 use Rattle.op_key_join.specs.OtherPlaces.{others, others_divide}
 use Rattle.op_any.specs.NameChecks.{repeated, left_out, misdivided, known_column, known_places, well_divided}
 use Rattle.op_any.specs.Laws.{IsFirstRepeated, IsFirstLeftOut, IsFirstMisdivided}

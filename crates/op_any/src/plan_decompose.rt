@@ -5,7 +5,7 @@ ghost use Rattle.statements.specs.Views.{key_view};
 ghost use Rattle.op_any.specs.Checks.{Gives};
 ghost use Rattle.op_any.specs.Edges.{edge_view};
 ghost use Rattle.op_any.specs.BuildJoins.{parting, divided, decomposing_in_one, decomposing_on_pk, decomposing_on_fk, decomposing_on, decomposing_table, with_column as with_column_of};
-ghost use Rattle.op_any.specs.Found.{parts_view};
+ghost use Rattle.op_any.specs.inner.Found.{parts_view};
 
 use crate::checks::{
     check_divided, check_few_columns, check_ids, check_new_columns, check_new_table, check_once,

@@ -9,7 +9,7 @@ ghost use Rattle.op_any.specs.Checks.{Gives};
 ghost use Rattle.op_any.specs.NameChecks.{known_columns};
 ghost use Rattle.op_any.specs.Edges.{edge_view};
 ghost use Rattle.op_any.specs.BuildJoins.{places_from, meeting, columns_of_both, on_pk, on_fk, on_condition, joining_on_pk, joining_on_fk, joining_on, joining_tables};
-ghost use Rattle.op_any.specs.Found.{sources_view};
+ghost use Rattle.op_any.specs.inner.Found.{sources_view};
 
 use crate::checks::{
     check_few_columns, check_ids, check_new_columns, check_new_table, check_other_table,

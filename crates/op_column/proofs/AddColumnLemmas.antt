@@ -8,9 +8,9 @@ use Rattle.op_rows.specs.Cells.{Cells, first_cell, CellWide, AreCellsOf}
 use Rattle.op_rows.specs.RowCalls.{AdmitsRows, MayRows, StoredRows}
 use Rattle.op_column.specs.OneTable.{one_cell}
 use Rattle.row_parts.specs.RowEdits.{value_at-insert}
-use Rattle.op_column.specs.Calls.{is_beside, MayAdd, TakesPlace}
+use Rattle.op_column.specs.inner.Calls.{is_beside, MayAdd, TakesPlace}
 use Rattle.op_column.specs.AddColumn.{kept_value, restored, without_column, column_alone, add_column}
-use Rattle.op_column.specs.AddColumnLaws.{source_wide, forward_wide, forward_related}
+use Rattle.op_column.specs.inner.AddColumnLaws.{source_wide, forward_wide, forward_related}
 
 -- what stands beside is the column of the row that is read back
 kept_is : (place width : ℕ) (c : Option (List Value)) (aux : Cells) → CellWide width c → place ≤ width → is_beside c aux ≡ true → aux ≡ column_alone place (restored place c (first_cell aux)) ∷ []

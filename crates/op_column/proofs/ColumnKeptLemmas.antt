@@ -9,7 +9,7 @@ use Rattle.op_rows.specs.Cells.{first_cell, CellWide}
 use Rattle.op_column.specs.OneTable.{one_cell}
 use Rattle.row_parts.specs.RowEdits.{value_at, value_at-insert}
 use Rattle.op_column.specs.AddColumn.{added}
-use Rattle.op_column.specs.AddColumnLaws.{source_wide}
+use Rattle.op_column.specs.inner.AddColumnLaws.{source_wide}
 use Rattle.op_column.specs.ColumnKept.{AddedColumnKept, AddedColumnFilled, DroppedColumnKept}
 
 -- at one row

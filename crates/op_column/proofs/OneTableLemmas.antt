@@ -3,7 +3,7 @@ use Rattle.std.proofs.Common.{◌≡◌, ℕ, [], ◌∷◌, length, true, Some,
 use Rattle.std.proofs.lemmas.Bool.{eqb-true, eq-eqb, false≢true}
 use Rattle.op_rows.specs.Cells.{Cells}
 use Rattle.op_column.specs.OneTable.{OneCell}
-use Rattle.op_column.specs.Calls.{is_one_cell}
+use Rattle.op_column.specs.inner.Calls.{is_one_cell}
 
 -- no cells at all
 pub no_cells : (cs : Cells) → length cs ≡ 0 → cs ≡ []

@@ -4,9 +4,9 @@ use Rattle.std.proofs.lemmas.Bool.{false≢true}
 use Rattle.op_rows.specs.Cells.{Cells, AreCellsOf}
 use Rattle.op_rows.specs.RowMeaning.{flip_row}
 use Rattle.op_rows.specs.RowCalls.{AdmitsRows}
-use Rattle.op_rows.specs.Tabulated.{nones_well}
+use Rattle.op_rows.specs.inner.Tabulated.{nones_well}
 use Rattle.op_column.specs.OneTable.{one_cell, one_wide, no_cell}
-use Rattle.op_column.specs.Calls.{is_one_cell}
+use Rattle.op_column.specs.inner.Calls.{is_one_cell}
 use Rattle.op_column.specs.CreateTable.{create_table}
 use Rattle.op_column.specs.DropTable.{drop_table}
 use Rattle.op_column.proofs.OneTableLemmas.{no_cells, one_passes, passes_one}

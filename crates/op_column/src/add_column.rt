@@ -3,7 +3,7 @@ ghost use Rattle.std.specs.Prelude.{◌≡◌, IfOk, true, false};
 ghost use Rattle.expr_lang.specs.Terms.{expr_term};
 ghost use Rattle.op_rows.specs.RowCalls.{AdmitsRows, NearRows};
 ghost use Rattle.op_column.specs.AddColumn.{add_column};
-ghost use Rattle.op_column.specs.AddColumnLaws.{add_column_laws};
+ghost use Rattle.op_column.specs.inner.AddColumnLaws.{add_column_laws};
 
 use crate::column::{alone, is_kept_beside, with_kept, with_new, without};
 use expr_lang::{Expr, Steps};

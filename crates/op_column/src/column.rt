@@ -5,7 +5,7 @@ ghost use Rattle.expr_lang.specs.Terms.{expr_term};
 ghost use Rattle.expr_lang.specs.Val.{fits_row};
 ghost use Rattle.op_rows.specs.Cells.{first_cell};
 ghost use Rattle.op_column.specs.AddColumn.{added, added_value, column_alone, kept_value as value_kept, restored, without_column};
-ghost use Rattle.op_column.specs.Calls.{HasPlace, MayAdd, TakesPlace, is_beside};
+ghost use Rattle.op_column.specs.inner.Calls.{HasPlace, MayAdd, TakesPlace, is_beside};
 
 use crate::rows::{first_row, one_cell, one_value};
 use expr_lang::{Expr, Steps, eval};

@@ -3,7 +3,7 @@ ghost use Rattle.std.specs.Prelude.{◌≡◌, IfOk, true, false};
 ghost use Rattle.op_rows.specs.RowMeaning.{flip_row};
 ghost use Rattle.op_rows.specs.RowCalls.{AdmitsRows};
 ghost use Rattle.op_column.specs.DropTable.{drop_table, drop_table_laws};
-ghost use Rattle.op_column.specs.Calls.{is_one_cell};
+ghost use Rattle.op_column.specs.inner.Calls.{is_one_cell};
 
 use crate::copies::copy_cells;
 use expr_lang::Steps;

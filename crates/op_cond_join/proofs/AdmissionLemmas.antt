@@ -9,15 +9,15 @@ use Rattle.op_law.specs.Tables.{Tables, RowsWide, AreTablesOf, contents}
 use Rattle.op_law.specs.Meaning.{PairState, flip}
 use Rattle.op_law.specs.Premises.{IsPair, Belongs}
 use Rattle.op_law.specs.Calls.{Admits}
-use Rattle.pair_rows.specs.Lookups.{wide_behind}
+use Rattle.pair_rows.specs.inner.Lookups.{wide_behind}
 use Rattle.op_cond_join.specs.Shown.{Joining, AreThere, IsJoined, joined}
-use Rattle.op_cond_join.specs.ShownLaws.{joined_rise, joined_wide}
+use Rattle.op_cond_join.specs.inner.ShownLaws.{joined_rise, joined_wide}
 use Rattle.pair_rows.specs.Kept.{alone, side_read}
 use Rattle.op_cond_join.specs.JoinOn.{JoinFits, join_on, table_at}
 use Rattle.pair_rows.specs.Halves.{first_of, second_of}
-use Rattle.op_cond_join.specs.TwoSides.{two_tables, two_of, one_of}
-use Rattle.op_cond_join.specs.JoinOnLaws.{backward_recovered}
-use Rattle.op_cond_join.specs.Admitted.{IsSource}
+use Rattle.op_cond_join.specs.inner.TwoSides.{two_tables, two_of, one_of}
+use Rattle.op_cond_join.specs.inner.JoinOnLaws.{backward_recovered}
+use Rattle.op_cond_join.specs.inner.Admitted.{IsSource}
 
 -- one row more of this width
 pub wide_more : (w : ℕ) (rows : Rows) (i : ℕ) (row : ℕ × List Value) → i < length rows → row ≡ slice_index_or rows i row → RowsWide w (take i rows) → length row.1 ≡ w → RowsWide w (take (i + 1) rows)

@@ -8,14 +8,14 @@ use Rattle.par_base.specs.declared.refusal.IdsSpent.{IdsSpent}
 use Rattle.id_memory.specs.States.{CounterState}
 use Rattle.op_law.specs.Calls.{first_refused}
 use Rattle.row_parts.specs.RowCells.{Cell}
-use Rattle.op_cond_join.specs.Calls.{WasRefused}
-use Rattle.op_cond_join.specs.Assignings.{AreBelowNext}
+use Rattle.op_cond_join.specs.inner.Calls.{WasRefused}
+use Rattle.op_cond_join.specs.inner.Assignings.{AreBelowNext}
 use Rattle.par_base.specs.declared.value.Value.{Value}
 use Rattle.row_store.specs.Rows.{Rows, AreBelow, row_of}
 use Rattle.id_memory.specs.Pairs.{Pairs, pair_of}
 use Rattle.op_cond_join.specs.Shown.{Joining, has}
 use Rattle.row_parts.specs.Places.{pick as part}
-use Rattle.pair_rows.specs.Lookups.{below_behind, below_weaker}
+use Rattle.pair_rows.specs.inner.Lookups.{below_behind, below_weaker}
 use Rattle.op_cond_join.specs.Assigned.{unchanged, kept_entry, kept_in, Assigning, Got, got, least, own, or_id, side_got, first_got, second_got, last_got, place_changed, place_by, place_row, assigned, ending}
 
 -- an entry in front of two lists

@@ -7,11 +7,11 @@ use Rattle.row_store.specs.Rows.{Rows, RiseFrom, row_of}
 use Rattle.id_memory.specs.Pairs.{Pairs}
 use Rattle.row_parts.specs.RowCells.{Cell, by_test}
 use Rattle.par_base.specs.SameRows.{row_equal}
-use Rattle.pair_rows.specs.Numbers.{is_own}
-use Rattle.pair_rows.specs.Lookups.{apart}
+use Rattle.pair_rows.specs.inner.Numbers.{is_own}
+use Rattle.pair_rows.specs.inner.Lookups.{apart}
 use Rattle.op_cond_join.specs.Shown.{Joining, join_cells, row_at, holds_in, matches, has, is_shown, pairs_with}
-use Rattle.op_cond_join.specs.ShownLaws.{still_none}
-use Rattle.op_cond_join.specs.Changed.{as_before, changed_in, ids_of, pairs_of, AreRowsOf}
+use Rattle.op_cond_join.specs.inner.ShownLaws.{still_none}
+use Rattle.op_cond_join.specs.inner.Changed.{as_before, changed_in, ids_of, pairs_of, AreRowsOf}
 
 -- a row that is as it was is the old one
 pub before_is : (c : Cell) (row : List Value) → as_before c row ≡ true → c ≡ Some row

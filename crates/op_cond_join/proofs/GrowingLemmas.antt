@@ -7,7 +7,7 @@ use Rattle.row_parts.specs.RowCells.{by_test}
 use Rattle.par_base.specs.SameRows.{same_row, row_equal}
 use Rattle.row_map.specs.RowNumbers.{RowNumbers, number_of_row, IsWithRow}
 use Rattle.op_cond_join.specs.Assigned.{least, or_id}
-use Rattle.op_cond_join.specs.Assignings.{HasLeast, AddsNumber}
+use Rattle.op_cond_join.specs.inner.Assignings.{HasLeast, AddsNumber}
 
 -- one row more in front
 pub front_more : (rows : Rows) (left : ℕ) (row : ℕ × List Value) (before now : RowNumbers) → left < length rows → row ≡ slice_index_or rows left row

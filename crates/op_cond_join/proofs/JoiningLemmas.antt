@@ -6,7 +6,7 @@ use Rattle.id_memory.specs.Pairs.{Pairs, RiseFrom}
 use Rattle.op_rows.specs.Cells.{with_row}
 use Rattle.row_parts.specs.RowCells.{Cell}
 use Rattle.op_cond_join.specs.Shown.{Joining, row_at, joined}
-use Rattle.pair_rows.specs.Lookups.{with_append, with_below}
+use Rattle.pair_rows.specs.inner.Lookups.{with_append, with_below}
 use Rattle.op_cond_join.proofs.ShowingLemmas.{split_at}
 
 -- joined rows of two lists of entries

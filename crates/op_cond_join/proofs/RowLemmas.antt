@@ -3,7 +3,7 @@ use Rattle.std.proofs.Common.{◌≡◌, ℕ, ◌+◌, List, length, ap, ◌∙�
 use Rattle.par_base.specs.declared.value.Value.{Value}
 use Rattle.row_store.specs.Rows.{Rows, row_of}
 use Rattle.row_parts.specs.Places.{row_of_both as joined_row}
-use Rattle.op_cond_join.specs.JoinedRows.{joined_long}
+use Rattle.op_cond_join.specs.inner.JoinedRows.{joined_long}
 use Rattle.op_cond_join.specs.Shown.{Joining, join_cells, row_at}
 
 -- a joined row is as wide as both parts

@@ -8,11 +8,11 @@ use Rattle.id_memory.specs.Laws.{OneMemoryHasThem}
 use Rattle.id_memory.specs.States.{CounterState}
 use Rattle.op_law.specs.Calls.{first_refused}
 use Rattle.row_parts.specs.RowCells.{by_test}
-use Rattle.pair_rows.specs.Numbers.{is_own, same_number}
-use Rattle.pair_rows.specs.Lookups.{apart, filter_append}
-use Rattle.op_cond_join.specs.PairLemmas.{count_append, count_yes, count_no, AllIn}
+use Rattle.pair_rows.specs.inner.Numbers.{is_own, same_number}
+use Rattle.pair_rows.specs.inner.Lookups.{apart, filter_append}
+use Rattle.op_cond_join.specs.inner.PairLemmas.{count_append, count_yes, count_no, AllIn}
 use Rattle.op_cond_join.specs.Shown.{has, pairs_with, all_pairs, numbered}
-use Rattle.op_cond_join.specs.Changed.{pairs_of}
+use Rattle.op_cond_join.specs.inner.Changed.{pairs_of}
 
 -- all pairs of two lists of rows
 all_append : (xs ys t : Rows) → all_pairs (xs ++ ys) t ≡ all_pairs xs t ++ all_pairs ys t

@@ -4,7 +4,7 @@ use Rattle.id_memory.specs.Pairs.{Pairs, has_pair}
 use Rattle.row_map.specs.IdPairs.{IdPairs, holds_pair, IsWithPair}
 use Rattle.row_parts.specs.RowCells.{by_test}
 use Rattle.op_cond_join.specs.Shown.{has}
-use Rattle.op_cond_join.specs.TakenPairs.{has_behind, has_before}
+use Rattle.op_cond_join.specs.inner.TakenPairs.{has_behind, has_before}
 
 -- one pair more
 pub pairs_more : (es : Pairs) (e : ℕ × ℕ × ℕ) (old new : IdPairs) → ((a b : ℕ) → holds_pair old a b ≡ has es a b) → IsWithPair old e.1 e.2 new

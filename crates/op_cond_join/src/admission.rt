@@ -8,7 +8,7 @@ ghost use Rattle.op_law.specs.Calls.{tables_of, Admits};
 ghost use Rattle.op_cond_join.specs.Joinings.{joining};
 ghost use Rattle.op_cond_join.specs.Shown.{AreThere};
 ghost use Rattle.op_cond_join.specs.JoinOn.{join_on};
-ghost use Rattle.op_cond_join.specs.Admitted.{IsSource};
+ghost use Rattle.op_cond_join.specs.inner.Admitted.{IsSource};
 
 use crate::join::JoinOn;
 use crate::joining::{joined_table, table_in};

@@ -8,8 +8,8 @@ ghost use Rattle.par_base.specs.declared.value.Value.{Value};
 ghost use Rattle.row_store.specs.Rows.{AreBelow};
 ghost use Rattle.row_parts.specs.Places.{pick as part};
 ghost use Rattle.op_cond_join.specs.Assigned.{own, got, side_got};
-ghost use Rattle.op_cond_join.specs.Calls.{Draws};
-ghost use Rattle.op_cond_join.specs.Assignings.{assigning, FindsLeast, IsGiven, IsPlaced, AreBelowNext, Knows, changed_placed, row_placed, end_of, pairs_given};
+ghost use Rattle.op_cond_join.specs.inner.Calls.{Draws};
+ghost use Rattle.op_cond_join.specs.inner.Assignings.{assigning, FindsLeast, IsGiven, IsPlaced, AreBelowNext, Knows, changed_placed, row_placed, end_of, pairs_given};
 
 use crate::growing::{Growing, least, put_drawn};
 use crate::join::JoinOn;

@@ -1,7 +1,7 @@
 //! Which rows of a new table are as they were.
 ghost use Rattle.std.specs.Prelude.{◌≡◌, ◌++◌, ◌∷◌, [], if◌then◌else◌, IsTrue, IfOk, OnOk};
 ghost use Rattle.row_store.specs.Rows.{row_of};
-ghost use Rattle.op_cond_join.specs.Changed.{as_before, changed_in, ids_of};
+ghost use Rattle.op_cond_join.specs.inner.Changed.{as_before, changed_in, ids_of};
 
 use par_base::{List, Memory, Row, is_same_row};
 use row_store::Table;

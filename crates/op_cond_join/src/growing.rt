@@ -4,7 +4,7 @@
 ghost use Rattle.std.specs.Prelude.{◌≡◌, ◌++◌, ◌∷◌, [], IfOk, OnOk};
 ghost use Rattle.row_store.specs.Rows.{AreBelow};
 ghost use Rattle.op_cond_join.specs.Assigned.{least};
-ghost use Rattle.op_cond_join.specs.Assignings.{HasLeast, FindsLeast, AddsNumber};
+ghost use Rattle.op_cond_join.specs.inner.Assignings.{HasLeast, FindsLeast, AddsNumber};
 
 use par_base::{Memory, Row};
 use row_map::RowMap;

@@ -5,7 +5,7 @@ ghost use Rattle.op_law.specs.Meaning.{flip, exchanged};
 ghost use Rattle.op_law.specs.Premises.{SomeMap};
 ghost use Rattle.op_cond_join.specs.Joinings.{joining, Reads};
 ghost use Rattle.op_cond_join.specs.JoinOn.{join_on, join_forward, join_backward};
-ghost use Rattle.op_cond_join.specs.Calls.{Draws, shown_in, new_in};
+ghost use Rattle.op_cond_join.specs.inner.Calls.{Draws, shown_in, new_in};
 
 use crate::assigning::{Assigning, assign};
 use crate::growing::growing_from;

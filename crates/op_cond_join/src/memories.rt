@@ -2,7 +2,7 @@
 ghost use Rattle.std.specs.Prelude.{◌≡◌, ◌+◌, length, IfOk};
 ghost use Rattle.id_memory.specs.Pairs.{RiseFrom, IsOneToOne};
 ghost use Rattle.op_cond_join.specs.Shown.{numbered};
-ghost use Rattle.op_cond_join.specs.Calls.{Draws};
+ghost use Rattle.op_cond_join.specs.inner.Calls.{Draws};
 
 use id_memory::{IdCounter, PairMemory, pairs_are_the_memory};
 use par_base::{Fault, IdsSpent, List, Memory};

@@ -7,8 +7,8 @@ ghost use Rattle.row_store.specs.Rows.{row_of};
 ghost use Rattle.std.specs.Prelude.{is_some, [], ◌∷◌, ◌≡◌, ◌++◌, ◌&&◌, filter, true, Some, IsTrue, IfOk, OnOk};
 ghost use Rattle.op_cond_join.specs.Joinings.{Reads};
 ghost use Rattle.op_cond_join.specs.Shown.{pairs_with, all_pairs, has};
-ghost use Rattle.op_cond_join.specs.Changed.{pairs_of};
-ghost use Rattle.op_cond_join.specs.Calls.{shows, is_new_in, IsPairStill, AreSeconds};
+ghost use Rattle.op_cond_join.specs.inner.Changed.{pairs_of};
+ghost use Rattle.op_cond_join.specs.inner.Calls.{shows, is_new_in, IsPairStill, AreSeconds};
 
 use crate::changed::{changed_ids, ids_of, is_as_before, is_still_there};
 use crate::join::JoinOn;

@@ -1,7 +1,7 @@
 //! The pairs that are taken.
 ghost use Rattle.std.specs.Prelude.{ℕ, ◌≡◌, ◌++◌, ◌∷◌, [], OnOk};
 ghost use Rattle.op_cond_join.specs.Shown.{has};
-ghost use Rattle.op_cond_join.specs.Assignings.{KnowsPairs};
+ghost use Rattle.op_cond_join.specs.inner.Assignings.{KnowsPairs};
 
 use par_base::{List, Memory};
 use row_map::PairSet;

@@ -4,7 +4,7 @@ ghost use Rattle.std.specs.Option.{option_map};
 ghost use Rattle.row_store.specs.Rows.{row_of};
 ghost use Rattle.id_memory.specs.Pairs.{pair_of};
 ghost use Rattle.op_cond_join.specs.Assigned.{unchanged, kept_in, kept_entry};
-ghost use Rattle.op_cond_join.specs.Assignings.{KnowsPairs};
+ghost use Rattle.op_cond_join.specs.inner.Assignings.{KnowsPairs};
 
 use crate::taken::{Taken, none_taken, take};
 use id_memory::PairMemory;

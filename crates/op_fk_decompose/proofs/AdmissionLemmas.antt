@@ -7,19 +7,19 @@ use Rattle.op_law.specs.Identifiers.{ids_in, ids_over}
 use Rattle.op_law.specs.Meaning.{Meaning, PairState, flip, exchanged}
 use Rattle.op_law.specs.Premises.{Belongs}
 use Rattle.op_law.specs.Calls.{Admits}
-use Rattle.op_rows.specs.Tabulated.{rise_from}
+use Rattle.op_rows.specs.inner.Tabulated.{rise_from}
 use Rattle.op_tables.specs.SideTables.{first_table, second_table, third_table}
 use Rattle.foreign_keys.specs.Parts.{FkParts}
 use Rattle.op_fk_decompose.specs.Decompose.{first_again, get_first, get_second, get_at, leads, decompose_source, decompose_read}
 use Rattle.foreign_keys.specs.Seeking.{goals_in}
-use Rattle.foreign_keys.specs.SeekLemmas.{goals_rise}
+use Rattle.foreign_keys.specs.inner.SeekLemmas.{goals_rise}
 use Rattle.op_tables.specs.Wide.{are_wide, wide_are, are_wide_all, both_parts, both_of}
 use Rattle.op_tables.specs.Lookups.{one_wide, two_wide, ids_rise}
 use Rattle.op_fk_decompose.specs.inner.DecomposeBackward.{joined_at, back_wide, back_rise}
 use Rattle.op_fk_decompose.specs.inner.DecomposeLaws.{target_of}
 use Rattle.op_fk_decompose.specs.Columns.{column_parts, DecomposeFits, decompose_columns}
 use Rattle.op_fk_decompose.specs.inner.ColumnLemmas.{fits, decompose_keeps}
-use Rattle.op_fk_decompose.specs.Admitted.{Agrees, IsTold, IsToldBack}
+use Rattle.op_fk_decompose.specs.inner.Admitted.{Agrees, IsTold, IsToldBack}
 
 module _ (first second : List ℕ) (place : ℕ) where
   -- the parts

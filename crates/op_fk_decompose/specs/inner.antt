@@ -6,3 +6,4 @@ pub mod DecomposeLaws
 pub mod DecomposeBackward
 pub mod DecomposeRead
 pub mod ColumnLemmas
+pub mod Admitted

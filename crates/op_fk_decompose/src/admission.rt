@@ -4,7 +4,7 @@
 //! back the side that it was read from, and keeps these auxiliary tables beside.
 ghost use Rattle.std.specs.Prelude.{[], IfOk};
 ghost use Rattle.op_law.specs.Calls.{tables_of};
-ghost use Rattle.op_fk_decompose.specs.Admitted.{IsTold, IsToldBack};
+ghost use Rattle.op_fk_decompose.specs.inner.Admitted.{IsTold, IsToldBack};
 
 use crate::auxiliary::aux_of;
 use crate::backward::source_of;

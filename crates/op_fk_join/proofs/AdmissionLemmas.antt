@@ -7,18 +7,18 @@ use Rattle.op_law.specs.Identifiers.{ids_in, ids_over}
 use Rattle.op_law.specs.Meaning.{Meaning, PairState, flip, exchanged}
 use Rattle.op_law.specs.Premises.{Belongs}
 use Rattle.op_law.specs.Calls.{Admits}
-use Rattle.op_rows.specs.Tabulated.{rise_from}
+use Rattle.op_rows.specs.inner.Tabulated.{rise_from}
 use Rattle.op_tables.specs.SideTables.{first_table, second_table, third_table}
 use Rattle.foreign_keys.specs.Parts.{FkParts}
 use Rattle.op_fk_join.specs.Join.{key_leads, back_first_at, back_first, back_second_at, back_second, join_target, join_read}
 use Rattle.foreign_keys.specs.Seeking.{goals_in}
-use Rattle.foreign_keys.specs.SeekLemmas.{goals_rise}
+use Rattle.foreign_keys.specs.inner.SeekLemmas.{goals_rise}
 use Rattle.op_tables.specs.Wide.{are_wide, wide_are, are_wide_all, both_parts, both_of}
 use Rattle.op_tables.specs.Lookups.{one_wide, two_wide, ids_rise}
 use Rattle.op_fk_join.specs.inner.JoinLaws.{joined_at, table_rise, table_wide, source_two}
 use Rattle.op_fk_join.specs.Columns.{side_parts, JoinFits, join_columns}
 use Rattle.op_fk_join.specs.inner.ColumnLemmas.{fits, join_keeps}
-use Rattle.op_fk_join.specs.Admitted.{JoinAgrees, IsJoinTold, IsJoinToldOn}
+use Rattle.op_fk_join.specs.inner.Admitted.{JoinAgrees, IsJoinTold, IsJoinToldOn}
 
 module _ (first second place : ℕ) where
   -- the parts

@@ -1,4 +1,3 @@
 pub mod Join
 pub mod Columns
-pub mod Admitted
 pub mod inner

@@ -4,3 +4,4 @@ pub mod JoinTables
 pub mod JoinLaws
 pub mod JoinRead
 pub mod ColumnLemmas
+pub mod Admitted

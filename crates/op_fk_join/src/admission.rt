@@ -2,7 +2,7 @@
 //! they did; it is admitted where it has them.
 ghost use Rattle.std.specs.Prelude.{IfOk};
 ghost use Rattle.op_law.specs.Calls.{tables_of};
-ghost use Rattle.op_fk_join.specs.Admitted.{IsJoinTold, IsJoinToldOn};
+ghost use Rattle.op_fk_join.specs.inner.Admitted.{IsJoinTold, IsJoinToldOn};
 
 use crate::auxiliary::aux_of;
 use crate::forward::target_of;

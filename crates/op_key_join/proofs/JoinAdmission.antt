@@ -6,8 +6,8 @@ use Rattle.op_rows.specs.RowCalls.{AdmitsRows}
 use Rattle.row_parts.specs.RowCells.{Cell, or_else, map_cell}
 use Rattle.op_key_join.specs.Sides.{nth_cell}
 use Rattle.op_key_join.specs.JoinPk.{joined, rows_alone, sources_of, join_pk}
-use Rattle.op_key_join.specs.JoinPkLaws.{source_of, target_of, joined_wide, sources_wide, part_long, rest_long, parts_join}
-use Rattle.op_key_join.specs.Calls.{MayStandAlone}
+use Rattle.op_key_join.specs.inner.JoinPkLaws.{source_of, target_of, joined_wide, sources_wide, part_long, rest_long, parts_join}
+use Rattle.op_key_join.specs.inner.Calls.{MayStandAlone}
 use Rattle.op_rows.specs.declared.near_side.NearSide.{NearSide}
 use Rattle.op_rows.specs.declared.near_side.NearSide.TheVariants.{Source, Target}
 use Rattle.op_rows.specs.NearSides.{seen_from}

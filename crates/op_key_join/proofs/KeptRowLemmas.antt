@@ -4,13 +4,13 @@ use Rattle.std.proofs.lemmas.Bool.{false≢true}
 use Rattle.op_rows.specs.Cells.{CellWide}
 use Rattle.row_parts.specs.RowCells.{Cell, row_or}
 use Rattle.row_parts.specs.Places.{nulls}
-use Rattle.row_parts.specs.PlaceLemmas.{second_join}
+use Rattle.row_parts.specs.inner.PlaceLemmas.{second_join}
 use Rattle.row_parts.specs.Partition.{Divides}
 use Rattle.op_key_join.specs.Sides.{nth_cell}
 use Rattle.op_key_join.specs.OtherPlaces.{others}
-use Rattle.op_key_join.specs.PartLemmas.{pick_wide, or_nulls_wide}
+use Rattle.op_key_join.specs.inner.PartLemmas.{pick_wide, or_nulls_wide}
 use Rattle.op_key_join.specs.DecomposeSingle.{rest_of, with_rest}
-use Rattle.op_key_join.specs.DecomposeSingleLaws.{single_divides, target_of}
+use Rattle.op_key_join.specs.inner.DecomposeSingleLaws.{single_divides, target_of}
 use Rattle.op_key_join.specs.KeptRows.{OtherColumnsKept, OtherColumnsNull, NullPartMakesNoRow, NullRowStays, RowOfNeitherStays, RowOfTargetsGoes, RowsAloneStay, DeletedRowsGo}
 
 -- the other columns of the row that is made

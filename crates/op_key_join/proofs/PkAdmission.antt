@@ -10,8 +10,8 @@ use Rattle.row_parts.specs.Places.{nulls, value_for, filled, value_of_both}
 use Rattle.op_key_join.specs.Sides.{nth_cell}
 use Rattle.op_key_join.specs.Nulls.{is_null, nulls_null, null_nulls}
 use Rattle.op_key_join.specs.DecomposePk.{null_rows, row_of_neither, rows_of_neither, row_of_parts, HasParts, joined_parts, shown_parts, decompose_pk}
-use Rattle.op_key_join.specs.DecomposePkLaws.{source_of, parts_wide, source_wide, has_shown, has_joined, neither_null, neither_wide}
-use Rattle.op_key_join.specs.Calls.{MayBeOfNeither}
+use Rattle.op_key_join.specs.inner.DecomposePkLaws.{source_of, parts_wide, source_wide, has_shown, has_joined, neither_null, neither_wide}
+use Rattle.op_key_join.specs.inner.Calls.{MayBeOfNeither}
 use Rattle.op_rows.specs.declared.near_side.NearSide.{NearSide}
 use Rattle.op_rows.specs.declared.near_side.NearSide.TheVariants.{Source, Target}
 use Rattle.op_rows.specs.NearSides.{seen_from}

@@ -6,9 +6,9 @@ use Rattle.op_rows.specs.RowCalls.{AdmitsRows}
 use Rattle.row_parts.specs.RowCells.{Cell}
 use Rattle.op_key_join.specs.Sides.{nth_cell}
 use Rattle.op_key_join.specs.OtherPlaces.{others}
-use Rattle.op_key_join.specs.PartLemmas.{pick_wide}
+use Rattle.op_key_join.specs.inner.PartLemmas.{pick_wide}
 use Rattle.op_key_join.specs.DecomposeSingle.{part_of, rest_of, with_rest, decompose_single}
-use Rattle.op_key_join.specs.DecomposeSingleLaws.{single_divides, target_of, part_wide, source_wide, part_back}
+use Rattle.op_key_join.specs.inner.DecomposeSingleLaws.{single_divides, target_of, part_wide, source_wide, part_back}
 use Rattle.op_rows.specs.declared.near_side.NearSide.{NearSide}
 use Rattle.op_rows.specs.declared.near_side.NearSide.TheVariants.{Source, Target}
 use Rattle.op_rows.specs.NearSides.{seen_from}

@@ -1,12 +1,8 @@
 pub mod Sides
 pub mod Nulls
 pub mod OtherPlaces
-pub mod PartLemmas
 pub mod DecomposeSingle
-pub mod DecomposeSingleLaws
 pub mod DecomposePk
-pub mod DecomposePkLaws
 pub mod JoinPk
-pub mod JoinPkLaws
-pub mod Calls
 pub mod KeptRows
+pub mod inner

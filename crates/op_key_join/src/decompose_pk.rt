@@ -2,7 +2,7 @@
 ghost use Rattle.std.specs.Prelude.{◌≡◌, IfOk, true, false};
 ghost use Rattle.op_rows.specs.NearSides.{seen_from};
 ghost use Rattle.op_key_join.specs.DecomposePk.{decompose_pk, null_rows as the_null_rows, rows_of_neither};
-ghost use Rattle.op_key_join.specs.DecomposePkLaws.{decompose_pk_laws};
+ghost use Rattle.op_key_join.specs.inner.DecomposePkLaws.{decompose_pk_laws};
 
 use crate::cells::{copied, one_cell, row_at, two_cells};
 use crate::parts::{joined_parts, may_be_of_neither, null_row, row_of_neither, shown_parts};

@@ -2,7 +2,7 @@
 ghost use Rattle.std.specs.Prelude.{◌≡◌, IfOk, true, false};
 ghost use Rattle.op_rows.specs.NearSides.{seen_from};
 ghost use Rattle.op_key_join.specs.DecomposeSingle.{decompose_single};
-ghost use Rattle.op_key_join.specs.DecomposeSingleLaws.{decompose_single_laws};
+ghost use Rattle.op_key_join.specs.inner.DecomposeSingleLaws.{decompose_single_laws};
 
 use crate::cells::row_at;
 use crate::single::{part_of, rest_of, with_rest};

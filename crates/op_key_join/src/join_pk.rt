@@ -2,7 +2,7 @@
 ghost use Rattle.std.specs.Prelude.{◌≡◌, IfOk, true, false};
 ghost use Rattle.op_rows.specs.NearSides.{seen_from};
 ghost use Rattle.op_key_join.specs.JoinPk.{join_pk, rows_alone as the_rows_alone};
-ghost use Rattle.op_key_join.specs.JoinPkLaws.{join_pk_laws};
+ghost use Rattle.op_key_join.specs.inner.JoinPkLaws.{join_pk_laws};
 
 use crate::cells::{copied, row_at, two_cells};
 use crate::joins::{joined, may_stand_alone, row_alone, sources_of};

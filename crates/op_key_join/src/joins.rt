@@ -2,7 +2,7 @@
 ghost use Rattle.std.specs.Prelude.{◌≡◌, ◌↔◌, ◌++◌, [], ◌∷◌, IfOk, IsTrue, take, drop};
 ghost use Rattle.std.specs.Option.{option_copied};
 ghost use Rattle.op_key_join.specs.JoinPk.{joined as the_joined, row_alone as the_row_alone, sources_of as the_sources_of};
-ghost use Rattle.op_key_join.specs.Calls.{MayStandAlone};
+ghost use Rattle.op_key_join.specs.inner.Calls.{MayStandAlone};
 
 use crate::cells::{copied, has_row, is_wide, one_cell, row_if, two_cells};
 use op_rows::Cells;

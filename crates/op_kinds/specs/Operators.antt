@@ -10,22 +10,22 @@ use Rattle.op_column.specs.CreateTable.{create_table, create_table_laws}
 use Rattle.op_column.specs.DropTable.{drop_table, drop_table_laws}
 use Rattle.op_column.specs.Rename.{rename, rename_laws}
 use Rattle.op_column.specs.AddColumn.{add_column}
-use Rattle.op_column.specs.AddColumnLaws.{add_column_laws}
+use Rattle.op_column.specs.inner.AddColumnLaws.{add_column_laws}
 use Rattle.op_split_merge.specs.Split.{split}
-use Rattle.op_split_merge.specs.SplitLaws.{split_laws}
+use Rattle.op_split_merge.specs.inner.SplitLaws.{split_laws}
 use Rattle.op_key_join.specs.DecomposeSingle.{decompose_single}
-use Rattle.op_key_join.specs.DecomposeSingleLaws.{decompose_single_laws}
+use Rattle.op_key_join.specs.inner.DecomposeSingleLaws.{decompose_single_laws}
 use Rattle.op_key_join.specs.DecomposePk.{decompose_pk}
-use Rattle.op_key_join.specs.DecomposePkLaws.{decompose_pk_laws}
+use Rattle.op_key_join.specs.inner.DecomposePkLaws.{decompose_pk_laws}
 use Rattle.op_key_join.specs.JoinPk.{join_pk}
-use Rattle.op_key_join.specs.JoinPkLaws.{join_pk_laws}
+use Rattle.op_key_join.specs.inner.JoinPkLaws.{join_pk_laws}
 use Rattle.op_fk_decompose.specs.Columns.{decompose_columns}
 use Rattle.op_fk_decompose.specs.inner.ColumnLemmas.{decompose_keeps}
 use Rattle.op_fk_join.specs.Columns.{join_columns}
 use Rattle.op_fk_join.specs.inner.ColumnLemmas.{join_keeps}
 use Rattle.op_cond_join.specs.Shown.{Joining}
 use Rattle.op_cond_join.specs.JoinOn.{join_on}
-use Rattle.op_cond_join.specs.JoinOnLaws.{join_on_laws}
+use Rattle.op_cond_join.specs.inner.JoinOnLaws.{join_on_laws}
 
 -- a built operator, with numbers for its columns
 pub data Built : Type 0 where

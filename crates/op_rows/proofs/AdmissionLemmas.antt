@@ -11,12 +11,12 @@ use Rattle.op_law.specs.Identifiers.{ids_over}
 use Rattle.op_law.specs.Premises.{IsPair}
 use Rattle.op_law.specs.Calls.{Admits}
 use Rattle.op_rows.specs.Cells.{Cells, cells_at, nones, first_cell, other_cells, tables_from, CellWide, AreCellsOf}
-use Rattle.op_rows.specs.CellLemmas.{has_id, AllRise, ext_all, rise_ids, none_at}
-use Rattle.op_rows.specs.Tabulated.{row_from, at_from, all_rise_from, tables_long, cells_well, cells_long}
+use Rattle.op_rows.specs.inner.CellLemmas.{has_id, AllRise, ext_all, rise_ids, none_at}
+use Rattle.op_rows.specs.inner.Tabulated.{row_from, at_from, all_rise_from, tables_long, cells_well, cells_long}
 use Rattle.op_rows.specs.RowMeaning.{RowMeaning, RowHalf, rowwise}
 use Rattle.op_rows.specs.RowCalls.{RowBelongs, AdmitsRows}
 use Rattle.op_rows.specs.RowwiseLaws.{none_pair, aux_at, aux_rise}
-use Rattle.op_rows.specs.Passes.{read_at, AdmitsEach}
+use Rattle.op_rows.specs.inner.Passes.{read_at, AdmitsEach}
 use Rattle.op_rows.proofs.PassLemmas.{made_long}
 use Rattle.op_rows.proofs.PremiseLemmas.{belongs_at, contents_long}
 

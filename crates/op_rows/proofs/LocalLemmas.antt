@@ -6,8 +6,8 @@ use Rattle.op_law.specs.Meaning.{PairState}
 use Rattle.op_law.specs.Premises.{IsPair}
 use Rattle.op_law.specs.Local.{rows_only, only, pair_only, HalfLocal, IsLocal}
 use Rattle.op_rows.specs.Cells.{Cells, cells_at, nones, tables_from}
-use Rattle.op_rows.specs.CellLemmas.{ext_all, is_same, AllRise}
-use Rattle.op_rows.specs.Tabulated.{all_rise_from, tables_long}
+use Rattle.op_rows.specs.inner.CellLemmas.{ext_all, is_same, AllRise}
+use Rattle.op_rows.specs.inner.Tabulated.{all_rise_from, tables_long}
 use Rattle.op_rows.specs.RowMeaning.{RowMeaning, flip_row, rowwise, RowHalf, RowLaws}
 use Rattle.op_rows.specs.RowwiseLaws.{none_fwd, far_at, far_rise, aux_at, aux_rise, half}
 

@@ -5,7 +5,7 @@ use Rattle.std.proofs.lemmas.Bool.Decides.{nat_tests}
 use Rattle.par_base.specs.declared.value.Value.{Value}
 use Rattle.row_store.specs.Rows.{Rows, RiseFrom}
 use Rattle.op_law.specs.Identifiers.{put_id, ids_in}
-use Rattle.op_rows.specs.CellLemmas.{IdsRise, rise_put}
+use Rattle.op_rows.specs.inner.CellLemmas.{IdsRise, rise_put}
 
 put_low : (x : ℕ) (xs : List ℕ) → IdsRise (x + 1) xs → put_id x xs ≡ x ∷ xs
 put_low x [] h = refl

@@ -6,10 +6,10 @@ use Rattle.row_store.specs.States.{TableState}
 use Rattle.op_law.specs.Tables.{Tables, contents}
 use Rattle.op_law.specs.Identifiers.{ids_in, ids_over}
 use Rattle.op_rows.specs.Cells.{Cells, cells_at, first_cell, other_cells, with_row, table_from, tables_from}
-use Rattle.op_rows.specs.CellLemmas.{IdsRise, AllRise, has_id, is_same}
+use Rattle.op_rows.specs.inner.CellLemmas.{IdsRise, AllRise, has_id, is_same}
 use Rattle.op_rows.specs.RowMeaning.{RowMeaning}
 use Rattle.op_rows.specs.RowCalls.{AdmitsRows}
-use Rattle.op_rows.specs.Passes.{AllBelow, without_rows, with_cells, read_at}
+use Rattle.op_rows.specs.inner.Passes.{AllBelow, without_rows, with_cells, read_at}
 
 append_none : (rows : Rows) → rows ++ [] ≡ rows
 append_none [] = refl

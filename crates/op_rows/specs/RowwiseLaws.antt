@@ -11,8 +11,8 @@ use Rattle.op_law.specs.Premises.{IsPair, MayMap}
 use Rattle.op_law.specs.Laws.{HalfLaws, Laws, InPair}
 use Rattle.op_rows.specs.Cells.{Cells, cells_at, nones, AreCellsOf}
 use Rattle.op_rows.specs.RowMeaning.{RowMeaning, flip_row, rowwise, RowPair, MayRow, RowHalf, RowLaws}
-use Rattle.op_rows.specs.CellLemmas.{ext_all, rise_ids, below_ids, none_at, has_over, has_id, IdsRise, AllRise}
-use Rattle.op_rows.specs.Tabulated.{at_from, all_rise_from, well_from, all_below_from, all_rise, tables_long, cells_well, cells_below, cells_long, nones_well, nones_long, empty_at, has_from}
+use Rattle.op_rows.specs.inner.CellLemmas.{ext_all, rise_ids, below_ids, none_at, has_over, has_id, IdsRise, AllRise}
+use Rattle.op_rows.specs.inner.Tabulated.{at_from, all_rise_from, well_from, all_below_from, all_rise, tables_long, cells_well, cells_below, cells_long, nones_well, nones_long, empty_at, has_from}
 
 module _ (r : RowMeaning) (h : RowHalf r) where
   -- the pair at one identifier

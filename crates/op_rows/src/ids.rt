@@ -6,8 +6,8 @@ ghost use Rattle.std.specs.Prelude.{◌≡◌, ◌+◌, ◌<◌, ◌≤◌, [], 
 ghost use Rattle.row_store.specs.Rows.{RiseFrom};
 ghost use Rattle.op_law.specs.Tables.{contents};
 ghost use Rattle.op_law.specs.Identifiers.{ids_in, ids_over};
-ghost use Rattle.op_rows.specs.CellLemmas.{IdsRise, AllRise};
-ghost use Rattle.op_rows.specs.Passes.{ids_left};
+ghost use Rattle.op_rows.specs.inner.CellLemmas.{IdsRise, AllRise};
+ghost use Rattle.op_rows.specs.inner.Passes.{ids_left};
 
 use par_base::{List, Memory, Row};
 use row_store::Table;

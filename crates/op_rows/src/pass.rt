@@ -3,8 +3,8 @@ ghost use Rattle.std.specs.Prelude.{◌≡◌, ℕ, ◌+◌, ◌*◌, ◌≤◌,
 ghost use Rattle.row_store.specs.Rows.{AreBelow};
 ghost use Rattle.op_law.specs.Tables.{Tables, contents};
 ghost use Rattle.op_rows.specs.Cells.{Cells, cells_at, with_row, tables_from};
-ghost use Rattle.op_rows.specs.CellLemmas.{IdsRise};
-ghost use Rattle.op_rows.specs.Passes.{AllBelow, without_rows, with_cells, AdmitsAt, AdmitsEach};
+ghost use Rattle.op_rows.specs.inner.CellLemmas.{IdsRise};
+ghost use Rattle.op_rows.specs.inner.Passes.{AllBelow, without_rows, with_cells, AdmitsAt, AdmitsEach};
 ghost use Rattle.op_rows.specs.RowMeaning.{RowMeaning};
 ghost use Rattle.op_rows.specs.RowCalls.{NearRows};
 

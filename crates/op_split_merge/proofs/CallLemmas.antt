@@ -8,8 +8,8 @@ use Rattle.op_rows.specs.RowCalls.{NearRows, SomeRows, MayRows, StoredRows, Admi
 use Rattle.op_split_merge.specs.Twins.{Cell}
 use Rattle.op_split_merge.specs.Sides.{widths, nth_cell, targets_of, source_wide, target_wide}
 use Rattle.op_split_merge.specs.Split.{reads_within, SplitFits, split_read_target, split_read_source, split}
-use Rattle.op_split_merge.specs.SplitLaws.{source_of, target_of, split_laws}
-use Rattle.op_split_merge.specs.Calls.{CanTest, CanTestBoth, TestsWithin, TargetBelongs, SourceBelongs}
+use Rattle.op_split_merge.specs.inner.SplitLaws.{source_of, target_of, split_laws}
+use Rattle.op_split_merge.specs.inner.Calls.{CanTest, CanTestBoth, TestsWithin, TargetBelongs, SourceBelongs}
 
 -- a condition that reads rows of so many values can be tested at such a row
 test_at : (width : ℕ) (condition : Option (Term ℕ)) (cell : Cell) → reads_within condition width ≡ true → CellWide width cell → CanTest condition cell

@@ -7,7 +7,7 @@ ghost use Rattle.op_rows.specs.Cells.{CellWide};
 ghost use Rattle.op_split_merge.specs.Twins.{AreTwinsOf};
 ghost use Rattle.op_split_merge.specs.Sides.{nth_cell};
 ghost use Rattle.op_split_merge.specs.Split.{test_of};
-ghost use Rattle.op_split_merge.specs.Calls.{CanTestBoth, TestsWithin, TargetBelongs, SourceBelongs};
+ghost use Rattle.op_split_merge.specs.inner.Calls.{CanTestBoth, TestsWithin, TargetBelongs, SourceBelongs};
 
 use crate::Split;
 use crate::auxiliary::{aux_at_source, aux_at_target};

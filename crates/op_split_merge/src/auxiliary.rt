@@ -6,7 +6,7 @@ ghost use Rattle.expr_lang.specs.Val.{holds_at};
 ghost use Rattle.op_split_merge.specs.Twins.{rest_of};
 ghost use Rattle.op_split_merge.specs.Auxiliary.{lost as lost_of, against_second as against_second_of, split_aux};
 ghost use Rattle.op_split_merge.specs.Split.{test_of};
-ghost use Rattle.op_split_merge.specs.Calls.{CanTest, CanTestBoth};
+ghost use Rattle.op_split_merge.specs.inner.Calls.{CanTest, CanTestBoth};
 
 use crate::Split;
 use crate::cells::{copied, has_row, noted, one_cell, row_if};

@@ -6,7 +6,7 @@ ghost use Rattle.expr_lang.specs.Val.{holds_at};
 ghost use Rattle.op_split_merge.specs.Twins.{are_separated, kept_if, first_to, second_to, source_to};
 ghost use Rattle.op_split_merge.specs.Sides.{targets_of};
 ghost use Rattle.op_split_merge.specs.Split.{test_of};
-ghost use Rattle.op_split_merge.specs.Calls.{CanTestBoth};
+ghost use Rattle.op_split_merge.specs.inner.Calls.{CanTestBoth};
 
 use crate::Split;
 use crate::cells::{copied, one_cell, or_other, row_if};

@@ -6,7 +6,7 @@ ghost use Rattle.expr_lang.specs.Val.{holds_at};
 ghost use Rattle.op_split_merge.specs.Auxiliary.{shown_by};
 ghost use Rattle.op_split_merge.specs.Sides.{nth_cell};
 ghost use Rattle.op_split_merge.specs.Split.{test_of, split_read_target};
-ghost use Rattle.op_split_merge.specs.Calls.{CanTest, CanTestBoth};
+ghost use Rattle.op_split_merge.specs.inner.Calls.{CanTest, CanTestBoth};
 
 use crate::Split;
 use crate::cells::{has_row, or_other, row_at, row_if};

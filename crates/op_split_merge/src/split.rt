@@ -5,7 +5,7 @@ ghost use Rattle.expr_lang.specs.Terms.{expr_term};
 ghost use Rattle.op_rows.specs.RowMeaning.{flip_row};
 ghost use Rattle.op_rows.specs.RowCalls.{AdmitsRows, NearRows};
 ghost use Rattle.op_split_merge.specs.Split.{split as split_of};
-ghost use Rattle.op_split_merge.specs.SplitLaws.{split_laws};
+ghost use Rattle.op_split_merge.specs.inner.SplitLaws.{split_laws};
 
 use crate::admission::{source_belongs, target_belongs};
 use crate::auxiliary::{aux_at_source, aux_at_target, rest};

@@ -4,7 +4,7 @@ ghost use Rattle.std.specs.Option.{option_copied, option_map};
 ghost use Rattle.expr_lang.specs.Terms.{expr_term};
 ghost use Rattle.op_split_merge.specs.Twins.{meets as meets_test, fails as fails_test, are_separated, is_lost as twin_lost, wants as wants_row};
 ghost use Rattle.op_split_merge.specs.Split.{test_of};
-ghost use Rattle.op_split_merge.specs.Calls.{CanTest};
+ghost use Rattle.op_split_merge.specs.inner.Calls.{CanTest};
 
 use expr_lang::{Expr, Steps, holds};
 use par_base::{Memory, Row, is_same_row};

@@ -4,7 +4,7 @@ use Rattle.row_store.specs.Rows.{Rows, AreBelow}
 use Rattle.row_store.specs.States.{TableState}
 use Rattle.op_law.specs.Tables.{contents}
 use Rattle.op_rows.specs.Cells.{with_row, table_from}
-use Rattle.op_rows.specs.CellLemmas.{IdsRise}
+use Rattle.op_rows.specs.inner.CellLemmas.{IdsRise}
 use Rattle.row_parts.specs.RowCells.{Cell}
 
 append_with_row : (x : ℕ) (o : Cell) (xs ys : Rows) → with_row x o (xs ++ ys) ≡ with_row x o xs ++ ys

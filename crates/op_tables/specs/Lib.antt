@@ -1,4 +1,4 @@
 pub mod SideTables
 pub mod Lookups
-pub mod CellFacts
 pub mod Wide
+pub mod inner

@@ -9,8 +9,8 @@ use Rattle.op_law.specs.Tables.{Tables, Heading, RowsWide, AreTablesOf}
 use Rattle.op_law.specs.Sound.{IsBelow, ValuesSound, RowsSound, TablesSound, HasRow}
 use Rattle.op_law.specs.Identifiers.{ids_in, ids_over}
 use Rattle.op_rows.specs.Cells.{first_cell, other_cells, with_row, table_from, CellWide, CellSound}
-use Rattle.op_rows.specs.CellLemmas.{is_same, has_id, none_at, rise_ids, IdsBelow, IdsRise, rise_put}
-use Rattle.op_rows.specs.Tabulated.{row_from, rise_from, all_below_from}
+use Rattle.op_rows.specs.inner.CellLemmas.{is_same, has_id, none_at, rise_ids, IdsBelow, IdsRise, rise_put}
+use Rattle.op_rows.specs.inner.Tabulated.{row_from, rise_from, all_below_from}
 use Rattle.row_parts.specs.RowCells.{Cell, by_test}
 use Rattle.op_tables.specs.SideTables.{first_table, second_table}
 

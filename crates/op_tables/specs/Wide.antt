@@ -4,7 +4,7 @@ use Rattle.std.proofs.Common.{◌≡◌, ℕ, ◌==◌, [], ◌∷◌, length, B
 use Rattle.std.proofs.lemmas.Bool.Decides.{nat_tests}
 use Rattle.row_store.specs.Rows.{Rows}
 use Rattle.op_law.specs.Tables.{RowsWide}
-use Rattle.op_rows.specs.CellLemmas.{is_same}
+use Rattle.op_rows.specs.inner.CellLemmas.{is_same}
 use Rattle.row_parts.specs.RowCells.{by_test}
 
 -- each row has so many values

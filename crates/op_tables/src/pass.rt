@@ -3,7 +3,7 @@ ghost use Rattle.std.specs.Prelude.{◌≡◌, ℕ, [], ◌∷◌, ◌++◌, IfO
 ghost use Rattle.row_store.specs.Rows.{AreBelow};
 ghost use Rattle.op_law.specs.Identifiers.{ids_in};
 ghost use Rattle.op_rows.specs.Cells.{with_row, table_from};
-ghost use Rattle.op_rows.specs.CellLemmas.{IdsRise};
+ghost use Rattle.op_rows.specs.inner.CellLemmas.{IdsRise};
 ghost use Rattle.row_parts.specs.RowCells.{Cell};
 
 use op_rows::merge_ids;

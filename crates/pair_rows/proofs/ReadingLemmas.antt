@@ -4,10 +4,10 @@ use Rattle.std.proofs.lemmas.List.{take_more, drop_more}
 use Rattle.row_store.specs.Rows.{Rows, AreBelow}
 use Rattle.id_memory.specs.Pairs.{Pairs}
 use Rattle.op_rows.specs.Cells.{with_row, table_from}
-use Rattle.op_rows.specs.CellLemmas.{IdsRise}
+use Rattle.op_rows.specs.inner.CellLemmas.{IdsRise}
 use Rattle.row_parts.specs.RowCells.{Cell, by_test}
 use Rattle.pair_rows.specs.Kept.{paired, partner, part_at}
-use Rattle.pair_rows.specs.Lookups.{with_below, with_append}
+use Rattle.pair_rows.specs.inner.Lookups.{with_below, with_append}
 
 -- the joined row of an identifier is found by the identifier of its entry
 pub paired_at : (pick : ℕ × ℕ × ℕ → ℕ) (places : List ℕ) (r : Rows) (es : Pairs) (id : ℕ) → part_at places r (partner pick es id) ≡ paired pick places r es id

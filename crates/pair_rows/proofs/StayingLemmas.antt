@@ -6,10 +6,10 @@ use Rattle.par_base.specs.declared.value.Value.{Value}
 use Rattle.row_store.specs.Rows.{Rows, RiseFrom, AreBelow}
 use Rattle.id_memory.specs.Pairs.{Pairs}
 use Rattle.row_parts.specs.RowCells.{by_test}
-use Rattle.pair_rows.specs.Numbers.{count_cons}
+use Rattle.pair_rows.specs.inner.Numbers.{count_cons}
 use Rattle.pair_rows.specs.Stays.{stands, staying}
 use Rattle.pair_rows.specs.Kept.{alone}
-use Rattle.pair_rows.specs.Lookups.{filter_append}
+use Rattle.pair_rows.specs.inner.Lookups.{filter_append}
 
 -- more than none
 some_counted : (k n : ℕ) → k ≡ 1 + n → nat_lt 0 k ≡ true

@@ -7,7 +7,7 @@ ghost use Rattle.std.specs.Option.{option_map};
 ghost use Rattle.row_store.specs.Rows.{AreBelow, row_of};
 ghost use Rattle.op_law.specs.Identifiers.{put_id, ids_in};
 ghost use Rattle.op_rows.specs.Cells.{with_row};
-ghost use Rattle.op_rows.specs.CellLemmas.{IdsRise};
+ghost use Rattle.op_rows.specs.inner.CellLemmas.{IdsRise};
 ghost use Rattle.row_map.specs.IdNumbers.{number_of_id};
 ghost use Rattle.row_parts.specs.Places.{pick as part};
 ghost use Rattle.row_parts.specs.RowCells.{map_cell, or_else};

@@ -1,5 +1,5 @@
 pub mod RowCells
 pub mod RowEdits
 pub mod Places
-pub mod PlaceLemmas
 pub mod Partition
+pub mod inner

@@ -10,7 +10,7 @@ use Rattle.row_store.specs.declared.exchange.Which.{Which}
 use Rattle.row_store.specs.declared.exchange.Which.TheVariants.{All, Added, Others}
 use Rattle.row_store.specs.Rows.{Rows, RiseFrom, row_of}
 use Rattle.row_store.specs.Changes.{ChangesRise, AreOld, after, back_to, reverse_of, WasApplied}
-use Rattle.row_store.specs.Passes.{is_in, after_in, exchanged, exchanged_one, HasRoom}
+use Rattle.row_store.specs.inner.Passes.{is_in, after_in, exchanged, exchanged_one, HasRoom}
 use Rattle.row_store.proofs.PlaceLemmas.{eq_self, apart_below, apart_above, none_under}
 use Rattle.row_store.proofs.PassLemmas.{and_false, same_number}
 

@@ -2,7 +2,7 @@
 ghost use Rattle.std.specs.Prelude.{◌≡◌, [], ◌∷◌, ◌++◌, length, vec_capacity, OnOk, OnErr};
 ghost use Rattle.row_store.specs.Rows.{RiseFrom};
 ghost use Rattle.row_store.specs.Changes.{ChangesRise, IsAbove};
-ghost use Rattle.row_store.specs.Passes.{exchanged, HasRoom, ExchangesRows};
+ghost use Rattle.row_store.specs.inner.Passes.{exchanged, HasRoom, ExchangesRows};
 
 use crate::exchange::{Which, exchange_all};
 use par_base::{Memory, Row};

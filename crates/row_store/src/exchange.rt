@@ -4,7 +4,7 @@
 ghost use Rattle.std.specs.Prelude.{◌≡◌, ◌+◌, ◌<◌, ◌≤◌, length, vec_len, vec_capacity, Some, None};
 ghost use Rattle.row_store.specs.Rows.{RiseFrom, row_of, place_in, StandsAt};
 ghost use Rattle.row_store.specs.Changes.{ChangesRise};
-ghost use Rattle.row_store.specs.Passes.{is_in, exchanged, exchanged_one, HasRoom, FindsRoom, PutsAt, ExchangesRow, ExchangesRows};
+ghost use Rattle.row_store.specs.inner.Passes.{is_in, exchanged, exchanged_one, HasRoom, FindsRoom, PutsAt, ExchangesRow, ExchangesRows};
 
 use crate::Change;
 use crate::place::place_of;

@@ -12,7 +12,7 @@ use Rattle.row_parts.specs.Places.{value_for, ArePartition, names_at}
 use Rattle.op_fk_decompose.specs.Columns.{column_parts, DecomposeFits, decompose_columns}
 use Rattle.foreign_keys.specs.Shared.{FkFits}
 use Rattle.op_fk_decompose.specs.inner.DecomposeRead.{decompose_laws}
-use Rattle.row_parts.specs.PlaceLemmas.{length-pick, length-filled, length-nulls, value_at_sound, pick_sound, filled_sound, nulls_sound, value_for_sound, first_join, second_join, join_parts, length-names}
+use Rattle.row_parts.specs.inner.PlaceLemmas.{length-pick, length-filled, length-nulls, value_at_sound, pick_sound, filled_sound, nulls_sound, value_for_sound, first_join, second_join, join_parts, length-names}
 
 module _ (first second : List ℕ) (place : ℕ) (divided : ArePartition first second) (within : place ≤ length first) where
   -- how many columns R has

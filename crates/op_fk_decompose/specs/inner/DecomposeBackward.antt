@@ -11,7 +11,7 @@ use Rattle.op_law.specs.Identifiers.{ids_over}
 use Rattle.op_law.specs.Meaning.{Meaning, flip}
 use Rattle.op_law.specs.Laws.{HalfLaws}
 use Rattle.op_rows.specs.Cells.{CellWide, CellSound}
-use Rattle.op_rows.specs.CellLemmas.{below_ids}
+use Rattle.op_rows.specs.inner.CellLemmas.{below_ids}
 use Rattle.row_parts.specs.RowCells.{Cell, row_or, by_option}
 use Rattle.op_tables.specs.SideTables.{first_table, second_table}
 use Rattle.foreign_keys.specs.Parts.{FkParts, FkWell}
@@ -19,7 +19,7 @@ use Rattle.foreign_keys.specs.References.{goal_of, at_goal, far_part}
 use Rattle.op_tables.specs.Lookups.{sound_at, wide_at, two_at, two_rise, wide_table, sound_table, Two, one_wide, sound0, sound1, in_first, in_second}
 use Rattle.op_fk_decompose.specs.Decompose.{alone, joined_in, joined, joined_table, decompose_fk}
 use Rattle.foreign_keys.specs.Shared.{FkFits}
-use Rattle.op_tables.specs.CellFacts.{is_some}
+use Rattle.op_tables.specs.inner.CellFacts.{is_some}
 use Rattle.op_fk_decompose.specs.inner.DecomposeKept.{none_joined}
 use Rattle.op_fk_decompose.specs.inner.DecomposeLaws.{source_of, target_of}
 

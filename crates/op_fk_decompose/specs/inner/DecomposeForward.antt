@@ -6,8 +6,8 @@ use Rattle.row_store.specs.Rows.{Rows, row_of}
 use Rattle.op_law.specs.Sound.{ValueSound, ValuesSound}
 use Rattle.op_law.specs.Identifiers.{ids_in, ids_over}
 use Rattle.op_rows.specs.Cells.{first_cell, other_cells, CellSound}
-use Rattle.op_rows.specs.CellLemmas.{none_at}
-use Rattle.op_rows.specs.Tabulated.{row_from}
+use Rattle.op_rows.specs.inner.CellLemmas.{none_at}
+use Rattle.op_rows.specs.inner.Tabulated.{row_from}
 use Rattle.row_parts.specs.RowCells.{Cell, is_there, or_else, kept_if, map_cell, in_cell, id_or, value_or, by_test, by_option}
 use Rattle.foreign_keys.specs.Parts.{FkParts, FkWell}
 use Rattle.foreign_keys.specs.References.{referred}
@@ -15,7 +15,7 @@ use Rattle.foreign_keys.specs.Shared.{Ready}
 use Rattle.foreign_keys.specs.Drawn.{numbered, has, place}
 use Rattle.op_tables.specs.Lookups.{sound_at}
 use Rattle.op_law.proofs.SoundLaws.{below_more, value_more, values_more}
-use Rattle.foreign_keys.specs.DrawnLemmas.{place_under, has_needed}
+use Rattle.foreign_keys.specs.inner.DrawnLemmas.{place_under, has_needed}
 use Rattle.op_fk_decompose.specs.Decompose.{alone, least_in, how, draws_for, needs, values_drawn, ref, near_row, new_first, new_second, s_after, t_after}
 use Rattle.op_fk_decompose.specs.inner.DecomposeFacts.{Least, least, from_keep}
 use Rattle.par_base.specs.SameRows.{same_row}

@@ -8,8 +8,8 @@ use Rattle.foreign_keys.specs.Parts.{FkParts, FkWell}
 use Rattle.foreign_keys.specs.References.{goal_of, referred, far_part}
 use Rattle.foreign_keys.specs.Drawn.{numbered, place}
 use Rattle.op_tables.specs.Lookups.{sound_at, wide_at, one_rise}
-use Rattle.foreign_keys.specs.ReferenceLemmas.{goal_below, referred_by, referrer}
-use Rattle.foreign_keys.specs.DrawnLemmas.{Distinct, numbered_at, numbered_from, distinct, Needer, needer, low_none}
+use Rattle.foreign_keys.specs.inner.ReferenceLemmas.{goal_below, referred_by, referrer}
+use Rattle.foreign_keys.specs.inner.DrawnLemmas.{Distinct, numbered_at, numbered_from, distinct, Needer, needer, low_none}
 use Rattle.op_fk_decompose.specs.Decompose.{alone, joined_in, joined, least_in, how, needs, values_drawn, ref, near_row, new_first, new_second, s_after, t_after}
 use Rattle.op_fk_decompose.specs.inner.DecomposeFacts.{from_keep, from_stay, from_need}
 use Rattle.foreign_keys.specs.Shared.{Ready}

@@ -11,7 +11,7 @@ use Rattle.op_law.specs.Meaning.{Meaning, PairState}
 use Rattle.op_law.specs.Premises.{IsPair, MayMap, pair_after}
 use Rattle.op_law.specs.Laws.{InPair, IsBelowNext}
 use Rattle.op_rows.specs.Cells.{CellWide, CellSound}
-use Rattle.op_rows.specs.CellLemmas.{below_ids}
+use Rattle.op_rows.specs.inner.CellLemmas.{below_ids}
 use Rattle.row_parts.specs.RowCells.{Cell, is_there, or_else, kept_if, map_cell, value_or, by_option}
 use Rattle.op_tables.specs.SideTables.{first_table, second_table}
 use Rattle.foreign_keys.specs.Parts.{FkParts, FkWell}
@@ -19,10 +19,10 @@ use Rattle.foreign_keys.specs.References.{referred}
 use Rattle.foreign_keys.specs.Drawn.{numbered}
 use Rattle.op_tables.specs.Lookups.{sound_at, wide_at, one_rise, three_rise, wide_table, sound_table, One, one_table, Two, two_tables, two_wide, sound0, sound1, in_first, in_second}
 use Rattle.op_law.proofs.SoundLaws.{rows_more}
-use Rattle.foreign_keys.specs.DrawnLemmas.{numbered_from, distinct, numbered_rise, drawn_wide, drawn_sound}
+use Rattle.foreign_keys.specs.inner.DrawnLemmas.{numbered_from, distinct, numbered_rise, drawn_wide, drawn_sound}
 use Rattle.op_fk_decompose.specs.Decompose.{alone, how, needs, values_drawn, ref, near_row, new_first, new_second, s_after, t_after, decompose_fk}
 use Rattle.foreign_keys.specs.Shared.{FkFits}
-use Rattle.op_tables.specs.CellFacts.{cell_has, kept_has, or_has, map_has, in_has, is_some}
+use Rattle.op_tables.specs.inner.CellFacts.{cell_has, kept_has, or_has, map_has, in_has, is_some}
 use Rattle.foreign_keys.specs.Shared.{Ready}
 use Rattle.op_fk_decompose.specs.inner.DecomposeForward.{first_sound}
 use Rattle.op_fk_decompose.specs.inner.DecomposeKept.{pick_new, alone_none, snd_at, none_made, kept_at}

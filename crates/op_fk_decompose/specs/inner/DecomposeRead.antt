@@ -10,19 +10,19 @@ use Rattle.op_law.specs.Meaning.{Meaning, PairState}
 use Rattle.op_law.specs.Premises.{IsPair}
 use Rattle.op_law.specs.Laws.{HalfLaws, Laws}
 use Rattle.op_rows.specs.Cells.{first_cell, other_cells}
-use Rattle.op_rows.specs.CellLemmas.{has_id, none_at, rise_ids}
-use Rattle.op_rows.specs.Tabulated.{row_from, rise_from}
+use Rattle.op_rows.specs.inner.CellLemmas.{has_id, none_at, rise_ids}
+use Rattle.op_rows.specs.inner.Tabulated.{row_from, rise_from}
 use Rattle.row_parts.specs.RowCells.{Cell, is_there, or_else, kept_if, row_or, map_cell, in_cell, by_test, by_option}
 use Rattle.op_tables.specs.SideTables.{first_table, second_table}
 use Rattle.foreign_keys.specs.Parts.{FkParts, FkWell}
 use Rattle.foreign_keys.specs.References.{goal_of, is_goal, at_goal, dangles, referred, far_part}
 use Rattle.op_tables.specs.Lookups.{wide_at, one_at, one_rise}
-use Rattle.foreign_keys.specs.ReferenceLemmas.{is_goal_of, goal_is, referred_by, referrer}
+use Rattle.foreign_keys.specs.inner.ReferenceLemmas.{is_goal_of, goal_is, referred_by, referrer}
 use Rattle.op_fk_decompose.specs.Decompose.{alone, joined_in, joined, refs, dangling, kept_rows, live, get_first, leads, get_at, get_second, decompose_fk}
 use Rattle.foreign_keys.specs.Shared.{head_or_null, second_part_at, FkFits}
 use Rattle.op_fk_decompose.specs.inner.DecomposeLaws.{source_of, target_of, kept, still, below}
 use Rattle.foreign_keys.specs.Seeking.{seek, goals_in}
-use Rattle.foreign_keys.specs.SeekLemmas.{seek_none, seek_some, goals_out, goals_rise}
+use Rattle.foreign_keys.specs.inner.SeekLemmas.{seek_none, seek_some, goals_out, goals_rise}
 use Rattle.op_fk_decompose.specs.inner.DecomposeBackward.{backward}
 
 -- a goal that is live is a row of T

@@ -9,7 +9,7 @@ use Rattle.foreign_keys.specs.Parts.{FkParts, FkWell}
 use Rattle.foreign_keys.specs.References.{goal_of, at_goal, referred, far_part}
 use Rattle.foreign_keys.specs.Drawn.{numbered}
 use Rattle.op_tables.specs.Lookups.{wide_at, one_rise, three_rise}
-use Rattle.foreign_keys.specs.DrawnLemmas.{numbered_rise, drawn_none}
+use Rattle.foreign_keys.specs.inner.DrawnLemmas.{numbered_rise, drawn_none}
 use Rattle.op_fk_decompose.specs.Decompose.{alone, joined_in, joined, least_in, how_in, how, draws_for, needs, values_drawn, new_first, new_second, s_after, t_after}
 use Rattle.foreign_keys.specs.Shared.{Ready}
 use Rattle.op_fk_decompose.specs.inner.DecomposeForward.{alone_parts}

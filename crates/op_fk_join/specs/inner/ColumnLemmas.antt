@@ -10,7 +10,7 @@ use Rattle.op_law.specs.Sound.{ValuesSound}
 use Rattle.op_law.specs.Laws.{Laws}
 use Rattle.foreign_keys.specs.Parts.{FkWell}
 use Rattle.row_parts.specs.RowEdits.{value_at-insert, remove-insert, insert-remove, insert_sound, remove_sound}
-use Rattle.row_parts.specs.PlaceLemmas.{length-nulls, nulls_sound, value_at_sound}
+use Rattle.row_parts.specs.inner.PlaceLemmas.{length-nulls, nulls_sound, value_at_sound}
 use Rattle.foreign_keys.specs.Shared.{FkFits}
 use Rattle.op_fk_join.specs.inner.JoinRead.{join_laws}
 use Rattle.op_fk_join.specs.Columns.{side_parts, JoinFits, join_columns}

@@ -7,8 +7,8 @@ use Rattle.foreign_keys.specs.Parts.{FkParts, FkWell}
 use Rattle.foreign_keys.specs.References.{goal_of, at_goal}
 use Rattle.foreign_keys.specs.Drawn.{numbered, place}
 use Rattle.op_tables.specs.Lookups.{own_row, later, sound_at, wide_at}
-use Rattle.foreign_keys.specs.ReferenceLemmas.{goal_below}
-use Rattle.foreign_keys.specs.DrawnLemmas.{Distinct, numbered_at, distinct, has_needed, low_none}
+use Rattle.foreign_keys.specs.inner.ReferenceLemmas.{goal_below}
+use Rattle.foreign_keys.specs.inner.DrawnLemmas.{Distinct, numbered_at, distinct, has_needed, low_none}
 use Rattle.op_fk_join.specs.Join.{joined_row, stays_at, key_kept, first_with, draws_join, needs_join, join_drawn, ref_join, left_in, join_first_in, join_first, join_second}
 use Rattle.foreign_keys.specs.Shared.{Ready}
 use Rattle.par_base.specs.SameRows.{same_row, row_equal, row_same}

@@ -12,7 +12,7 @@ use Rattle.op_law.specs.Meaning.{Meaning, PairState, flip}
 use Rattle.op_law.specs.Premises.{IsPair, MayMap, pair_after}
 use Rattle.op_law.specs.Laws.{HalfLaws, InPair, IsBelowNext}
 use Rattle.op_rows.specs.Cells.{CellWide, CellSound}
-use Rattle.op_rows.specs.CellLemmas.{below_ids}
+use Rattle.op_rows.specs.inner.CellLemmas.{below_ids}
 use Rattle.row_parts.specs.RowCells.{Cell, by_option}
 use Rattle.op_tables.specs.SideTables.{first_table, second_table}
 use Rattle.foreign_keys.specs.Parts.{FkParts, FkWell}
@@ -20,7 +20,7 @@ use Rattle.foreign_keys.specs.References.{goal_of, at_goal}
 use Rattle.op_tables.specs.Lookups.{sound_at, wide_at, one_at, one_rise, wide_table, sound_table, One, one_table, Two, two_tables, one_wide, two_wide, sound0, sound1, in_first, in_second}
 use Rattle.op_fk_join.specs.Join.{joined_row, s_before, t_before, join_table, join_fk}
 use Rattle.foreign_keys.specs.Shared.{Ready}
-use Rattle.op_tables.specs.CellFacts.{map_has, is_some}
+use Rattle.op_tables.specs.inner.CellFacts.{map_has, is_some}
 use Rattle.op_fk_join.specs.inner.JoinTables.{s_rise, t_rise, s_wide, t_wide, both_sound, related_after, s_from, t_from, none_drawn, s_still, t_still}
 use Rattle.foreign_keys.specs.Shared.{FkFits}
 

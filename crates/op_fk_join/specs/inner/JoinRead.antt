@@ -10,18 +10,18 @@ use Rattle.op_law.specs.Meaning.{Meaning, PairState, flip}
 use Rattle.op_law.specs.Premises.{IsPair}
 use Rattle.op_law.specs.Laws.{HalfLaws, Laws}
 use Rattle.op_rows.specs.Cells.{first_cell}
-use Rattle.op_rows.specs.CellLemmas.{has_id, none_at, rise_ids}
-use Rattle.op_rows.specs.Tabulated.{row_from, rise_from}
+use Rattle.op_rows.specs.inner.CellLemmas.{has_id, none_at, rise_ids}
+use Rattle.op_rows.specs.inner.Tabulated.{row_from, rise_from}
 use Rattle.row_parts.specs.RowCells.{Cell, is_there, or_else, kept_if, map_cell, in_cell, by_test, by_option}
 use Rattle.op_tables.specs.SideTables.{first_table, second_table}
 use Rattle.foreign_keys.specs.Parts.{FkParts, FkWell}
 use Rattle.foreign_keys.specs.References.{goal_of, is_goal, at_goal, referred}
 use Rattle.op_tables.specs.Lookups.{wide_at, one_at, two_at, one_rise, two_rise}
-use Rattle.foreign_keys.specs.ReferenceLemmas.{is_goal_of, goal_is, referrer}
+use Rattle.foreign_keys.specs.inner.ReferenceLemmas.{is_goal_of, goal_is, referrer}
 use Rattle.op_fk_join.specs.Join.{joined_row, join_refs, unjoined, unreferred, back_first_at, back_first, back_second_at, back_second, join_fk}
 use Rattle.foreign_keys.specs.Shared.{FkFits, head_or_null}
 use Rattle.foreign_keys.specs.Seeking.{seek, goals_in}
-use Rattle.foreign_keys.specs.SeekLemmas.{seek_none, seek_some, goals_out, goals_rise}
+use Rattle.foreign_keys.specs.inner.SeekLemmas.{seek_none, seek_some, goals_out, goals_rise}
 use Rattle.op_fk_join.specs.inner.JoinLaws.{none_join, at_goal_is, target_one, source_two, forward, kept, below, still}
 
 -- none in place of what is missing changes nothing

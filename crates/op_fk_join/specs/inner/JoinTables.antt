@@ -8,17 +8,17 @@ use Rattle.op_law.specs.Tables.{RowsWide}
 use Rattle.op_law.specs.Sound.{ValueSound, RowsSound, TablesSound}
 use Rattle.op_law.specs.Identifiers.{ids_over}
 use Rattle.op_rows.specs.Cells.{CellWide, CellSound}
-use Rattle.op_rows.specs.CellLemmas.{below_ids}
+use Rattle.op_rows.specs.inner.CellLemmas.{below_ids}
 use Rattle.row_parts.specs.RowCells.{Cell, or_else, id_or, value_or, by_test, by_option}
 use Rattle.foreign_keys.specs.Parts.{FkParts, FkWell}
 use Rattle.foreign_keys.specs.References.{goal_of, at_goal}
 use Rattle.foreign_keys.specs.Drawn.{numbered, place}
 use Rattle.op_tables.specs.Lookups.{sound_at, wide_at, two_at, two_rise, wide_table, sound_table}
 use Rattle.op_law.proofs.SoundLaws.{below_more, value_more, rows_more}
-use Rattle.foreign_keys.specs.DrawnLemmas.{place_under, numbered_from, distinct, has_needed, numbered_rise, drawn_none, drawn_wide, drawn_sound}
+use Rattle.foreign_keys.specs.inner.DrawnLemmas.{place_under, numbered_from, distinct, has_needed, numbered_rise, drawn_none, drawn_wide, drawn_sound}
 use Rattle.op_fk_join.specs.Join.{joined_row, stays_at, key_kept, first_with, draws_join, needs_join, join_drawn, ref_join, left_in, join_first_in, join_first, join_second, s_before, t_before}
 use Rattle.foreign_keys.specs.Shared.{Ready}
-use Rattle.op_tables.specs.CellFacts.{cell_has, or_has}
+use Rattle.op_tables.specs.inner.CellFacts.{cell_has, or_has}
 use Rattle.op_fk_join.specs.inner.JoinFacts.{first_at_of, join_kept, join_needs_none, join_first_still}
 use Rattle.par_base.specs.SameRows.{same_row}
 

@@ -7,7 +7,7 @@ use Rattle.version_model.specs.Calls.{crossing_of}
 use Rattle.version_model.specs.Kept.{rows_now}
 use Rattle.storage_law.specs.Storage.{stored_way}
 use Rattle.db_state.specs.Fields.{state_of}
-use Rattle.db_state.specs.Passes.{Settles}
+use Rattle.db_state.specs.inner.Passes.{Settles}
 use Rattle.db_state.proofs.CrossLemmas.{far_long, has_aux, has_memory, may_read, near_kept, near_within, none_kept, same_crossing, settles, some_kept}
 use Rattle.db_state.proofs.read.cross.Goals as goal
 

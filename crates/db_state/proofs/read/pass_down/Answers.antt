@@ -6,7 +6,7 @@ use Rattle.version_model.specs.Kept.{rows_now}
 use Rattle.version_model.specs.Making.{ascending}
 use Rattle.version_model.proofs.AscendingLaws.{length_ascending}
 use Rattle.db_state.specs.Fields.{state_of}
-use Rattle.db_state.specs.Passes.{IsDownTo}
+use Rattle.db_state.specs.inner.Passes.{IsDownTo}
 use Rattle.db_state.proofs.PlaceLemmas.{down_end, down_start, goes_down, may_down}
 use Rattle.db_state.proofs.read.pass_down.Goals as goal
 

@@ -3,7 +3,7 @@ use Rattle.version_graph.specs.Forest.{forest}
 use Rattle.layout_rules.proofs.DownLaws.{below}
 use Rattle.version_model.specs.Kept.{rows_now}
 use Rattle.db_state.specs.Fields.{state_of}
-use Rattle.db_state.specs.Passes.{IsDownTo}
+use Rattle.db_state.specs.inner.Passes.{IsDownTo}
 use Rattle.db_state.proofs.read.pass_down.Given as goal
 
 abbrev pub invariant-loop-left : goal.invariant-loop-left

@@ -2,7 +2,7 @@ use Rattle.version_graph.specs.Forest.{forest}
 use Rattle.layout_rules.proofs.DownLaws.{below}
 use Rattle.version_model.specs.Kept.{rows_now}
 use Rattle.db_state.specs.Fields.{state_of}
-use Rattle.db_state.specs.Passes.{IsUpTo}
+use Rattle.db_state.specs.inner.Passes.{IsUpTo}
 use Rattle.db_state.proofs.read.pass_up.Given as goal
 
 abbrev pub invariant-loop-place : goal.invariant-loop-place

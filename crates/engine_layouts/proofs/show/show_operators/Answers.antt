@@ -1,5 +1,5 @@
 use mathlib.Core.List.{reverse}
-use Rattle.engine_layouts.specs.Calls.{shown_edge}
+use Rattle.engine_layouts.specs.inner.Calls.{shown_edge}
 use Rattle.engine_layouts.proofs.ShowLemmas.{edges_next}
 use Rattle.engine_layouts.proofs.show.show_operators.Goals as goal
 

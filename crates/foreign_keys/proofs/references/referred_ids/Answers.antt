@@ -1,6 +1,6 @@
 use Rattle.std.proofs.Common.{ℕ, List, ◌∙◌, ap}
-use Rattle.op_rows.specs.CellLemmas.{has_id}
-use Rattle.foreign_keys.specs.SeekLemmas.{goals_referred}
+use Rattle.op_rows.specs.inner.CellLemmas.{has_id}
+use Rattle.foreign_keys.specs.inner.SeekLemmas.{goals_referred}
 use Rattle.foreign_keys.proofs.references.referred_ids.Goals as goal
 
 pub returns : goal.returns

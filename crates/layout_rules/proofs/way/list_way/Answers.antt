@@ -1,6 +1,6 @@
 use Rattle.std.proofs.Common.{ap, ◌∙◌, ◌++◌}
 use mathlib.Core.List.{reverse}
-use Rattle.layout_rules.specs.Reached.{way_with}
+use Rattle.layout_rules.specs.inner.Reached.{way_with}
 use Rattle.layout_rules.proofs.PassLaws.{past_edges}
 use Rattle.layout_rules.proofs.WayPassLemmas.{way_all, way_next}
 use Rattle.layout_rules.proofs.way.list_way.Goals as goal

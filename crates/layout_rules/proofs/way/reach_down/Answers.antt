@@ -1,5 +1,5 @@
 use Rattle.std.proofs.Common.{ap, ◌∙◌}
-use Rattle.layout_rules.specs.Reached.{down_from, down_with}
+use Rattle.layout_rules.specs.inner.Reached.{down_from, down_with}
 use Rattle.layout_rules.proofs.DownLaws.{below_past}
 use Rattle.layout_rules.proofs.WayPassLemmas.{down_next}
 use Rattle.layout_rules.proofs.way.reach_down.Goals as goal

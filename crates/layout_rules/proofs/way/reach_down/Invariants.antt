@@ -1,5 +1,5 @@
 use Rattle.std.proofs.Common.{◌≡◌}
-use Rattle.layout_rules.specs.Reached.{down_from}
+use Rattle.layout_rules.specs.inner.Reached.{down_from}
 use Rattle.layout_rules.proofs.DownLaws.{below}
 use Rattle.layout_rules.proofs.way.reach_down.Given as goal
 

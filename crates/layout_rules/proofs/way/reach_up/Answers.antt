@@ -1,5 +1,5 @@
 use Rattle.std.proofs.Common.{ap, ◌∙◌, arith}
-use Rattle.layout_rules.specs.Reached.{up_from, up_with}
+use Rattle.layout_rules.specs.inner.Reached.{up_from, up_with}
 use Rattle.layout_rules.proofs.DownLaws.{below_all}
 use Rattle.layout_rules.proofs.WayPassLemmas.{up_step}
 use Rattle.layout_rules.proofs.way.reach_up.Goals as goal

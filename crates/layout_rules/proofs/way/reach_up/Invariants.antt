@@ -1,6 +1,6 @@
 use Rattle.std.proofs.Common.{◌≡◌, ◌≤◌, length}
 use Rattle.version_graph.specs.Forest.{forest}
-use Rattle.layout_rules.specs.Reached.{up_from}
+use Rattle.layout_rules.specs.inner.Reached.{up_from}
 use Rattle.layout_rules.proofs.DownLaws.{below}
 use Rattle.layout_rules.proofs.way.reach_up.Given as goal
 

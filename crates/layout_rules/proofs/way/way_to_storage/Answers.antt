@@ -4,7 +4,7 @@ use mathlib.Core.List.{reverse}
 use Rattle.version_graph.specs.Sets.{In}
 use Rattle.version_graph.specs.Edges.{Rises}
 use Rattle.version_graph.specs.Forest.{forest}
-use Rattle.layout_rules.specs.Reached.{way_along}
+use Rattle.layout_rules.specs.inner.Reached.{way_along}
 use Rattle.layout_rules.specs.Ways.{IsOnWay}
 use Rattle.layout_rules.proofs.PassLaws.{if_ok_more}
 use Rattle.layout_rules.proofs.WayPassLemmas.{way_is, way_listed, way_rise}

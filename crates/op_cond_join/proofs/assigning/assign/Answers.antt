@@ -3,7 +3,7 @@ use Rattle.std.proofs.lemmas.Result.{err_from_is_err_and}
 use Rattle.id_memory.specs.States.{CounterState}
 use Rattle.op_cond_join.specs.Joinings.{joining}
 use Rattle.op_cond_join.specs.Assigned.{Assigning, place_row, ending}
-use Rattle.op_cond_join.specs.Assignings.{assigning, AreBelowNext}
+use Rattle.op_cond_join.specs.inner.Assignings.{assigning, AreBelowNext}
 use Rattle.op_cond_join.proofs.AssigningLemmas.{assign_step, step_within, placed_below, placed_rises, refused_later}
 use Rattle.op_cond_join.proofs.assigning.assign.Goals as goal
 

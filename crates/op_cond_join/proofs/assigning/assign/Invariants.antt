@@ -2,7 +2,7 @@ use Rattle.std.proofs.Common.{◌≡◌, ◌≤◌, take}
 use Rattle.op_law.specs.Calls.{first_refused}
 use Rattle.op_cond_join.specs.Joinings.{joining}
 use Rattle.op_cond_join.specs.Assigned.{assigned, ending}
-use Rattle.op_cond_join.specs.Assignings.{assigning, AreBelowNext, Knows}
+use Rattle.op_cond_join.specs.inner.Assignings.{assigning, AreBelowNext, Knows}
 use Rattle.op_cond_join.proofs.assigning.assign.Given as goal
 
 abbrev pub invariant-loop-row : goal.invariant-loop-row

@@ -1,5 +1,5 @@
 use Rattle.std.proofs.Common.{◌≡◌, take}
-use Rattle.op_cond_join.specs.Changed.{changed_in}
+use Rattle.op_cond_join.specs.inner.Changed.{changed_in}
 use Rattle.op_cond_join.proofs.changed.changed_ids.Given as goal
 
 abbrev pub invariant-loop-row : goal.invariant-loop-row

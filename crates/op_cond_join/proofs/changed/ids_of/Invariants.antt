@@ -1,5 +1,5 @@
 use Rattle.std.proofs.Common.{◌≡◌, take}
-use Rattle.op_cond_join.specs.Changed.{ids_of}
+use Rattle.op_cond_join.specs.inner.Changed.{ids_of}
 use Rattle.op_cond_join.proofs.changed.ids_of.Given as goal
 
 abbrev pub invariant-loop-row : goal.invariant-loop-row

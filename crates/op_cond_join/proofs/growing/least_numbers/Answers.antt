@@ -1,5 +1,5 @@
 use Rattle.std.proofs.Common.{◌≡◌, ◌+◌, ◌-◌, ℕ, drop, sym, subst, arith}
-use Rattle.op_cond_join.specs.Assignings.{HasLeast}
+use Rattle.op_cond_join.specs.inner.Assignings.{HasLeast}
 use Rattle.op_cond_join.proofs.GrowingLemmas.{front_more}
 use Rattle.op_cond_join.proofs.growing.least_numbers.Goals as goal
 

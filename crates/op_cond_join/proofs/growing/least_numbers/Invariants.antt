@@ -1,5 +1,5 @@
 use Rattle.std.proofs.Common.{◌≤◌, length, drop}
-use Rattle.op_cond_join.specs.Assignings.{HasLeast}
+use Rattle.op_cond_join.specs.inner.Assignings.{HasLeast}
 use Rattle.op_cond_join.proofs.growing.least_numbers.Given as goal
 
 abbrev pub invariant-loop-left : goal.invariant-loop-left

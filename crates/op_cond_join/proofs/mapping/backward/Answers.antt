@@ -2,7 +2,7 @@ use Rattle.std.proofs.Common.{◌∙◌, ap}
 use Rattle.id_memory.specs.States.{CounterState}
 use Rattle.op_law.specs.Calls.{seen}
 use Rattle.op_cond_join.specs.Joinings.{joining}
-use Rattle.op_cond_join.specs.Assignings.{assigning}
+use Rattle.op_cond_join.specs.inner.Assignings.{assigning}
 use Rattle.op_cond_join.proofs.MappingLemmas.{start_is, start_below, backward_entries, backward_mapped}
 use Rattle.op_cond_join.proofs.mapping.backward.Goals as goal
 

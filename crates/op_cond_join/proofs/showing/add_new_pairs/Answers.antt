@@ -1,4 +1,4 @@
-use Rattle.op_cond_join.specs.Calls.{is_new_in}
+use Rattle.op_cond_join.specs.inner.Calls.{is_new_in}
 use Rattle.op_cond_join.proofs.ShowingLemmas.{new_more}
 use Rattle.op_cond_join.proofs.showing.add_new_pairs.Goals as goal
 

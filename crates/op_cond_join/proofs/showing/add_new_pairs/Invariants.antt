@@ -1,7 +1,7 @@
 use Rattle.std.proofs.Common.{◌≡◌, ◌++◌, ◌&&◌, not, filter, take}
 use Rattle.op_cond_join.specs.Shown.{has}
-use Rattle.op_cond_join.specs.Changed.{pairs_of}
-use Rattle.op_cond_join.specs.Calls.{shows}
+use Rattle.op_cond_join.specs.inner.Changed.{pairs_of}
+use Rattle.op_cond_join.specs.inner.Calls.{shows}
 use Rattle.op_cond_join.proofs.showing.add_new_pairs.Given as goal
 
 abbrev pub invariant-loop-b : goal.invariant-loop-b

@@ -1,6 +1,6 @@
 use Rattle.std.proofs.Common.{sym, subst}
 use Rattle.id_memory.specs.Pairs.{Pairs}
-use Rattle.op_cond_join.specs.PairLemmas.{AllIn, all_in}
+use Rattle.op_cond_join.specs.inner.PairLemmas.{AllIn, all_in}
 use Rattle.op_cond_join.proofs.ShowingLemmas.{pair_in}
 use Rattle.op_cond_join.proofs.showing.kept_pairs.Goals as goal
 

@@ -1,6 +1,6 @@
 use Rattle.std.proofs.Common.{◌≡◌, Some, sym, subst}
 use Rattle.row_store.specs.Rows.{Rows, RiseFrom, row_of}
-use Rattle.op_cond_join.specs.Calls.{is_new_in}
+use Rattle.op_cond_join.specs.inner.Calls.{is_new_in}
 use Rattle.op_cond_join.proofs.ShowingLemmas.{all_more}
 use Rattle.op_cond_join.proofs.ChangedLemmas.{row_there}
 use Rattle.op_cond_join.proofs.showing.new_pairs.Goals as goal

@@ -1,6 +1,6 @@
 use Rattle.std.proofs.Common.{◌≡◌, take}
 use Rattle.op_cond_join.specs.Assigned.{kept_in}
-use Rattle.op_cond_join.specs.Assignings.{KnowsPairs}
+use Rattle.op_cond_join.specs.inner.Assignings.{KnowsPairs}
 use Rattle.op_cond_join.proofs.unchanged.kept_in.Given as goal
 
 abbrev pub invariant-loop-row : goal.invariant-loop-row

@@ -2,7 +2,7 @@ use Rattle.std.proofs.Common.{◌≡◌, ap, sym, ◌∙◌, subst, IfOk}
 use Rattle.row_parts.specs.RowCells.{Cell}
 use Rattle.foreign_keys.specs.Seeking.{out_at}
 use Rattle.foreign_keys.specs.Shared.{second_part_at}
-use Rattle.foreign_keys.specs.SeekLemmas.{seek_led}
+use Rattle.foreign_keys.specs.inner.SeekLemmas.{seek_led}
 use Rattle.op_fk_decompose.specs.Decompose.{leads}
 use Rattle.op_fk_decompose.proofs.reading.seek.Goals as goal
 

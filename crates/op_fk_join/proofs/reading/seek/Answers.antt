@@ -1,7 +1,7 @@
 use Rattle.std.proofs.Common.{ℕ, Option, sym, ap, ◌∙◌}
 use Rattle.row_parts.specs.RowCells.{Cell}
 use Rattle.foreign_keys.specs.Seeking.{out_at}
-use Rattle.foreign_keys.specs.SeekLemmas.{seek_led}
+use Rattle.foreign_keys.specs.inner.SeekLemmas.{seek_led}
 use Rattle.foreign_keys.specs.Shared.{second_part_at}
 use Rattle.op_fk_join.specs.Join.{key_leads}
 use Rattle.op_fk_join.proofs.reading.seek.Goals as goal

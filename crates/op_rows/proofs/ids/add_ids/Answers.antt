@@ -2,7 +2,7 @@ use Rattle.std.proofs.Common.{ℕ, List, get_or, ap, sym, ◌∙◌, subst}
 use Rattle.row_store.specs.Rows.{Rows, RiseFrom}
 use Rattle.row_store.specs.States.{TableState}
 use Rattle.op_law.specs.Identifiers.{ids_in}
-use Rattle.op_rows.specs.CellLemmas.{IdsRise, rise_in}
+use Rattle.op_rows.specs.inner.CellLemmas.{IdsRise, rise_in}
 use Rattle.op_rows.proofs.PassLemmas.{ids_next, rise_next}
 use Rattle.op_rows.proofs.ids.add_ids.Goals as goal
 

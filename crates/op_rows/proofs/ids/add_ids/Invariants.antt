@@ -1,7 +1,7 @@
 use Rattle.std.proofs.Common.{◌≡◌, take}
 use Rattle.op_law.specs.Tables.{contents}
 use Rattle.op_law.specs.Identifiers.{ids_over}
-use Rattle.op_rows.specs.CellLemmas.{IdsRise, AllRise}
+use Rattle.op_rows.specs.inner.CellLemmas.{IdsRise, AllRise}
 use Rattle.op_rows.proofs.ids.add_ids.Given as goal
 
 abbrev pub invariant-loop-table : goal.invariant-loop-table

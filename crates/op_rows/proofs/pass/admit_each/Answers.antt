@@ -1,7 +1,7 @@
 use Rattle.std.proofs.Common.{Some, Option, ◌∙◌, ap, subst, length, get_or, arith}
 use Rattle.op_rows.specs.Cells.{Cells, cells_at}
 use Rattle.op_rows.specs.RowCalls.{AdmitsRows}
-use Rattle.op_rows.specs.Passes.{read_at}
+use Rattle.op_rows.specs.inner.Passes.{read_at}
 use Rattle.op_rows.proofs.PassLemmas.{made_of_none, pass_more, pass_below, has_next, admitted_is}
 use Rattle.op_rows.proofs.pass.admit_each.Goals as goal
 

@@ -1,9 +1,9 @@
 use Rattle.std.proofs.Common.{◌≡◌, ℕ, true, Some, take}
 use Rattle.op_law.specs.Tables.{contents}
 use Rattle.op_rows.specs.Cells.{cells_at, tables_from}
-use Rattle.op_rows.specs.CellLemmas.{has_id}
+use Rattle.op_rows.specs.inner.CellLemmas.{has_id}
 use Rattle.op_rows.specs.RowCalls.{AdmitsRows}
-use Rattle.op_rows.specs.Passes.{read_at}
+use Rattle.op_rows.specs.inner.Passes.{read_at}
 use Rattle.op_rows.proofs.pass.admit_each.Given as goal
 
 abbrev pub invariant-loop-id : goal.invariant-loop-id

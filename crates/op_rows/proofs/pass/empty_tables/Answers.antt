@@ -1,7 +1,7 @@
 use Rattle.std.proofs.Common.{[], ◌∷◌, ◌++◌, ap, ◌∙◌}
 use Rattle.op_law.specs.Tables.{Tables, contents}
 use Rattle.row_store.specs.Rows.{Rows}
-use Rattle.op_rows.specs.Passes.{without_rows}
+use Rattle.op_rows.specs.inner.Passes.{without_rows}
 use Rattle.op_rows.proofs.PassLemmas.{contents_more, more_without_rows}
 use Rattle.op_rows.proofs.pass.empty_tables.Goals as goal
 

@@ -3,7 +3,7 @@ use Rattle.row_store.specs.Rows.{AreBelow}
 use Rattle.row_store.specs.States.{TableState}
 use Rattle.op_law.specs.Tables.{contents}
 use Rattle.op_rows.specs.Cells.{Cells}
-use Rattle.op_rows.specs.Passes.{with_cells}
+use Rattle.op_rows.specs.inner.Passes.{with_cells}
 use Rattle.op_rows.proofs.PassLemmas.{with_no_cells, with_first_cells, below_at, set_before, take_within, last_moved, one_shorter, set_long}
 use Rattle.op_rows.proofs.pass.push_cells.Goals as goal
 

@@ -2,7 +2,7 @@ use Rattle.std.proofs.Common.{◌≡◌, ℕ, ◌<◌, ◌≤◌, length, slice_
 use Rattle.row_store.specs.Rows.{AreBelow}
 use Rattle.row_store.specs.States.{TableState}
 use Rattle.op_law.specs.Tables.{contents}
-use Rattle.op_rows.specs.Passes.{with_cells}
+use Rattle.op_rows.specs.inner.Passes.{with_cells}
 use Rattle.op_rows.proofs.pass.push_cells.Given as goal
 
 abbrev pub invariant-loop-cell : goal.invariant-loop-cell

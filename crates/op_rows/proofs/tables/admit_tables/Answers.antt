@@ -5,7 +5,7 @@ use Rattle.op_law.specs.Identifiers.{ids_over}
 use Rattle.op_law.specs.Calls.{tables_of}
 use Rattle.op_rows.specs.declared.near_side.NearSide.{NearSide}
 use Rattle.op_rows.specs.NearSides.{seen_from, half_from, far_tables}
-use Rattle.op_rows.specs.Passes.{AdmitsEach}
+use Rattle.op_rows.specs.inner.Passes.{AdmitsEach}
 use Rattle.op_rows.proofs.PremiseLemmas.{near_rows, few_made, contents_long}
 use Rattle.op_rows.proofs.AdmissionLemmas.{admits_made, admits_no_row, admits_no_memory, admits_no_number}
 use Rattle.op_rows.proofs.tables.admit_tables.Goals.{then-len-ne0-via-then-len-ne0, then-len-ne0-via-else-len-ne0+then-kept-count_aux}

@@ -1,6 +1,6 @@
 use Rattle.std.proofs.Common.{sym, subst}
 use Rattle.row_store.specs.Rows.{RiseFrom}
-use Rattle.op_rows.specs.CellLemmas.{IdsRise, rise_in}
+use Rattle.op_rows.specs.inner.CellLemmas.{IdsRise, rise_in}
 use Rattle.op_tables.proofs.pass.with_ids.Goals as goal
 
 pub returns-clause-rise : goal.returns-clause-rise

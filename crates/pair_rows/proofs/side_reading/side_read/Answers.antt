@@ -1,6 +1,6 @@
 use Rattle.std.proofs.Common.{ℕ, Option, ap, ◌∙◌, sym, subst, List, slice_index_or}
 use Rattle.row_store.specs.Rows.{Rows, AreBelow, row_of}
-use Rattle.op_rows.specs.CellLemmas.{IdsRise}
+use Rattle.op_rows.specs.inner.CellLemmas.{IdsRise}
 use Rattle.row_parts.specs.RowCells.{Cell, or_else}
 use Rattle.pair_rows.specs.Kept.{paired, part_at}
 use Rattle.pair_rows.specs.Halves.{pick_of}

@@ -1,5 +1,5 @@
 use Rattle.std.proofs.Common.{◌≡◌, vec_capacity}
-use Rattle.row_store.specs.Passes.{HasPassed}
+use Rattle.row_store.specs.inner.Passes.{HasPassed}
 use Rattle.row_store.proofs.exchange.exchange_all.Given as goal
 
 abbrev pub invariant-loop-change : goal.invariant-loop-change

@@ -1,6 +1,6 @@
 use Rattle.std.proofs.Common.{sym, ◌∙◌}
 use Rattle.foreign_keys.proofs.DrawLemmas.{place_there, no_place}
-use Rattle.foreign_keys.specs.DrawnLemmas.{place_end}
+use Rattle.foreign_keys.specs.inner.DrawnLemmas.{place_end}
 use Rattle.foreign_keys.proofs.drawn.Drawn.place.Goals as goal
 
 pub returns-in-Some-clause-value : goal.returns-in-Some-clause-value

@@ -1,7 +1,7 @@
 use Rattle.std.proofs.Common.{ℕ, ◌+◌, List, length, subst}
 use Rattle.op_law.specs.Calls.{tables_of}
 use Rattle.op_fk_decompose.specs.Columns.{column_parts}
-use Rattle.op_fk_decompose.specs.Admitted.{IsTold}
+use Rattle.op_fk_decompose.specs.inner.Admitted.{IsTold}
 use Rattle.op_fk_decompose.proofs.AdmissionLemmas.{told}
 use Rattle.op_fk_decompose.proofs.decompose.DecomposeFkOperator.admit_target.Goals as goal
 

@@ -1,7 +1,7 @@
 use Rattle.std.proofs.Common.{ℕ, ◌+◌, ◌-◌, subst}
 use Rattle.op_law.specs.Calls.{tables_of}
 use Rattle.op_fk_join.specs.Columns.{side_parts}
-use Rattle.op_fk_join.specs.Admitted.{IsJoinTold}
+use Rattle.op_fk_join.specs.inner.Admitted.{IsJoinTold}
 use Rattle.op_fk_join.proofs.AdmissionLemmas.{join_told}
 use Rattle.op_fk_join.proofs.join.JoinFkOperator.admit_source.Goals as goal
 

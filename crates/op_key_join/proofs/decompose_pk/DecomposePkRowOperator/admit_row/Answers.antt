@@ -1,6 +1,6 @@
 use Rattle.std.proofs.Common.{refl, rules}
 use Rattle.op_key_join.specs.DecomposePk.{decompose_pk}
-use Rattle.op_key_join.specs.DecomposePkLaws.{decompose_pk_laws}
+use Rattle.op_key_join.specs.inner.DecomposePkLaws.{decompose_pk_laws}
 use Rattle.op_key_join.proofs.AdmissionLemmas.{admits_none}
 use Rattle.op_key_join.proofs.PkAdmission.{admits_none_neither, admits_pk}
 use Rattle.op_key_join.proofs.decompose_pk.DecomposePkRowOperator.admit_row.Goals as goal

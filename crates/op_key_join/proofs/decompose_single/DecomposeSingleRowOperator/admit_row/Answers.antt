@@ -1,6 +1,6 @@
 use Rattle.std.proofs.Common.{refl, rules}
 use Rattle.op_key_join.specs.DecomposeSingle.{decompose_single}
-use Rattle.op_key_join.specs.DecomposeSingleLaws.{decompose_single_laws}
+use Rattle.op_key_join.specs.inner.DecomposeSingleLaws.{decompose_single_laws}
 use Rattle.op_key_join.proofs.AdmissionLemmas.{admits_none}
 use Rattle.op_key_join.proofs.SingleAdmission.{admits_single}
 use Rattle.op_key_join.proofs.decompose_single.DecomposeSingleRowOperator.admit_row.Goals as goal

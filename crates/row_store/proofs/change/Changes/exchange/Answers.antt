@@ -2,7 +2,7 @@ use Rattle.std.proofs.Common.{◌≡◌, subst, sym, arith}
 use Rattle.std.proofs.lemmas.Grind.{common_steps}
 use Rattle.std.specs.Vec.{with_items}
 use Rattle.row_store.specs.Changes.{ChangesRise}
-use Rattle.row_store.specs.Passes.{exchanged}
+use Rattle.row_store.specs.inner.Passes.{exchanged}
 use Rattle.row_store.proofs.UndoLaws.{exchanged_rise}
 use Rattle.row_store.proofs.change.Changes.exchange.Goals as goal
 

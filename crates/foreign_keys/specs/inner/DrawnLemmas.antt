@@ -5,7 +5,7 @@ use Rattle.par_base.specs.declared.value.Value.{Value}
 use Rattle.row_store.specs.Rows.{Rows, RiseFrom, row_of}
 use Rattle.op_law.specs.Tables.{RowsWide}
 use Rattle.op_law.specs.Sound.{ValuesSound, RowsSound}
-use Rattle.op_rows.specs.CellLemmas.{is_same}
+use Rattle.op_rows.specs.inner.CellLemmas.{is_same}
 use Rattle.row_parts.specs.RowCells.{by_test, by_option}
 use Rattle.foreign_keys.specs.Parts.{FkParts, FkWell}
 use Rattle.foreign_keys.specs.Drawn.{Values, numbered, add_once, has, place, drawn}

@@ -10,14 +10,14 @@ use Rattle.op_law.specs.Tables.{RowsWide}
 use Rattle.op_law.specs.Sound.{PairsSound}
 use Rattle.row_parts.specs.Places.{pick as part, row_of_both as joined_row, ArePartition}
 use Rattle.row_parts.specs.RowCells.{Cell, by_test, by_option}
-use Rattle.row_parts.specs.PlaceLemmas.{length-pick, first_join, second_join}
-use Rattle.pair_rows.specs.Numbers.{same_number, is_own, count_cons}
-use Rattle.pair_rows.specs.Lookups.{apart, below_weaker, wide_at}
-use Rattle.op_cond_join.specs.PairLemmas.{count_yes, count_no, has_not}
+use Rattle.row_parts.specs.inner.PlaceLemmas.{length-pick, first_join, second_join}
+use Rattle.pair_rows.specs.inner.Numbers.{same_number, is_own, count_cons}
+use Rattle.pair_rows.specs.inner.Lookups.{apart, below_weaker, wide_at}
+use Rattle.op_cond_join.specs.inner.PairLemmas.{count_yes, count_no, has_not}
 use Rattle.op_cond_join.specs.Shown.{Joining, join_cells, row_at, IsJoined, has}
-use Rattle.op_cond_join.specs.ShownLaws.{row_for, joined_found}
+use Rattle.op_cond_join.specs.inner.ShownLaws.{row_for, joined_found}
 use Rattle.op_cond_join.specs.Assigned.{unchanged, kept_entry, kept_in, Assigning, Placed, first_got, second_got, last_got, place_changed, place_by, place_row, assigned, ending, beginning}
-use Rattle.op_cond_join.specs.TakenPairs.{FirstsBelow, firsts_weaker, firsts_behind, has_behind, has_before, not_taken, unchanged_pair, unchanged_row}
+use Rattle.op_cond_join.specs.inner.TakenPairs.{FirstsBelow, firsts_weaker, firsts_behind, has_behind, has_before, not_taken, unchanged_pair, unchanged_row}
 use Rattle.op_cond_join.specs.Getting.{IsGot, got_is, under, OwnIs, side_is}
 
 -- a joined row from its cells

@@ -7,7 +7,7 @@ use Rattle.row_store.specs.Rows.{Rows, RiseFrom, row_of}
 use Rattle.op_law.specs.Tables.{Tables, Heading, RowsWide, AreTablesOf, empty_tables}
 use Rattle.op_law.specs.Sound.{IsBelow, RowsSound, TablesSound, HasRow}
 use Rattle.op_rows.specs.Cells.{Cells, cells_at, nones, first_cell, other_cells, with_row, table_from, tables_from, CellWide, AreCellsOf, CellSound, CellsSound}
-use Rattle.op_rows.specs.CellLemmas.{is_same, has_id, IdsRise, IdsBelow, AllRise}
+use Rattle.op_rows.specs.inner.CellLemmas.{is_same, has_id, IdsRise, IdsBelow, AllRise}
 
 from_head : (x : ℕ) (xs : List ℕ) (f : ℕ → Option (List Value)) (id : ℕ) (o : Option (List Value)) → f x ≡ o → row_of (table_from xs f) id ≡ cond (has_id xs id) (f id) None → row_of (with_row x o (table_from xs f)) id ≡ cond (cond (x == id) true (has_id xs id)) (f id) None
 from_head x xs f id None e rest =

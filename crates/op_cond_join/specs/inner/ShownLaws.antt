@@ -9,10 +9,10 @@ use Rattle.op_law.specs.Sound.{IsBelow, RowsSound, PairsSound}
 use Rattle.op_law.proofs.SoundLaws.{rows_more, pairs_more}
 use Rattle.op_rows.specs.Cells.{with_row, CellSound}
 use Rattle.row_parts.specs.RowCells.{Cell, by_test, by_option}
-use Rattle.pair_rows.specs.Numbers.{same_number}
-use Rattle.op_cond_join.specs.JoinedRows.{joined_long, joined_sound}
-use Rattle.pair_rows.specs.Lookups.{rise_more, cell_sound, below_some}
-use Rattle.op_cond_join.specs.PairLemmas.{often_numbered, often_filter, never, once_all, count_filter, count_append, has_not, filter_rises, numbered_rises, append_rises, filter_pairs_sound, append_pairs_sound, BothBelow, numbered_sound, append_pair, filter_pair, numbered_pair, AllIn, all_in}
+use Rattle.pair_rows.specs.inner.Numbers.{same_number}
+use Rattle.op_cond_join.specs.inner.JoinedRows.{joined_long, joined_sound}
+use Rattle.pair_rows.specs.inner.Lookups.{rise_more, cell_sound, below_some}
+use Rattle.op_cond_join.specs.inner.PairLemmas.{often_numbered, often_filter, never, once_all, count_filter, count_append, has_not, filter_rises, numbered_rises, append_rises, filter_pairs_sound, append_pairs_sound, BothBelow, numbered_sound, append_pair, filter_pair, numbered_pair, AllIn, all_in}
 use Rattle.op_cond_join.specs.Shown.{Joining, join_cells, row_at, matches, joined, AreThere, IsJoined, has, is_shown, all_pairs, new_pairs, numbered, kept_pairs, shown_pairs}
 
 module _ (j : Joining) where

@@ -5,7 +5,7 @@ use Rattle.row_store.specs.States.{TableState}
 use Rattle.op_law.specs.Tables.{Tables, contents}
 use Rattle.op_law.specs.Identifiers.{ids_in}
 use Rattle.op_rows.specs.Cells.{Cells, cells_at, first_cell, other_cells, with_row, tables_from}
-use Rattle.op_rows.specs.CellLemmas.{has_id}
+use Rattle.op_rows.specs.inner.CellLemmas.{has_id}
 use Rattle.op_rows.specs.RowMeaning.{RowMeaning}
 use Rattle.op_rows.specs.RowCalls.{AdmitsRows}
 

@@ -11,7 +11,7 @@ use Rattle.op_split_merge.specs.Twins.{Cell, first_to, second_to, AreTwinsOf, re
 use Rattle.op_split_merge.specs.Sides.{nth_cell, targets_of, SourceCells, TargetCells, source_cells, target_cells, source_wide, target_wide, source_long, target_long, nth_sound, targets_sound}
 use Rattle.op_split_merge.specs.Auxiliary.{split_aux}
 use Rattle.op_split_merge.specs.Split.{test_of, ConditionSound, aux_count, SplitFits, SplitRelated, split_forward, split_aux_at_source, split_read_target, split}
-use Rattle.op_split_merge.specs.TwinLaws.{to_related, first_either, second_either, first_still, second_still, first_recovered, second_recovered, from_related, from_still, rest_either, source_either, none_second}
+use Rattle.op_split_merge.specs.inner.TwinLaws.{to_related, first_either, second_either, first_still, second_still, first_recovered, second_recovered, from_related, from_still, rest_either, source_either, none_second}
 
 -- conditions that may stand may stand later
 pub condition_more : (n k : ℕ) (c : Option (Term ℕ)) → n ≤ k → ConditionSound n c → ConditionSound k c

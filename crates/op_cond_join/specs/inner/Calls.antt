@@ -8,7 +8,7 @@ use Rattle.id_memory.specs.States.{CounterState}
 use Rattle.op_law.specs.Calls.{first_refused}
 use Rattle.op_cond_join.specs.declared.showing.Showing.{Showing}
 use Rattle.op_cond_join.specs.declared.showing.Seconds.{Seconds}
-use Rattle.op_cond_join.specs.Changed.{ids_of, changed_in}
+use Rattle.op_cond_join.specs.inner.Changed.{ids_of, changed_in}
 use Rattle.op_cond_join.specs.Joinings.{joining}
 use Rattle.id_memory.specs.Pairs.{Pairs}
 use Rattle.op_cond_join.specs.Shown.{has, is_shown, new_pairs, shown_pairs}

@@ -7,8 +7,8 @@ use Rattle.row_store.specs.Rows.{Rows, RiseFrom}
 use Rattle.id_memory.specs.Pairs.{Pairs, RiseFrom as PairsRise, pair_of, has_pair}
 use Rattle.op_law.specs.Sound.{IsBelow, PairsSound}
 use Rattle.row_parts.specs.RowCells.{by_test}
-use Rattle.pair_rows.specs.Numbers.{same_number, is_own, count_cons}
-use Rattle.pair_rows.specs.Lookups.{apart}
+use Rattle.pair_rows.specs.inner.Numbers.{same_number, is_own, count_cons}
+use Rattle.pair_rows.specs.inner.Lookups.{apart}
 use Rattle.op_cond_join.specs.Shown.{has, pairs_with, all_pairs, numbered}
 
 -- one that counts

@@ -5,7 +5,7 @@ use Rattle.par_base.specs.declared.value.Value.TheVariants.{Null}
 use Rattle.op_law.specs.Sound.{ValuesSound}
 use Rattle.row_parts.specs.RowCells.{value_or}
 use Rattle.row_parts.specs.Places.{value_for, value_of_both, row_of_both}
-use Rattle.row_parts.specs.PlaceLemmas.{length-filled, filled_sound, value_for_sound}
+use Rattle.row_parts.specs.inner.PlaceLemmas.{length-filled, filled_sound, value_for_sound}
 
 -- a joined row has as many values as there are places
 pub joined_long : (first second : List ℕ) (a b : List Value) → length (row_of_both first second a b) ≡ length first + length second

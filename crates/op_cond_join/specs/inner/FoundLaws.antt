@@ -9,15 +9,15 @@ use Rattle.op_law.proofs.SoundLaws.{rows_more}
 use Rattle.op_rows.specs.Cells.{with_row}
 use Rattle.row_parts.specs.Places.{pick as part, ArePartition}
 use Rattle.row_parts.specs.RowCells.{Cell, map_cell, by_test, by_option}
-use Rattle.row_parts.specs.PlaceLemmas.{pick_sound, join_parts}
-use Rattle.pair_rows.specs.Numbers.{is_own}
+use Rattle.row_parts.specs.inner.PlaceLemmas.{pick_sound, join_parts}
+use Rattle.pair_rows.specs.inner.Numbers.{is_own}
 use Rattle.par_base.specs.SameRows.{row_same}
-use Rattle.pair_rows.specs.Lookups.{apart, sound_at, filter_found, filter_all}
+use Rattle.pair_rows.specs.inner.Lookups.{apart, sound_at, filter_found, filter_all}
 use Rattle.op_cond_join.specs.Shown.{Joining, row_at, joined, AreThere, IsJoined}
-use Rattle.op_cond_join.specs.ShownLaws.{row_for, joined_found, there_cells}
+use Rattle.op_cond_join.specs.inner.ShownLaws.{row_for, joined_found, there_cells}
 use Rattle.op_cond_join.specs.Assigned.{unchanged, Assigning, Placed, first_got, second_got, last_got, place_by, place_row, assigned, ending}
 use Rattle.pair_rows.specs.Stays.{stands, staying}
-use Rattle.op_cond_join.specs.AssignedLaws.{old_pair, Ready, placed, end_grown, first_is, second_is, last_is}
+use Rattle.op_cond_join.specs.inner.AssignedLaws.{old_pair, Ready, placed, end_grown, first_is, second_is, last_is}
 
 -- each entry is one of a row, and the rows of its pair are the row's parts
 abbrev pub AreFound : Joining → Rows → Rows → Pairs → Rows → Type 0

@@ -5,12 +5,12 @@ use Rattle.row_store.proofs.UndoLaws.{ext}
 use Rattle.id_memory.specs.Pairs.{Pairs}
 use Rattle.op_law.specs.Identifiers.{ids_in}
 use Rattle.op_rows.specs.Cells.{first_cell}
-use Rattle.op_rows.specs.CellLemmas.{has_id, IdsRise, has_put, rise_put, rise_in, none_at}
-use Rattle.op_rows.specs.Tabulated.{row_from, rise_from}
+use Rattle.op_rows.specs.inner.CellLemmas.{has_id, IdsRise, has_put, rise_put, rise_in, none_at}
+use Rattle.op_rows.specs.inner.Tabulated.{row_from, rise_from}
 use Rattle.row_parts.specs.RowCells.{Cell, map_cell, or_else, by_test}
 use Rattle.row_parts.specs.Places.{pick as part}
-use Rattle.pair_rows.specs.Numbers.{same_number}
-use Rattle.pair_rows.specs.Lookups.{filter_found, filter_lost, filter_rise}
+use Rattle.pair_rows.specs.inner.Numbers.{same_number}
+use Rattle.pair_rows.specs.inner.Lookups.{filter_found, filter_lost, filter_rise}
 use Rattle.pair_rows.specs.Stays.{stands}
 use Rattle.pair_rows.specs.Kept.{alone, paired, ids_paired, side_read}
 

@@ -7,7 +7,7 @@ use Rattle.op_law.specs.Tables.{RowsWide}
 use Rattle.op_law.specs.Sound.{IsBelow, ValuesSound, RowsSound}
 use Rattle.op_rows.specs.Cells.{CellSound, with_row}
 use Rattle.row_parts.specs.RowCells.{Cell, by_test}
-use Rattle.pair_rows.specs.Numbers.{same_number, is_own}
+use Rattle.pair_rows.specs.inner.Numbers.{same_number, is_own}
 
 -- numbers that differ
 pub apart : (a b : ℕ) → (a ≡ b → ⊥) → (a == b) ≡ false

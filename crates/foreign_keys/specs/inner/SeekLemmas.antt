@@ -2,7 +2,7 @@
 use Rattle.std.proofs.Common.{◌≡◌, ℕ, ◌+◌, ◌==◌, List, [], ◌∷◌, Bool, true, false, cond, Option, Some, None, refl, ap, sym, ◌∙◌, subst, arith}
 use Rattle.par_base.specs.declared.value.Value.{Value}
 use Rattle.row_store.specs.Rows.{Rows, RiseFrom, row_of}
-use Rattle.op_rows.specs.CellLemmas.{is_same, has_id, IdsRise, has_put, rise_put}
+use Rattle.op_rows.specs.inner.CellLemmas.{is_same, has_id, IdsRise, has_put, rise_put}
 use Rattle.row_parts.specs.RowCells.{Cell, by_test}
 use Rattle.foreign_keys.specs.Parts.{FkParts}
 use Rattle.foreign_keys.specs.References.{goal_of, is_goal, referred}

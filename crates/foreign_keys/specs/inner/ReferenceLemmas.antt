@@ -4,7 +4,7 @@ use Rattle.par_base.specs.declared.value.Value.{Value}
 use Rattle.par_base.specs.declared.value.Value.TheVariants.{Null, Int, Text, Reference}
 use Rattle.row_store.specs.Rows.{Rows, RiseFrom, row_of}
 use Rattle.op_law.specs.Sound.{IsBelow, ValueSound}
-use Rattle.op_rows.specs.CellLemmas.{is_same}
+use Rattle.op_rows.specs.inner.CellLemmas.{is_same}
 use Rattle.row_parts.specs.RowCells.{by_test}
 use Rattle.foreign_keys.specs.Parts.{FkParts}
 use Rattle.foreign_keys.specs.References.{goal_of, is_goal, referred}

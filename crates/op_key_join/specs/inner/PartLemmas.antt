@@ -6,7 +6,7 @@ use Rattle.op_law.specs.Sound.{ValuesSound}
 use Rattle.op_rows.specs.Cells.{CellWide, CellSound}
 use Rattle.row_parts.specs.RowCells.{Cell, map_cell, row_or, value_or}
 use Rattle.row_parts.specs.Places.{pick, nulls, value_for, value_of_both, row_of_both}
-use Rattle.row_parts.specs.PlaceLemmas.{length-pick, length-filled, length-nulls, pick_sound, filled_sound, nulls_sound, value_for_sound}
+use Rattle.row_parts.specs.inner.PlaceLemmas.{length-pick, length-filled, length-nulls, pick_sound, filled_sound, nulls_sound, value_for_sound}
 
 -- the values at some places
 pub pick_wide : (places : List ℕ) (c : Cell) → CellWide (length places) (map_cell (pick places) c)

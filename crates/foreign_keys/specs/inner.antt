@@ -1,0 +1,3 @@
+pub mod SeekLemmas
+pub mod DrawnLemmas
+pub mod ReferenceLemmas
