@@ -1,6 +1,6 @@
 pub mod Within
 pub mod Lexemes
-pub mod Answers
+pub mod ReadAnswers
 pub mod Literals
 pub mod Operators
 pub mod Expressions

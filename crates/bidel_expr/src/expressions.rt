@@ -10,8 +10,8 @@ ghost use Rattle.phrases.specs.Chains.{Item};
 ghost use Rattle.bidel_expr.specs.Lexemes.{Lexeme};
 ghost use Rattle.bidel_expr.specs.Operators.{compare_of};
 ghost use Rattle.bidel_expr.specs.Expressions.{Tree, null_test_at, comp_tail, comp_item, neg_item, unary_item, sum_item, primary_item, atom_item, operand_item, level_item, further_item, expression_at};
-ghost use Rattle.bidel_expr.specs.Answers.{ahead, Gives, Makes};
-ghost use Rattle.bidel_expr.specs.inner.Parts.{GivesPart};
+ghost use Rattle.bidel_expr.specs.ReadAnswers.{ahead, ReadsAs, Makes};
+ghost use Rattle.bidel_expr.specs.inner.ExpressionParts.{GivesPart};
 
 use crate::cursor::Cursor;
 use crate::levels::{Level, next_comparison, next_operator};
@@ -91,7 +91,7 @@ fn atom<'a>(
 
 // NULL or NOT NULL behind IS.
 fn take_null_test(cursor: Cursor<'_>) -> Result<(UnaryOp, Cursor<'_>), ReadError>
-    ensures { Gives (λ x. x) null_test_at cursor.entry result }
+    ensures { ReadsAs (λ x. x) null_test_at cursor.entry result }
 {
     match next_keyword(cursor, "not") {
         Some(rest) => Ok((UnaryOp::IsNotNull, take_keyword(rest, "null")?)),
@@ -332,7 +332,7 @@ pub fn take_expression<'a>(
     alloc: Global,
     cursor: Cursor<'a>,
 ) -> Result<(ExprText, Cursor<'a>), ReadError>
-    ensures { Gives text_term expression_at cursor.entry result }
+    ensures { ReadsAs text_term expression_at cursor.entry result }
 {
     let limits = Limits {
         operators: MOST_OPERATORS,

@@ -2,7 +2,7 @@
 ghost use Rattle.std.specs.Prelude.{◌≡◌, bytes_eq, MatchOption};
 ghost use Rattle.bidel_expr.specs.Lexemes.{lexeme_of};
 ghost use Rattle.bidel_expr.specs.Operators.{look_up, comparisons, sums, products, compare_of, op_of};
-ghost use Rattle.bidel_expr.specs.Answers.{IsNext};
+ghost use Rattle.bidel_expr.specs.ReadAnswers.{IsNext};
 
 use crate::cursor::Cursor;
 use crate::terminals::{is_word, next_token};

@@ -3,7 +3,7 @@
 //! A grammar says which tokens spell which value: `specs/Lexemes.antt` has the kinds of one token, `specs/Operators.antt` those
 //! that are operators, `specs/Literals.antt` names, literals and lists, and `specs/Expressions.antt` expressions, each rule a
 //! definition with the reading of it beside it. The readers in `src/` answer exactly what those readings give
-//! (`specs/Answers.antt`); that reading is what the grammar says follows from the laws of the crate `phrases`, rule by rule.
+//! (`specs/ReadAnswers.antt`); that reading is what the grammar says follows from the laws of the crate `phrases`, rule by rule.
 //!
 //! To the crates above it promises that each reader takes exactly what its rule of the grammar spells, and stops at the first
 //! token with which nothing so spelled goes on (`laws`); and that a number, a reference and a text of the bytes have the values

@@ -3,7 +3,7 @@ ghost use Rattle.std.specs.Prelude.{◌≡◌, ◌∷◌, [], map};
 ghost use Rattle.phrases.specs.Reading.{starts, is, either, done, rest_at, behind_at, separated_at, enclosed_at, with_front};
 ghost use Rattle.bidel_expr.specs.Lexemes.{name_of};
 ghost use Rattle.bidel_expr.specs.Literals.{comma_of, further_at, listed_at, name_at, names_at, literal_at, tuple_at, begins_literal};
-ghost use Rattle.bidel_expr.specs.Answers.{ahead, Gives};
+ghost use Rattle.bidel_expr.specs.ReadAnswers.{ahead, ReadsAs};
 
 use crate::cursor::Cursor;
 use crate::literals::{is_literal_next, take_literal};
@@ -30,7 +30,7 @@ pub trait Item {
 
     /// An item.
     fn take<'a>(alloc: Global, cursor: Cursor<'a>) -> Result<(Self::Value, Cursor<'a>), ReadError>
-        ensures { Gives view item_at cursor.entry result };
+        ensures { ReadsAs view item_at cursor.entry result };
 }
 
 /// The names of a list.
@@ -80,7 +80,7 @@ fn further_items<'a, I: Item>(
     first: I::Value,
     cursor: Cursor<'a>,
 ) -> Result<(List<I::Value>, Cursor<'a>), ReadError>
-    ensures { Gives (map I.view) (further_at (I.view first) I.item_at) cursor.entry result }
+    ensures { ReadsAs (map I.view) (further_at (I.view first) I.item_at) cursor.entry result }
 {
     let mut items = List::new(alloc);
     items.push(first)?;
@@ -102,7 +102,7 @@ pub fn take_separated<'a, I: Item>(
     alloc: Global,
     cursor: Cursor<'a>,
 ) -> Result<(List<I::Value>, Cursor<'a>), ReadError>
-    ensures { Gives (map I.view) (separated_at comma_of I.item_at) cursor.entry result }
+    ensures { ReadsAs (map I.view) (separated_at comma_of I.item_at) cursor.entry result }
 {
     let (first, rest) = I::take(alloc, cursor)?;
     further_items::<I>(alloc, first, rest)
@@ -113,7 +113,7 @@ fn enclosed_names<'a>(
     alloc: Global,
     cursor: Cursor<'a>,
 ) -> Result<(List<Name>, Cursor<'a>), ReadError>
-    ensures { Gives (λ x. x) (listed_at (is name_of) name_at) cursor.entry result }
+    ensures { ReadsAs (λ x. x) (listed_at (is name_of) name_at) cursor.entry result }
 {
     match next_name(alloc, cursor)? {
         Some((first, rest)) => further_items::<Names>(alloc, first, rest),
@@ -126,7 +126,7 @@ pub fn take_names<'a>(
     alloc: Global,
     cursor: Cursor<'a>,
 ) -> Result<(List<Name>, Cursor<'a>), ReadError>
-    ensures { Gives (λ x. x) names_at cursor.entry result }
+    ensures { ReadsAs (λ x. x) names_at cursor.entry result }
 {
     let rest = take_sign(cursor, "(")?;
     let (names, rest) = enclosed_names(alloc, rest)?;
@@ -136,7 +136,7 @@ pub fn take_names<'a>(
 
 // The literals between parentheses.
 fn enclosed_literals<'a>(alloc: Global, cursor: Cursor<'a>) -> Result<(Row, Cursor<'a>), ReadError>
-    ensures { Gives (λ x. x) (listed_at begins_literal literal_at) cursor.entry result }
+    ensures { ReadsAs (λ x. x) (listed_at begins_literal literal_at) cursor.entry result }
 {
     if is_literal_next(cursor) {
         take_separated::<Literals>(alloc, cursor)
@@ -147,7 +147,7 @@ fn enclosed_literals<'a>(alloc: Global, cursor: Cursor<'a>) -> Result<(Row, Curs
 
 /// Literals in parentheses.
 pub fn take_tuple<'a>(alloc: Global, cursor: Cursor<'a>) -> Result<(Row, Cursor<'a>), ReadError>
-    ensures { Gives (λ x. x) tuple_at cursor.entry result }
+    ensures { ReadsAs (λ x. x) tuple_at cursor.entry result }
 {
     let rest = take_sign(cursor, "(")?;
     let (literals, rest) = enclosed_literals(alloc, rest)?;

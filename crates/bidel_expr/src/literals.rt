@@ -3,7 +3,7 @@ ghost use Rattle.std.specs.Prelude.{◌≡◌, MatchResult};
 ghost use Rattle.phrases.specs.Reading.{starts, one_at};
 ghost use Rattle.bidel_expr.specs.Lexemes.{lexeme_of, between, text_of, unsigned_of, negative_of};
 ghost use Rattle.bidel_expr.specs.Literals.{literal_at, begins_literal};
-ghost use Rattle.bidel_expr.specs.Answers.{ahead, IsNext, Finds, Gives};
+ghost use Rattle.bidel_expr.specs.ReadAnswers.{ahead, IsNext, Finds, ReadsAs};
 
 use crate::cursor::{Cursor, Next};
 use crate::numbers::number_value;
@@ -104,7 +104,7 @@ fn next_text<'a>(alloc: Global, cursor: Cursor<'a>) -> Result<Option<(Text, Curs
 
 /// A text.
 pub fn take_text<'a>(alloc: Global, cursor: Cursor<'a>) -> Result<(Text, Cursor<'a>), ReadError>
-    ensures { Gives (λ x. x) (one_at text_of) cursor.entry result }
+    ensures { ReadsAs (λ x. x) (one_at text_of) cursor.entry result }
 {
     match next_text(alloc, cursor)? {
         Some(read) => Ok(read),
@@ -114,7 +114,7 @@ pub fn take_text<'a>(alloc: Global, cursor: Cursor<'a>) -> Result<(Text, Cursor<
 
 // The integer of a number behind a minus sign.
 fn take_negative(cursor: Cursor<'_>) -> Result<(Value, Cursor<'_>), ReadError>
-    ensures { Gives (λ x. x) (one_at negative_of) cursor.entry result }
+    ensures { ReadsAs (λ x. x) (one_at negative_of) cursor.entry result }
 {
     match next_negative(cursor) {
         Some(read) => Ok(read),
@@ -123,7 +123,7 @@ fn take_negative(cursor: Cursor<'_>) -> Result<(Value, Cursor<'_>), ReadError>
 }
 
 fn take_unsigned<'a>(alloc: Global, cursor: Cursor<'a>) -> Result<(Value, Cursor<'a>), ReadError>
-    ensures { Gives (λ x. x) (one_at unsigned_of) cursor.entry result }
+    ensures { ReadsAs (λ x. x) (one_at unsigned_of) cursor.entry result }
 {
     match next_unsigned(alloc, cursor)? {
         Some(read) => Ok(read),
@@ -133,7 +133,7 @@ fn take_unsigned<'a>(alloc: Global, cursor: Cursor<'a>) -> Result<(Value, Cursor
 
 /// NULL, a number with or without a minus sign, a text or a reference.
 pub fn take_literal<'a>(alloc: Global, cursor: Cursor<'a>) -> Result<(Value, Cursor<'a>), ReadError>
-    ensures { Gives (λ x. x) literal_at cursor.entry result }
+    ensures { ReadsAs (λ x. x) literal_at cursor.entry result }
 {
     match next_sign(cursor, "-") {
         Some(rest) => take_negative(rest),

@@ -3,7 +3,7 @@ ghost use Rattle.std.specs.Prelude.{◌≡◌, ◌∷◌, [], map, false, bytes_
 ghost use Rattle.par_base.specs.Names.{folded};
 ghost use Rattle.phrases.specs.Reading.{one_at, starts, is};
 ghost use Rattle.bidel_expr.specs.Lexemes.{lexeme_of, keyword, starts_both, sign, name_of, number_of, negative_of};
-ghost use Rattle.bidel_expr.specs.Answers.{ahead, IsFirst, IsNext, IsThere, Gives, Passes};
+ghost use Rattle.bidel_expr.specs.ReadAnswers.{ahead, IsFirst, IsNext, IsThere, ReadsAs, Passes};
 
 use crate::cursor::{Cursor, Next};
 use crate::numbers::{GREATEST_NUMBER, negated, number_value};
@@ -140,7 +140,7 @@ pub fn take_sign<'a>(cursor: Cursor<'a>, written: &str) -> Result<Cursor<'a>, Re
 
 /// A name.
 pub fn take_name<'a>(alloc: Global, cursor: Cursor<'a>) -> Result<(Name, Cursor<'a>), ReadError>
-    ensures { Gives (λ x. x) (one_at name_of) cursor.entry result }
+    ensures { ReadsAs (λ x. x) (one_at name_of) cursor.entry result }
 {
     match next_name(alloc, cursor)? {
         Some(read) => Ok(read),

@@ -10,7 +10,7 @@ use Rattle.bidel_expr.specs.Lexemes.{Lexeme, lexeme, lexemes}
 use Rattle.statements.specs.Views.{StatementView}
 use Rattle.bidel_parser.specs.Statements.{IsStatement, Script, stays_open, statement_at}
 use Rattle.bidel_parser.specs.Parsing.{IsFront, NoFront, FirstFault, start_of, IsFault}
-use Rattle.bidel_expr.specs.Answers.{ahead, Fails}
+use Rattle.bidel_expr.specs.ReadAnswers.{ahead, Fails}
 use Rattle.bidel_expr.proofs.CursorsLaws.{ahead_length}
 use Rattle.bidel_parser.proofs.StatementLaws.{statement-last, script_over}
 

@@ -4,7 +4,7 @@ ghost use Rattle.phrases.specs.Reading.{one_at, starts, is};
 ghost use Rattle.bidel_parser.specs.Words.{choice_of, words_of};
 ghost use Rattle.bidel_parser.specs.Operators.{operator_words, lone_words, shared_words, kinds, key_words};
 ghost use Rattle.bidel_parser.specs.Statements.{statement_words};
-ghost use Rattle.bidel_expr.specs.Answers.{ahead, IsNext, Gives};
+ghost use Rattle.bidel_expr.specs.ReadAnswers.{ahead, IsNext, ReadsAs};
 
 use crate::first_words::{KeyWord, Kind, OperatorWord, StatementWord};
 use bidel_expr::{Cursor, ReadError, next_keyword};
@@ -92,7 +92,7 @@ fn take_choice<'a, K: Copy>(
     cursor: Cursor<'a>,
     choices: &[(&str, K)],
 ) -> Result<(K, Cursor<'a>), ReadError>
-    ensures { Gives (λ x. x) (one_at (choice_of (words_of choices.now))) cursor.entry result }
+    ensures { ReadsAs (λ x. x) (one_at (choice_of (words_of choices.now))) cursor.entry result }
 {
     match next_choice(cursor, choices) {
         Some(read) => Ok(read),
@@ -102,14 +102,14 @@ fn take_choice<'a, K: Copy>(
 
 /// The first word of a statement.
 pub fn take_statement_word(cursor: Cursor<'_>) -> Result<(StatementWord, Cursor<'_>), ReadError>
-    ensures { Gives (λ x. x) (one_at (choice_of statement_words)) cursor.entry result }
+    ensures { ReadsAs (λ x. x) (one_at (choice_of statement_words)) cursor.entry result }
 {
     take_choice(cursor, STATEMENT_WORDS.as_slice())
 }
 
 /// The first word of an operator.
 pub fn take_operator_word(cursor: Cursor<'_>) -> Result<(OperatorWord, Cursor<'_>), ReadError>
-    ensures { Gives (λ x. x) (one_at (choice_of operator_words)) cursor.entry result }
+    ensures { ReadsAs (λ x. x) (one_at (choice_of operator_words)) cursor.entry result }
 {
     take_choice(cursor, OPERATOR_WORDS.as_slice())
 }
@@ -137,7 +137,7 @@ pub fn is_shared_word_next(cursor: Cursor<'_>) -> bool
 
 /// TABLE or COLUMN.
 pub fn take_kind(cursor: Cursor<'_>) -> Result<(Kind, Cursor<'_>), ReadError>
-    ensures { Gives (λ x. x) (one_at (choice_of kinds)) cursor.entry result }
+    ensures { ReadsAs (λ x. x) (one_at (choice_of kinds)) cursor.entry result }
 {
     take_choice(cursor, KINDS.as_slice())
 }

@@ -2,7 +2,7 @@
 ghost use Rattle.std.specs.Prelude.{◌≡◌};
 ghost use Rattle.statements.specs.Views.{op_view};
 ghost use Rattle.bidel_parser.specs.Operators.{part_view, second_part_at, optional_part_at, decompose_rest_at, optional_view};
-ghost use Rattle.bidel_expr.specs.Answers.{ahead, Gives};
+ghost use Rattle.bidel_expr.specs.ReadAnswers.{ahead, ReadsAs};
 
 use crate::keys::take_key;
 use bidel_expr::{Cursor, ReadError, next_sign, take_keyword, take_name, take_names};
@@ -20,7 +20,7 @@ pub struct Second {
 
 // name names ON key
 fn second_part<'a>(alloc: Global, cursor: Cursor<'a>) -> Result<(Second, Cursor<'a>), ReadError>
-    ensures { Gives part_view second_part_at cursor.entry result }
+    ensures { ReadsAs part_view second_part_at cursor.entry result }
 {
     let (table, rest) = take_name(alloc, cursor)?;
     let (columns, rest) = take_names(alloc, rest)?;
@@ -41,7 +41,7 @@ fn optional_part<'a>(
     alloc: Global,
     cursor: Cursor<'a>,
 ) -> Result<(Option<Second>, Cursor<'a>), ReadError>
-    ensures { Gives optional_view optional_part_at cursor.entry result }
+    ensures { ReadsAs optional_view optional_part_at cursor.entry result }
 {
     match next_sign(cursor, ",") {
         Some(rest) => {
@@ -57,7 +57,7 @@ pub fn decompose_rest<'a>(
     alloc: Global,
     cursor: Cursor<'a>,
 ) -> Result<(OpText, Cursor<'a>), ReadError>
-    ensures { Gives op_view decompose_rest_at cursor.entry result }
+    ensures { ReadsAs op_view decompose_rest_at cursor.entry result }
 {
     let rest = take_keyword(cursor, "table")?;
     let (table, rest) = take_name(alloc, rest)?;

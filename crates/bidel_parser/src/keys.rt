@@ -3,7 +3,7 @@ ghost use Rattle.std.specs.Prelude.{◌≡◌};
 ghost use Rattle.phrases.specs.Reading.{starts, is};
 ghost use Rattle.statements.specs.Views.{key_view};
 ghost use Rattle.bidel_parser.specs.Operators.{key_rest_at, key_at};
-ghost use Rattle.bidel_expr.specs.Answers.{ahead, Gives};
+ghost use Rattle.bidel_expr.specs.ReadAnswers.{ahead, ReadsAs};
 
 use crate::choices::next_key_word;
 use crate::first_words::KeyWord;
@@ -17,7 +17,7 @@ fn key_rest<'a>(
     word: KeyWord,
     cursor: Cursor<'a>,
 ) -> Result<(KeyText, Cursor<'a>), ReadError>
-    ensures { Gives key_view (key_rest_at word) cursor.entry result }
+    ensures { ReadsAs key_view (key_rest_at word) cursor.entry result }
 {
     match word {
         KeyWord::Pk => Ok((KeyText::Primary, cursor)),
@@ -39,7 +39,7 @@ fn key_rest<'a>(
 
 /// PK | PRIMARY KEY | FK name | FOREIGN KEY name | expr
 pub fn take_key<'a>(alloc: Global, cursor: Cursor<'a>) -> Result<(KeyText, Cursor<'a>), ReadError>
-    ensures { Gives key_view key_at cursor.entry result }
+    ensures { ReadsAs key_view key_at cursor.entry result }
 {
     match next_key_word(cursor) {
         Some((word, rest)) => key_rest(alloc, word, rest),

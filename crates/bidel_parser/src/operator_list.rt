@@ -3,7 +3,7 @@ ghost use Rattle.std.specs.Prelude.{◌≡◌, ◌∷◌, [], map};
 ghost use Rattle.phrases.specs.Reading.{with_front};
 ghost use Rattle.statements.specs.Views.{op_view};
 ghost use Rattle.bidel_parser.specs.Operators.{further_operators_at, closed_operator_at, operators_at, listed_operators_at, begins_operator, shows_operator};
-ghost use Rattle.bidel_expr.specs.Answers.{ahead, Gives};
+ghost use Rattle.bidel_expr.specs.ReadAnswers.{ahead, ReadsAs};
 
 use crate::choices::{is_kind_next, is_lone_word_next, is_shared_word_next, next_shared_word};
 use crate::first_words::OperatorWord;
@@ -15,7 +15,7 @@ use std::alloc::Global;
 
 // An operator and its semicolon.
 fn closed_operator<'a>(alloc: Global, cursor: Cursor<'a>) -> Result<(OpText, Cursor<'a>), ReadError>
-    ensures { Gives op_view closed_operator_at cursor.entry result }
+    ensures { ReadsAs op_view closed_operator_at cursor.entry result }
 {
     let (operator, rest) = take_operator(alloc, cursor)?;
     let rest = take_sign(rest, ";")?;
@@ -51,7 +51,7 @@ fn further_operators<'a>(
     cursor: Cursor<'a>,
     ended: bool,
 ) -> Result<(List<OpText>, Cursor<'a>), ReadError>
-    ensures { Gives (map op_view) (further_operators_at ended (op_view first)) cursor.entry result }
+    ensures { ReadsAs (map op_view) (further_operators_at ended (op_view first)) cursor.entry result }
 {
     let mut operators = List::new(alloc);
     operators.push(first)?;
@@ -73,7 +73,7 @@ pub fn take_operators<'a>(
     cursor: Cursor<'a>,
     ended: bool,
 ) -> Result<(List<OpText>, Cursor<'a>), ReadError>
-    ensures { Gives (map op_view) (listed_operators_at ended) cursor.entry result }
+    ensures { ReadsAs (map op_view) (listed_operators_at ended) cursor.entry result }
 {
     let (first, rest) = closed_operator(alloc, cursor)?;
     further_operators(alloc, first, rest, ended)

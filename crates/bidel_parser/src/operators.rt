@@ -2,7 +2,7 @@
 ghost use Rattle.std.specs.Prelude.{◌≡◌};
 ghost use Rattle.statements.specs.Views.{op_view, branch_view, second_view};
 ghost use Rattle.bidel_parser.specs.Operators.{create_rest_at, drop_rest_at, rename_rest_at, add_rest_at, join_rest_at, split_branch_at, second_branch_at, split_rest_at, merge_branch_at, merge_rest_at, operator_rest_at, operator_at};
-ghost use Rattle.bidel_expr.specs.Answers.{ahead, Gives};
+ghost use Rattle.bidel_expr.specs.ReadAnswers.{ahead, ReadsAs};
 
 use crate::choices::{take_kind, take_operator_word};
 use crate::decompose::decompose_rest;
@@ -16,7 +16,7 @@ use std::alloc::Global;
 
 // CREATE TABLE name names
 fn create_rest<'a>(alloc: Global, cursor: Cursor<'a>) -> Result<(OpText, Cursor<'a>), ReadError>
-    ensures { Gives op_view create_rest_at cursor.entry result }
+    ensures { ReadsAs op_view create_rest_at cursor.entry result }
 {
     let rest = take_keyword(cursor, "table")?;
     let (table, rest) = take_name(alloc, rest)?;
@@ -31,7 +31,7 @@ fn drop_rest<'a>(
     kind: Kind,
     cursor: Cursor<'a>,
 ) -> Result<(OpText, Cursor<'a>), ReadError>
-    ensures { Gives op_view (drop_rest_at kind) cursor.entry result }
+    ensures { ReadsAs op_view (drop_rest_at kind) cursor.entry result }
 {
     match kind {
         Kind::Table => {
@@ -63,7 +63,7 @@ fn rename_rest<'a>(
     kind: Kind,
     cursor: Cursor<'a>,
 ) -> Result<(OpText, Cursor<'a>), ReadError>
-    ensures { Gives op_view (rename_rest_at kind) cursor.entry result }
+    ensures { ReadsAs op_view (rename_rest_at kind) cursor.entry result }
 {
     match kind {
         Kind::Table => {
@@ -92,7 +92,7 @@ fn rename_rest<'a>(
 
 // ADD COLUMN name AS expr INTO name
 fn add_rest<'a>(alloc: Global, cursor: Cursor<'a>) -> Result<(OpText, Cursor<'a>), ReadError>
-    ensures { Gives op_view add_rest_at cursor.entry result }
+    ensures { ReadsAs op_view add_rest_at cursor.entry result }
 {
     let rest = take_keyword(cursor, "column")?;
     let (column, rest) = take_name(alloc, rest)?;
@@ -116,7 +116,7 @@ fn join_rest<'a>(
     outer: bool,
     cursor: Cursor<'a>,
 ) -> Result<(OpText, Cursor<'a>), ReadError>
-    ensures { Gives op_view (join_rest_at outer) cursor.entry result }
+    ensures { ReadsAs op_view (join_rest_at outer) cursor.entry result }
 {
     let rest = take_keyword(cursor, "table")?;
     let (first, rest) = take_name(alloc, rest)?;
@@ -140,7 +140,7 @@ fn join_rest<'a>(
 
 // name WITH expr
 fn split_branch<'a>(alloc: Global, cursor: Cursor<'a>) -> Result<(Branch, Cursor<'a>), ReadError>
-    ensures { Gives branch_view split_branch_at cursor.entry result }
+    ensures { ReadsAs branch_view split_branch_at cursor.entry result }
 {
     let (table, rest) = take_name(alloc, cursor)?;
     let rest = take_keyword(rest, "with")?;
@@ -153,7 +153,7 @@ fn second_branch<'a>(
     alloc: Global,
     cursor: Cursor<'a>,
 ) -> Result<(Option<Branch>, Cursor<'a>), ReadError>
-    ensures { Gives second_view second_branch_at cursor.entry result }
+    ensures { ReadsAs second_view second_branch_at cursor.entry result }
 {
     match next_sign(cursor, ",") {
         Some(rest) => {
@@ -166,7 +166,7 @@ fn second_branch<'a>(
 
 // SPLIT TABLE name INTO name WITH expr [ "," name WITH expr ]
 fn split_rest<'a>(alloc: Global, cursor: Cursor<'a>) -> Result<(OpText, Cursor<'a>), ReadError>
-    ensures { Gives op_view split_rest_at cursor.entry result }
+    ensures { ReadsAs op_view split_rest_at cursor.entry result }
 {
     let rest = take_keyword(cursor, "table")?;
     let (table, rest) = take_name(alloc, rest)?;
@@ -185,7 +185,7 @@ fn split_rest<'a>(alloc: Global, cursor: Cursor<'a>) -> Result<(OpText, Cursor<'
 
 // name "(" expr ")"
 fn merge_branch<'a>(alloc: Global, cursor: Cursor<'a>) -> Result<(Branch, Cursor<'a>), ReadError>
-    ensures { Gives branch_view merge_branch_at cursor.entry result }
+    ensures { ReadsAs branch_view merge_branch_at cursor.entry result }
 {
     let (table, rest) = take_name(alloc, cursor)?;
     let rest = take_sign(rest, "(")?;
@@ -196,7 +196,7 @@ fn merge_branch<'a>(alloc: Global, cursor: Cursor<'a>) -> Result<(Branch, Cursor
 
 // MERGE TABLE name "(" expr ")" "," name "(" expr ")" INTO name
 fn merge_rest<'a>(alloc: Global, cursor: Cursor<'a>) -> Result<(OpText, Cursor<'a>), ReadError>
-    ensures { Gives op_view merge_rest_at cursor.entry result }
+    ensures { ReadsAs op_view merge_rest_at cursor.entry result }
 {
     let rest = take_keyword(cursor, "table")?;
     let (first, rest) = merge_branch(alloc, rest)?;
@@ -220,7 +220,7 @@ fn operator_rest<'a>(
     word: OperatorWord,
     cursor: Cursor<'a>,
 ) -> Result<(OpText, Cursor<'a>), ReadError>
-    ensures { Gives op_view (operator_rest_at word) cursor.entry result }
+    ensures { ReadsAs op_view (operator_rest_at word) cursor.entry result }
 {
     match word {
         OperatorWord::Create => create_rest(alloc, cursor),
@@ -249,7 +249,7 @@ pub fn take_operator<'a>(
     alloc: Global,
     cursor: Cursor<'a>,
 ) -> Result<(OpText, Cursor<'a>), ReadError>
-    ensures { Gives op_view operator_at cursor.entry result }
+    ensures { ReadsAs op_view operator_at cursor.entry result }
 {
     let (word, rest) = take_operator_word(cursor)?;
     operator_rest(alloc, word, rest)

@@ -2,7 +2,7 @@
 ghost use Rattle.std.specs.Prelude.{◌≡◌};
 ghost use Rattle.bidel_parser.specs.Statements.{create_version_rest_at, drop_version_rest_at, insert_rest_at, import_rest_at, update_rest_at, delete_rest_at, select_rest_at, materialize_rest_at, show_rest_at, closed_name_at, session_rest_at, statement_rest_at, statement_at};
 ghost use Rattle.statements.specs.Views.{statement_view};
-ghost use Rattle.bidel_expr.specs.Answers.{ahead, Gives};
+ghost use Rattle.bidel_expr.specs.ReadAnswers.{ahead, ReadsAs};
 
 use crate::choices::take_statement_word;
 use crate::first_words::StatementWord;
@@ -24,7 +24,7 @@ fn create_version_rest<'a>(
     cursor: Cursor<'a>,
     ended: bool,
 ) -> Result<(Statement, Cursor<'a>), ReadError>
-    ensures { Gives statement_view (create_version_rest_at ended) cursor.entry result }
+    ensures { ReadsAs statement_view (create_version_rest_at ended) cursor.entry result }
 {
     let rest = take_keyword(cursor, "schema")?;
     let rest = take_keyword(rest, "version")?;
@@ -47,7 +47,7 @@ fn drop_version_rest<'a>(
     alloc: Global,
     cursor: Cursor<'a>,
 ) -> Result<(Statement, Cursor<'a>), ReadError>
-    ensures { Gives statement_view drop_version_rest_at cursor.entry result }
+    ensures { ReadsAs statement_view drop_version_rest_at cursor.entry result }
 {
     let rest = take_keyword(cursor, "schema")?;
     let rest = take_keyword(rest, "version")?;
@@ -58,7 +58,7 @@ fn drop_version_rest<'a>(
 
 // INSERT INTO tab VALUES tuple { "," tuple } ";"
 fn insert_rest<'a>(alloc: Global, cursor: Cursor<'a>) -> Result<(Statement, Cursor<'a>), ReadError>
-    ensures { Gives statement_view insert_rest_at cursor.entry result }
+    ensures { ReadsAs statement_view insert_rest_at cursor.entry result }
 {
     let rest = take_keyword(cursor, "into")?;
     let (table, rest) = take_table(alloc, rest)?;
@@ -70,7 +70,7 @@ fn insert_rest<'a>(alloc: Global, cursor: Cursor<'a>) -> Result<(Statement, Curs
 
 // IMPORT INTO tab CSV text ";"
 fn import_rest<'a>(alloc: Global, cursor: Cursor<'a>) -> Result<(Statement, Cursor<'a>), ReadError>
-    ensures { Gives statement_view import_rest_at cursor.entry result }
+    ensures { ReadsAs statement_view import_rest_at cursor.entry result }
 {
     let rest = take_keyword(cursor, "into")?;
     let (table, rest) = take_table(alloc, rest)?;
@@ -82,7 +82,7 @@ fn import_rest<'a>(alloc: Global, cursor: Cursor<'a>) -> Result<(Statement, Curs
 
 // UPDATE tab SET name "=" expr { "," name "=" expr } [ WHERE expr ] ";"
 fn update_rest<'a>(alloc: Global, cursor: Cursor<'a>) -> Result<(Statement, Cursor<'a>), ReadError>
-    ensures { Gives statement_view update_rest_at cursor.entry result }
+    ensures { ReadsAs statement_view update_rest_at cursor.entry result }
 {
     let (table, rest) = take_table(alloc, cursor)?;
     let rest = take_keyword(rest, "set")?;
@@ -101,7 +101,7 @@ fn update_rest<'a>(alloc: Global, cursor: Cursor<'a>) -> Result<(Statement, Curs
 
 // DELETE FROM tab [ WHERE expr ] ";"
 fn delete_rest<'a>(alloc: Global, cursor: Cursor<'a>) -> Result<(Statement, Cursor<'a>), ReadError>
-    ensures { Gives statement_view delete_rest_at cursor.entry result }
+    ensures { ReadsAs statement_view delete_rest_at cursor.entry result }
 {
     let rest = take_keyword(cursor, "from")?;
     let (table, rest) = take_table(alloc, rest)?;
@@ -112,7 +112,7 @@ fn delete_rest<'a>(alloc: Global, cursor: Cursor<'a>) -> Result<(Statement, Curs
 
 // SELECT ( "*" | name { "," name } ) FROM tab [ WHERE expr ] [ AS CSV ] ";"
 fn select_rest<'a>(alloc: Global, cursor: Cursor<'a>) -> Result<(Statement, Cursor<'a>), ReadError>
-    ensures { Gives statement_view select_rest_at cursor.entry result }
+    ensures { ReadsAs statement_view select_rest_at cursor.entry result }
 {
     let (items, rest) = take_items(alloc, cursor)?;
     let rest = take_keyword(rest, "from")?;
@@ -136,7 +136,7 @@ fn materialize_rest<'a>(
     alloc: Global,
     cursor: Cursor<'a>,
 ) -> Result<(Statement, Cursor<'a>), ReadError>
-    ensures { Gives statement_view materialize_rest_at cursor.entry result }
+    ensures { ReadsAs statement_view materialize_rest_at cursor.entry result }
 {
     let (named, rest) = take_separated::<Targets>(alloc, cursor)?;
     let (in_steps, rest) = take_in_steps(rest)?;
@@ -146,7 +146,7 @@ fn materialize_rest<'a>(
 
 // SHOW LAYOUT ";"
 fn show_rest(cursor: Cursor<'_>) -> Result<(Statement, Cursor<'_>), ReadError>
-    ensures { Gives statement_view show_rest_at cursor.entry result }
+    ensures { ReadsAs statement_view show_rest_at cursor.entry result }
 {
     let rest = take_keyword(cursor, "layout")?;
     let rest = take_sign(rest, ";")?;
@@ -155,7 +155,7 @@ fn show_rest(cursor: Cursor<'_>) -> Result<(Statement, Cursor<'_>), ReadError>
 
 // SESSION number ";"
 fn session_rest(cursor: Cursor<'_>) -> Result<(Statement, Cursor<'_>), ReadError>
-    ensures { Gives statement_view session_rest_at cursor.entry result }
+    ensures { ReadsAs statement_view session_rest_at cursor.entry result }
 {
     let (number, rest) = take_session(cursor)?;
     let rest = take_sign(rest, ";")?;
@@ -164,7 +164,7 @@ fn session_rest(cursor: Cursor<'_>) -> Result<(Statement, Cursor<'_>), ReadError
 
 // name ";"
 fn closed_name<'a>(alloc: Global, cursor: Cursor<'a>) -> Result<(Name, Cursor<'a>), ReadError>
-    ensures { Gives (λ x. x) closed_name_at cursor.entry result }
+    ensures { ReadsAs (λ x. x) closed_name_at cursor.entry result }
 {
     let (name, rest) = take_name(alloc, cursor)?;
     let rest = take_sign(rest, ";")?;
@@ -178,7 +178,7 @@ fn statement_rest<'a>(
     cursor: Cursor<'a>,
     ended: bool,
 ) -> Result<(Statement, Cursor<'a>), ReadError>
-    ensures { Gives statement_view (statement_rest_at ended word) cursor.entry result }
+    ensures { ReadsAs statement_view (statement_rest_at ended word) cursor.entry result }
 {
     match word {
         StatementWord::Create => create_version_rest(alloc, cursor, ended),
@@ -209,7 +209,7 @@ pub fn take_statement<'a>(
     cursor: Cursor<'a>,
     ended: bool,
 ) -> Result<(Statement, Cursor<'a>), ReadError>
-    ensures { Gives statement_view (statement_at ended) cursor.entry result }
+    ensures { ReadsAs statement_view (statement_at ended) cursor.entry result }
 {
     let (word, rest) = take_statement_word(cursor)?;
     statement_rest(alloc, word, rest, ended)

@@ -5,7 +5,7 @@ ghost use Rattle.bidel_parser.specs.Words.{session_of};
 ghost use Rattle.statements.specs.Views.{AssignmentView, assignment_view, filter_view};
 ghost use Rattle.bidel_parser.specs.Statements.{second_name_at, table_at, target_at, assignment_at, filter_at, items_at, origin_at, csv_at, in_steps_at};
 ghost use Rattle.phrases.specs.Reading.{one_at};
-ghost use Rattle.bidel_expr.specs.Answers.{ahead, Gives};
+ghost use Rattle.bidel_expr.specs.ReadAnswers.{ahead, ReadsAs};
 
 use bidel_expr::{
     Cursor, Item, Names, ReadError, next_keyword, next_number, next_sign, take_expression,
@@ -21,7 +21,7 @@ fn second_name<'a>(
     alloc: Global,
     cursor: Cursor<'a>,
 ) -> Result<(Option<Name>, Cursor<'a>), ReadError>
-    ensures { Gives (λ x. x) second_name_at cursor.entry result }
+    ensures { ReadsAs (λ x. x) second_name_at cursor.entry result }
 {
     match next_sign(cursor, ".") {
         Some(rest) => {
@@ -37,7 +37,7 @@ pub fn take_table<'a>(
     alloc: Global,
     cursor: Cursor<'a>,
 ) -> Result<(TableName, Cursor<'a>), ReadError>
-    ensures { Gives (λ x. x) table_at cursor.entry result }
+    ensures { ReadsAs (λ x. x) table_at cursor.entry result }
 {
     let (name, rest) = take_name(alloc, cursor)?;
     let (second, rest) = second_name(alloc, rest)?;
@@ -98,7 +98,7 @@ pub fn take_filter<'a>(
     alloc: Global,
     cursor: Cursor<'a>,
 ) -> Result<(Option<ExprText>, Cursor<'a>), ReadError>
-    ensures { Gives filter_view filter_at cursor.entry result }
+    ensures { ReadsAs filter_view filter_at cursor.entry result }
 {
     match next_keyword(cursor, "where") {
         Some(rest) => {
@@ -114,7 +114,7 @@ pub fn take_items<'a>(
     alloc: Global,
     cursor: Cursor<'a>,
 ) -> Result<(Option<List<Name>>, Cursor<'a>), ReadError>
-    ensures { Gives (λ x. x) items_at cursor.entry result }
+    ensures { ReadsAs (λ x. x) items_at cursor.entry result }
 {
     match next_sign(cursor, "*") {
         Some(rest) => Ok((None, rest)),
@@ -130,7 +130,7 @@ pub fn take_origin<'a>(
     alloc: Global,
     cursor: Cursor<'a>,
 ) -> Result<(Option<Name>, Cursor<'a>), ReadError>
-    ensures { Gives (λ x. x) origin_at cursor.entry result }
+    ensures { ReadsAs (λ x. x) origin_at cursor.entry result }
 {
     match next_keyword(cursor, "from") {
         Some(rest) => {
@@ -143,7 +143,7 @@ pub fn take_origin<'a>(
 
 /// Whether AS CSV comes.
 pub fn take_csv(cursor: Cursor<'_>) -> Result<(bool, Cursor<'_>), ReadError>
-    ensures { Gives (λ x. x) csv_at cursor.entry result }
+    ensures { ReadsAs (λ x. x) csv_at cursor.entry result }
 {
     match next_keyword(cursor, "as") {
         Some(rest) => {
@@ -156,7 +156,7 @@ pub fn take_csv(cursor: Cursor<'_>) -> Result<(bool, Cursor<'_>), ReadError>
 
 /// Whether IN STEPS comes.
 pub fn take_in_steps(cursor: Cursor<'_>) -> Result<(bool, Cursor<'_>), ReadError>
-    ensures { Gives (λ x. x) in_steps_at cursor.entry result }
+    ensures { ReadsAs (λ x. x) in_steps_at cursor.entry result }
 {
     match next_keyword(cursor, "in") {
         Some(rest) => {
@@ -169,7 +169,7 @@ pub fn take_in_steps(cursor: Cursor<'_>) -> Result<(bool, Cursor<'_>), ReadError
 
 /// The number of a session, of at most 255.
 pub fn take_session(cursor: Cursor<'_>) -> Result<(u8, Cursor<'_>), ReadError>
-    ensures { Gives (λ x. x) (one_at session_of) cursor.entry result }
+    ensures { ReadsAs (λ x. x) (one_at session_of) cursor.entry result }
 {
     match next_number(cursor) {
         Some((number, rest)) if number <= 255 => Ok((number as u8, rest)),

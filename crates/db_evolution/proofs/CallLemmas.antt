@@ -6,7 +6,7 @@ use Rattle.par_base.specs.declared.refusal.IdsSpent.{IdsSpent}
 use Rattle.par_base.specs.declared.refusal.Refusal.{Refusal}
 use Rattle.row_store.specs.States.{TableState}
 use Rattle.version_graph.specs.Edges.{AreEdges, Drawn, IsGraph}
-use Rattle.version_graph.specs.Evolve.{Evolves as EvolvesGraph, evolved, refusal_of}
+use Rattle.version_graph.specs.Evolve.{EvolvesGraph, evolved, refusal_of}
 use Rattle.version_graph.specs.Finished.{IsFinished}
 use Rattle.version_graph.specs.declared.parts.Edge.{Edge}
 use Rattle.op_law.specs.Meaning.{Meaning}
@@ -15,17 +15,17 @@ use Rattle.layout_rules.specs.Changes.{evolved_layout}
 use Rattle.version_model.specs.Databases.{Evolves, MayEvolveTo, start_in}
 use Rattle.version_model.specs.Making.{refusal_for}
 use Rattle.version_model.specs.declared.numbered.Numbered.{Numbered}
-use Rattle.db_state.specs.Fields.{IsDatabase, database_of, state_of}
+use Rattle.db_state.specs.Fields.{IsDatabase, database_for, state_for}
 use Rattle.db_state.specs.declared.parts.Parts.{Parts}
 use Rattle.db_evolution.specs.Calls.{Fills, Installs, MayFill}
 use Rattle.db_evolution.specs.Sources.{AreSources}
 use Rattle.db_evolution.specs.declared.contents.Contents.{Contents}
 use Rattle.db_evolution.proofs.EvolutionLemmas.{evolution_done, evolution_refused, evolved_database, may_fill, operators_after}
 
-module _ {O : Type 0} (meaning : O → Meaning) (laws : (o : O) → Laws (meaning o)) (p : Parts O) (kept : IsDatabase meaning p) (name : List ℕ) (from : Option (List ℕ)) (edges : List (Edge O)) (may : MayEvolveTo meaning (database_of meaning p) from edges)
-    (read : List (Numbered TableState)) (sources : AreSources p.graph (state_of meaning p) from edges read) (none : refusal_of p.graph name from edges ≡ None) where
+module _ {O : Type 0} (meaning : O → Meaning) (laws : (o : O) → Laws (meaning o)) (p : Parts O) (kept : IsDatabase meaning p) (name : List ℕ) (from : Option (List ℕ)) (edges : List (Edge O)) (may : MayEvolveTo meaning (database_for meaning p) from edges)
+    (read : List (Numbered TableState)) (sources : AreSources p.graph (state_for meaning p) from edges read) (none : refusal_of p.graph name from edges ≡ None) where
   abbrev graph_after : Drawn O
-  graph_after = evolved p.graph name (start_in (database_of meaning p) from) edges
+  graph_after = evolved p.graph name (start_in (database_for meaning p) from) edges
 
   abbrev grown_parts : Parts O
   grown_parts = record p { graph = graph_after }
@@ -55,13 +55,13 @@ module _ {O : Type 0} (meaning : O → Meaning) (laws : (o : O) → Laws (meanin
       pub database_then : (IsFinished p.graph → IsFinished g) → IsDatabase meaning q
       database_then finished = (evolved_database meaning laws p kept name from edges may read sources none graph_then.edges graph_then (subst (λ (x : Drawn O). IsFinished x) is (finished kept.finished)) c (fills_then (Ok c) fills) q installs_then).0
 
-      pub evolves_then : (IsFinished p.graph → IsFinished g) → Evolves meaning (database_of meaning p) name from edges (Ok tt) (database_of meaning q)
+      pub evolves_then : (IsFinished p.graph → IsFinished g) → Evolves meaning (database_for meaning p) name from edges (Ok tt) (database_for meaning q)
       evolves_then finished = evolution_done meaning laws p kept name from edges may read sources none graph_then.edges graph_then (subst (λ (x : Drawn O). IsFinished x) is (finished kept.finished)) c (fills_then (Ok c) fills) q installs_then
 
       pub layout_then : (IsFinished p.graph → IsFinished g) → q.layout.operators ≡ evolved_layout p.graph edges p.layout.operators
       layout_then finished = operators_after meaning laws p kept name from edges may read sources none graph_then.edges graph_then (subst (λ (x : Drawn O). IsFinished x) is (finished kept.finished)) c (fills_then (Ok c) fills) q installs_then
 
-    pub refused_then : IsGraph g → (fault : Fault IdsSpent) → Fills meaning (record p { graph = g }) first read (Err fault) → (back : Drawn O) → back ≡ p.graph → Evolves meaning (database_of meaning p) name from edges (Err (refusal_for fault)) (database_of meaning (record p { graph = back }))
+    pub refused_then : IsGraph g → (fault : Fault IdsSpent) → Fills meaning (record p { graph = g }) first read (Err fault) → (back : Drawn O) → back ≡ p.graph → Evolves meaning (database_for meaning p) name from edges (Err (refusal_for fault)) (database_for meaning (record p { graph = back }))
     refused_then graph fault fills back same =
         evolution_refused meaning laws p kept name from edges may read sources none (edges_of graph.edges) fault (fills_then (Err fault) fills) (record p { graph = back }) (ap (λ (x : Drawn O). record p { graph = x }) same)
 

@@ -34,7 +34,7 @@ use Rattle.layout_rules.specs.Layouts.{IsStored}
 use Rattle.layout_rules.specs.declared.layout.Layout.{Layout}
 use Rattle.layout_rules.proofs.ChangeLaws.{evolved_valid, link_number}
 use Rattle.version_model.specs.States.{State, headings}
-use Rattle.version_model.specs.Steps.{IsRelated, pair_in, way}
+use Rattle.version_model.specs.Steps.{IsRelated, pair_in, directed}
 use Rattle.version_model.specs.Laws.{EvolutionKeeps}
 use Rattle.version_model.specs.Kept.{Database, HasSides, pairs_at, rows_at}
 use Rattle.version_model.specs.Databases.{Evolves, MayEvolveTo, RefusesEvolution, counter_of, evolved_state, start_in}
@@ -46,7 +46,7 @@ use Rattle.version_model.proofs.GrownLaws.{grown_by_links, grown_links}
 use Rattle.storage_law.specs.Storage.{StandsOver, aux_of, stored_way}
 use Rattle.storage_law.proofs.LinkLaws.{same_test}
 use Rattle.db_state.specs.Calls.{IsRelatedAt}
-use Rattle.db_state.specs.Fields.{IsDatabase, auxes_at, database_of, numbers_in, state_of, storage_in}
+use Rattle.db_state.specs.Fields.{IsDatabase, auxes_at, database_for, numbers_in, state_for, storage_in}
 use Rattle.db_state.specs.declared.parts.Parts.{Parts}
 use Rattle.db_state.proofs.FieldLaws.{IsShaped, Store, is_database}
 use Rattle.db_evolution.specs.Calls.{Fills, Installs, IsFilled, MayFill, filled_state, sources_state}
@@ -59,13 +59,13 @@ use Rattle.db_evolution.proofs.NewLemmas.{IsNew, created_rise, creates_are, crea
 use Rattle.db_evolution.proofs.SourceLemmas.{all_right, new_right}
 use Rattle.db_evolution.proofs.StoredLemmas.{new_at, old_in, older_within, stored_created, stored_split, stored_still}
 
-module _ {O : Type 0} (meaning : O → Meaning) (laws : (o : O) → Laws (meaning o)) (p : Parts O) (kept : IsDatabase meaning p) (name : List ℕ) (from : Option (List ℕ)) (edges : List (Edge O)) (may : MayEvolveTo meaning (database_of meaning p) from edges)
-    (read : List (Numbered TableState)) (sources : AreSources p.graph (state_of meaning p) from edges read) (none : refusal_of p.graph name from edges ≡ None) where
+module _ {O : Type 0} (meaning : O → Meaning) (laws : (o : O) → Laws (meaning o)) (p : Parts O) (kept : IsDatabase meaning p) (name : List ℕ) (from : Option (List ℕ)) (edges : List (Edge O)) (may : MayEvolveTo meaning (database_for meaning p) from edges)
+    (read : List (Numbered TableState)) (sources : AreSources p.graph (state_for meaning p) from edges read) (none : refusal_of p.graph name from edges ≡ None) where
   abbrev pub d : Database O
-  d = database_of meaning p
+  d = database_for meaning p
 
   abbrev s : State
-  s = state_of meaning p
+  s = state_for meaning p
 
   abbrev es : List (Placed O)
   es = p.graph.edges
@@ -301,7 +301,7 @@ module _ {O : Type 0} (meaning : O → Meaning) (laws : (o : O) → Laws (meanin
           let here = subst (λ (l : List ℕ). In f.number l) (sym kept.auxes) (old_listed f i) in
           ap lists_of (over_newer c.aux p.aux q.aux installs.aux f.number (subst (λ (l : List ℕ). Distinct l) (sym kept.auxes) once) here (subst (λ (l : List ℕ). In f.number l) (sym auxes_then) (in_left f.number (numbers_in p.aux) (numbers (grown_edges w o t edges)) here)))
           ∙ (each_at (λ (g : Link O). StandsOver meaning (headings es) (storage_in p) s (stored_way p.layout.operators g)) (forest es) f i kept.stands.edges).aux
-          ∙ ap (way x (meaning f.operator)).aux_at_source (old_pair x f i)
+          ∙ ap (directed x (meaning f.operator)).aux_at_source (old_pair x f i)
           ∙ ap (λ (b : Bool). aux_of meaning end (crossing b f)) (side_same f i)
 
       aux_new : (f : Link O) → In f fs → auxes_at q.aux f.number ≡ aux_of meaning end (stored_way layout_after f)
@@ -311,7 +311,7 @@ module _ {O : Type 0} (meaning : O → Meaning) (laws : (o : O) → Laws (meanin
           ∙ fill.aux f (grown_new es w o t edges f i) (subst (λ (l : List (Placed O)). In f.number (numbers l)) (sym news) (new_number es w o t edges f i))
           ∙ ap (λ (y : State). aux_of meaning y (stored_way c.layout.operators f)) filled_is
           ∙ ap (λ (l : List ℕ). aux_of meaning filled (stored_way l f)) operators_then
-          ∙ ap (way x (meaning f.operator)).aux_at_source (new_pair x f i)
+          ∙ ap (directed x (meaning f.operator)).aux_at_source (new_pair x f i)
 
       -- ---- memories
 
@@ -363,10 +363,10 @@ module _ {O : Type 0} (meaning : O → Meaning) (laws : (o : O) → Laws (meanin
       }
 
       -- THE FIELDS ARE A DATABASE AGAIN, AND STAND FOR THE STATE AFTER THE EVOLUTION
-      pub evolved_database : IsDatabase meaning q × (state_of meaning q ≡ end)
-      evolved_database = subst (λ (x : Parts O). IsDatabase meaning x × (state_of meaning x ≡ end)) r_is (is_database meaning laws kept.reads r end shaped keeps.sound store)
+      pub evolved_database : IsDatabase meaning q × (state_for meaning q ≡ end)
+      evolved_database = subst (λ (x : Parts O). IsDatabase meaning x × (state_for meaning x ≡ end)) r_is (is_database meaning laws kept.reads r end shaped keeps.sound store)
 
-      pub evolution_done : Evolves meaning d name from edges (Ok tt) (database_of meaning q)
+      pub evolution_done : Evolves meaning d name from edges (Ok tt) (database_for meaning q)
       evolution_done =
           let state_is = evolved_database.1 in
           let limit_is : q.ids.limit ≡ p.ids.limit = ap (λ (x : CounterState). x.limit) installs.ids ∙ fill.limit in (
@@ -376,14 +376,14 @@ module _ {O : Type 0} (meaning : O → Meaning) (laws : (o : O) → Laws (meanin
           )
 
     -- AN EVOLUTION THAT WOULD DRAW TOO MANY IDENTIFIERS
-    pub evolution_refused : (fault : Fault IdsSpent) → Fills meaning grown_parts (length es) read (Err fault) → (q : Parts O) → q ≡ p → Evolves meaning d name from edges (Err (refusal_for fault)) (database_of meaning q)
-    evolution_refused OutOfMemory h q same = ap (λ (x : Parts O). database_of meaning x) same
+    pub evolution_refused : (fault : Fault IdsSpent) → Fills meaning grown_parts (length es) read (Err fault) → (q : Parts O) → q ≡ p → Evolves meaning d name from edges (Err (refusal_for fault)) (database_for meaning q)
+    evolution_refused OutOfMemory h q same = ap (λ (x : Parts O). database_for meaning x) same
     evolution_refused (Refused spent) h q same =
         let next_is = ap (λ (x : State). x.next) filled_is ∙ agree_after.next in
         let over = subst (λ (n : ℕ). first_refused p.ids < n) next_is h.0 in (
           subst (λ (reason : Option Refusal). RefusesEvolution reason end.next (counter_of d) (SpendsIds spent.needed spent.limit)) (sym none)
               (over, ap (λ (n : ℕ). SpendsIds n spent.limit) h.1 ∙ ap (λ (n : ℕ). SpendsIds (first_refused p.ids) n) h.2),
-          ap (λ (x : Parts O). database_of meaning x) same,
+          ap (λ (x : Parts O). database_for meaning x) same,
         )
 
   -- the graph may be taken back

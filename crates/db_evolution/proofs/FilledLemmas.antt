@@ -16,7 +16,7 @@ use Rattle.op_law.specs.declared.side.Aux.{Aux}
 use Rattle.layout_rules.specs.declared.layout.Layout.{Layout}
 use Rattle.version_model.specs.States.{State}
 use Rattle.version_model.specs.Kept.{latest_of, newer_pairs, newer_rows, pairs_at, pairs_now, rows_at, rows_now}
-use Rattle.version_model.specs.Making.{Has, IsMade, newer, with_links}
+use Rattle.version_model.specs.Making.{Has, WasMade, newer, with_links}
 use Rattle.version_model.specs.declared.numbered.Numbered.{Numbered}
 use Rattle.version_model.specs.declared.progress.Made.{Made}
 use Rattle.storage_law.specs.Storage.{aux_of, stored_way}
@@ -45,7 +45,7 @@ state_now sources made = record { tables = rows_now sources made.tables; memory 
 abbrev pub MakesOver : {O : Type 0} → (O → Meaning) → List (Numbered TableState) → ℕ → CounterState → List (Link O) → Made → Type 0
 MakesOver meaning sources next ids fs made =
     let end = with_links meaning (sources_state sources next) fs in
-    (end.next ≤ first_refused ids) × (state_now sources made ≡ end) × (made.ids.limit ≡ ids.limit) × Each (IsMade made) fs
+    (end.next ≤ first_refused ids) × (state_now sources made ≡ end) × (made.ids.limit ≡ ids.limit) × Each (WasMade made) fs
 
 -- each value that was made is found in its place
 pub filled_is : {O : Type 0} (meaning : O → Meaning) (p : Parts O) (first : ℕ) (sources : List (Numbered TableState)) (next : ℕ) (ids : CounterState) (made : Made) (fresh : Fresh) (layout : Layout) (auxes : List (Numbered Aux)) (places : Places)
@@ -62,7 +62,7 @@ filled_is {O} meaning p first sources next ids made fresh layout auxes places st
       layout = longer ∙ ap (λ (l : List ℕ). p.layout.operators ++ l) (created ∙ adds.creates);
       tables = over_stored.numbers ∙ has.stored ∙ ap (λ (l : List ℕ). numbers_in p.stored ++ l) adds.tables;
       rows = λ f i t j k.
-          let there = each_at (Has made.tables) f.targets t j (each_at (IsMade made) fs f i makes.3).0 in
+          let there = each_at (Has made.tables) f.targets t j (each_at (WasMade made) fs f i makes.3).0 in
           ap (λ (o : Option TableState). option_map_or (λ (table : TableState). table.rows) o []) (over_made places.stored made.tables stored over_stored t (subst (λ (l : List ℕ). In t l) over_stored.numbers k) there)
           ∙ told_rows (latest_of made.tables t) (rows_at sources t) there ∙ ap (λ (s : State). s.tables t) end;
       operators = over_aux.numbers ∙ has.aux ∙ ap (λ (l : List ℕ). numbers_in p.aux ++ l) adds.operators;
@@ -75,7 +75,7 @@ filled_is {O} meaning p first sources next ids made fresh layout auxes places st
           ∙ ap (λ (s : State). aux_of meaning s (stored_way layout.operators e)) end;
       memories = over_memories.numbers ∙ has.memories ∙ ap (λ (l : List ℕ). numbers_in p.memories ++ l) adds.operators;
       memory = λ f i k.
-          let there = (each_at (IsMade made) fs f i makes.3).1 in
+          let there = (each_at (WasMade made) fs f i makes.3).1 in
           ap (λ (o : Option MemoryState). option_map_or (λ (memory : MemoryState). memory.entries) o []) (over_made places.memories made.memories memories over_memories f.number (subst (λ (l : List ℕ). In f.number l) over_memories.numbers k) there)
           ∙ told_pairs (latest_of made.memories f.number) (pairs_at [] f.number) there ∙ ap (λ (s : State). s.memory f.number) end;
       next = ap (λ (s : State). s.next) end;

@@ -3,7 +3,7 @@ ghost use Rattle.std.specs.Prelude.{◌≡◌, ◌<◌, length, OnErr, OnOk};
 ghost use Rattle.std.specs.Option.{option_copied};
 ghost use Rattle.layout_rules.specs.Changes.{evolved_layout};
 ghost use Rattle.version_model.specs.Databases.{Evolves, MayEvolveTo};
-ghost use Rattle.db_state.specs.Fields.{database_of, state_of, IsDatabase};
+ghost use Rattle.db_state.specs.Fields.{database_for, state_for, IsDatabase};
 ghost use Rattle.db_evolution.specs.Sources.{AreSources};
 
 use crate::contents::{filled, install};
@@ -28,12 +28,12 @@ fn evolve_parts<O: Operator + Drop, L: Ledger>(
     steps: &mut Steps<L>,
 ) -> Result<(), Fault<Refusal>>
     requires kept { IsDatabase O.meaning parts.old }
-    requires sources { AreSources parts.old.graph (state_of O.meaning parts.old) (option_copied from) edges sources.now }
+    requires sources { AreSources parts.old.graph (state_for O.meaning parts.old) (option_copied from) edges sources.now }
     requires some { 0 < length edges }
-    requires may { MayEvolveTo O.meaning (database_of O.meaning parts.old) (option_copied from) edges }
+    requires may { MayEvolveTo O.meaning (database_for O.meaning parts.old) (option_copied from) edges }
     ensures kept { IsDatabase O.meaning parts.new }
-    ensures evolves { Evolves O.meaning (database_of O.meaning parts.old) name (option_copied from.entry) edges
-        result (database_of O.meaning parts.new) }
+    ensures evolves { Evolves O.meaning (database_for O.meaning parts.old) name (option_copied from.entry) edges
+        result (database_for O.meaning parts.new) }
     ensures layout { OnOk result (parts.new.layout.operators ≡ evolved_layout parts.old.graph edges parts.old.layout.operators) }
     ensures same { OnErr result (parts.new.layout ≡ parts.old.layout) }
 {
@@ -68,9 +68,9 @@ pub fn evolve_db<O: Operator + Drop, L: Ledger>(
     steps: &mut Steps<L>,
 ) -> Result<(), Fault<Refusal>>
     requires some { 0 < length edges }
-    requires may { MayEvolveTo O.meaning (database_of O.meaning db.old) (option_copied from) edges }
-    ensures evolves { Evolves O.meaning (database_of O.meaning db.old) name (option_copied from.entry) edges
-        result (database_of O.meaning db.new) }
+    requires may { MayEvolveTo O.meaning (database_for O.meaning db.old) (option_copied from) edges }
+    ensures evolves { Evolves O.meaning (database_for O.meaning db.old) name (option_copied from.entry) edges
+        result (database_for O.meaning db.new) }
     ensures layout { OnOk result (db.new.layout.operators ≡ evolved_layout db.old.graph edges db.old.layout.operators) }
     ensures same { OnErr result (db.new.layout ≡ db.old.layout) }
 {

@@ -6,7 +6,7 @@ ghost use Rattle.std.specs.Str.{bytes_eq};
 ghost use Rattle.version_graph.specs.Sets.{Each, In};
 ghost use Rattle.version_graph.specs.Tables.{is_among, table_numbers};
 ghost use Rattle.version_graph.specs.Edges.{made as made_lem};
-ghost use Rattle.db_state.specs.Fields.{state_of};
+ghost use Rattle.db_state.specs.Fields.{state_for};
 ghost use Rattle.db_evolution.specs.Sources.{is_named as is_named_lem, is_source as is_source_lem, AreRead, AreSources, ReadsMore};
 
 use db_state::{Db, read_table};
@@ -59,7 +59,7 @@ fn push_source<O: Operator, L: Ledger>(
     steps: &mut Steps<L>,
 ) -> Result<(), Memory>
     requires { In table (table_numbers (made_lem db.now.graph.edges)) }
-    ensures { OnOk result (ReadsMore (state_of O.meaning db.now) (is_source_lem db.now.graph.edges edges.now) table read.old read.new) }
+    ensures { OnOk result (ReadsMore (state_for O.meaning db.now) (is_source_lem db.now.graph.edges edges.now) table read.old read.new) }
 {
     if is_source(db.graph(), edges, table) {
         let value = read_table(alloc, db, table, steps)?;
@@ -79,7 +79,7 @@ fn read_named<O: Operator, L: Ledger>(
     steps: &mut Steps<L>,
 ) -> Result<List<Numbered<Table>>, Memory>
     requires { Each (λ t. In t (table_numbers (made_lem db.now.graph.edges))) tables.now }
-    ensures { IfOk result (AreRead (state_of O.meaning db.now) (filter (is_source_lem db.now.graph.edges edges.now) tables.now)) }
+    ensures { IfOk result (AreRead (state_for O.meaning db.now) (filter (is_source_lem db.now.graph.edges edges.now) tables.now)) }
 {
     let mut read = List::new(alloc);
     for table in tables {
@@ -97,7 +97,7 @@ pub fn read_sources<O: Operator, L: Ledger>(
     edges: &[Edge<O>],
     steps: &mut Steps<L>,
 ) -> Result<List<Numbered<Table>>, Memory>
-    ensures { IfOk result (AreSources db.now.graph (state_of O.meaning db.now) (option_copied from.entry) edges.now) }
+    ensures { IfOk result (AreSources db.now.graph (state_for O.meaning db.now) (option_copied from.entry) edges.now) }
 {
     let Some(name) = from else {
         return Ok(List::new(alloc));

@@ -3,7 +3,7 @@ use Rattle.std.proofs.Common.{◌≡◌, ℕ, ◌+◌, ◌<◌, ◌≤◌, take,
 use Rattle.std.proofs.lemmas.List.{map-append, take_all, take_more}
 use Rattle.version_graph.specs.Sets.{In}
 use Rattle.version_graph.specs.Edges.{AreEdges, edge_of, is_in, sources_at}
-use Rattle.version_graph.specs.Forest.{Crossing, Link, crossing, forest, told}
+use Rattle.version_graph.specs.Forest.{Crossing, Link, crossing, forest, step_told}
 use Rattle.version_graph.specs.declared.parts.Placed.{Placed}
 use Rattle.version_graph.specs.declared.parts.Step.{Step}
 use Rattle.version_graph.proofs.SetLaws.{each_at, in_append}
@@ -15,7 +15,7 @@ use Rattle.version_model.specs.Calls.{IsCrossing, IsTold}
 use Rattle.version_model.specs.Kept.{HasSides}
 use Rattle.op_law.specs.Tables.{Tables}
 use Rattle.version_model.specs.States.{State, headings}
-use Rattle.version_model.specs.Steps.{pair_in, way}
+use Rattle.version_model.specs.Steps.{pair_in, directed}
 use Rattle.version_model.specs.declared.numbered.Numbered.{Numbered}
 use Rattle.version_model.proofs.CarryLaws.{some_is, told_is}
 use Rattle.version_model.proofs.CrossingLaws.{crossings_live}
@@ -31,17 +31,17 @@ module _ {O : Type 0} (es : List (Placed O)) (edges : AreEdges es) where
       elim back as (λ b. IsCrossing es (crossing b e)) [ true ↦ both.0 | false ↦ both.1 ]
 
   -- a live operator doesn't lack its edge or its sources
-  found_told : (p : Crossing O) (step : Step) → IsCrossing es p → told p ≡ step → IsTold es step None → ⊥
+  found_told : (p : Crossing O) (step : Step) → IsCrossing es p → step_told p ≡ step → IsTold es step None → ⊥
   found_told p step c tells (inl none) = let clash : Some c.edge ≡ None = sym c.live ∙ ap (λ (s : Step). edge_of es s.operator) tells ∙ none in absurd (let no : ⊥ = cc in no)
   found_told p step c tells (inr none) = let clash : Some _ ≡ None = sym c.sources ∙ ap (λ (s : Step). sources_at es s.operator) tells ∙ none in absurd (let no : ⊥ = cc in no)
 
   -- what a step tells of is the crossing from the stored side
   pub way_is : (layout : List ℕ) (n : ℕ) (back : Bool) → back ≡ is_in n layout → (o : Option (Crossing O)) → IsTold es (record { operator = n; backward = back }) o → (e : Link O) → In e (forest es) → e.number ≡ n → o ≡ Some (stored_way layout e)
   way_is layout n back is None t e i number =
-      let tells : told (stored_way layout e) ≡ record { operator = n; backward = back } = ap (λ (k : ℕ). record { operator = k; backward = is_in k layout }) number ∙ ap (λ (b : Bool). record { operator = n; backward = b }) (sym is) in
+      let tells : step_told (stored_way layout e) ≡ record { operator = n; backward = back } = ap (λ (k : ℕ). record { operator = k; backward = is_in k layout }) number ∙ ap (λ (b : Bool). record { operator = n; backward = b }) (sym is) in
       absurd (found_told (stored_way layout e) (record { operator = n; backward = back }) (crosses e i (is_in e.number layout)) tells t)
   way_is layout n back is (Some q) t e i number =
-      let tells : told (stored_way layout e) ≡ record { operator = n; backward = back } = ap (λ (k : ℕ). record { operator = k; backward = is_in k layout }) number ∙ ap (λ (b : Bool). record { operator = n; backward = b }) (sym is) in
+      let tells : step_told (stored_way layout e) ≡ record { operator = n; backward = back } = ap (λ (k : ℕ). record { operator = k; backward = is_in k layout }) number ∙ ap (λ (b : Bool). record { operator = n; backward = b }) (sym is) in
       ap (λ (x : Crossing O). Some x) (told_is es (record { operator = n; backward = back }) (stored_way layout e) q (crosses e i (is_in e.number layout)) tells t)
 
 -- ---- from the stored side
@@ -63,20 +63,20 @@ module _ {O : Type 0} (meaning : O → Meaning) (es : List (Placed O)) (layout :
   far_few = subst (λ (p : Crossing O). length p.far ≤ 2) (sym over_is) (few_on known.over known.sides (is_in known.over.number layout)).1
 
   -- the auxiliary tables of its pair may be asked for
-  pub some_pair : (pair : PairState) → pair ≡ pair_in s over → SomePair (way over.backward (meaning over.operator)) pair
+  pub some_pair : (pair : PairState) → pair ≡ pair_in s over → SomePair (directed over.backward (meaning over.operator)) pair
   some_pair pair same =
       let p = stored_way layout known.over in
-      let here : SomePair (way p.backward (meaning p.operator)) (pair_in s p) = record {
+      let here : SomePair (directed p.backward (meaning p.operator)) (pair_in s p) = record {
         hs = map (headings es) p.near;
         ht = map (headings es) p.far;
         pair = either_way meaning (headings es) s false (is_in known.over.number layout) known.over known.related;
       } in
-      subst (λ (x : PairState). SomePair (way over.backward (meaning over.operator)) x) (sym same) (subst (λ (q : Crossing O). SomePair (way q.backward (meaning q.operator)) (pair_in s q)) (sym over_is) here)
+      subst (λ (x : PairState). SomePair (directed over.backward (meaning over.operator)) x) (sym same) (subst (λ (q : Crossing O). SomePair (directed q.backward (meaning q.operator)) (pair_in s q)) (sym over_is) here)
 
   -- and they are those of the operator
-  pub aux_found : (pair : PairState) (tables : Tables) → pair ≡ pair_in s over → tables ≡ (way over.backward (meaning over.operator)).aux_at_source pair → IsAuxOf meaning es layout s n tables
+  pub aux_found : (pair : PairState) (tables : Tables) → pair ≡ pair_in s over → tables ≡ (directed over.backward (meaning over.operator)).aux_at_source pair → IsAuxOf meaning es layout s n tables
   aux_found pair tables same aux e i number =
-      aux ∙ ap (λ (x : PairState). (way over.backward (meaning over.operator)).aux_at_source x) same
+      aux ∙ ap (λ (x : PairState). (directed over.backward (meaning over.operator)).aux_at_source x) same
       ∙ ap (λ (q : Crossing O). aux_of meaning s q) (some_is over (stored_way layout e) (is e i number))
 
 -- ---- operator by operator

@@ -11,7 +11,7 @@ use Rattle.id_memory.specs.Pairs.{Pairs}
 use Rattle.id_memory.specs.States.{MemoryState}
 use Rattle.version_graph.specs.Sets.{In}
 use Rattle.version_graph.specs.Edges.{Drawn, numbers}
-use Rattle.version_graph.specs.Forest.{Crossing, Link, crossing, forest, told}
+use Rattle.version_graph.specs.Forest.{Crossing, Link, crossing, forest, step_told}
 use Rattle.version_graph.specs.declared.parts.Placed.{Placed}
 use Rattle.version_graph.proofs.SetLaws.{each_at}
 use Rattle.version_graph.proofs.WalkStepLaws.{in_reverse}
@@ -27,7 +27,7 @@ use Rattle.version_model.specs.Calls.{IsCrossing, IsTold}
 use Rattle.version_model.specs.Kept.{HasSides, pairs_at, rows_now, value_of}
 use Rattle.version_model.specs.Put.{put}
 use Rattle.version_model.specs.States.{State, headings}
-use Rattle.version_model.specs.Steps.{way}
+use Rattle.version_model.specs.Steps.{directed}
 use Rattle.version_model.specs.declared.numbered.Numbered.{Numbered}
 use Rattle.version_model.proofs.CarryLaws.{told_is}
 use Rattle.version_model.proofs.CrossingLaws.{numbers_linked}
@@ -35,7 +35,7 @@ use Rattle.version_model.proofs.NumberedLaws.{looked, value_of_first}
 use Rattle.version_model.proofs.PutLaws.{map_same}
 use Rattle.storage_law.specs.Storage.{aux_of, stored_way}
 use Rattle.storage_law.proofs.ReadLaws.{IsRead, far_right, put_in, read_at, still_right}
-use Rattle.db_state.specs.Fields.{IsDatabase, auxes_at, numbers_in, state_of, storage_in}
+use Rattle.db_state.specs.Fields.{IsDatabase, auxes_at, numbers_in, state_for, storage_in}
 use Rattle.db_state.specs.inner.Passes.{Settles}
 use Rattle.db_state.specs.declared.parts.Parts.{Parts}
 use Rattle.db_state.proofs.AuxLemmas.{few_on}
@@ -74,7 +74,7 @@ module _ {O : Type 0} (meaning : O → Meaning) (p : Parts O) (is : IsDatabase m
 
 module _ {O : Type 0} (meaning : O → Meaning) (laws : (o : O) → Laws (meaning o)) (p : Parts O) (is : IsDatabase meaning p) where
   abbrev s : State
-  s = state_of meaning p
+  s = state_for meaning p
 
   module _ (e : Link O) (at : In e (forest p.graph.edges)) (q : Crossing O) (over : q ≡ stored_way p.layout.operators e) (rows : ℕ → Rows) (right : (t : ℕ) → In t (stored_way p.layout.operators e).near → rows t ≡ s.tables t)
       (near : Tables) (n : ℕ) (number : e.number ≡ n) (aux : Aux) (memory : MemoryState) (near_is : near ≡ map rows q.near) (aux_is : Some aux ≡ value_of p.aux n) (memory_is : Some memory ≡ value_of p.memories n) where
@@ -101,9 +101,9 @@ module _ {O : Type 0} (meaning : O → Meaning) (laws : (o : O) → Laws (meanin
     near_at = near_is ∙ map_same rows s.tables q.near right_near
 
     -- the near tables, the auxiliary tables and the memory are of the pair in the state
-    pub may_read : SomeStored (way q.backward (meaning q.operator)) near (tables_of aux) memory.entries
+    pub may_read : SomeStored (directed q.backward (meaning q.operator)) near (tables_of aux) memory.entries
     may_read =
-        let m = way q.backward (meaning q.operator) in
+        let m = directed q.backward (meaning q.operator) in
         let a : tables_of aux ≡ aux_of meaning s q = aux_at ∙ read.stands.aux in
         let k : memory.entries ≡ s.memory q.number = memory_at ∙ read.stands.memory in
         let of_state : SomeStored m (map s.tables q.near) (aux_of meaning s q) (s.memory q.number) = record {
@@ -117,20 +117,20 @@ module _ {O : Type 0} (meaning : O → Meaning) (laws : (o : O) → Laws (meanin
         (subst (λ (x : Pairs). SomeStored m (map s.tables q.near) (aux_of meaning s q) x) (sym k) of_state))
 
     -- what is read from them are the far tables of the state
-    pub far_is : (far : Tables) → far ≡ (way q.backward (meaning q.operator)).read_target near (tables_of aux) memory.entries → far ≡ map s.tables q.far
+    pub far_is : (far : Tables) → far ≡ (directed q.backward (meaning q.operator)).read_target near (tables_of aux) memory.entries → far ≡ map s.tables q.far
     far_is far is_read =
-        let m = way q.backward (meaning q.operator) in
+        let m = directed q.backward (meaning q.operator) in
         is_read ∙ ap (λ (x : Tables). m.read_target x (tables_of aux) memory.entries) near_is
         ∙ ap (λ (x : Tables). m.read_target (map rows q.near) x memory.entries) aux_at
         ∙ ap (λ (x : Pairs). m.read_target (map rows q.near) ((storage_in p).aux q.number) x) memory_at
         ∙ far_right meaning laws (headings p.graph.edges) (storage_in p) s q read rows right_near
 
     -- one for each number
-    pub far_long : (far : Tables) → far ≡ (way q.backward (meaning q.operator)).read_target near (tables_of aux) memory.entries → length far ≡ length q.far
+    pub far_long : (far : Tables) → far ≡ (directed q.backward (meaning q.operator)).read_target near (tables_of aux) memory.entries → length far ≡ length q.far
     far_long far is_read = ap (λ (l : Tables). length l) (far_is far is_read) ∙ length-map q.far s.tables
 
     -- so putting them makes the far tables right
-    pub settles : (far : Tables) (new : ℕ → Rows) → far ≡ (way q.backward (meaning q.operator)).read_target near (tables_of aux) memory.entries → new ≡ put rows q.far far → Settles s.tables q.far rows new
+    pub settles : (far : Tables) (new : ℕ → Rows) → far ≡ (directed q.backward (meaning q.operator)).read_target near (tables_of aux) memory.entries → new ≡ put rows q.far far → Settles s.tables q.far rows new
     settles far new is_read made =
         let full : new ≡ put rows q.far (map s.tables q.far) = made ∙ ap (λ (l : Tables). put rows q.far l) (far_is far is_read) in
         record {
@@ -145,7 +145,7 @@ none_kept o items kept n none found same = ap (λ x. option_copied x) (sym none)
 -- ---- what the calls before a reading gave
 
 -- a step tells of one crossing
-pub same_crossing : {O : Type 0} (g h : Drawn O) → g ≡ h → (step : Step) (q r : Crossing O) → IsTold g.edges step (Some q) → IsCrossing h.edges r → told r ≡ step → q ≡ r
+pub same_crossing : {O : Type 0} (g h : Drawn O) → g ≡ h → (step : Step) (q r : Crossing O) → IsTold g.edges step (Some q) → IsCrossing h.edges r → step_told r ≡ step → q ≡ r
 same_crossing {O} g h same step q r tells crosses is = told_is h.edges step r q crosses is (subst (λ (d : Drawn O). IsTold d.edges step (Some q)) same tells)
 
 -- a value that is there

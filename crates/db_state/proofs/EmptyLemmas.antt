@@ -13,7 +13,7 @@ use Rattle.version_model.specs.declared.numbered.Numbered.{Numbered}
 use Rattle.version_graph.proofs.EvolveLaws.{drawn_is}
 use Rattle.version_model.proofs.EvolveLaws.{empty_sound}
 use Rattle.storage_law.specs.Reading.{ReadsSources}
-use Rattle.db_state.specs.Fields.{IsDatabase, database_of}
+use Rattle.db_state.specs.Fields.{IsDatabase, database_for}
 use Rattle.db_state.specs.declared.parts.Parts.{Parts}
 use Rattle.db_state.proofs.FieldLaws.{IsShaped, Store, is_database}
 
@@ -62,12 +62,12 @@ parts_are {O} p q graph layout stored aux memories ids =
     a ∙ b ∙ c ∙ d ∙ e ∙ ap (λ (x : CounterState). record q { ids = x }) ids
 
 pub empty_is : {O : Type 0} (meaning : O → Meaning) → ((o : O) → Laws (meaning o)) → ReadsSources meaning → (limit : ℕ) (p : Parts O) → p.graph.edges ≡ [] → p.graph.versions ≡ [] → p.graph.last_operator ≡ 0 → p.graph.last_table ≡ 0 → p.layout.operators ≡ [] → p.stored ≡ [] → p.aux ≡ [] → p.memories ≡ [] → p.ids ≡ record { next = 1; limit = limit }
-    → IsDatabase meaning p × (database_of meaning p ≡ empty_database limit)
+    → IsDatabase meaning p × (database_for meaning p ≡ empty_database limit)
 empty_is {O} meaning laws reads limit p edges versions operator table operators stored aux memories ids =
     let start : Parts O = bare limit in
     let graph : start.graph ≡ p.graph = drawn_is (sym edges) (sym versions) (sym operator) (sym table) in
     let lay : start.layout ≡ p.layout = ap (λ (l : List ℕ). record { operators = l }) (sym operators) in
     let same : start ≡ p = parts_are start p graph lay (sym stored) (sym aux) (sym memories) (sym ids) in
     let made = is_database meaning laws reads start (empty_at 1) (bare_shaped limit) (empty_sound meaning 1 (omega arith)) (bare_store meaning limit) in
-    let d : database_of meaning start ≡ empty_database limit = ap (λ (s : State). record { graph = start.graph; state = s; limit = limit }) made.1 in
-    subst (λ (x : Parts O). IsDatabase meaning x × (database_of meaning x ≡ empty_database limit)) same (made.0, d)
+    let d : database_for meaning start ≡ empty_database limit = ap (λ (s : State). record { graph = start.graph; state = s; limit = limit }) made.1 in
+    subst (λ (x : Parts O). IsDatabase meaning x × (database_for meaning x ≡ empty_database limit)) same (made.0, d)

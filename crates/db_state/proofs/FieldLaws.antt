@@ -30,7 +30,7 @@ use Rattle.storage_law.specs.Reading.{ReadsSources, read_all}
 use Rattle.storage_law.proofs.CanonicalLaws.{either_way}
 use Rattle.storage_law.proofs.LinkLaws.{not_in_false}
 use Rattle.storage_law.proofs.ReadLaws.{read_back}
-use Rattle.db_state.specs.Fields.{IsDatabase, auxes_at, numbers_in, state_of, storage_in}
+use Rattle.db_state.specs.Fields.{IsDatabase, auxes_at, numbers_in, state_for, storage_in}
 use Rattle.db_state.specs.declared.parts.Parts.{Parts}
 
 -- nothing stands under a number that isn't listed
@@ -73,9 +73,9 @@ module _ {O : Type 0} (meaning : O → Meaning) (laws : (o : O) → Laws (meanin
   abbrev es : List (Placed O)
   es = p.graph.edges
 
-  tables_same : (t : ℕ) → (state_of meaning p).tables t ≡ s.tables t
+  tables_same : (t : ℕ) → (state_for meaning p).tables t ≡ s.tables t
   tables_same t =
-      in_or_not t (table_numbers (made es)) ((state_of meaning p).tables t ≡ s.tables t)
+      in_or_not t (table_numbers (made es)) ((state_for meaning p).tables t ≡ s.tables t)
       (λ i. cond-true (is_in t (table_numbers (made es))) (read_all meaning (storage_in p) (forest es) t) [] (is_in_true t (table_numbers (made es)) i) ∙ read_back meaning laws reads es (storage_in p) valid s graph.edges stands t i)
       (λ none. cond-false (is_in t (table_numbers (made es))) (read_all meaning (storage_in p) (forest es) t) [] (not_in_false t (table_numbers (made es)) none) ∙ sym (sound.alone.tables t none))
 
@@ -88,7 +88,7 @@ module _ {O : Type 0} (meaning : O → Meaning) (laws : (o : O) → Laws (meanin
       subst (λ (k : ℕ). pairs_at p.memories k ≡ s.memory k) (sym l.2) over.memory)
       (λ none. stands.no_more.memories n none ∙ sym (sound.alone.memories n none))
 
-  pub state_is : state_of meaning p ≡ s
+  pub state_is : state_for meaning p ≡ s
   state_is = same_state _ _ _ _ _ _ (fun_ext tables_same) (fun_ext memory_same) next
 
 -- what else is asked of fields
@@ -103,7 +103,7 @@ pub record IsShaped {O : Type 0} (p : Parts O) : Type 0 where
   pub memories : numbers_in p.memories ≡ reverse (numbers p.graph.edges)
 
 -- THE WAY TO MAKE A DATABASE: fields that store a sound state are one, and that state is theirs
-pub is_database : {O : Type 0} (meaning : O → Meaning) → ((o : O) → Laws (meaning o)) → ReadsSources meaning → (p : Parts O) (s : State) → IsShaped p → IsSound meaning p.graph.edges s → Store meaning p s → IsDatabase meaning p × (state_of meaning p ≡ s)
+pub is_database : {O : Type 0} (meaning : O → Meaning) → ((o : O) → Laws (meaning o)) → ReadsSources meaning → (p : Parts O) (s : State) → IsShaped p → IsSound meaning p.graph.edges s → Store meaning p s → IsDatabase meaning p × (state_for meaning p ≡ s)
 is_database {O} meaning laws reads p s shaped sound store =
     let stands = they_stand meaning p s sound store in
     let is = state_is meaning laws reads p s shaped.graph shaped.valid sound stands store.next in (

@@ -8,13 +8,13 @@ use Rattle.version_model.specs.States.{State}
 use Rattle.storage_law.specs.Canonical.{SameStored}
 use Rattle.storage_law.specs.Storage.{Stands}
 use Rattle.storage_law.proofs.CanonicalLaws.{parts_are_one}
-use Rattle.db_state.specs.Fields.{IsDatabase, database_of, state_of, storage_in}
+use Rattle.db_state.specs.Fields.{IsDatabase, database_for, state_for, storage_in}
 use Rattle.db_state.specs.declared.parts.Parts.{Parts}
 
-pub stored_once : {O : Type 0} (meaning : O → Meaning) (p q : Parts O) → IsDatabase meaning p → IsDatabase meaning q → database_of meaning p ≡ database_of meaning q → p.layout.operators ≡ q.layout.operators → SameStored (storage_in p) (storage_in q)
+pub stored_once : {O : Type 0} (meaning : O → Meaning) (p q : Parts O) → IsDatabase meaning p → IsDatabase meaning q → database_for meaning p ≡ database_for meaning q → p.layout.operators ≡ q.layout.operators → SameStored (storage_in p) (storage_in q)
 stored_once {O} meaning p q first second same layouts =
     let graph : p.graph ≡ q.graph = ap (λ (d : Database O). d.graph) same in
-    let state : state_of meaning p ≡ state_of meaning q = ap (λ (d : Database O). d.state) same in
-    let other : Stands meaning p.graph.edges (storage_in q) (state_of meaning p) =
-    subst (λ (g : Drawn O). Stands meaning g.edges (storage_in q) (state_of meaning p)) (sym graph) (subst (λ (s : State). Stands meaning q.graph.edges (storage_in q) s) (sym state) second.stands) in
-    parts_are_one meaning p.graph.edges (state_of meaning p) (storage_in p) (storage_in q) (λ n. (subst (λ (l : List ℕ). In n l) layouts, subst (λ (l : List ℕ). In n l) (sym layouts))) first.stands other
+    let state : state_for meaning p ≡ state_for meaning q = ap (λ (d : Database O). d.state) same in
+    let other : Stands meaning p.graph.edges (storage_in q) (state_for meaning p) =
+    subst (λ (g : Drawn O). Stands meaning g.edges (storage_in q) (state_for meaning p)) (sym graph) (subst (λ (s : State). Stands meaning q.graph.edges (storage_in q) s) (sym state) second.stands) in
+    parts_are_one meaning p.graph.edges (state_for meaning p) (storage_in p) (storage_in q) (λ n. (subst (λ (l : List ℕ). In n l) layouts, subst (λ (l : List ℕ). In n l) (sym layouts))) first.stands other

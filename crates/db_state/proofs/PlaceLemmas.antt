@@ -24,11 +24,11 @@ use Rattle.version_model.proofs.AscendingLaws.{edge_there, some_there}
 use Rattle.version_model.proofs.CarryLaws.{some_is}
 use Rattle.version_model.proofs.CrossingLaws.{targets_linked}
 use Rattle.version_model.proofs.MakingLaws.{stands_at}
-use Rattle.db_state.specs.Fields.{IsDatabase, state_of}
+use Rattle.db_state.specs.Fields.{IsDatabase, state_for}
 use Rattle.db_state.specs.declared.parts.Parts.{Parts}
 use Rattle.db_state.specs.declared.read.Pass.{Pass}
 use Rattle.db_state.specs.Covered.{CoversItself}
-use Rattle.db_state.specs.inner.Passes.{AreRead, Crosses, IsDown, IsDownTo, IsUpTo, MayCross, MayPass, Passes, Settles, is_passed}
+use Rattle.db_state.specs.inner.Passes.{AreRead, PassesOver, IsDown, IsDownTo, IsUpTo, MayCross, MayPass, Passes, Settles, is_passed}
 use Rattle.db_state.proofs.AuxLemmas.{crosses}
 use Rattle.db_state.proofs.PassLemmas.{all_right, down_step, near_down, near_up, up_step}
 
@@ -153,40 +153,40 @@ module _ {O : Type 0} (meaning : O → Meaning) (p : Parts O) (is : IsDatabase m
         }
 
     -- the pass went over it
-    pub passes_over : (new : List (Numbered TableState)) → test e.number ≡ true → Crosses meaning p made new (record { operator = e.number; backward = pass.backward }) → Passes meaning p pass i made new
+    pub passes_over : (new : List (Numbered TableState)) → test e.number ≡ true → PassesOver meaning p made new (record { operator = e.number; backward = pass.backward }) → Passes meaning p pass i made new
     passes_over new passed crossed f here =
         let number = same_number f here in
         let at = link_listed p.graph.edges i f (sym here) in
-        subst (λ (l : List ℕ). Settles (state_of meaning p).tables l (rows_now p.stored made) (rows_now p.stored new)) (sym (cond-true (test f.number) (crossing pass.backward f).far [] (subst (λ (n : ℕ). test n ≡ true) number passed)))
+        subst (λ (l : List ℕ). Settles (state_for meaning p).tables l (rows_now p.stored made) (rows_now p.stored new)) (sym (cond-true (test f.number) (crossing pass.backward f).far [] (subst (λ (n : ℕ). test n ≡ true) number passed)))
         (crossed (crossing pass.backward f) (crosses p.graph.edges is.graph.edges f at pass.backward) (ap (λ (n : ℕ). record { operator = n; backward = pass.backward }) (sym number)))
 
     -- the pass leaves it
     pub passes_by : test e.number ≡ false → Passes meaning p pass i made made
     passes_by off f here =
-        subst (λ (l : List ℕ). Settles (state_of meaning p).tables l (rows_now p.stored made) (rows_now p.stored made)) (sym (cond-false (test f.number) (crossing pass.backward f).far [] (subst (λ (n : ℕ). test n ≡ false) (same_number f here) off)))
+        subst (λ (l : List ℕ). Settles (state_for meaning p).tables l (rows_now p.stored made) (rows_now p.stored made)) (sym (cond-false (test f.number) (crossing pass.backward f).far [] (subst (λ (n : ℕ). test n ≡ false) (same_number f here) off)))
         (record { kept = λ t h. h; right = λ t j. absurd j })
 
 -- ---- the ends of the passes
 
 module _ {O : Type 0} (meaning : O → Meaning) (p : Parts O) (is : IsDatabase meaning p) (ns : List ℕ) where
   -- nothing was read yet
-  pub down_start : (left : ℕ) → left ≡ length p.graph.edges → (made : List (Numbered TableState)) → made ≡ [] → IsDownTo (forest p.graph.edges) p.layout.operators ns (state_of meaning p).tables (below p.graph.edges left) (rows_now p.stored made)
+  pub down_start : (left : ℕ) → left ≡ length p.graph.edges → (made : List (Numbered TableState)) → made ≡ [] → IsDownTo (forest p.graph.edges) p.layout.operators ns (state_for meaning p).tables (below p.graph.edges left) (rows_now p.stored made)
   down_start left count made none =
-      let start : IsDownTo (forest p.graph.edges) p.layout.operators ns (state_of meaning p).tables (forest p.graph.edges) (rows_now p.stored []) = record {
+      let start : IsDownTo (forest p.graph.edges) p.layout.operators ns (state_for meaning p).tables (forest p.graph.edges) (rows_now p.stored []) = record {
         stored = λ t k. is.stands.stored t k;
         sources = λ f i out. absurd (out i);
       } in
-      subst (λ (l : List (Link O)). IsDownTo (forest p.graph.edges) p.layout.operators ns (state_of meaning p).tables l (rows_now p.stored made)) (sym (below_all p.graph.edges left count))
-      (subst (λ (m : List (Numbered TableState)). IsDownTo (forest p.graph.edges) p.layout.operators ns (state_of meaning p).tables (forest p.graph.edges) (rows_now p.stored m)) (sym none) start)
+      subst (λ (l : List (Link O)). IsDownTo (forest p.graph.edges) p.layout.operators ns (state_for meaning p).tables l (rows_now p.stored made)) (sym (below_all p.graph.edges left count))
+      (subst (λ (m : List (Numbered TableState)). IsDownTo (forest p.graph.edges) p.layout.operators ns (state_for meaning p).tables (forest p.graph.edges) (rows_now p.stored m)) (sym none) start)
 
   -- no operator is left
-  pub down_end : (left : ℕ) → left ≤ 0 → (made : List (Numbered TableState)) → IsDownTo (forest p.graph.edges) p.layout.operators ns (state_of meaning p).tables (below p.graph.edges left) (rows_now p.stored made) → IsDown meaning p ns made
+  pub down_end : (left : ℕ) → left ≤ 0 → (made : List (Numbered TableState)) → IsDownTo (forest p.graph.edges) p.layout.operators ns (state_for meaning p).tables (below p.graph.edges left) (rows_now p.stored made) → IsDown meaning p ns made
   down_end left none made down =
       let zero_left : left ≡ 0 = omega (arith, none) in
-      subst (λ (n : ℕ). IsDownTo (forest p.graph.edges) p.layout.operators ns (state_of meaning p).tables (below p.graph.edges n) (rows_now p.stored made)) zero_left down
+      subst (λ (n : ℕ). IsDownTo (forest p.graph.edges) p.layout.operators ns (state_for meaning p).tables (below p.graph.edges n) (rows_now p.stored made)) zero_left down
 
   -- all operators were passed
-  pub up_end : (i count : ℕ) → count ≡ length p.graph.edges → count ≤ i → (made : List (Numbered TableState)) → IsUpTo (forest p.graph.edges) p.layout.operators ns (state_of meaning p).tables (below p.graph.edges i) (rows_now p.stored made) → AreRead meaning p ns made
+  pub up_end : (i count : ℕ) → count ≡ length p.graph.edges → count ≤ i → (made : List (Numbered TableState)) → IsUpTo (forest p.graph.edges) p.layout.operators ns (state_for meaning p).tables (below p.graph.edges i) (rows_now p.stored made) → AreRead meaning p ns made
   up_end i count is_count past made up t j covered =
-      let all = subst (λ (l : List (Link O)). IsUpTo (forest p.graph.edges) p.layout.operators ns (state_of meaning p).tables l (rows_now p.stored made)) (below_past p.graph.edges i count is_count past) up in
-      all_right (forest p.graph.edges) p.layout.operators ns (state_of meaning p).tables (rows_now p.stored made) all t (subst (λ (l : List ℕ). In t l) (sym (targets_linked p.graph.edges is.graph.edges)) j) covered
+      let all = subst (λ (l : List (Link O)). IsUpTo (forest p.graph.edges) p.layout.operators ns (state_for meaning p).tables l (rows_now p.stored made)) (below_past p.graph.edges i count is_count past) up in
+      all_right (forest p.graph.edges) p.layout.operators ns (state_for meaning p).tables (rows_now p.stored made) all t (subst (λ (l : List ℕ). In t l) (sym (targets_linked p.graph.edges is.graph.edges)) j) covered

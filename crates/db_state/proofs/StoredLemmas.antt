@@ -8,7 +8,7 @@ use Rattle.op_law.specs.Meaning.{Meaning}
 use Rattle.layout_rules.proofs.LinkLaws.{in_or_out}
 use Rattle.version_model.specs.Kept.{latest_of, newer_rows, rows_at, rows_now, value_of}
 use Rattle.version_model.specs.declared.numbered.Numbered.{Numbered}
-use Rattle.db_state.specs.Fields.{IsDatabase, numbers_in, state_of}
+use Rattle.db_state.specs.Fields.{IsDatabase, numbers_in, state_for}
 use Rattle.db_state.specs.declared.parts.Parts.{Parts}
 use Rattle.db_state.proofs.FieldLaws.{none_at}
 
@@ -21,10 +21,10 @@ in_numbers items n x found =
     ]
 
 -- a stored table has the rows of the state
-pub lent_right : {O : Type 0} (meaning : O → Meaning) (p : Parts O) → IsDatabase meaning p → (t : ℕ) (o : Option (Bor TableState)) → option_copied o ≡ value_of p.stored t → IfSome o (λ (b : Bor TableState). b.now.rows ≡ (state_of meaning p).tables t)
+pub lent_right : {O : Type 0} (meaning : O → Meaning) (p : Parts O) → IsDatabase meaning p → (t : ℕ) (o : Option (Bor TableState)) → option_copied o ≡ value_of p.stored t → IfSome o (λ (b : Bor TableState). b.now.rows ≡ (state_for meaning p).tables t)
 lent_right {O} meaning p is t None found = tt
 lent_right {O} meaning p is t (Some b) found =
-    let stored : rows_at p.stored t ≡ (state_of meaning p).tables t = is.stands.stored t ((is.tables t).0 (in_numbers p.stored t b.now found)) in
+    let stored : rows_at p.stored t ≡ (state_for meaning p).tables t = is.stands.stored t ((is.tables t).0 (in_numbers p.stored t b.now found)) in
     ap (λ (o : Option TableState). option_map_or (λ (x : TableState). x.rows) o []) found ∙ stored
 
 -- a table that isn't stored is among those that were read

@@ -33,16 +33,16 @@ abbrev pub storage_in : {O : Type 0} → Parts O → Storage
 storage_in p = record { layout = p.layout.operators; stored = rows_at p.stored; aux = auxes_at p.aux; memory = pairs_at p.memories }
 
 -- THE STATE FOR WHICH THE FIELDS STAND: each live table as it is read back, each memory, and the next identifier
-abbrev pub state_of : {O : Type 0} → (O → Meaning) → Parts O → State
-state_of meaning p = record {
+abbrev pub state_for : {O : Type 0} → (O → Meaning) → Parts O → State
+state_for meaning p = record {
   tables = λ t. if is_in t (table_numbers (made p.graph.edges)) then read_all meaning (storage_in p) (forest p.graph.edges) t else [];
   memory = pairs_at p.memories;
   next = p.ids.next;
 }
 
 -- the model's database, which has no layout
-abbrev pub database_of : {O : Type 0} → (O → Meaning) → Parts O → Database O
-database_of meaning p = record { graph = p.graph; state = state_of meaning p; limit = p.ids.limit }
+abbrev pub database_for : {O : Type 0} → (O → Meaning) → Parts O → Database O
+database_for meaning p = record { graph = p.graph; state = state_for meaning p; limit = p.ids.limit }
 
 -- CANONICAL STORAGE
 pub record IsDatabase {O : Type 0} (meaning : O → Meaning) (p : Parts O) : Type 0 where
@@ -58,5 +58,5 @@ pub record IsDatabase {O : Type 0} (meaning : O → Meaning) (p : Parts O) : Typ
   pub auxes : numbers_in p.aux ≡ reverse (numbers p.graph.edges)
   pub memories : numbers_in p.memories ≡ reverse (numbers p.graph.edges)
   -- what they hold is what is stored of the state, which is sound
-  pub stands : Stands meaning p.graph.edges (storage_in p) (state_of meaning p)
-  pub sound : IsSound meaning p.graph.edges (state_of meaning p)
+  pub stands : Stands meaning p.graph.edges (storage_in p) (state_for meaning p)
+  pub sound : IsSound meaning p.graph.edges (state_for meaning p)

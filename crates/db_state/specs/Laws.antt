@@ -2,9 +2,9 @@
 use Rattle.std.specs.Prelude.{◌≡◌}
 use Rattle.op_law.specs.Meaning.{Meaning}
 use Rattle.storage_law.specs.Canonical.{SameStored}
-use Rattle.db_state.specs.Fields.{IsDatabase, database_of, storage_in}
+use Rattle.db_state.specs.Fields.{IsDatabase, database_for, storage_in}
 use Rattle.db_state.specs.declared.parts.Parts.{Parts}
 
 -- databases of one state with one layout store the same: so where state and layout are again what they were, every stored table, auxiliary table and memory is
 abbrev pub StoredOnce : {O : Type 0} → (O → Meaning) → Type 0
-StoredOnce {O} meaning = (p q : Parts O) → IsDatabase meaning p → IsDatabase meaning q → database_of meaning p ≡ database_of meaning q → p.layout.operators ≡ q.layout.operators → SameStored (storage_in p) (storage_in q)
+StoredOnce {O} meaning = (p q : Parts O) → IsDatabase meaning p → IsDatabase meaning q → database_for meaning p ≡ database_for meaning q → p.layout.operators ≡ q.layout.operators → SameStored (storage_in p) (storage_in q)

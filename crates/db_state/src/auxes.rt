@@ -6,7 +6,7 @@ ghost use Rattle.version_graph.specs.Edges.{AreEdges};
 ghost use Rattle.version_graph.specs.Forest.{forest, Link};
 ghost use Rattle.op_law.specs.Calls.{seen, tables_of};
 ghost use Rattle.op_law.specs.Premises.{SomePair};
-ghost use Rattle.version_model.specs.Steps.{pair_in, way};
+ghost use Rattle.version_model.specs.Steps.{pair_in, directed};
 ghost use Rattle.version_model.specs.Calls.{crossing_of, made_state, seen_from};
 ghost use Rattle.storage_law.specs.Storage.{stored_way as stored_way_lem};
 ghost use Rattle.db_state.specs.Calls.{AreAuxesOf, IsAuxOf, IsRelatedAt};
@@ -72,9 +72,9 @@ fn aux_over<O: Operator, L: Ledger>(
     pair: &Pair,
     steps: &mut Steps<L>,
 ) -> Result<Aux, Memory>
-    requires { SomePair (way backward (O.meaning operator.now)) (seen_from backward (seen pair.now)) }
+    requires { SomePair (directed backward (O.meaning operator.now)) (seen_from backward (seen pair.now)) }
     ensures { IfOk result (λ aux. tables_of aux
-        ≡ (way backward (O.meaning operator.now)).aux_at_source (seen_from backward (seen pair.now))) }
+        ≡ (directed backward (O.meaning operator.now)).aux_at_source (seen_from backward (seen pair.now))) }
 {
     if backward {
         operator.aux_at_target(alloc, pair, steps)

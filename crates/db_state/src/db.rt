@@ -4,7 +4,7 @@ ghost use Rattle.std.specs.Option.{option_copied};
 ghost use Rattle.version_model.specs.Kept.{value_of as value_of_lem};
 ghost use Rattle.version_model.specs.Databases.{empty_database};
 ghost use Rattle.storage_law.specs.Reading.{ReadsSources};
-ghost use Rattle.db_state.specs.Fields.{database_of, state_of, IsDatabase};
+ghost use Rattle.db_state.specs.Fields.{database_for, state_for, IsDatabase};
 
 use crate::Parts;
 use id_memory::{IdCounter, PairMemory};
@@ -60,7 +60,7 @@ impl<O: Operator> Db<O> {
     pub fn new(alloc: Global, limit: u64) -> Db<O>
         requires reads { ReadsSources O.meaning }
         requires limit { limit < 2 ^ 63 }
-        ensures empty { database_of O.meaning result ≡ empty_database limit }
+        ensures empty { database_for O.meaning result ≡ empty_database limit }
         ensures layout { result.layout.operators ≡ [] }
     {
         Db {
@@ -101,7 +101,7 @@ impl<O: Operator> Db<O> {
     /// table before it.
     pub fn stored_table(&self, table: u32) -> Option<&Table>
         ensures table { option_copied result ≡ value_of_lem self.now.stored table }
-        ensures rows { IfSome result (λ stored. stored.now.rows ≡ (state_of O.meaning self.now).tables table) }
+        ensures rows { IfSome result (λ stored. stored.now.rows ≡ (state_for O.meaning self.now).tables table) }
     {
         value_of(self.stored.as_slice(), table)
     }
@@ -133,7 +133,7 @@ impl<O: Operator> Db<O> {
 pub fn take_parts<O: Operator + Drop>(alloc: Global, db: &mut Db<O>) -> Parts<O>
     ensures parts { result ≡ db.old }
     ensures kept { IsDatabase O.meaning result }
-    ensures left { database_of O.meaning db.new ≡ empty_database db.old.ids.limit }
+    ensures left { database_for O.meaning db.new ≡ empty_database db.old.ids.limit }
 {
     let limit = db.ids.limit();
     let Db {

@@ -9,10 +9,10 @@ ghost use Rattle.version_graph.specs.Forest.{forest};
 ghost use Rattle.op_law.specs.Calls.{tables_of};
 ghost use Rattle.op_law.specs.Premises.{SomeStored};
 ghost use Rattle.version_model.specs.Kept.{rows_now};
-ghost use Rattle.version_model.specs.Steps.{way};
-ghost use Rattle.db_state.specs.Fields.{state_of};
+ghost use Rattle.version_model.specs.Steps.{directed};
+ghost use Rattle.db_state.specs.Fields.{state_for};
 ghost use Rattle.db_state.specs.Covered.{Covers, CoversItself};
-ghost use Rattle.db_state.specs.inner.Passes.{is_passed as is_passed_lem, AreRead, Crosses, IsDown, MayCross, MayPass, Passes};
+ghost use Rattle.db_state.specs.inner.Passes.{is_passed as is_passed_lem, AreRead, PassesOver, IsDown, MayCross, MayPass, Passes};
 
 use crate::Db;
 use expr_lang::Steps;
@@ -41,8 +41,8 @@ fn read_far<O: Operator, L: Ledger>(
     memory: &PairMemory,
     steps: &mut Steps<L>,
 ) -> Result<Side, Memory>
-    requires { SomeStored (way over.now.backward (O.meaning over.now.operator.now)) near.now (tables_of aux.now) memory.now.entries }
-    ensures { IfOk result (λ side. side ≡ (way over.now.backward (O.meaning over.now.operator.now)).read_target
+    requires { SomeStored (directed over.now.backward (O.meaning over.now.operator.now)) near.now (tables_of aux.now) memory.now.entries }
+    ensures { IfOk result (λ side. side ≡ (directed over.now.backward (O.meaning over.now.operator.now)).read_target
         near.now (tables_of aux.now) memory.now.entries) }
 {
     if over.backward {
@@ -60,7 +60,7 @@ fn cross<O: Operator, L: Ledger>(
     steps: &mut Steps<L>,
 ) -> Result<(), Memory>
     requires { MayCross O.meaning db.now made.old step }
-    ensures { OnOk result (Crosses O.meaning db.now made.old made.new step) }
+    ensures { OnOk result (PassesOver O.meaning db.now made.old made.new step) }
 {
     let Some(over) = way_of(db.graph(), step) else {
         unreachable!()
@@ -166,7 +166,7 @@ pub fn read_over<O: Operator, L: Ledger>(
     requires { CoversItself (forest db.now.graph.edges) db.now.layout.operators operators.now }
     ensures { IfOk result (λ read. (t : ℕ) → In t (table_numbers (made_lem db.now.graph.edges))
         → Covers (forest db.now.graph.edges) db.now.layout.operators operators.now t
-        → rows_now db.now.stored read t ≡ (state_of O.meaning db.now).tables t) }
+        → rows_now db.now.stored read t ≡ (state_for O.meaning db.now).tables t) }
 {
     let mut made = pass_down(alloc, db, operators, steps)?;
     pass_up(alloc, db, operators, &mut made, steps)?;

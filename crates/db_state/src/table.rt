@@ -5,7 +5,7 @@ ghost use Rattle.version_graph.specs.Tables.{table_numbers};
 ghost use Rattle.version_graph.specs.Edges.{made as made_lem};
 ghost use Rattle.row_store.specs.Rows.{row_of};
 ghost use Rattle.version_model.specs.Kept.{rows_now, value_of};
-ghost use Rattle.db_state.specs.Fields.{state_of};
+ghost use Rattle.db_state.specs.Fields.{state_for};
 
 use crate::Db;
 use crate::read::read_over;
@@ -39,7 +39,7 @@ fn read_along_way<O: Operator, L: Ledger>(
 ) -> Result<Table, Memory>
     requires lives { In table (table_numbers (made_lem db.now.graph.edges)) }
     requires unstored { value_of db.now.stored table ≡ None }
-    ensures { IfOk result (λ read. read.rows ≡ (state_of O.meaning db.now).tables table) }
+    ensures { IfOk result (λ read. read.rows ≡ (state_for O.meaning db.now).tables table) }
 {
     let operators = way_to_storage(alloc, db.graph(), db.layout(), table)?;
     let read = read_over(alloc, db, operators.as_slice(), steps)?;
@@ -65,7 +65,7 @@ pub fn read_table<O: Operator, L: Ledger>(
     steps: &mut Steps<L>,
 ) -> Result<Table, Memory>
     requires { In table (table_numbers (made_lem db.now.graph.edges)) }
-    ensures { IfOk result (λ read. read.rows ≡ (state_of O.meaning db.now).tables table) }
+    ensures { IfOk result (λ read. read.rows ≡ (state_for O.meaning db.now).tables table) }
 {
     match db.stored_table(table) {
         Some(stored) => stored.copy(),
@@ -83,7 +83,7 @@ pub fn row_at<O: Operator, L: Ledger>(
     steps: &mut Steps<L>,
 ) -> Result<Option<Row>, Memory>
     requires { In table (table_numbers (made_lem db.now.graph.edges)) }
-    ensures { IfOk result (λ row. row ≡ row_of ((state_of O.meaning db.now).tables table) id) }
+    ensures { IfOk result (λ row. row ≡ row_of ((state_for O.meaning db.now).tables table) id) }
 {
     match db.stored_table(table) {
         Some(stored) => copy_row(alloc, stored, id),

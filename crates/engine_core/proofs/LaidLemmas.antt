@@ -12,9 +12,9 @@ use Rattle.layout_rules.specs.Changes.{layout_after}
 use Rattle.version_model.specs.Databases.{empty_database}
 use Rattle.storage_law.specs.Reading.{ReadsSources}
 use Rattle.layout_rules.proofs.AfterLaws.{same_layout}
-use Rattle.db_state.specs.Fields.{IsDatabase, database_of}
+use Rattle.db_state.specs.Fields.{IsDatabase, database_for}
 use Rattle.db_state.specs.declared.parts.Parts.{Parts}
-use Rattle.engine_state.specs.State.{State}
+use Rattle.engine_state.specs.AnyDatabase.{AnyDatabase}
 use Rattle.engine_state.specs.declared.reply.Reply.{Reply}
 use Rattle.engine_state.specs.declared.reply.Reply.TheVariants.{Moved}
 use Rattle.engine_layouts.specs.Laid.{Laid, Materializes, materialized}
@@ -47,9 +47,9 @@ pub any_reads : ReadsSources any_meaning
 any_reads o = built_reads o.operator
 
 -- the state without versions
-pub empty_laid : (p : Parts AnyView) (limit : ℕ) → database_of any_meaning p ≡ empty_database limit → p.layout.operators ≡ [] → state_of p ≡ empty_state limit
+pub empty_laid : (p : Parts AnyView) (limit : ℕ) → database_for any_meaning p ≡ empty_database limit → p.layout.operators ≡ [] → state_of p ≡ empty_state limit
 empty_laid p limit empty layout =
-    ap (λ (d : State). record { database = d; layout = p.layout.operators }) empty ∙ ap (λ (l : List ℕ). record { database = empty_database limit; layout = l }) layout
+    ap (λ (d : AnyDatabase). record { database = d; layout = p.layout.operators }) empty ∙ ap (λ (l : List ℕ). record { database = empty_database limit; layout = l }) layout
 
 -- ---- statements on the data
 
@@ -57,11 +57,11 @@ empty_laid p limit empty layout =
 laid_is : (old new : Parts AnyView) → Follows old new → record { database = data_of new; layout = layout_after old.layout.operators old.graph new.graph } ≡ state_of new
 laid_is old new follows = ap (λ (l : List ℕ). record { database = data_of new; layout = l }) (sym follows)
 
-pub answers_beside : (old new : Parts AnyView) (m : Checked (Reply × State)) (r : Result Reply (Fault Refusal)) → Answers m r (data_of new) → Follows old new
+pub answers_beside : (old new : Parts AnyView) (m : Checked (Reply × AnyDatabase)) (r : Result Reply (Fault Refusal)) → Answers m r (data_of new) → Follows old new
     → Answers (m then λ answer. Ok (with_data (state_of old) answer)) r (state_of new)
 answers_beside old new m (Ok reply) answers follows =
-    ap (λ (x : Checked (Reply × State)). x then λ answer. Ok (with_data (state_of old) answer)) answers ∙ ap (λ (s : Laid). Ok (reply, s)) (laid_is old new follows)
-answers_beside old new m (Err (Refused r)) answers follows = ap (λ (x : Checked (Reply × State)). x then λ answer. Ok (with_data (state_of old) answer)) answers
+    ap (λ (x : Checked (Reply × AnyDatabase)). x then λ answer. Ok (with_data (state_of old) answer)) answers ∙ ap (λ (s : Laid). Ok (reply, s)) (laid_is old new follows)
+answers_beside old new m (Err (Refused r)) answers follows = ap (λ (x : Checked (Reply × AnyDatabase)). x then λ answer. Ok (with_data (state_of old) answer)) answers
 answers_beside old new m (Err Memory) answers follows = tt
 
 -- ---- moves
@@ -112,7 +112,7 @@ on_data (statement.Advise name) a b = refl
 pub same_laid : (old new : Parts AnyView) (r : Result Reply (Fault Refusal)) → IsDatabase any_meaning old → OnErr r (data_of new ≡ data_of old) → Follows old new → OnErr r (state_of new ≡ state_of old)
 same_laid old new (Ok reply) is same follows = tt
 same_laid old new (Err fault) is same follows =
-    let graph = ap (λ (d : State). d.graph) same in
+    let graph = ap (λ (d : AnyDatabase). d.graph) same in
     let layout : new.layout.operators ≡ old.layout.operators =
     follows ∙ ap (λ (g : Drawn AnyView). layout_after old.layout.operators old.graph g) graph ∙ same_layout old.graph is.graph old.layout.operators is.valid in
-    ap (λ (d : State). record { database = d; layout = new.layout.operators }) same ∙ ap (λ (l : List ℕ). record { database = data_of old; layout = l }) layout
+    ap (λ (d : AnyDatabase). record { database = d; layout = new.layout.operators }) same ∙ ap (λ (l : List ℕ). record { database = data_of old; layout = l }) layout

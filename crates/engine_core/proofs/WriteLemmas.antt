@@ -14,24 +14,24 @@ use Rattle.layout_rules.proofs.AfterLaws.{same_layout}
 use Rattle.op_law.specs.Calls.{first_refused}
 use Rattle.op_any.specs.Checks.{◌then◌}
 use Rattle.op_kinds.specs.Operators.{AnyView, any_laws, any_meaning}
-use Rattle.db_state.specs.Fields.{IsDatabase, database_of, state_of}
+use Rattle.db_state.specs.Fields.{IsDatabase, database_for, state_for}
 use Rattle.db_state.specs.declared.parts.Parts.{Parts}
 use Rattle.version_model.specs.Sound.{IsSound}
 use Rattle.version_model.specs.Databases.{Writes}
 use Rattle.version_model.specs.Laws.{WriteIsOrdinary}
 use Rattle.version_model.proofs.WriteLaws.{write_is_ordinary}
-use Rattle.engine_state.specs.State.{State}
+use Rattle.engine_state.specs.AnyDatabase.{AnyDatabase}
 use Rattle.engine_statements.specs.Statements.{Planned, state_with, wrote}
-use Rattle.engine_statements.specs.Calls.{planned_view, IsTaken}
+use Rattle.engine_statements.specs.Calls.{planned_view, TakesWrite}
 use Rattle.engine_statements.specs.declared.write_plan.WritePlan.{WritePlan}
 use Rattle.engine_core.specs.Act.{IsOrdinary}
 use Rattle.engine_core.specs.Kept.{Follows}
 use Rattle.write_propagation.specs.Plans.{Fits, Plans, Puts}
 use Rattle.write_propagation.specs.declared.change.Plan.{Plan}
 
-module _ (k : Parts AnyView) (w : WritePlan) (edges : AreEdges k.graph.edges) (sound : IsSound any_meaning k.graph.edges (state_of any_meaning k)) (taken : IsTaken k w) where
-  abbrev d : State
-  d = database_of any_meaning k
+module _ (k : Parts AnyView) (w : WritePlan) (edges : AreEdges k.graph.edges) (sound : IsSound any_meaning k.graph.edges (state_for any_meaning k)) (taken : TakesWrite k w) where
+  abbrev d : AnyDatabase
+  d = database_for any_meaning k
 
   abbrev p : Planned
   p = planned_view k.graph.edges w
@@ -54,16 +54,16 @@ module _ (k : Parts AnyView) (w : WritePlan) (edges : AreEdges k.graph.edges) (s
   pub above_already : first_refused k.ids < w.next → wrote d p ≡ Err (IdsSpent (first_refused k.ids) k.ids.limit)
   above_already h = above (omega (arith, h, ordinary.rises))
 
-  pub spent_then : (spent : Spent) (new : State) → Writes any_meaning d w.set w.table w.rows.rows w.next (Err (Refused spent)) new → wrote d p ≡ Err (IdsSpent spent.needed spent.limit)
+  pub spent_then : (spent : Spent) (new : AnyDatabase) → Writes any_meaning d w.set w.table w.rows.rows w.next (Err (Refused spent)) new → wrote d p ≡ Err (IdsSpent spent.needed spent.limit)
   spent_then spent new e =
       above e.0.0 ∙ ap (λ (n : ℕ). Err (IdsSpent n k.ids.limit)) (sym e.0.1) ∙ ap (λ (n : ℕ). Err (IdsSpent spent.needed n)) (sym e.0.2)
 
-  pub written_then : (new : State) → Writes any_meaning d w.set w.table w.rows.rows w.next (Ok tt) new → wrote d p ≡ Ok (w.reply, new)
-  written_then new e = checked false (le-ltb (first_refused k.ids) end e.0) ∙ ap (λ (s : State). Ok (w.reply, s)) (sym e.1)
+  pub written_then : (new : AnyDatabase) → Writes any_meaning d w.set w.table w.rows.rows w.next (Ok tt) new → wrote d p ≡ Ok (w.reply, new)
+  written_then new e = checked false (le-ltb (first_refused k.ids) end e.0) ∙ ap (λ (s : AnyDatabase). Ok (w.reply, s)) (sym e.1)
 
-  pub ordinary_then : (new : State) → Writes any_meaning d w.set w.table w.rows.rows w.next (Ok tt) new → IsOrdinary d p new
+  pub ordinary_then : (new : AnyDatabase) → Writes any_meaning d w.set w.table w.rows.rows w.next (Ok tt) new → IsOrdinary d p new
   ordinary_then new e =
-      subst (λ (s : State). IsOrdinary d p s) (sym e.1) (record { written = ordinary.table; others = ordinary.others; versions = refl })
+      subst (λ (s : AnyDatabase). IsOrdinary d p s) (sym e.1) (record { written = ordinary.table; others = ordinary.others; versions = refl })
 
 -- the layout follows the graph where both stay
 pub both_stay : (k n : Parts AnyView) → IsDatabase any_meaning k → n.graph ≡ k.graph → n.layout ≡ k.layout → Follows k n
@@ -72,18 +72,18 @@ both_stay k n is graph layout =
     ap (λ (l : Layout). l.operators) layout ∙ here ∙ ap (λ (g : Drawn AnyView). layout_after k.layout.operators k.graph g) (sym graph)
 
 -- a plan that was put in is the model's write
-pub plan_writes : (k n : Parts AnyView) (plan : Plan) (w t : ℕ) (rows : Rows) (next : ℕ) → Plans any_meaning k w t rows next (Ok plan) → Puts k plan n → Writes any_meaning (database_of any_meaning k) w t rows next (Ok tt) (database_of any_meaning n)
+pub plan_writes : (k n : Parts AnyView) (plan : Plan) (w t : ℕ) (rows : Rows) (next : ℕ) → Plans any_meaning k w t rows next (Ok plan) → Puts k plan n → Writes any_meaning (database_for any_meaning k) w t rows next (Ok tt) (database_for any_meaning n)
 plan_writes k n plan w t rows next plans puts = (plans.0, (plans.1 n puts).1)
 
 pub plan_fits : (k : Parts AnyView) (plan : Plan) (w t : ℕ) (rows : Rows) (next : ℕ) → Plans any_meaning k w t rows next (Ok plan) → Fits any_meaning k plan
 plan_fits k plan w t rows next plans n puts = (plans.1 n puts).0
 
-pub plan_refused : (k : Parts AnyView) (w t : ℕ) (rows : Rows) (next : ℕ) (fault : Fault Spent) → Plans any_meaning k w t rows next (Err fault) → Writes any_meaning (database_of any_meaning k) w t rows next (Err fault) (database_of any_meaning k)
+pub plan_refused : (k : Parts AnyView) (w t : ℕ) (rows : Rows) (next : ℕ) (fault : Fault Spent) → Plans any_meaning k w t rows next (Err fault) → Writes any_meaning (database_for any_meaning k) w t rows next (Err fault) (database_for any_meaning k)
 plan_refused k w t rows next (Refused spent) plans = (plans, refl)
 plan_refused k w t rows next Memory plans = refl
 
 -- after a write, or an error
-pub write_follows : (k n : Parts AnyView) (w t : ℕ) (rows : Rows) (next : ℕ) (r : Result (Unit {0}) (Fault Spent)) → IsDatabase any_meaning k → Writes any_meaning (database_of any_meaning k) w t rows next r (database_of any_meaning n) → n.layout ≡ k.layout → Follows k n
-write_follows k n w t rows next (Ok done) is writes layout = both_stay k n is (ap (λ (d : State). d.graph) writes.1) layout
-write_follows k n w t rows next (Err (Refused spent)) is writes layout = both_stay k n is (ap (λ (d : State). d.graph) writes.1) layout
-write_follows k n w t rows next (Err Memory) is writes layout = both_stay k n is (ap (λ (d : State). d.graph) writes) layout
+pub write_follows : (k n : Parts AnyView) (w t : ℕ) (rows : Rows) (next : ℕ) (r : Result (Unit {0}) (Fault Spent)) → IsDatabase any_meaning k → Writes any_meaning (database_for any_meaning k) w t rows next r (database_for any_meaning n) → n.layout ≡ k.layout → Follows k n
+write_follows k n w t rows next (Ok done) is writes layout = both_stay k n is (ap (λ (d : AnyDatabase). d.graph) writes.1) layout
+write_follows k n w t rows next (Err (Refused spent)) is writes layout = both_stay k n is (ap (λ (d : AnyDatabase). d.graph) writes.1) layout
+write_follows k n w t rows next (Err Memory) is writes layout = both_stay k n is (ap (λ (d : AnyDatabase). d.graph) writes) layout

@@ -9,7 +9,7 @@ use Rattle.version_graph.specs.Edges.{working}
 use Rattle.layout_rules.specs.Changes.{layout_after}
 use Rattle.op_any.specs.Checks.{Checked, ◌then◌}
 use Rattle.op_any.specs.Build.{is_built as is_built_operator}
-use Rattle.engine_state.specs.State.{State}
+use Rattle.engine_state.specs.AnyDatabase.{AnyDatabase}
 use Rattle.engine_state.specs.declared.reply.Reply.{Reply}
 use Rattle.engine_state.specs.declared.reply.Reply.TheVariants.{Done, Moved, Layout}
 use Rattle.engine_statements.specs.Statements.{Planned, planned_insert, planned_update, planned_delete, acted_select, wrote}
@@ -36,23 +36,23 @@ is_built _ = false
 -- ---- THE MODEL WITHOUT LAYOUT: what a statement on the data answers and leaves
 
 -- what an INSERT, UPDATE or DELETE makes of its version's table; no other statement writes rows
-abbrev pub planned : State → StatementView → Checked Planned
-planned s (Insert t rows) = planned_insert s t rows
-planned s (Update t assignments filter) = planned_update s t assignments filter
-planned s (Delete t filter) = planned_delete s t filter
-planned s _ = Err NotBuilt
+abbrev pub planned_write : AnyDatabase → StatementView → Checked Planned
+planned_write s (Insert t rows) = planned_insert s t rows
+planned_write s (Update t assignments filter) = planned_update s t assignments filter
+planned_write s (Delete t filter) = planned_delete s t filter
+planned_write s _ = Err NotBuilt
 
 -- a statement on the data
-abbrev pub acted_data : State → StatementView → Checked (Reply × State)
+abbrev pub acted_data : AnyDatabase → StatementView → Checked (Reply × AnyDatabase)
 acted_data s (CreateVersion name from operators) = created s name from operators then λ next. Ok (Done, next)
 acted_data s (DropVersion name) = dropped_version s name then λ next. Ok (Done, next)
 acted_data s (Select t items filter csv) = acted_select s t items filter
-acted_data s statement = planned s statement then λ p. wrote s p
+acted_data s statement = planned_write s statement then λ p. wrote s p
 
 -- ---- with the layout beside it
 
 -- the layout follows the graph, and tells nothing to the model
-abbrev pub with_data : Laid → Reply × State → Reply × Laid
+abbrev pub with_data : Laid → Reply × AnyDatabase → Reply × Laid
 with_data s answer = (answer.0, record { database = answer.1; layout = layout_after s.layout s.database.graph answer.1.graph })
 
 -- a statement that is carried out: MATERIALIZE changes the layout alone, SHOW LAYOUT nothing, and every other one the data, whatever the layout
@@ -72,7 +72,7 @@ abbrev pub act : Laid → StatementView → Checked (Reply × Laid)
 act s statement = if is_built statement then acted s statement else Err NotBuilt
 
 -- EACH VERSION IS AN ORDINARY DATABASE FOR ITS OWN WRITES: the written table has the rows that the statement makes, and no other table of its version changes
-pub record IsOrdinary (old : State) (p : Planned) (new : State) : Type 0 where
+pub record IsOrdinary (old : AnyDatabase) (p : Planned) (new : AnyDatabase) : Type 0 where
   pub written : new.state.tables p.found.table.number ≡ p.rows
   pub others : (t : ℕ) → In t (table_numbers (working old.graph.edges p.found.set)) → (t ≡ p.found.table.number → ⊥) → new.state.tables t ≡ old.state.tables t
   pub versions : new.graph ≡ old.graph

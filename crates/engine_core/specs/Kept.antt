@@ -6,9 +6,9 @@ use Rattle.par_base.specs.declared.refusal.Refusal.{Refusal}
 use Rattle.op_kinds.specs.Operators.{AnyView, any_meaning}
 use Rattle.version_model.specs.Databases.{empty_database}
 use Rattle.layout_rules.specs.Changes.{layout_after}
-use Rattle.db_state.specs.Fields.{database_of}
+use Rattle.db_state.specs.Fields.{database_for}
 use Rattle.db_state.specs.declared.parts.Parts.{Parts}
-use Rattle.engine_state.specs.State.{State}
+use Rattle.engine_state.specs.AnyDatabase.{AnyDatabase}
 use Rattle.engine_state.specs.declared.reply.Reply.{Reply}
 use Rattle.engine_layouts.specs.Laid.{Laid, laid_of}
 
@@ -17,8 +17,8 @@ abbrev pub state_of : Parts AnyView → Laid
 state_of k = laid_of k
 
 -- the database without its layout
-abbrev pub data_of : Parts AnyView → State
-data_of k = database_of any_meaning k
+abbrev pub data_of : Parts AnyView → AnyDatabase
+data_of k = database_for any_meaning k
 
 -- the state without versions, with the greatest identifier that may be drawn
 abbrev pub empty_state : ℕ → Laid

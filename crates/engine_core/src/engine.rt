@@ -12,10 +12,10 @@ ghost use Rattle.storage_law.specs.Canonical.{SameStored};
 ghost use Rattle.db_state.specs.Fields.{storage_in, IsDatabase};
 ghost use Rattle.engine_state.specs.Replies.{IsReply};
 ghost use Rattle.engine_statements.specs.Statements.{Planned, wrote};
-ghost use Rattle.engine_statements.specs.Calls.{planned_view, IsTaken};
+ghost use Rattle.engine_statements.specs.Calls.{planned_view, TakesWrite};
 ghost use Rattle.engine_versions.specs.Evolve.{created};
 ghost use Rattle.engine_layouts.specs.Laid.{materialized};
-ghost use Rattle.engine_core.specs.Act.{act, acted, acted_data, are_built, is_built as is_built_statement, planned, IsOrdinary};
+ghost use Rattle.engine_core.specs.Act.{act, acted, acted_data, are_built, is_built as is_built_statement, planned_write, IsOrdinary};
 ghost use Rattle.engine_core.specs.Kept.{data_of, empty_state, state_of, Answers, Follows};
 
 use crate::built::is_built;
@@ -85,7 +85,7 @@ impl Engine {
             (state_of self.new) }
         ensures same { OnErr result (state_of self.new ≡ state_of self.old) }
         ensures reply { IfOk result IsReply }
-        ensures ordinary { (p : Planned) → planned (data_of self.old) (statement_view statement) ≡ Ok p
+        ensures ordinary { (p : Planned) → planned_write (data_of self.old) (statement_view statement) ≡ Ok p
             → OnOk result (IsOrdinary (data_of self.old) p (data_of self.new)) }
     {
         let _session = session;
@@ -129,7 +129,7 @@ impl Engine {
             (state_of self.new) }
         ensures same { OnErr result (state_of self.new ≡ state_of self.old) }
         ensures reply { IfOk result IsReply }
-        ensures ordinary { (p : Planned) → planned (data_of self.old) (statement_view statement.now) ≡ Ok p
+        ensures ordinary { (p : Planned) → planned_write (data_of self.old) (statement_view statement.now) ≡ Ok p
             → OnOk result (IsOrdinary (data_of self.old) p (data_of self.new)) }
     {
         // That the layout stays where the graph does rests on it.
@@ -171,7 +171,7 @@ impl Engine {
         ensures same { OnErr result (data_of self.new ≡ data_of self.old) }
         ensures layout { Follows self.old self.new }
         ensures reply { IfOk result IsReply }
-        ensures ordinary { (p : Planned) → planned (data_of self.old) (statement_view statement.now) ≡ Ok p
+        ensures ordinary { (p : Planned) → planned_write (data_of self.old) (statement_view statement.now) ≡ Ok p
             → OnOk result (IsOrdinary (data_of self.old) p (data_of self.new)) }
     {
         // That the layout stays where the graph does rests on it.
@@ -235,12 +235,12 @@ impl Engine {
         steps: &mut Steps<L>,
     ) -> Result<Reply, Fault<Refusal>>
         requires texts { TextsWithin text_limit (statement_view statement.now) }
-        ensures answers { Answers ((planned (data_of self.old) (statement_view statement.now))
+        ensures answers { Answers ((planned_write (data_of self.old) (statement_view statement.now))
             then λ p. wrote (data_of self.old) p) result (data_of self.new) }
         ensures same { OnErr result (data_of self.new ≡ data_of self.old) }
         ensures layout { Follows self.old self.new }
         ensures reply { IfOk result IsReply }
-        ensures ordinary { (p : Planned) → planned (data_of self.old) (statement_view statement.now) ≡ Ok p
+        ensures ordinary { (p : Planned) → planned_write (data_of self.old) (statement_view statement.now) ≡ Ok p
             → OnOk result (IsOrdinary (data_of self.old) p (data_of self.new)) }
     {
         // That the layout stays where the graph does rests on it.
@@ -258,8 +258,8 @@ impl Engine {
     ) -> Result<WritePlan, Fault<Refusal>>
         requires texts { TextsWithin text_limit (statement_view statement.now) }
         ensures gives { Gives (planned_view self.now.graph.edges) result
-            (planned (data_of self.now) (statement_view statement.now)) }
-        ensures taken { IfOk result (IsTaken self.now) }
+            (planned_write (data_of self.now) (statement_view statement.now)) }
+        ensures taken { IfOk result (TakesWrite self.now) }
     {
         match statement {
             Statement::Insert { table, rows } => {
@@ -291,7 +291,7 @@ impl Engine {
         plan: WritePlan,
         steps: &mut Steps<L>,
     ) -> Result<Reply, Fault<Refusal>>
-        requires { IsTaken self.old plan }
+        requires { TakesWrite self.old plan }
         ensures answers { Answers (wrote (data_of self.old) (planned_view self.old.graph.edges plan)) result
             (data_of self.new) }
         ensures same { OnErr result (data_of self.new ≡ data_of self.old) }

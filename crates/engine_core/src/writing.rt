@@ -6,7 +6,7 @@ ghost use Rattle.op_law.specs.Calls.{first_refused};
 ghost use Rattle.op_kinds.specs.Operators.{any_meaning};
 ghost use Rattle.version_model.specs.Writes.{MayWrite};
 ghost use Rattle.version_model.specs.Databases.{Writes};
-ghost use Rattle.db_state.specs.Fields.{database_of};
+ghost use Rattle.db_state.specs.Fields.{database_for};
 
 use db_state::Db;
 use expr_lang::Steps;
@@ -25,12 +25,12 @@ pub fn write_through<L: Ledger>(
     steps: &mut Steps<L>,
 ) -> Result<(), Fault<IdsSpent>>
     requires lives { In written.set (numbers database.old.graph.edges) }
-    requires may { MayWrite database.old.graph.edges (database_of any_meaning database.old).state
+    requires may { MayWrite database.old.graph.edges (database_for any_meaning database.old).state
         written.set written.table written.rows.rows written.ids.next }
     requires drawn { written.ids.next ≤ first_refused database.old.ids }
     requires limit { written.ids.limit ≡ database.old.ids.limit }
-    ensures writes { Writes any_meaning (database_of any_meaning database.old) written.set written.table written.rows.rows
-        written.ids.next result (database_of any_meaning database.new) }
+    ensures writes { Writes any_meaning (database_for any_meaning database.old) written.set written.table written.rows.rows
+        written.ids.next result (database_for any_meaning database.new) }
     ensures layout { database.new.layout ≡ database.old.layout }
 {
     let plan = plan(alloc, database, written, steps)?;

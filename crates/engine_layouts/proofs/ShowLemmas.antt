@@ -26,7 +26,7 @@ use Rattle.version_model.specs.Kept.{value_of}
 use Rattle.version_model.specs.States.{headings}
 use Rattle.version_model.specs.declared.numbered.Numbered.{Numbered}
 use Rattle.storage_law.specs.Storage.{StandsOver, aux_of, stored_way}
-use Rattle.db_state.specs.Fields.{IsDatabase, auxes_at, database_of, numbers_in, state_of, storage_in}
+use Rattle.db_state.specs.Fields.{IsDatabase, auxes_at, database_for, numbers_in, state_for, storage_in}
 use Rattle.db_state.specs.declared.parts.Parts.{Parts}
 use Rattle.engine_state.specs.declared.reply.Reply.TheVariants.{Layout}
 use Rattle.engine_state.specs.declared.reply.StoredOperator.{StoredOperator}
@@ -103,7 +103,7 @@ module _ (p : Parts AnyView) (is : IsDatabase any_meaning p) where
   item_stored : (i : Numbered TableState) → In i p.stored → IsStored (forest es) p.layout.operators i.number
   item_stored i j = (is.tables i.number).0 (number_in p.stored i j)
 
-  item_rows : (i : Numbered TableState) → In i p.stored → i.value.rows ≡ (state_of any_meaning p).tables i.number
+  item_rows : (i : Numbered TableState) → In i p.stored → i.value.rows ≡ (state_for any_meaning p).tables i.number
   item_rows i j =
       sym (ap (λ (o : Option TableState). option_map_or (λ (x : TableState). x.rows) o []) (value_here 0 p.stored is.tables_ascending i j))
       ∙ is.stands.stored i.number (item_stored i j)
@@ -119,17 +119,17 @@ module _ (p : Parts AnyView) (is : IsDatabase any_meaning p) where
 
   pub shown_stored : map (shown_item es) p.stored ≡ shown_tables (laid_of p)
   shown_stored =
-      let d = database_of any_meaning p in
+      let d = database_for any_meaning p in
       map_alike (shown_item es) (λ (i : Numbered TableState). shown_table d i.number) p.stored (λ i j. ap (λ (rows : Rows). record { number = i.number; name = (shown_item es i).name; rows = length rows }) (item_rows i j))
       ∙ map_twice (λ (i : Numbered TableState). i.number) (shown_table d) p.stored
       ∙ ap (map (shown_table d)) stored_list
 
   -- ---- operators
 
-  entries_right : (l : Link AnyView) → In l (forest es) → auxes_at p.aux l.number ≡ aux_of any_meaning (state_of any_meaning p) (stored_way p.layout.operators l)
-  entries_right l i = (each_at (λ (f : Link AnyView). StandsOver any_meaning (headings es) (storage_in p) (state_of any_meaning p) (stored_way p.layout.operators f)) (forest es) l i is.stands.edges).aux
+  entries_right : (l : Link AnyView) → In l (forest es) → auxes_at p.aux l.number ≡ aux_of any_meaning (state_for any_meaning p) (stored_way p.layout.operators l)
+  entries_right l i = (each_at (λ (f : Link AnyView). StandsOver any_meaning (headings es) (storage_in p) (state_for any_meaning p) (stored_way p.layout.operators f)) (forest es) l i is.stands.edges).aux
 
-  shown_alike : (fs : List (Placed AnyView)) → ((l : Link AnyView) → In l (forest fs) → auxes_at p.aux l.number ≡ aux_of any_meaning (state_of any_meaning p) (stored_way p.layout.operators l)) → map (shown_edge p.layout.operators p.aux) fs ≡ map (shown_operator (laid_of p)) (forest fs)
+  shown_alike : (fs : List (Placed AnyView)) → ((l : Link AnyView) → In l (forest fs) → auxes_at p.aux l.number ≡ aux_of any_meaning (state_for any_meaning p) (stored_way p.layout.operators l)) → map (shown_edge p.layout.operators p.aux) fs ≡ map (shown_operator (laid_of p)) (forest fs)
   shown_alike [] h = refl
   shown_alike (f ∷ fs) h =
       let l = link fs f in

@@ -7,18 +7,18 @@ use Rattle.par_base.specs.declared.refusal.Refusal.{Refusal}
 use Rattle.layout_rules.specs.Closed.{closing}
 use Rattle.op_any.specs.Checks.{Checked, ◌then◌}
 use Rattle.op_kinds.specs.Operators.{AnyView, any_meaning}
-use Rattle.db_state.specs.Fields.{database_of}
+use Rattle.db_state.specs.Fields.{database_for}
 use Rattle.db_state.specs.declared.parts.Parts.{Parts}
 use Rattle.migration.specs.Sides.{flip_count}
-use Rattle.engine_state.specs.State.{State}
+use Rattle.engine_state.specs.AnyDatabase.{AnyDatabase}
 
 -- the model's database, which has no layout, and beside it the operators that are stored on their target side
 pub record Laid : Type 0 where
-  pub database : State
+  pub database : AnyDatabase
   pub layout : List ℕ
 
 abbrev pub laid_of : Parts AnyView → Laid
-laid_of p = record { database = database_of any_meaning p; layout = p.layout.operators }
+laid_of p = record { database = database_for any_meaning p; layout = p.layout.operators }
 
 -- how many operators change sides
 abbrev pub moved_count : Laid → List ℕ → ℕ

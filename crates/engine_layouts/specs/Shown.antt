@@ -11,7 +11,7 @@ use Rattle.op_law.specs.Tables.{Tables}
 use Rattle.op_kinds.specs.Operators.{AnyView, any_meaning}
 use Rattle.layout_rules.specs.Lookups.{is_stored, tables_up}
 use Rattle.storage_law.specs.Storage.{aux_of, stored_way}
-use Rattle.engine_state.specs.State.{State}
+use Rattle.engine_state.specs.AnyDatabase.{AnyDatabase}
 use Rattle.engine_state.specs.declared.reply.StoredOperator.{StoredOperator}
 use Rattle.engine_state.specs.declared.reply.StoredTable.{StoredTable}
 use Rattle.engine_layouts.specs.Laid.{Laid}
@@ -22,7 +22,7 @@ use Rattle.engine_layouts.specs.Laid.{Laid}
 abbrev pub name_at : List (Placed AnyView) → ℕ → List ℕ
 name_at es t = option_map_or (λ (h : Heading). h.name) (heading_of es t) []
 
-abbrev pub shown_table : State → ℕ → StoredTable
+abbrev pub shown_table : AnyDatabase → ℕ → StoredTable
 shown_table s t = record { number = t; name = name_at s.graph.edges t; rows = length (s.state.tables t) }
 
 -- the stored tables by ascending number

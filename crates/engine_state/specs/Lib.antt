@@ -1,3 +1,3 @@
-pub mod State
+pub mod AnyDatabase
 pub mod SharedChecks
 pub mod Replies

@@ -4,7 +4,7 @@ use Rattle.par_base.specs.declared.refusal.Refusal.TheVariants.{UnknownVersion, 
 use Rattle.op_law.specs.Calls.{first_refused}
 use Rattle.op_any.specs.Checks.{Checked}
 use Rattle.version_model.specs.Databases.{counter_of}
-use Rattle.engine_state.specs.State.{State}
+use Rattle.engine_state.specs.AnyDatabase.{AnyDatabase}
 
 -- the working set of the version with this name
 abbrev pub known_version : List ℕ → Option ℕ → Checked ℕ
@@ -12,7 +12,7 @@ known_version name (Some set) = Ok set
 known_version name None = Err (UnknownVersion name)
 
 -- no identifier above the limit is drawn, where this is the next one at the end
-abbrev pub enough_ids : State → ℕ → Checked (Unit {0})
+abbrev pub enough_ids : AnyDatabase → ℕ → Checked (Unit {0})
 enough_ids s next =
     if nat_lt (first_refused (counter_of s)) next
     then Err (IdsSpent (first_refused (counter_of s)) s.limit)

@@ -1,7 +1,7 @@
 //! What the statements of the engine share: its state, its replies, and two checks.
 //!
 //! The state is a database of the model, without layout, whose operators are of any kind
-//! (`specs/State.antt`). The crate promises the crates above what a reply tells, and when its rows
+//! (`specs/AnyDatabase.antt`). The crate promises the crates above what a reply tells, and when its rows
 //! can be printed (`specs/Replies.antt`); the working set of the version that a statement names, or
 //! the refusal; and it says when identifiers suffice (`specs/SharedChecks.antt`). So statements on
 //! rows, on versions and on layouts stand side by side on it, and none of them knows another. It

@@ -14,7 +14,7 @@ use Rattle.op_any.specs.Checks.{Gives}
 use Rattle.op_kinds.specs.Operators.{AnyView, any_meaning}
 use Rattle.ordinary_table.specs.Laws.{IsTable}
 use Rattle.version_model.specs.States.{as_seen, headings}
-use Rattle.db_state.specs.Fields.{IsDatabase, state_of}
+use Rattle.db_state.specs.Fields.{IsDatabase, state_for}
 use Rattle.db_state.specs.declared.parts.Parts.{Parts}
 use Rattle.version_model.specs.Writes.{MayWrite}
 use Rattle.engine_state.specs.SharedChecks.{known_version}
@@ -37,19 +37,19 @@ width_at : (k : Parts AnyView) (n : ℕ) (h : Heading) → heading_of k.graph.ed
 width_at k n h is = ap (λ (o : Option Heading). length (option_map_or as_seen o (record { name = []; columns = [] })).columns) is
 
 -- a table of a kept database may stand
-pub stands_at : (k : Parts AnyView) (n : ℕ) (h : Heading) (rows : Rows) → IsDatabase any_meaning k → heading_of k.graph.edges n ≡ Some h → rows ≡ (state_of any_meaning k).tables n → IsTable (length h.columns) k.ids.next rows
+pub stands_at : (k : Parts AnyView) (n : ℕ) (h : Heading) (rows : Rows) → IsDatabase any_meaning k → heading_of k.graph.edges n ≡ Some h → rows ≡ (state_for any_meaning k).tables n → IsTable (length h.columns) k.ids.next rows
 stands_at k n h rows kept is same =
     let well = kept.sound.well in
-    let there : IsTable (length h.columns) k.ids.next ((state_of any_meaning k).tables n) = record {
+    let there : IsTable (length h.columns) k.ids.next ((state_for any_meaning k).tables n) = record {
       rises = (well.tables n).0;
-      wide = subst (λ (w : ℕ). RowsWide w ((state_of any_meaning k).tables n)) (width_at k n h is) (well.tables n).1;
+      wide = subst (λ (w : ℕ). RowsWide w ((state_for any_meaning k).tables n)) (width_at k n h is) (well.tables n).1;
       sound = well.rows n;
     } in
     subst (λ (l : Rows). IsTable (length h.columns) k.ids.next l) (sym same) there
 
 -- it may get rows that may stand there
 pub may_get : (k : Parts AnyView) (f : FoundTable) (rows : Rows) (next : ℕ) → IsTableOf k f → IsTable (length f.heading.now.columns) next rows → k.ids.next ≤ next
-    → MayWrite k.graph.edges (state_of any_meaning k) f.set f.number rows next
+    → MayWrite k.graph.edges (state_for any_meaning k) f.set f.number rows next
 may_get k f rows next table stands more = record {
   held = table.held;
   rise = stands.rises;
@@ -60,13 +60,13 @@ may_get k f rows next table stands more = record {
 
 -- where no identifier was drawn
 pub may_get_same : (k : Parts AnyView) (f : FoundTable) (rows : Rows) (n : ℕ) → IsTableOf k f → n ≡ k.ids.next → IsTable (length f.heading.now.columns) k.ids.next rows
-    → MayWrite k.graph.edges (state_of any_meaning k) f.set f.number rows n
+    → MayWrite k.graph.edges (state_for any_meaning k) f.set f.number rows n
 may_get_same k f rows n table same stands =
-    subst (λ (m : ℕ). MayWrite k.graph.edges (state_of any_meaning k) f.set f.number rows m) (sym same) (may_get k f rows k.ids.next table stands (omega arith))
+    subst (λ (m : ℕ). MayWrite k.graph.edges (state_for any_meaning k) f.set f.number rows m) (sym same) (may_get k f rows k.ids.next table stands (omega arith))
 
 -- where so many were drawn
 pub may_get_more : (k : Parts AnyView) (f : FoundTable) (rows : Rows) (n m drawn : ℕ) → IsTableOf k f → n ≡ k.ids.next → m ≡ n + drawn → IsTable (length f.heading.now.columns) (k.ids.next + drawn) rows
-    → MayWrite k.graph.edges (state_of any_meaning k) f.set f.number rows m
+    → MayWrite k.graph.edges (state_for any_meaning k) f.set f.number rows m
 may_get_more k f rows n m drawn table same more stands =
     let sum : m ≡ k.ids.next + drawn = more ∙ ap (λ (i : ℕ). i + drawn) same in
-    subst (λ (i : ℕ). MayWrite k.graph.edges (state_of any_meaning k) f.set f.number rows i) (sym sum) (may_get k f rows (k.ids.next + drawn) table stands (omega arith))
+    subst (λ (i : ℕ). MayWrite k.graph.edges (state_for any_meaning k) f.set f.number rows i) (sym sum) (may_get k f rows (k.ids.next + drawn) table stands (omega arith))

@@ -9,7 +9,7 @@ use Rattle.op_kinds.specs.Operators.{AnyView, any_meaning}
 use Rattle.ordinary_table.specs.Laws.{IsTable}
 use Rattle.ordinary_table.specs.Written.{SetTerm, inserted, updated}
 use Rattle.ordinary_table.proofs.KeptLaws.{insert_keeps, update_keeps}
-use Rattle.db_state.specs.Fields.{state_of}
+use Rattle.db_state.specs.Fields.{state_for}
 use Rattle.db_state.specs.declared.parts.Parts.{Parts}
 use Rattle.version_model.specs.Writes.{MayWrite}
 use Rattle.engine_statements.specs.Found.{unknown_in, unknown_in_rows, known_references}
@@ -24,7 +24,7 @@ use Rattle.engine_statements.proofs.StandLemmas.{may_get}
 -- new rows that pass the checks
 pub insert_taken : (k : Parts AnyView) (f : FoundTable) (rows : List (List Value)) (n m : ℕ) (made : Rows) → IsTableOf k f → n ≡ k.ids.next → m ≡ n + length rows → 1 ≤ n
     → right_counts (length f.heading.now.columns) rows ≡ Ok tt → unknown_in_rows n rows ≡ None → All RowFits rows → made ≡ inserted f.table.rows rows n
-    → MayWrite k.graph.edges (state_of any_meaning k) f.set f.number made m
+    → MayWrite k.graph.edges (state_for any_meaning k) f.set f.number made m
 insert_taken k f rows n m made table same more some counts known fits is =
     let width = length f.heading.now.columns in
     let stands : IsTable width n f.table.rows = subst (λ (i : ℕ). IsTable width i f.table.rows) (sym same) table.stands in
@@ -35,7 +35,7 @@ insert_taken k f rows n m made table same more some counts known fits is =
 -- rows with SETs that pass the checks
 pub update_taken : (k : Parts AnyView) (f : FoundTable) (assignments : List AssignmentView) (filter : List Tree) (sets : List SetTerm) (condition : Option (Term ℕ)) (n : ℕ) (made : Rows) (u : Unit {0}) → IsTableOf k f → n ≡ k.ids.next
     → known_sets f.heading.now.columns assignments ≡ Ok sets → known_references n (set_values assignments ++ filter) ≡ Ok u → All AssignmentFits assignments → made ≡ updated f.table.rows sets condition
-    → MayWrite k.graph.edges (state_of any_meaning k) f.set f.number made n
+    → MayWrite k.graph.edges (state_for any_meaning k) f.set f.number made n
 update_taken k f assignments filter sets condition n made u table same read known fits is =
     let width = length f.heading.now.columns in
     let all = known_none n (unknown_in n (set_values assignments ++ filter)) u known in

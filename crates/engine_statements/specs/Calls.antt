@@ -13,7 +13,7 @@ use Rattle.version_graph.specs.declared.parts.Placed.{Placed}
 use Rattle.op_kinds.specs.Operators.{AnyView, any_meaning}
 use Rattle.op_any.specs.Texts.{ValueFits, TermFits}
 use Rattle.ordinary_table.specs.Laws.{IsTable}
-use Rattle.db_state.specs.Fields.{state_of}
+use Rattle.db_state.specs.Fields.{state_for}
 use Rattle.db_state.specs.declared.parts.Parts.{Parts}
 use Rattle.version_model.specs.Writes.{MayWrite}
 use Rattle.engine_statements.specs.Found.{Found}
@@ -47,7 +47,7 @@ pub record IsTableOf (k : Parts AnyView) (f : FoundTable) : Type 0 where
   pub lives : In f.set (numbers k.graph.edges)
   pub held : In f.number (table_numbers (working k.graph.edges f.set))
   pub heading : heading_of k.graph.edges f.number ≡ Some f.heading.now
-  pub rows : f.table.rows ≡ (state_of any_meaning k).tables f.number
+  pub rows : f.table.rows ≡ (state_for any_meaning k).tables f.number
   pub stands : IsTable (length f.heading.now.columns) k.ids.next f.table.rows
 
 -- ---- expressions
@@ -82,6 +82,6 @@ planned_view es w = record {
 }
 
 -- a database takes the write
-pub record IsTaken (k : Parts AnyView) (w : WritePlan) : Type 0 where
+pub record TakesWrite (k : Parts AnyView) (w : WritePlan) : Type 0 where
   pub lives : In w.set (numbers k.graph.edges)
-  pub may : MayWrite k.graph.edges (state_of any_meaning k) w.set w.table w.rows.rows w.next
+  pub may : MayWrite k.graph.edges (state_for any_meaning k) w.set w.table w.rows.rows w.next

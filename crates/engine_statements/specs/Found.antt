@@ -11,7 +11,7 @@ use Rattle.version_graph.specs.Tables.{TableVersion, table_named, row_name}
 use Rattle.version_graph.specs.Edges.{working, set_named}
 use Rattle.op_any.specs.Checks.{Checked, ◌then◌}
 use Rattle.op_any.specs.NameChecks.{known_columns, known_id}
-use Rattle.engine_state.specs.State.{State}
+use Rattle.engine_state.specs.AnyDatabase.{AnyDatabase}
 use Rattle.engine_state.specs.SharedChecks.{known_version}
 
 -- ---- tables
@@ -22,7 +22,7 @@ pub record Found : Type 0 where
   pub table : TableVersion
 
 -- the working set of the version that a statement names; no session has a version in use yet
-abbrev pub set_of : State → Option (List ℕ) → Checked ℕ
+abbrev pub set_of : AnyDatabase → Option (List ℕ) → Checked ℕ
 set_of s None = Err NoVersionInUse
 set_of s (Some name) = known_version name (set_named s.graph.versions name)
 
@@ -30,7 +30,7 @@ abbrev pub known_table : List ℕ → Option TableVersion → Checked TableVersi
 known_table name (Some t) = Ok t
 known_table name None = Err (UnknownTable name)
 
-abbrev pub found : State → TableName → Checked Found
+abbrev pub found : AnyDatabase → TableName → Checked Found
 found s name =
     set_of s name.version then λ set.
     known_table name.table (table_named (working s.graph.edges set) name.table) then λ t.

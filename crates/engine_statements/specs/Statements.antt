@@ -12,7 +12,7 @@ use Rattle.op_any.specs.NameChecks.{known_column, repeated, unrepeated, known_id
 use Rattle.ordinary_table.specs.Written.{SetTerm, numbered, inserted, updated, deleted, chosen_count}
 use Rattle.ordinary_table.specs.Selected.{selected}
 use Rattle.version_model.specs.Writes.{write}
-use Rattle.engine_state.specs.State.{State}
+use Rattle.engine_state.specs.AnyDatabase.{AnyDatabase}
 use Rattle.engine_state.specs.SharedChecks.{enough_ids}
 use Rattle.engine_state.specs.declared.reply.Reply.{Reply}
 use Rattle.engine_state.specs.declared.reply.Reply.TheVariants.{Inserted, Updated, Deleted, Rows as Shown}
@@ -28,17 +28,17 @@ pub record Planned : Type 0 where
   pub reply : Reply
 
 -- the state after a write
-abbrev pub state_with : State → Planned → State
+abbrev pub state_with : AnyDatabase → Planned → AnyDatabase
 state_with s p = record s { state = write any_meaning s.graph.edges s.state p.found.set p.found.table.number p.rows p.next }
 
 -- a write, and its reply
-abbrev pub wrote : State → Planned → Checked (Reply × State)
+abbrev pub wrote : AnyDatabase → Planned → Checked (Reply × AnyDatabase)
 wrote s p =
     enough_ids s (state_with s p).state.next then λ _.
     Ok (p.reply, state_with s p)
 
 -- the rows of the table
-abbrev pub rows_of : State → Found → Rows
+abbrev pub rows_of : AnyDatabase → Found → Rows
 rows_of s f = s.state.tables f.table.number
 
 abbrev pub columns_of : Found → List (List ℕ)
@@ -54,7 +54,7 @@ right_counts wanted (row ∷ rows) = if length row == wanted then right_counts w
 abbrev pub ids_of : Rows → List ℕ
 ids_of rows = map (λ r. r.0) rows
 
-abbrev pub planned_insert : State → TableName → List (List Value) → Checked Planned
+abbrev pub planned_insert : AnyDatabase → TableName → List (List Value) → Checked Planned
 planned_insert s name rows =
     found s name then λ f.
     right_counts (length (columns_of f)) rows then λ _.
@@ -89,7 +89,7 @@ set_columns assignments = map (λ (a : AssignmentView). a.column) assignments
 abbrev pub set_values : List AssignmentView → List Tree
 set_values assignments = map (λ (a : AssignmentView). a.value) assignments
 
-abbrev pub planned_update : State → TableName → List AssignmentView → Option Tree → Checked Planned
+abbrev pub planned_update : AnyDatabase → TableName → List AssignmentView → Option Tree → Checked Planned
 planned_update s name assignments filter =
     found s name then λ f.
     known_sets (columns_of f) assignments then λ sets.
@@ -105,7 +105,7 @@ planned_update s name assignments filter =
 
 -- ---- DELETE FROM t ..
 
-abbrev pub planned_delete : State → TableName → Option Tree → Checked Planned
+abbrev pub planned_delete : AnyDatabase → TableName → Option Tree → Checked Planned
 planned_delete s name filter =
     found s name then λ f.
     known_condition (columns_of f) filter then λ condition.
@@ -141,7 +141,7 @@ abbrev pub listed_places : List (List ℕ) → Option (List (List ℕ)) → Chec
 listed_places columns None = Ok (places_from 0 (shown_names columns))
 listed_places columns (Some names) = known_items (shown_names columns) names
 
-abbrev pub acted_select : State → TableName → Option (List (List ℕ)) → Option Tree → Checked (Reply × State)
+abbrev pub acted_select : AnyDatabase → TableName → Option (List (List ℕ)) → Option Tree → Checked (Reply × AnyDatabase)
 acted_select s name items filter =
     found s name then λ f.
     listed_places (columns_of f) items then λ places.

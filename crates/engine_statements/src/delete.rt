@@ -3,9 +3,9 @@ ghost use Rattle.std.specs.Prelude.{◌≡◌, IfOk};
 ghost use Rattle.statements.specs.Views.{filter_view};
 ghost use Rattle.op_any.specs.Checks.{Gives};
 ghost use Rattle.op_kinds.specs.Operators.{any_meaning};
-ghost use Rattle.db_state.specs.Fields.{database_of};
+ghost use Rattle.db_state.specs.Fields.{database_for};
 ghost use Rattle.engine_statements.specs.Statements.{planned_delete};
-ghost use Rattle.engine_statements.specs.Calls.{planned_view, IsTaken};
+ghost use Rattle.engine_statements.specs.Calls.{planned_view, TakesWrite};
 
 use crate::WritePlan;
 use crate::expressions::{find_condition, shown_names};
@@ -32,8 +32,8 @@ pub fn plan_delete<L: Ledger>(
     steps: &mut Steps<L>,
 ) -> Result<WritePlan, Fault<Refusal>>
     ensures gives { Gives (planned_view database.now.graph.edges) result
-        (planned_delete (database_of any_meaning database.now) name.now (filter_view filter.now)) }
-    ensures taken { IfOk result (IsTaken database.now) }
+        (planned_delete (database_for any_meaning database.now) name.now (filter_view filter.now)) }
+    ensures taken { IfOk result (TakesWrite database.now) }
 {
     let found = find_table(alloc, database, name, steps)?;
     let next = database.ids().next();

@@ -8,7 +8,7 @@ ghost use Rattle.version_graph.specs.Edges.{AreEdges, numbers, working};
 ghost use Rattle.version_graph.specs.Kept.{has_name as has_name_lem, number_named};
 ghost use Rattle.op_any.specs.Checks.{Gives};
 ghost use Rattle.op_kinds.specs.Operators.{any_meaning};
-ghost use Rattle.db_state.specs.Fields.{database_of};
+ghost use Rattle.db_state.specs.Fields.{database_for};
 ghost use Rattle.engine_statements.specs.Found.{found, set_of};
 ghost use Rattle.engine_statements.specs.Calls.{found_view, named_view, table_of, IsNamedIn, IsTableOf};
 
@@ -47,7 +47,7 @@ fn find_set(
     version: &Option<Name>,
 ) -> Result<u32, Fault<Refusal>>
     ensures gives { Gives (λ set. set) result
-        (set_of (database_of any_meaning database.now) version.now) }
+        (set_of (database_for any_meaning database.now) version.now) }
     ensures lives { IfOk result (λ set. In set (numbers database.now.graph.edges)) }
 {
     match version {
@@ -138,7 +138,7 @@ pub fn find_table<'a, L: Ledger>(
     steps: &mut Steps<L>,
 ) -> Result<FoundTable<'a>, Fault<Refusal>>
     ensures gives { Gives found_view result
-        (found (database_of any_meaning database.entry.now) name.now) }
+        (found (database_for any_meaning database.entry.now) name.now) }
     ensures there { IfOk result (IsTableOf database.entry.now) }
 {
     let set = find_set(alloc, database, &name.version)?;

@@ -3,10 +3,10 @@ ghost use Rattle.std.specs.Prelude.{◌≡◌, ◌+◌, ◌≤◌, ◌^◌, IfOk
 ghost use Rattle.std.specs.List.{All};
 ghost use Rattle.op_any.specs.Checks.{Gives};
 ghost use Rattle.op_kinds.specs.Operators.{any_meaning};
-ghost use Rattle.db_state.specs.Fields.{database_of};
+ghost use Rattle.db_state.specs.Fields.{database_for};
 ghost use Rattle.ordinary_table.specs.Written.{numbered};
 ghost use Rattle.engine_statements.specs.Statements.{ids_of, planned_insert};
-ghost use Rattle.engine_statements.specs.Calls.{planned_view, IsTaken, RowFits};
+ghost use Rattle.engine_statements.specs.Calls.{planned_view, TakesWrite, RowFits};
 
 use crate::WritePlan;
 use crate::counts::check_counts;
@@ -58,8 +58,8 @@ pub fn plan_insert<L: Ledger>(
 ) -> Result<WritePlan, Fault<Refusal>>
     requires { All RowFits rows.now }
     ensures gives { Gives (planned_view database.now.graph.edges) result
-        (planned_insert (database_of any_meaning database.now) name.now rows.now) }
-    ensures taken { IfOk result (IsTaken database.now) }
+        (planned_insert (database_for any_meaning database.now) name.now rows.now) }
+    ensures taken { IfOk result (TakesWrite database.now) }
 {
     let found = find_table(alloc, database, name, steps)?;
     let next = database.ids().next();

@@ -3,7 +3,7 @@ ghost use Rattle.std.specs.Prelude.{◌≡◌, IfOk};
 ghost use Rattle.statements.specs.Views.{filter_view};
 ghost use Rattle.op_any.specs.Checks.{Gives};
 ghost use Rattle.op_kinds.specs.Operators.{any_meaning};
-ghost use Rattle.db_state.specs.Fields.{database_of};
+ghost use Rattle.db_state.specs.Fields.{database_for};
 ghost use Rattle.engine_state.specs.Replies.{IsReply};
 ghost use Rattle.engine_statements.specs.Statements.{acted_select};
 
@@ -32,8 +32,8 @@ pub fn select_rows<L: Ledger>(
     filter: &Option<ExprText>,
     steps: &mut Steps<L>,
 ) -> Result<Reply, Fault<Refusal>>
-    ensures gives { Gives (λ reply. (reply, database_of any_meaning database.now)) result
-        (acted_select (database_of any_meaning database.now)
+    ensures gives { Gives (λ reply. (reply, database_for any_meaning database.now)) result
+        (acted_select (database_for any_meaning database.now)
         name.now items.now (filter_view filter.now)) }
     ensures reply { IfOk result IsReply }
 {

@@ -4,9 +4,9 @@ ghost use Rattle.std.specs.List.{All};
 ghost use Rattle.statements.specs.Views.{assignment_view, filter_view};
 ghost use Rattle.op_any.specs.Checks.{Gives};
 ghost use Rattle.op_kinds.specs.Operators.{any_meaning};
-ghost use Rattle.db_state.specs.Fields.{database_of};
+ghost use Rattle.db_state.specs.Fields.{database_for};
 ghost use Rattle.engine_statements.specs.Statements.{planned_update};
-ghost use Rattle.engine_statements.specs.Calls.{planned_view, AssignmentFits, IsTaken};
+ghost use Rattle.engine_statements.specs.Calls.{planned_view, AssignmentFits, TakesWrite};
 
 use crate::WritePlan;
 use crate::expressions::{check_set_once, find_condition, find_sets, shown_names};
@@ -37,9 +37,9 @@ pub fn plan_update<L: Ledger>(
 ) -> Result<WritePlan, Fault<Refusal>>
     requires { All AssignmentFits (map assignment_view assignments.now) }
     ensures gives { Gives (planned_view database.now.graph.edges) result
-        (planned_update (database_of any_meaning database.now) name.now
+        (planned_update (database_for any_meaning database.now) name.now
         (map assignment_view assignments.now) (filter_view filter.now)) }
-    ensures taken { IfOk result (IsTaken database.now) }
+    ensures taken { IfOk result (TakesWrite database.now) }
 {
     let found = find_table(alloc, database, name, steps)?;
     let next = database.ids().next();

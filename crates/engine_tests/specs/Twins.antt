@@ -12,15 +12,15 @@ use Rattle.version_model.specs.Kept.{database_of}
 use Rattle.version_model.specs.Writes.{MayWrite}
 use Rattle.version_model.specs.Databases.{Writes}
 use Rattle.version_model.specs.declared.write.Written.{Written}
-use Rattle.db_state.specs.Fields.{database_of as database_under, state_of as state_under}
-use Rattle.engine_state.specs.State.{State}
+use Rattle.db_state.specs.Fields.{database_for, state_for}
+use Rattle.engine_state.specs.AnyDatabase.{AnyDatabase}
 use Rattle.engine_state.specs.declared.reply.Reply.{Reply}
 use Rattle.engine_statements.specs.declared.write_plan.WritePlan.{WritePlan}
 use Rattle.engine_tests.specs.declared.kept.Twin.{Twin}
 
 -- the state of the database under a layout
-abbrev pub moved_state : Twin → State
-moved_state t = database_under any_meaning t.moved
+abbrev pub moved_state : Twin → AnyDatabase
+moved_state t = database_for any_meaning t.moved
 
 -- both stand for one state
 abbrev pub IsTwin : Twin → Type 0
@@ -35,7 +35,7 @@ Stays (Err Memory) old new = ⊤
 -- two databases take the write, each in its own copy
 pub record IsTakenTwice (t : Twin) (first second : Written) : Type 0 where
   pub lives : In first.set (numbers t.moved.graph.edges)
-  pub may : MayWrite t.moved.graph.edges (state_under any_meaning t.moved) first.set first.table first.rows.rows first.ids.next
+  pub may : MayWrite t.moved.graph.edges (state_for any_meaning t.moved) first.set first.table first.rows.rows first.ids.next
   pub drawn : first.ids.next ≤ first_refused t.moved.ids
   pub limit : first.ids.limit ≡ t.moved.ids.limit
   pub set : second.set ≡ first.set

@@ -1,6 +1,6 @@
 //! The statements that change a database, carried out on both.
 ghost use Rattle.std.specs.Prelude.{IfOk};
-ghost use Rattle.engine_statements.specs.Calls.{IsTaken};
+ghost use Rattle.engine_statements.specs.Calls.{TakesWrite};
 ghost use Rattle.statement_texts.specs.Short.{IsShortStatement, AreShortOperators};
 ghost use Rattle.engine_tests.specs.Twins.{IsTwin, Stays};
 
@@ -21,7 +21,7 @@ impl Twin {
         steps: &mut Steps<L>,
     ) -> Result<WritePlan, Fault<Refusal>>
         requires texts { IsShortStatement statement.now }
-        ensures { IfOk result (IsTaken self.now.moved) }
+        ensures { IfOk result (TakesWrite self.now.moved) }
     {
         match statement {
             Statement::Insert { table, rows } => {

@@ -1,7 +1,7 @@
 //! Writes of rows to both.
 ghost use Rattle.std.specs.Prelude.{◌≡◌, ◌≤◌, IfOk};
 ghost use Rattle.op_law.specs.Calls.{first_refused};
-ghost use Rattle.engine_statements.specs.Calls.{IsTaken};
+ghost use Rattle.engine_statements.specs.Calls.{TakesWrite};
 ghost use Rattle.engine_tests.specs.Twins.{IsTakenTwice, IsTwin, WritesMoved, WritesPlan};
 
 use crate::Twin;
@@ -57,7 +57,7 @@ impl Twin {
         steps: &mut Steps<L>,
     ) -> Result<Reply, Fault<Refusal>>
         requires twin { IsTwin self.old }
-        requires taken { IsTaken self.old.moved plan }
+        requires taken { TakesWrite self.old.moved plan }
         ensures twin { IsTwin self.new }
         ensures writes { WritesPlan self.old plan result self.new }
     {

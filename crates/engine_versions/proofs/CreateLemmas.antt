@@ -20,7 +20,7 @@ use Rattle.op_kinds.specs.Operators.{AnyView, any_meaning}
 use Rattle.op_any.specs.Texts.{TextsFit}
 use Rattle.version_model.specs.Evolving.{AreBuilt, grown_state}
 use Rattle.version_model.specs.Databases.{counter_of, evolved_state, start_in, Evolves, MayEvolveTo, RefusesEvolution}
-use Rattle.engine_state.specs.State.{State}
+use Rattle.engine_state.specs.AnyDatabase.{AnyDatabase}
 use Rattle.engine_state.specs.SharedChecks.{known_version, enough_ids}
 use Rattle.engine_versions.specs.Evolve.{counts_of, created, edges_on, start_at, state_after, unused}
 use Rattle.engine_versions.specs.Plans.{IsPlanned, OnEach, PlansEdges}
@@ -49,7 +49,7 @@ record Passes (g : Drawn AnyView) (next : ℕ) (name : List ℕ) (from : Option 
   pub free : unused name (set_named g.versions name) ≡ Ok tt
   pub built : edges_on (headings_of (working g.edges set)) (counts_of g) next texts ≡ Ok edges
 
-module _ (d : State) (name : List ℕ) (from : Option (List ℕ)) (texts : List OpView) (set : ℕ) (edges : List (Edge AnyView))
+module _ (d : AnyDatabase) (name : List ℕ) (from : Option (List ℕ)) (texts : List OpView) (set : ℕ) (edges : List (Edge AnyView))
     (graph : IsGraph d.graph) (passes : Passes d.graph d.state.next name from texts set edges) (some : 0 < length texts) (fit : Each TextsFit texts)
   where
     start : start_at d.graph.versions from ≡ Ok set
@@ -111,17 +111,17 @@ module _ (d : State) (name : List ℕ) (from : Option (List ℕ)) (texts : List 
     same_end = ap (λ (n : ℕ). grown_state any_meaning d.graph.edges n d.graph.last_operator d.graph.last_table edges d.state) start_is
 
     -- it is there
-    created_then : (new : State) → Evolves any_meaning d name from edges (Ok tt) new → created d name from texts ≡ Ok new
+    created_then : (new : AnyDatabase) → Evolves any_meaning d name from edges (Ok tt) new → created d name from texts ≡ Ok new
     created_then new e =
         let is : new ≡ state_after d name set edges = e.2 ∙ ap (λ (n : ℕ). state_after d name n edges) start_is in
         let within : (state_after d name set edges).state.next ≤ first_refused (counter_of d) = subst (λ s. s.next ≤ first_refused (counter_of d)) same_end e.1 in
         last_check
         ∙ ap (λ (b : Bool). (if b then Err (IdsSpent (first_refused (counter_of d)) d.limit) else Ok tt) then λ _. Ok (state_after d name set edges))
         (le-ltb (first_refused (counter_of d)) (state_after d name set edges).state.next within)
-        ∙ ap (λ (s : State). Ok s) (sym is)
+        ∙ ap (λ (s : AnyDatabase). Ok s) (sym is)
 
     -- or an identifier would be above the limit
-    spent_then : (told : Refusal) (new : State) → Evolves any_meaning d name from edges (Err (Refused told)) new → created d name from texts ≡ Err told
+    spent_then : (told : Refusal) (new : AnyDatabase) → Evolves any_meaning d name from edges (Err (Refused told)) new → created d name from texts ≡ Err told
     spent_then told new e =
         let why : RefusesEvolution None (evolved_state any_meaning d from edges).next (counter_of d) told =
         subst (λ o. RefusesEvolution o (evolved_state any_meaning d from edges).next (counter_of d) told) not_refused e.0 in
@@ -131,7 +131,7 @@ module _ (d : State) (name : List ℕ) (from : Option (List ℕ)) (texts : List 
         (lt-ltb (first_refused (counter_of d)) (state_after d name set edges).state.next above)
         ∙ ap (λ (r : Refusal). Err r) (sym why.1)
 
-    gives_then : (result : Result (Unit {0}) (Fault Refusal)) (new : State) → Evolves any_meaning d name from edges result new → Gives (λ _. new) result (created d name from texts)
+    gives_then : (result : Result (Unit {0}) (Fault Refusal)) (new : AnyDatabase) → Evolves any_meaning d name from edges result new → Gives (λ _. new) result (created d name from texts)
     gives_then (Ok done) new e = created_then new e
     gives_then (Err (Refused told)) new e = spent_then told new e
     gives_then (Err Memory) new e = tt
@@ -167,6 +167,6 @@ module _ (g : Drawn AnyView) (next : ℕ) (name : List ℕ) (from : Option (List
   plans_built is some fit set start free (Err Memory) gives = tt
 
   -- an error is the model's, whatever is there then
-  pub edges_fail : (f : Fault Refusal) → PlansEdges g next name from texts (Err f) → (d new : State) → d.graph ≡ g → d.state.next ≡ next → Gives {X = Unit {0}} (λ _. new) (Err f) (created d name from texts)
+  pub edges_fail : (f : Fault Refusal) → PlansEdges g next name from texts (Err f) → (d new : AnyDatabase) → d.graph ≡ g → d.state.next ≡ next → Gives {X = Unit {0}} (λ _. new) (Err f) (created d name from texts)
   edges_fail (Refused r) plans d new graph counter = plans d graph counter
   edges_fail Memory plans d new graph counter = tt

@@ -10,7 +10,7 @@ use Rattle.version_graph.specs.declared.parts.Heading.{Heading}
 use Rattle.version_graph.specs.declared.parts.Edge.{Edge}
 use Rattle.op_kinds.specs.Operators.{Built, AnyView}
 use Rattle.op_any.specs.NameChecks.{heading_named, is_passing, repeated, known_places, well_divided, known_table, new_table, known_column, known_columns, new_columns, few_columns, known_ids, other_table, same_columns}
-use Rattle.op_any.specs.Build.{creating_table, dropping_table, renaming_table, renaming_column, adding_column, dropping_column, splitting_in_one, splitting_in_two, splitting_table, merging_tables, planned, with_text, built}
+use Rattle.op_any.specs.Build.{creating_table, dropping_table, renaming_table, renaming_column, adding_column, dropping_column, splitting_in_one, splitting_in_two, splitting_table, merging_tables, planned_edge, with_text, built}
 use Rattle.op_any.specs.BuildJoins.{parting, divided, decomposing_in_one, decomposing_table, joining_tables, decomposing_on_pk, decomposing_on_fk, decomposing_on, meeting, columns_of_both, joining_on_pk, joining_on_fk, joining_on}
 use Rattle.engine_versions.specs.Evolve.{target_count}
 use Rattle.engine_versions.proofs.ChainLaws.{both_give, ok_is}
@@ -152,7 +152,7 @@ module _ (set : List Heading) (next : ℕ) where
       let d = both_give (known_ids next condition) _ e c.2 in
       ap many (sym (ok_is _ e d.2))
 
-  planned_many : (text : OpView) (e : Edge Built) → planned set next text ≡ Ok e → many e ≡ target_count text
+  planned_many : (text : OpView) (e : Edge Built) → planned_edge set next text ≡ Ok e → many e ≡ target_count text
   unfolding splitting_table decomposing_table joining_tables
   planned_many («text».CreateTable table columns) e h = creating table columns e h
   planned_many («text».DropTable table) e h = dropping table e h
@@ -177,5 +177,5 @@ module _ (set : List Heading) (next : ℕ) where
 
   pub targets_counted : (text : OpView) (e : Edge AnyView) → built set next text ≡ Ok e → length e.targets ≡ target_count text
   targets_counted text e h =
-      let a = both_give (planned set next text) (λ p. Ok (with_text text p)) e h in
+      let a = both_give (planned_edge set next text) (λ p. Ok (with_text text p)) e h in
       ap many (sym (ok_is _ e a.2)) ∙ planned_many text a.0 a.1

@@ -12,7 +12,7 @@ use Rattle.op_kinds.specs.Operators.{AnyView, any_meaning}
 use Rattle.op_any.specs.Build.{built}
 use Rattle.version_model.specs.Evolving.{grown_state}
 use Rattle.version_model.specs.Databases.{dropped_database}
-use Rattle.engine_state.specs.State.{State}
+use Rattle.engine_state.specs.AnyDatabase.{AnyDatabase}
 use Rattle.engine_state.specs.SharedChecks.{known_version, enough_ids}
 use Rattle.engine_versions.specs.declared.edges.Counts.{Counts}
 
@@ -63,13 +63,13 @@ unused name (Some set) = Err (VersionExists name)
 unused name None = Ok tt
 
 -- the state with these operators on a working set, and a name for the last one's
-abbrev pub state_after : State → List ℕ → ℕ → List (Edge AnyView) → State
+abbrev pub state_after : AnyDatabase → List ℕ → ℕ → List (Edge AnyView) → AnyDatabase
 state_after s name set edges = record s {
   graph = evolved s.graph name set edges;
   state = grown_state any_meaning s.graph.edges set s.graph.last_operator s.graph.last_table edges s.state;
 }
 
-abbrev pub created : State → List ℕ → Option (List ℕ) → List OpView → Checked State
+abbrev pub created : AnyDatabase → List ℕ → Option (List ℕ) → List OpView → Checked AnyDatabase
 created s name from texts =
     start_at s.graph.versions from then λ set.
     unused name (set_named s.graph.versions name) then λ _.
@@ -80,7 +80,7 @@ created s name from texts =
 -- ---- DROP SCHEMA VERSION v
 
 -- the name goes, and each operator that no name needs any longer
-abbrev pub dropped_version : State → List ℕ → Checked State
+abbrev pub dropped_version : AnyDatabase → List ℕ → Checked AnyDatabase
 dropped_version s name =
     known_version name (set_named s.graph.versions name) then λ _.
     Ok (dropped_database s name)

@@ -8,7 +8,7 @@ ghost use Rattle.op_any.specs.Checks.{Gives};
 ghost use Rattle.op_any.specs.Texts.{TextsFit};
 ghost use Rattle.op_kinds.specs.Operators.{any_meaning};
 ghost use Rattle.layout_rules.specs.Changes.{layout_after};
-ghost use Rattle.db_state.specs.Fields.{database_of};
+ghost use Rattle.db_state.specs.Fields.{database_for};
 ghost use Rattle.engine_versions.specs.Evolve.{created, start_at, unused};
 ghost use Rattle.engine_versions.specs.Plans.{PlansEdges};
 
@@ -92,11 +92,11 @@ pub fn create_version<L: Ledger>(
 ) -> Result<(), Fault<Refusal>>
     requires some { 0 < length texts.now }
     requires fit { Each TextsFit (map op_view texts.now) }
-    ensures gives { Gives (λ _. database_of any_meaning database.new) result
-        (created (database_of any_meaning database.old)
+    ensures gives { Gives (λ _. database_for any_meaning database.new) result
+        (created (database_for any_meaning database.old)
         name (option_copied from.entry) (map op_view texts.now)) }
     ensures same { OnErr result
-        (database_of any_meaning database.new ≡ database_of any_meaning database.old) }
+        (database_for any_meaning database.new ≡ database_for any_meaning database.old) }
     ensures layout { database.new.layout.operators
         ≡ layout_after database.old.layout.operators database.old.graph database.new.graph }
 {

@@ -3,7 +3,7 @@ ghost use Rattle.std.specs.Prelude.{◌≡◌, OnErr};
 ghost use Rattle.op_any.specs.Checks.{Gives};
 ghost use Rattle.op_kinds.specs.Operators.{any_meaning};
 ghost use Rattle.layout_rules.specs.Changes.{layout_after};
-ghost use Rattle.db_state.specs.Fields.{database_of};
+ghost use Rattle.db_state.specs.Fields.{database_for};
 ghost use Rattle.engine_versions.specs.Evolve.{dropped_version};
 
 use db_state::Db;
@@ -26,10 +26,10 @@ pub fn drop_version<L: Ledger>(
     name: &Name,
     steps: &mut Steps<L>,
 ) -> Result<(), Fault<Refusal>>
-    ensures gives { Gives (λ _. database_of any_meaning database.new) result
-        (dropped_version (database_of any_meaning database.old) name.now) }
+    ensures gives { Gives (λ _. database_for any_meaning database.new) result
+        (dropped_version (database_for any_meaning database.old) name.now) }
     ensures same { OnErr result
-        (database_of any_meaning database.new ≡ database_of any_meaning database.old) }
+        (database_for any_meaning database.new ≡ database_for any_meaning database.old) }
     ensures layout { database.new.layout.operators
         ≡ layout_after database.old.layout.operators database.old.graph database.new.graph }
 {

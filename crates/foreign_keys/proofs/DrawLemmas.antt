@@ -7,7 +7,7 @@ use Rattle.std.proofs.lemmas.List.{length-take-le}
 use Rattle.par_base.specs.declared.value.Value.{Value}
 use Rattle.row_store.specs.Rows.{Rows, AreBelow}
 use Rattle.row_parts.specs.RowCells.{by_test}
-use Rattle.foreign_keys.specs.Drawn.{Values, add_once, has, place, numbered, place_if, ArePlaced}
+use Rattle.foreign_keys.specs.DrawnIds.{Values, add_once, has, place, numbered, place_if, ArePlaced}
 use Rattle.foreign_keys.specs.inner.DrawnLemmas.{place_under}
 use Rattle.par_base.specs.SameRows.{same_row, row_equal}
 use Rattle.row_map.specs.RowNumbers.{RowNumbers, IsWithRow}

@@ -11,7 +11,7 @@ use Rattle.par_base.specs.SameRows.{same_row}
 use Rattle.row_map.specs.IdNumbers.{IdNumbers, number_of_id}
 use Rattle.row_map.specs.RowNumbers.{RowNumbers, number_of_row}
 use Rattle.foreign_keys.specs.References.{is_goal}
-use Rattle.foreign_keys.specs.Drawn.{numbered}
+use Rattle.foreign_keys.specs.DrawnIds.{numbered}
 
 -- the drawn rows, with the counter before and after: refused exactly where it doesn't give so many identifiers
 abbrev pub IsNumbered : List (List Value) → CounterState → CounterState → Result TableState (Fault IdsSpent) → Type 0

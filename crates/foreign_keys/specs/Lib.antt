@@ -1,6 +1,6 @@
-pub mod Parts
+pub mod KeyParts
 pub mod References
-pub mod Drawn
+pub mod DrawnIds
 pub mod Seeking
 pub mod Least
 pub mod Shared

@@ -5,7 +5,7 @@ use Rattle.par_base.specs.declared.value.Value.TheVariants.{Null, Int, Text, Ref
 use Rattle.row_store.specs.Rows.{Rows, row_of}
 use Rattle.op_rows.specs.inner.CellLemmas.{has_id}
 use Rattle.row_parts.specs.RowCells.{Cell, is_there, row_or}
-use Rattle.foreign_keys.specs.Parts.{FkParts}
+use Rattle.foreign_keys.specs.KeyParts.{FkParts}
 
 -- the identifier to which a value refers
 abbrev pub goal_of : Value → Option ℕ

@@ -6,7 +6,7 @@ use Rattle.row_store.specs.Rows.{Rows, RiseFrom, row_of}
 use Rattle.op_law.specs.Tables.{Heading, RowsWide}
 use Rattle.op_law.specs.Sound.{RowsSound}
 use Rattle.row_parts.specs.RowCells.{Cell, map_cell}
-use Rattle.foreign_keys.specs.Parts.{FkParts, FkWell}
+use Rattle.foreign_keys.specs.KeyParts.{FkParts, FkWell}
 
 -- the foreign key that was kept beside
 abbrev pub head_or_null : List Value → Value

@@ -1,7 +1,7 @@
 //! The values for which identifiers are drawn, by first use, each once, and the drawn rows.
 ghost use Rattle.std.specs.Prelude.{◌≡◌, ◌≤◌, ℕ, List, [], Bool, length, IfOk};
 ghost use Rattle.par_base.specs.declared.value.Value.{Value};
-ghost use Rattle.foreign_keys.specs.Drawn.{add_once, has as has_value, place as place_of, drawn};
+ghost use Rattle.foreign_keys.specs.DrawnIds.{add_once, has as has_value, place as place_of, drawn};
 ghost use Rattle.foreign_keys.specs.Calls.{IsNumbered};
 
 use crate::RowParts;
@@ -20,7 +20,7 @@ pub struct Drawn {
 }
 
 impl Model for Drawn {
-    ghost use Rattle.foreign_keys.specs.Drawn.{Values, ArePlaced};
+    ghost use Rattle.foreign_keys.specs.DrawnIds.{Values, ArePlaced};
 
     ghost Value = { Values };
 

@@ -1,7 +1,7 @@
 //! The parts of rows: a row of R is an S part and a T part, and a row of S is its part and the
 //! foreign key.
 ghost use Rattle.std.specs.Prelude.{◌≡◌, IfOk};
-ghost use Rattle.foreign_keys.specs.Parts.{FkParts};
+ghost use Rattle.foreign_keys.specs.KeyParts.{FkParts};
 ghost use Rattle.foreign_keys.specs.References.{goal_of};
 
 use par_base::{Memory, Row, Value};

@@ -25,7 +25,7 @@ use Rattle.bidel_script.proofs.UniqueLaws.{one_comes}
 use Rattle.engine_core.specs.Texts.{line}
 use Rattle.inverda_run.specs.Output.{out_of}
 use Rattle.inverda_run.specs.Statuses as statuses
-use Rattle.inverda_run.specs.Statuses.{limit, Taken, whole, failed, above, last_line, Writes, Had, PutsFront, Begun}
+use Rattle.inverda_run.specs.Statuses.{limit, Taken, whole, failed, above, last_line, WritesScript, Had, PutsFront, Begun}
 use Rattle.inverda_run.specs.Calls.{Runs, RunsTo, RunsFront, RunsScript, RunsBytes, AtWithin, BeginsRun, PutsLine, PutsAll, EndsScript, Counts, ended_by, Ends}
 use Rattle.inverda_run.specs.declared.run.Ran.{Ran}
 use Rattle.inverda_run.specs.declared.run.Ran.TheVariants as ran
@@ -167,7 +167,7 @@ begun_counts (Some told) left' held held' was is bytes ended stopped t said safe
 
     written : (statements : List StatementView) (o : Outcome) → Comes bytes ended statements o
         → out_of statements ++ last_line (take limit told) (line (codes "too long")) o ≡ out_of statements ++ last_line bytes (line (codes "too long")) o
-        → (text : List ℕ) → text ≡ out_of statements ++ last_line (take limit told) (line (codes "too long")) o → Writes bytes ended stopped text
+        → (text : List ℕ) → text ≡ out_of statements ++ last_line (take limit told) (line (codes "too long")) o → WritesScript bytes ended stopped text
     written statements o c moved text e = record {
       statements = statements;
       outcome = o;

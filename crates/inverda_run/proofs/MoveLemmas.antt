@@ -5,7 +5,7 @@ use Rattle.par_base.specs.declared.refusal.Refusal.TheVariants.{NotBuilt}
 use Rattle.layout_rules.specs.Closed.{closing}
 use Rattle.statements.specs.Views.{StatementView, CreateVersion, DropVersion, Insert, Import, Update, Delete, Select, Materialize, Step, ShowLayout, Use, Session, Advise}
 use Rattle.op_any.specs.Checks.{Checked, ◌then◌}
-use Rattle.engine_state.specs.State.{State}
+use Rattle.engine_state.specs.AnyDatabase.{AnyDatabase}
 use Rattle.engine_state.specs.declared.reply.Reply.{Reply}
 use Rattle.engine_state.specs.declared.reply.Reply.TheVariants.{Moved}
 use Rattle.engine_layouts.specs.Laid.{Laid, moved_count}
@@ -16,7 +16,7 @@ use Rattle.inverda_run.specs.Moves.{heard, without_moves, MovesUnseen}
 use Rattle.inverda_run.specs.Statuses.{Done}
 
 -- a statement on the data, beside a layout
-abbrev beside : Laid → Bool → Checked (Reply × State) → Checked (Reply × Laid)
+abbrev beside : Laid → Bool → Checked (Reply × AnyDatabase) → Checked (Reply × Laid)
 beside s b m = if b then (m then λ answer. Ok (with_data s answer)) else Err NotBuilt
 
 -- the lines are the same, and the data that is left
@@ -24,14 +24,14 @@ pub record SameBut (s t : Laid) (a b : Checked (Reply × Laid)) : Type 0 where
   pub text : text_of a ≡ text_of b
   pub database : (next_state s a).database ≡ (next_state t b).database
 
-same_beside : (s t : Laid) → s.database ≡ t.database → (b : Bool) (m : Checked (Reply × State)) → SameBut s t (beside s b m) (beside t b m)
+same_beside : (s t : Laid) → s.database ≡ t.database → (b : Bool) (m : Checked (Reply × AnyDatabase)) → SameBut s t (beside s b m) (beside t b m)
 same_beside s t is true (Ok answer) = record { text = refl; database = refl }
 same_beside s t is true (Err r) = record { text = refl; database = is }
 same_beside s t is false m = record { text = refl; database = is }
 
 -- whatever the layout beside it
-same_data : (s t : Laid) → s.database ≡ t.database → (b : Bool) (m : State → Checked (Reply × State)) → SameBut s t (beside s b (m s.database)) (beside t b (m t.database))
-same_data s t is b m = subst (λ (d : State). SameBut s t (beside s b (m s.database)) (beside t b (m d))) is (same_beside s t is b (m s.database))
+same_data : (s t : Laid) → s.database ≡ t.database → (b : Bool) (m : AnyDatabase → Checked (Reply × AnyDatabase)) → SameBut s t (beside s b (m s.database)) (beside t b (m t.database))
+same_data s t is b m = subst (λ (d : AnyDatabase). SameBut s t (beside s b (m s.database)) (beside t b (m d))) is (same_beside s t is b (m s.database))
 
 same_act : (s t : Laid) → s.database ≡ t.database → (x : StatementView) → tells_layout x ≡ false → SameBut s t (act s x) (act t x)
 same_act s t is (CreateVersion name from operators) off = same_data s t is (is_built (CreateVersion name from operators)) (λ d. acted_data d (CreateVersion name from operators))

@@ -17,7 +17,7 @@ use Rattle.engine_layouts.specs.Laid.{Laid}
 use Rattle.engine_core.specs.Act.{act}
 use Rattle.engine_core.specs.Texts.{line}
 use Rattle.inverda_run.specs.Output.{text_of, next_state, out_of}
-use Rattle.inverda_run.specs.Statuses.{Done, Stopped, Unread, Passed, PutsFront, Writes, Begun, last_line, limit}
+use Rattle.inverda_run.specs.Statuses.{Done, Stopped, Unread, Passed, PutsFront, WritesScript, Begun, last_line, limit}
 use Rattle.inverda_run.specs.declared.turn.Turn.{Turn}
 use Rattle.inverda_run.specs.declared.turn.Turn.TheVariants as turn
 use Rattle.inverda_run.specs.declared.run.Ran.{Ran}
@@ -87,7 +87,7 @@ pub record RunsBytes (bytes : List ℕ) (ended : Bool) (held held' : Option (Lis
 
 -- a front was put of what the run of the bytes puts where nothing fails
 abbrev pub BeginsRun : List ℕ → Bool → List ℕ → Option (List ℕ) → Option (List ℕ) → Type 0
-BeginsRun bytes ended stopped held held' = (text : List ℕ) → Writes bytes ended stopped text → PutsFront held held' text
+BeginsRun bytes ended stopped held held' = (text : List ℕ) → WritesScript bytes ended stopped text → PutsFront held held' text
 
 -- what the run of the bytes leaves before its last line
 abbrev pub RunsScript : List ℕ → Bool → Option (List ℕ) → Option (List ℕ) → ℕ → ℕ → Ran → Type 0

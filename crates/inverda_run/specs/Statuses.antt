@@ -35,7 +35,7 @@ last_line bytes stopped Long = line (codes "too long")
 last_line bytes stopped Open = stopped
 
 -- the lines that answer the statements that these bytes fix, and the last line
-pub record Writes (bytes : List ℕ) (ended : Bool) (stopped text : List ℕ) : Type 0 where
+pub record WritesScript (bytes : List ℕ) (ended : Bool) (stopped text : List ℕ) : Type 0 where
   pub statements : List StatementView
   pub outcome : Outcome
   pub comes : Comes bytes ended statements outcome
@@ -53,9 +53,9 @@ pub record Done (left left' held held' : Option (List ℕ)) : Type 0 where
   pub put : Appends held held' (out_of statements)
 
 -- where the source told its bytes, they are a script, and the sink was given the lines that answer its statements
-abbrev pub Answers : Option (List ℕ) → Option (List ℕ) → Option (List ℕ) → Type 0
-Answers None held held' = ⊤
-Answers (Some bytes) held held' = (statements : List StatementView) × IsScript bytes statements × Appends held held' (out_of statements)
+abbrev pub AnswersScript : Option (List ℕ) → Option (List ℕ) → Option (List ℕ) → Type 0
+AnswersScript None held held' = ⊤
+AnswersScript (Some bytes) held held' = (statements : List StatementView) × IsScript bytes statements × Appends held held' (out_of statements)
 
 -- the bytes that were taken have a fault, and the sink was given the lines that answer the statements before it, and the line
 -- with its place
@@ -119,9 +119,9 @@ PutsFront held held' bytes = (n : ℕ) × Appends held held' (take n bytes)
 -- where the source told its bytes, the sink was given a front of what their run puts where nothing fails
 abbrev pub Begun : Option (List ℕ) → Option (List ℕ) → Option (List ℕ) → Type 0
 Begun None held held' = ⊤
-Begun (Some bytes) held held' = (text : List ℕ) → Writes (take limit bytes) (nat_le (length bytes) limit) (line (codes "too long")) text → PutsFront held held' text
+Begun (Some bytes) held held' = (text : List ℕ) → WritesScript (take limit bytes) (nat_le (length bytes) limit) (line (codes "too long")) text → PutsFront held held' text
 
 -- the run of any bytes puts one text where nothing fails
 abbrev pub OneText : Type 0
-OneText = (bytes : List ℕ) (ended : Bool) (stopped : List ℕ) → (text : List ℕ) × Writes bytes ended stopped text
-    × ((other : List ℕ) → Writes bytes ended stopped other → other ≡ text)
+OneText = (bytes : List ℕ) (ended : Bool) (stopped : List ℕ) → (text : List ℕ) × WritesScript bytes ended stopped text
+    × ((other : List ℕ) → WritesScript bytes ended stopped other → other ≡ text)

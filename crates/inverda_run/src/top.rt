@@ -4,7 +4,7 @@ ghost use Rattle.std.specs.Io.KnownBytes.{Appends};
 ghost use Rattle.outside.specs.Causes.{Rose};
 ghost use Rattle.engine_core.specs.Texts.{line};
 ghost use Rattle.inverda_run.specs.Moves.{MovesUnseen};
-ghost use Rattle.inverda_run.specs.Statuses.{Done, Answers, Begun, Stopped, Unread, Passed};
+ghost use Rattle.inverda_run.specs.Statuses.{Done, AnswersScript, Begun, Stopped, Unread, Passed};
 ghost use Rattle.inverda_run.specs.Statuses.{HadFault, HadMore, HadScript, limit};
 ghost use Rattle.inverda_run.specs.Calls.{Counts, Ends, ended_by};
 
@@ -135,7 +135,7 @@ pub fn inverda<S: Source, K: Sink, F: Files>(
     // A script is answered as its statements say. Where nothing fails, the bytes decide the status.
     ensures done { result ≡ 0 → (words.now ≡ [])
         × Done (S.left script.old) (S.left script.new) (K.held out.old) (K.held out.new) }
-    ensures answers { result ≡ 0 → Answers (S.left script.old) (K.held out.old) (K.held out.new) }
+    ensures answers { result ≡ 0 → AnswersScript (S.left script.old) (K.held out.old) (K.held out.new) }
     ensures unseen { result ≡ 0
         → MovesUnseen (S.left script.old) (S.left script.new) (K.held out.old) (K.held out.new) }
     ensures complete { words.now ≡ [] → HadScript (S.left script.old)

@@ -11,7 +11,7 @@ use Rattle.layout_rules.specs.Closed.{GivesLayout, closing}
 use Rattle.layout_rules.specs.Closing.{Closes}
 use Rattle.layout_rules.specs.declared.layout.Layout.{Layout}
 use Rattle.db_state.specs.declared.parts.Parts.{Parts}
-use Rattle.migration.specs.Answers.{ComputesMove, PreparesMove}
+use Rattle.migration.specs.MoveAnswers.{ComputesMove, PreparesMove}
 
 pub closes_there : {O : Type 0} (g h : Drawn O) (l k : Layout) (named : List Target) (r : Result Layout (Fault Refusal)) → g ≡ h → l ≡ k → Closes g l.operators named r → Closes h k.operators named r
 closes_there {O} g h l k named r same sides closes = subst (λ (x : Layout). Closes h x.operators named r) sides (subst (λ (d : Drawn O). Closes d l.operators named r) same closes)

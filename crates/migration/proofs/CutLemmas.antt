@@ -36,7 +36,7 @@ use Rattle.version_model.proofs.LiveLaws.{read_passes}
 use Rattle.storage_law.specs.Changes.{GoFromSources, staying_storage}
 use Rattle.storage_law.specs.Storage.{Stands, Storage}
 use Rattle.storage_law.proofs.DropLaws.{drop_stands, stored_before, stored_now}
-use Rattle.db_state.specs.Fields.{IsDatabase, auxes_at, database_of, numbers_in, state_of, storage_in}
+use Rattle.db_state.specs.Fields.{IsDatabase, auxes_at, database_for, numbers_in, state_for, storage_in}
 use Rattle.db_state.specs.declared.parts.Parts.{Parts}
 use Rattle.db_state.proofs.FieldLaws.{state_is}
 use Rattle.migration.proofs.SideLemmas.{up_in, up_lives}
@@ -114,7 +114,7 @@ module _ {O : Type 0} (meaning : O → Meaning) (laws : (o : O) → Laws (meanin
   stay = staying needed es
 
   abbrev s : State
-  s = state_of meaning old
+  s = state_for meaning old
 
   abbrev new : Parts O
   new = cut_parts old name
@@ -141,11 +141,11 @@ module _ {O : Type 0} (meaning : O → Meaning) (laws : (o : O) → Laws (meanin
   valid : IsValid (forest stay) new.layout.operators
   valid = dropped_valid old.graph name base.graph old.layout.operators base.valid
 
-  state_stays : state_of meaning new ≡ next
+  state_stays : state_for meaning new ≡ next
   state_stays = state_is meaning laws base.reads new next graph valid sound stands refl
 
   -- THE DATABASE AFTER A DROP
-  pub cut_database : database_of meaning new ≡ dropped_database (database_of meaning old) name
+  pub cut_database : database_for meaning new ≡ dropped_database (database_for meaning old) name
   cut_database = λ j. record { graph = dropped old.graph name; state = state_stays j; limit = old.ids.limit }
 
   stored_numbers : numbers_in new.stored ≡ filter (λ t. is_in t (table_numbers (made stay))) (numbers_in old.stored)

@@ -22,7 +22,7 @@ use Rattle.layout_rules.proofs.ChangeLaws.{link_number}
 use Rattle.layout_rules.proofs.LinkLaws.{source_made, target_listed}
 use Rattle.version_model.specs.Kept.{HasSides, latest_of, pairs_at, renewed, rows_at, rows_now, value_of}
 use Rattle.version_model.specs.States.{State, headings}
-use Rattle.version_model.specs.Steps.{IsRelated, pair_in, way}
+use Rattle.version_model.specs.Steps.{IsRelated, pair_in, directed}
 use Rattle.version_model.specs.declared.numbered.Numbered.{Numbered}
 use Rattle.version_model.proofs.CrossingLaws.{targets_linked}
 use Rattle.version_model.proofs.HeadingLaws.{in_or_not}
@@ -30,7 +30,7 @@ use Rattle.version_model.proofs.PutLaws.{map_same}
 use Rattle.storage_law.specs.Storage.{StandsOver, aux_of, stored_way}
 use Rattle.db_state.specs.Calls.{AreAuxesOf, IsRelatedAt}
 use Rattle.db_state.specs.Covered.{Covers}
-use Rattle.db_state.specs.Fields.{IsDatabase, auxes_at, database_of, numbers_in, state_of, storage_in}
+use Rattle.db_state.specs.Fields.{IsDatabase, auxes_at, database_for, numbers_in, state_for, storage_in}
 use Rattle.db_state.specs.declared.parts.Parts.{Parts}
 use Rattle.db_state.proofs.FieldLaws.{IsShaped, Store, is_database, none_at}
 use Rattle.migration.specs.Moved.{Adopts, Leads}
@@ -49,7 +49,7 @@ abbrev auxes_or_none : Option Aux → Tables
 auxes_or_none o = option_map_or tables_of o []
 
 module _ {O : Type 0} (meaning : O → Meaning) (old : Parts O) (base : IsDatabase meaning old) (goal : List ℕ) (valid : IsValid (forest old.graph.edges) goal) (read : List (Numbered TableState))
-    (is_read : (t : ℕ) → In t (table_numbers (made old.graph.edges)) → Covers (forest old.graph.edges) old.layout.operators (changing old.graph.edges old.layout.operators goal) t → rows_now old.stored read t ≡ (state_of meaning old).tables t) where
+    (is_read : (t : ℕ) → In t (table_numbers (made old.graph.edges)) → Covers (forest old.graph.edges) old.layout.operators (changing old.graph.edges old.layout.operators goal) t → rows_now old.stored read t ≡ (state_for meaning old).tables t) where
   abbrev es : List (Placed O)
   es = old.graph.edges
 
@@ -63,7 +63,7 @@ module _ {O : Type 0} (meaning : O → Meaning) (old : Parts O) (base : IsDataba
   ns = changing es layout goal
 
   abbrev s : State
-  s = state_of meaning old
+  s = state_for meaning old
 
   -- the state as it was read: right in the tables of the operators that change sides
   abbrev pub read_state : ℕ → State
@@ -109,7 +109,7 @@ module _ {O : Type 0} (meaning : O → Meaning) (old : Parts O) (base : IsDataba
   all_related next = each_of (IsRelatedAt meaning es (read_state next)) ns (related_at next)
 
   aux_right : (next : ℕ) (e : Link O) (x : Bool) → In e (forest es) → In e.number ns → aux_of meaning (read_state next) (crossing x e) ≡ aux_of meaning s (crossing x e)
-  aux_right next e x i n = ap (λ (p : PairState). (way x (meaning e.operator)).aux_at_source p) (pair_read next e x i n)
+  aux_right next e x i n = ap (λ (p : PairState). (directed x (meaning e.operator)).aux_at_source p) (pair_read next e x i n)
 
   -- ---- what was prepared
 
@@ -185,11 +185,11 @@ module _ {O : Type 0} (meaning : O → Meaning) (old : Parts O) (base : IsDataba
         memories = base.memories;
       }
 
-      leads_to : IsDatabase meaning new × (database_of meaning new ≡ database_of meaning old)
+      leads_to : IsDatabase meaning new × (database_for meaning new ≡ database_for meaning old)
       leads_to =
           let d = is_database meaning laws base.reads parts s shaped base.sound store in
-          let same : database_of meaning parts ≡ database_of meaning old = ap (λ (x : State). record { graph = old.graph; state = x; limit = old.ids.limit }) d.1 in
-          subst (λ (p : Parts O). IsDatabase meaning p × (database_of meaning p ≡ database_of meaning old)) parts_are (d.0, same)
+          let same : database_for meaning parts ≡ database_for meaning old = ap (λ (x : State). record { graph = old.graph; state = x; limit = old.ids.limit }) d.1 in
+          subst (λ (p : Parts O). IsDatabase meaning p × (database_for meaning p ≡ database_for meaning old)) parts_are (d.0, same)
 
     -- WHAT WAS PREPARED LEADS TO THE SAME STATE
     pub leads : Leads meaning old moved

@@ -18,7 +18,7 @@ use Rattle.version_model.proofs.NowLaws.{no_pairs}
 use Rattle.version_model.proofs.ProgressLaws.{state_is}
 use Rattle.db_state.specs.Calls.{AreAuxesOf, IsRelatedAt}
 use Rattle.db_state.specs.Covered.{Covers, CoversItself}
-use Rattle.db_state.specs.Fields.{IsDatabase, state_of}
+use Rattle.db_state.specs.Fields.{IsDatabase, state_for}
 use Rattle.db_state.specs.declared.parts.Parts.{Parts}
 use Rattle.migration.specs.Moved.{Leads}
 use Rattle.migration.specs.Places.{AreStoredPlaces}
@@ -35,10 +35,10 @@ module _ {O : Type 0} (meaning : O → Meaning) (old : Parts O) (base : IsDataba
   pub may_read : CoversItself (forest old.graph.edges) old.layout.operators ns
   may_read = subst (λ (l : List ℕ). CoversItself (forest old.graph.edges) old.layout.operators l) (sym is) (covers_itself old.graph.edges base.graph.edges old.layout.operators goal base.valid valid)
 
-  module _ (b : Before) (done : Made) (right : (t : ℕ) → In t (table_numbers (made old.graph.edges)) → Covers (forest old.graph.edges) old.layout.operators ns t → rows_now old.stored done.tables t ≡ (state_of meaning old).tables t)
+  module _ (b : Before) (done : Made) (right : (t : ℕ) → In t (table_numbers (made old.graph.edges)) → Covers (forest old.graph.edges) old.layout.operators ns t → rows_now old.stored done.tables t ≡ (state_for meaning old).tables t)
       (g : Drawn O) (same : g ≡ old.graph) (tables : b.tables.now ≡ old.stored) (memories : b.memories.now ≡ old.memories) (none : done.memories ≡ []) where
-    right_there : (t : ℕ) → In t (table_numbers (made old.graph.edges)) → Covers (forest old.graph.edges) old.layout.operators (changing old.graph.edges old.layout.operators goal) t → rows_now old.stored done.tables t ≡ (state_of meaning old).tables t
-    right_there = subst (λ (l : List ℕ). (t : ℕ) → In t (table_numbers (made old.graph.edges)) → Covers (forest old.graph.edges) old.layout.operators l t → rows_now old.stored done.tables t ≡ (state_of meaning old).tables t) is right
+    right_there : (t : ℕ) → In t (table_numbers (made old.graph.edges)) → Covers (forest old.graph.edges) old.layout.operators (changing old.graph.edges old.layout.operators goal) t → rows_now old.stored done.tables t ≡ (state_for meaning old).tables t
+    right_there = subst (λ (l : List ℕ). (t : ℕ) → In t (table_numbers (made old.graph.edges)) → Covers (forest old.graph.edges) old.layout.operators l t → rows_now old.stored done.tables t ≡ (state_for meaning old).tables t) is right
 
     abbrev now : State
     now = read_state meaning old base goal valid done.tables right_there done.ids.next

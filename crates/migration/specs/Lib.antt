@@ -1,4 +1,4 @@
 pub mod Sides
 pub mod Places
 pub mod Moved
-pub mod Answers
+pub mod MoveAnswers

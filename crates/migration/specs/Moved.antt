@@ -2,7 +2,7 @@
 use Rattle.std.specs.Prelude.{◌≡◌, ℕ}
 use Rattle.op_law.specs.Meaning.{Meaning}
 use Rattle.version_model.specs.Kept.{latest_of, renewed, value_of}
-use Rattle.db_state.specs.Fields.{IsDatabase, database_of, numbers_in}
+use Rattle.db_state.specs.Fields.{IsDatabase, database_for, numbers_in}
 use Rattle.db_state.specs.declared.parts.Parts.{Parts}
 use Rattle.migration.specs.declared.moved.Moved.{Moved}
 
@@ -19,4 +19,4 @@ pub record Adopts {O : Type 0} (old : Parts O) (moved : Moved) (new : Parts O) :
 
 -- a database that adopts what was prepared stands for the same state
 abbrev pub Leads : {O : Type 0} → (O → Meaning) → Parts O → Moved → Type 0
-Leads {O} meaning old moved = (new : Parts O) → Adopts old moved new → IsDatabase meaning new × (database_of meaning new ≡ database_of meaning old)
+Leads {O} meaning old moved = (new : Parts O) → Adopts old moved new → IsDatabase meaning new × (database_for meaning new ≡ database_for meaning old)

@@ -6,8 +6,8 @@ ghost use Rattle.version_graph.specs.Edges.{is_in, numbers, set_named};
 ghost use Rattle.layout_rules.specs.Changes.{dropped_layout};
 ghost use Rattle.version_model.specs.Databases.{dropped_database};
 ghost use Rattle.storage_law.specs.Changes.{GoFromSources};
-ghost use Rattle.db_state.specs.Fields.{database_of};
-ghost use Rattle.migration.specs.Answers.{Drops, PreparesDrop};
+ghost use Rattle.db_state.specs.Fields.{database_for};
+ghost use Rattle.migration.specs.MoveAnswers.{Drops, PreparesDrop};
 
 use crate::Moved;
 use crate::moves::{adopt, prepare};
@@ -55,8 +55,8 @@ fn cut<O: Operator + Drop>(alloc: Global, db: &mut Db<O>, name: &Name)
     requires named { IsSome (set_named db.old.graph.versions name.now) }
     requires aside { GoFromSources db.old.graph.edges (dropped db.old.graph name.now).edges
         db.old.layout.operators }
-    ensures database { database_of O.meaning db.new
-        ≡ dropped_database (database_of O.meaning db.old) name.now }
+    ensures database { database_for O.meaning db.new
+        ≡ dropped_database (database_for O.meaning db.old) name.now }
     ensures layout { db.new.layout.operators
         ≡ dropped_layout db.old.graph name.now db.old.layout.operators }
 {

@@ -2,7 +2,7 @@
 ghost use Rattle.std.specs.Prelude.{◌≡◌, IfOk};
 ghost use Rattle.version_graph.specs.Forest.{forest};
 ghost use Rattle.layout_rules.specs.Layouts.{IsValid};
-ghost use Rattle.db_state.specs.Fields.{database_of};
+ghost use Rattle.db_state.specs.Fields.{database_for};
 ghost use Rattle.migration.specs.Sides.{flipped_layout};
 ghost use Rattle.migration.specs.Moved.{Adopts, Leads};
 
@@ -55,7 +55,7 @@ pub fn prepare_flip<O: Operator, L: Ledger>(
 pub fn adopt_flip<O: Operator + Drop>(alloc: Global, db: &mut Db<O>, moved: Moved)
     requires { Leads O.meaning db.old moved }
     ensures adopts { Adopts db.old moved db.new }
-    ensures state { database_of O.meaning db.new ≡ database_of O.meaning db.old }
+    ensures state { database_for O.meaning db.new ≡ database_for O.meaning db.old }
     ensures layout { db.new.layout ≡ moved.layout }
 {
     adopt(alloc, db, moved);

@@ -4,7 +4,7 @@
 //! what takes memory or may be refused is done first and leaves the database as it is, and what is
 //! done then can't fail. After a flip or a move the database has the new layout and stands for the
 //! same state (`specs/Moved.antt`); after a drop it is the model's database without the version
-//! (`specs/Answers.antt`). `adopt_move` tells how many operators changed sides (`specs/Sides.antt`).
+//! (`specs/MoveAnswers.antt`). `adopt_move` tells how many operators changed sides (`specs/Sides.antt`).
 //! The crate knows operators by their laws alone, and nothing of names in statements, of sessions or
 //! of replies.
 #![tactic(auto)]

@@ -1,8 +1,8 @@
 //! Moves to the layout that stores named tables.
 ghost use Rattle.std.specs.Prelude.{◌≡◌};
-ghost use Rattle.db_state.specs.Fields.{database_of};
+ghost use Rattle.db_state.specs.Fields.{database_for};
 ghost use Rattle.migration.specs.Moved.{Adopts, Leads};
-ghost use Rattle.migration.specs.Answers.{ComputesMove, PreparesMove};
+ghost use Rattle.migration.specs.MoveAnswers.{ComputesMove, PreparesMove};
 
 use crate::Moved;
 use crate::moves::{adopt, prepare};
@@ -34,7 +34,7 @@ pub fn prepare_move<O: Operator, L: Ledger>(
 pub fn adopt_move<O: Operator + Drop>(alloc: Global, db: &mut Db<O>, moved: Moved) -> usize
     requires { Leads O.meaning db.old moved }
     ensures adopts { Adopts db.old moved db.new }
-    ensures state { database_of O.meaning db.new ≡ database_of O.meaning db.old }
+    ensures state { database_for O.meaning db.new ≡ database_for O.meaning db.old }
     ensures layout { db.new.layout ≡ moved.layout }
     ensures flips { result ≡ moved.flips }
 {

@@ -17,7 +17,7 @@ use Rattle.op_any.specs.NameChecks.{heading_named, is_passing, known_table, othe
 use Rattle.op_any.proofs.Decides.{Decides, then_decides, table_decides, new_table_decides, other_table_decides, column_decides, expression_decides, once_decides, same_decides, few_decides, ids_decide}
 use Rattle.op_any.proofs.JoinForms.{decomposing_decides, decomposing_table_decides, joining_decides}
 use Rattle.op_any.specs.BuildJoins.{joining_tables}
-use Rattle.op_any.specs.Build.{creating_table, dropping_table, renaming_table, renaming_column, adding_column, dropping_column, splitting_in_one, splitting_in_two, splitting_table, merging_tables, planned, with_text, built, is_built_join, is_built}
+use Rattle.op_any.specs.Build.{creating_table, dropping_table, renaming_table, renaming_column, adding_column, dropping_column, splitting_in_one, splitting_in_two, splitting_table, merging_tables, planned_edge, with_text, built, is_built_join, is_built}
 
 module _ (set : List Heading) (next : ℕ) where
   creating_decides : (table : List ℕ) (columns : List (List ℕ)) → Decides (creating_table set table columns)
@@ -96,7 +96,7 @@ module _ (set : List Heading) (next : ℕ) where
       then_decides (known_ids next r.condition) _ (ids_decide next _) (λ x.
       then_decides (known_ids next s.condition) _ (ids_decide next _) (λ y. tt)))))))))
 
-  planned_decides : (text : OpView) → is_built text ≡ true → Decides (planned set next text)
+  planned_decides : (text : OpView) → is_built text ≡ true → Decides (planned_edge set next text)
   planned_decides («text».CreateTable table columns) is = creating_decides table columns
   planned_decides («text».DropTable table) is = dropping_decides table
   planned_decides («text».RenameTable table new) is = renaming_table_decides table new
@@ -137,7 +137,7 @@ other_form set next («text».Merge first second target) is = absurd (false≢tr
 
 own_form : (set : List Heading) (next : ℕ) (text : OpView) (b : Bool) → is_built text ≡ b → built set next text ≡ Err NotBuilt → b ≡ false
 own_form set next text true is e =
-    absurd (decides (built set next text) (then_decides (planned set next text) (λ p. Ok (with_text text p)) (planned_decides set next text is) (λ p. tt)) e)
+    absurd (decides (built set next text) (then_decides (planned_edge set next text) (λ p. Ok (with_text text p)) (planned_decides set next text is) (λ p. tt)) e)
 own_form set next text false is e = refl
 
 pub not_built : (set : List Heading) (next : ℕ) (text : OpView) → (built set next text ≡ Err NotBuilt) ↔ (is_built text ≡ false)

@@ -14,7 +14,7 @@ use Rattle.version_graph.specs.declared.parts.Edge.{Edge}
 use Rattle.op_kinds.specs.Operators.{Built, AnyView, any_meaning}
 use Rattle.op_kinds.specs.Operators as «any»
 use Rattle.op_any.specs.NameChecks.{heading_named, is_passing, known_table, new_table, known_column, known_columns, new_columns, few_columns, known_ids}
-use Rattle.op_any.specs.Build.{creating_table, dropping_table, renaming_table, renaming_column, adding_column, dropping_column, planned, with_text, built}
+use Rattle.op_any.specs.Build.{creating_table, dropping_table, renaming_table, renaming_column, adding_column, dropping_column, planned_edge, with_text, built}
 use Rattle.op_any.specs.BuildJoins.{decomposing_table, joining_tables}
 use Rattle.op_any.specs.Texts.{TextsFit}
 use Rattle.op_any.specs.Laws.{as_seen, headings_taken, is_create_table}
@@ -164,7 +164,7 @@ module _ (set : List Heading) (next : ℕ) where
         sources = (λ e. absurd (cc), λ e. absurd (false≢true e));
       }))))
 
-  planned_suits : (text : OpView) → IfOk (planned set next text) (Suits set next text)
+  planned_suits : (text : OpView) → IfOk (planned_edge set next text) (Suits set next text)
   unfolding decomposing_table joining_tables
   planned_suits («text».CreateTable table columns) = creating_suits table columns
   planned_suits («text».DropTable table) = dropping_suits table
@@ -208,4 +208,4 @@ with_text_suits set next text e suits = record {
 pub built_suits : (set : List Heading) (next : ℕ) (text : OpView) (e : Edge AnyView) → built set next text ≡ Ok e → SuitsText set next text e
 built_suits set next text e is =
     at_ok (SuitsText set next text) (built set next text) e is
-    (if_then (SuitsText set next text) (planned set next text) (λ p. Ok (with_text text p)) (λ p e. with_text_suits set next text p (at_ok (Suits set next text) (planned set next text) p e (planned_suits set next text))))
+    (if_then (SuitsText set next text) (planned_edge set next text) (λ p. Ok (with_text text p)) (λ p e. with_text_suits set next text p (at_ok (Suits set next text) (planned_edge set next text) p e (planned_suits set next text))))

@@ -19,7 +19,7 @@ use Rattle.op_kinds.specs.Operators.{Built, meaning_of}
 use Rattle.op_kinds.specs.Operators as «any»
 use Rattle.op_any.specs.Edges.{one_to_both}
 use Rattle.op_any.specs.NameChecks.{heading_named, is_passing, repeated, misdivided, known_table, new_table, known_places, known_columns, well_divided, new_columns, few_columns, known_ids}
-use Rattle.op_any.specs.BuildJoins.{Parts, parting, divided, with_column, decomposing_in_one, decomposing_on_pk, decomposing_on_fk, decomposing_on}
+use Rattle.op_any.specs.BuildJoins.{Parting, parting, divided, with_column, decomposing_in_one, decomposing_on_pk, decomposing_on_fk, decomposing_on}
 use Rattle.op_any.specs.Laws.{as_seen, headings_taken, is_create_table}
 use Rattle.op_any.specs.Texts.{TextsFit}
 use Rattle.op_any.proofs.NameLists.{either}
@@ -62,7 +62,7 @@ module _ (set : List Heading) (next : ℕ) where
 -- ---- two targets
 
 -- the source was found, both names are free, and the places are those of the listed columns
-record ArePartsOf (set : List Heading) (table : List ℕ) (s u : Heading) (parts : Parts) : Type 0 where
+record ArePartsOf (set : List Heading) (table : List ℕ) (s u : Heading) (parts : Parting) : Type 0 where
   found : heading_named set table ≡ Some parts.source
   first_free : is_passing set (table ∷ []) s.name ≡ false
   second_free : is_passing set (table ∷ []) u.name ≡ false
@@ -89,12 +89,12 @@ parting_found set table s u =
     })))))
 
 -- both lists name each of the source's columns once
-record AreDivided (s u : Heading) (parts : Parts) : Type 0 where
+record AreDivided (s u : Heading) (parts : Parting) : Type 0 where
   divides : Divides parts.first parts.second (length parts.source.columns)
   first : IsHeading s
   second : IsHeading u
 
-module _ (set : List Heading) (table : List ℕ) (s u : Heading) (parts : Parts) (are : parting set table s u ≡ Ok parts) where
+module _ (set : List Heading) (table : List ℕ) (s u : Heading) (parts : Parting) (are : parting set table s u ≡ Ok parts) where
   abbrev facts : ArePartsOf set table s u parts
   facts = at_ok (ArePartsOf set table s u) (parting set table s u) parts are (parting_found set table s u)
 

@@ -9,7 +9,7 @@ use Rattle.statements.specs.Views.{Tree, KeyView, Primary, Foreign, Condition}
 use Rattle.version_graph.specs.Tables.{column_limit}
 use Rattle.version_graph.specs.declared.parts.Heading.{Heading}
 use Rattle.op_any.specs.NameChecks.{heading_named, is_passing, repeated, known_table, other_table, new_table, known_column, known_places, known_columns, well_divided, new_columns, few_columns, known_ids}
-use Rattle.op_any.specs.BuildJoins.{Parts, Sources, parting, divided, decomposing_in_one, decomposing_on_pk, decomposing_on_fk, decomposing_on, decomposing_table, meeting, columns_of_both, joining_on_pk, joining_on_fk, joining_on, joining_tables}
+use Rattle.op_any.specs.BuildJoins.{Parting, Sources, parting, divided, decomposing_in_one, decomposing_on_pk, decomposing_on_fk, decomposing_on, decomposing_table, meeting, columns_of_both, joining_on_pk, joining_on_fk, joining_on, joining_tables}
 use Rattle.op_any.specs.Build.{is_built_join}
 use Rattle.op_any.proofs.Decides.{Decides, then_decides, table_decides, new_table_decides, other_table_decides, column_decides, places_decide, divided_decides, expression_decides, once_decides, few_decides, ids_decide}
 

@@ -121,19 +121,19 @@ is_built («text».Join outer first second target key) = is_built_join outer key
 is_built _ = true
 
 -- an operator between the tables of a working set and new ones, while `next` is the next identifier
-abbrev pub planned : List Heading → ℕ → OpView → Checked (Edge Built)
-planned set next («text».CreateTable table columns) = creating_table set table columns
-planned set next («text».DropTable table) = dropping_table set table
-planned set next («text».RenameTable table new) = renaming_table set table new
-planned set next («text».RenameColumn column table new) = renaming_column set column table new
-planned set next («text».AddColumn column value table) = adding_column set next column value table
-planned set next («text».DropColumn column table value) = dropping_column set next column table value
-planned set next («text».Split table first second) = splitting_table set next table first second
-planned set next («text».Merge first second target) = merging_tables set next first second target
-planned set next («text».DecomposeSingle table target columns) = decomposing_in_one set table (record { name = target; columns = columns })
-planned set next («text».Decompose table first first_columns second second_columns key) =
+abbrev pub planned_edge : List Heading → ℕ → OpView → Checked (Edge Built)
+planned_edge set next («text».CreateTable table columns) = creating_table set table columns
+planned_edge set next («text».DropTable table) = dropping_table set table
+planned_edge set next («text».RenameTable table new) = renaming_table set table new
+planned_edge set next («text».RenameColumn column table new) = renaming_column set column table new
+planned_edge set next («text».AddColumn column value table) = adding_column set next column value table
+planned_edge set next («text».DropColumn column table value) = dropping_column set next column table value
+planned_edge set next («text».Split table first second) = splitting_table set next table first second
+planned_edge set next («text».Merge first second target) = merging_tables set next first second target
+planned_edge set next («text».DecomposeSingle table target columns) = decomposing_in_one set table (record { name = target; columns = columns })
+planned_edge set next («text».Decompose table first first_columns second second_columns key) =
     decomposing_table set next table (record { name = first; columns = first_columns }) (record { name = second; columns = second_columns }) key
-planned set next («text».Join outer first second target key) = joining_tables set next outer first second target key
+planned_edge set next («text».Join outer first second target key) = joining_tables set next outer first second target key
 
 -- the same edge, of an operator that keeps its text
 abbrev pub with_text : OpView → Edge Built → Edge AnyView
@@ -144,4 +144,4 @@ with_text text e = record {
 }
 
 abbrev pub built : List Heading → ℕ → OpView → Checked (Edge AnyView)
-built set next text = planned set next text then λ e. Ok (with_text text e)
+built set next text = planned_edge set next text then λ e. Ok (with_text text e)

@@ -33,13 +33,13 @@ decomposing_in_one set table s =
     Ok (one_to_one (DecomposeSingle places (length source.columns)) table s.name s.columns)
 
 -- the source, and the places in it of the columns of two targets
-pub record Parts : Type 0 where
+pub record Parting : Type 0 where
   pub source : Heading
   pub first : List ℕ
   pub second : List ℕ
 
 -- one of s and u may be t itself
-unfoldable pub parting : List Heading → List ℕ → Heading → Heading → Checked Parts
+unfoldable pub parting : List Heading → List ℕ → Heading → Heading → Checked Parting
 parting set table s u =
     known_table table (heading_named set table) then λ source.
     new_table s.name (is_passing set (table ∷ []) s.name) then λ _.

@@ -4,7 +4,7 @@ ghost use Rattle.std.specs.List.{insert, remove};
 ghost use Rattle.expr_lang.specs.Terms.{text_term};
 ghost use Rattle.statements.specs.Views.{op_view};
 ghost use Rattle.op_any.specs.Checks.{Gives};
-ghost use Rattle.op_any.specs.Build.{creating_table, dropping_table, renaming_table, renaming_column, adding_column, dropping_column, planned};
+ghost use Rattle.op_any.specs.Build.{creating_table, dropping_table, renaming_table, renaming_column, adding_column, dropping_column, planned_edge};
 ghost use Rattle.op_kinds.specs.Views.{built_view};
 ghost use Rattle.op_any.specs.Edges.{edge_view};
 
@@ -163,7 +163,7 @@ pub(crate) fn plan(
     set: &[Heading],
     next: u64,
 ) -> Result<Edge<BuiltOp>, Fault<Refusal>>
-    ensures { Gives edge_view result (planned set.now next (op_view text.now)) }
+    ensures { Gives edge_view result (planned_edge set.now next (op_view text.now)) }
 {
     match text {
         OpText::CreateTable { table, columns } => create_table(

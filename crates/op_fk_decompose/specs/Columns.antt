@@ -3,7 +3,7 @@ use Rattle.std.specs.Prelude.{◌≡◌, ℕ, ◌+◌, ◌≤◌, List, [], ◌�
 use Rattle.std.specs.List.{insert, remove}
 use Rattle.op_law.specs.Tables.{Heading}
 use Rattle.op_law.specs.Meaning.{Meaning}
-use Rattle.foreign_keys.specs.Parts.{FkParts}
+use Rattle.foreign_keys.specs.KeyParts.{FkParts}
 use Rattle.row_parts.specs.RowEdits.{value_at}
 use Rattle.op_fk_decompose.specs.Decompose.{decompose_fk}
 use Rattle.row_parts.specs.Places.{pick, nulls, row_of_both, ArePartition, names_at}

@@ -8,9 +8,9 @@ use Rattle.op_law.specs.Identifiers.{ids_in, ids_over}
 use Rattle.op_law.specs.Meaning.{Meaning, Mapped, PairState}
 use Rattle.op_rows.specs.Cells.{table_from}
 use Rattle.row_parts.specs.RowCells.{Cell, is_there, or_else, kept_if, map_cell, in_cell, id_or, value_or}
-use Rattle.foreign_keys.specs.Parts.{FkParts}
+use Rattle.foreign_keys.specs.KeyParts.{FkParts}
 use Rattle.foreign_keys.specs.References.{goal_of, dangles, referred, far_part}
-use Rattle.foreign_keys.specs.Drawn.{numbered, place, drawn}
+use Rattle.foreign_keys.specs.DrawnIds.{numbered, place, drawn}
 use Rattle.foreign_keys.specs.Least.{least_with}
 use Rattle.foreign_keys.specs.Shared.{head_or_null, second_part_at}
 use Rattle.foreign_keys.specs.Seeking.{seek, goals_in}

@@ -9,7 +9,7 @@ use Rattle.op_law.specs.Premises.{Belongs}
 use Rattle.op_law.specs.Calls.{Admits}
 use Rattle.op_rows.specs.inner.Tabulated.{rise_from}
 use Rattle.op_tables.specs.SideTables.{first_table, second_table, third_table}
-use Rattle.foreign_keys.specs.Parts.{FkParts}
+use Rattle.foreign_keys.specs.KeyParts.{FkParts}
 use Rattle.op_fk_join.specs.Join.{key_leads, back_first_at, back_first, back_second_at, back_second, join_target, join_read}
 use Rattle.foreign_keys.specs.Seeking.{goals_in}
 use Rattle.foreign_keys.specs.inner.SeekLemmas.{goals_rise}

@@ -3,7 +3,7 @@ use Rattle.std.proofs.Common.{◌≡◌, ℕ, ◌-◌, ◌<◌, List, [], ◌∷
 use Rattle.std.specs.List.{insert, remove}
 use Rattle.op_law.specs.Tables.{Heading}
 use Rattle.op_law.specs.Meaning.{Meaning}
-use Rattle.foreign_keys.specs.Parts.{FkParts}
+use Rattle.foreign_keys.specs.KeyParts.{FkParts}
 use Rattle.row_parts.specs.RowEdits.{value_at}
 use Rattle.row_parts.specs.Places.{nulls}
 use Rattle.op_fk_join.specs.Join.{join_fk}

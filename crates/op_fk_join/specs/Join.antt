@@ -9,9 +9,9 @@ use Rattle.op_law.specs.Meaning.{Meaning, Mapped, PairState}
 use Rattle.op_rows.specs.Cells.{table_from}
 use Rattle.row_parts.specs.RowCells.{Cell, is_there, or_else, kept_if, map_cell, in_cell, id_or, value_or}
 use Rattle.op_tables.specs.SideTables.{first_table, second_table, third_table}
-use Rattle.foreign_keys.specs.Parts.{FkParts}
+use Rattle.foreign_keys.specs.KeyParts.{FkParts}
 use Rattle.foreign_keys.specs.References.{goal_of, at_goal, referred}
-use Rattle.foreign_keys.specs.Drawn.{numbered, place, drawn}
+use Rattle.foreign_keys.specs.DrawnIds.{numbered, place, drawn}
 use Rattle.foreign_keys.specs.Seeking.{seek, goals_in}
 use Rattle.foreign_keys.specs.Shared.{head_or_null, second_part_at}
 use Rattle.par_base.specs.SameRows.{same_row}

@@ -16,7 +16,7 @@ use Rattle.layout_rules.specs.Layouts.{IsCreate, IsStored, IsTaken, IsValid}
 use Rattle.layout_rules.proofs.ChangeLaws.{filter_in, link_number, number_lives}
 use Rattle.version_model.specs.States.{State, headings}
 use Rattle.version_model.specs.Sound.{IsSound}
-use Rattle.version_model.specs.Steps.{IsRelated, pair_in, way}
+use Rattle.version_model.specs.Steps.{IsRelated, pair_in, directed}
 use Rattle.version_model.specs.Dropping.{staying_state}
 use Rattle.version_model.specs.Laws.{DropKeeps}
 use Rattle.version_model.proofs.PutLaws.{map_same}
@@ -69,7 +69,7 @@ module _ {O : Type 0} (meaning : O → Meaning) (es : List (Placed O)) (needed :
       subst (λ (b : Bool). StandsOver meaning (headings left) now next (crossing b f)) (sym side)
       (record {
         related = either_way meaning (headings left) next false x f (each_at (λ (g : Link O). IsRelated meaning (headings left) next (crossing false g)) (forest left) f i keeps.sound.related);
-        aux = cond-true (is_in f.number (numbers left)) (storage.aux f.number) [] here ∙ old.aux ∙ ap (way x (meaning f.operator)).aux_at_source (sym pair);
+        aux = cond-true (is_in f.number (numbers left)) (storage.aux f.number) [] here ∙ old.aux ∙ ap (directed x (meaning f.operator)).aux_at_source (sym pair);
         memory = cond-true (is_in f.number (numbers left)) (storage.memory f.number) [] here ∙ old.memory ∙ sym memory;
       })
 

@@ -17,7 +17,7 @@ use Rattle.layout_rules.specs.Laws.{MovesStayValid}
 use Rattle.layout_rules.specs.Moves.{Flips, PutsIn, TakesOut}
 use Rattle.version_model.specs.Put.{put}
 use Rattle.version_model.specs.States.{State, headings}
-use Rattle.version_model.specs.Steps.{pair_in, way}
+use Rattle.version_model.specs.Steps.{pair_in, directed}
 use Rattle.version_model.proofs.PutLaws.{map_same, put_else, put_one, put_other}
 use Rattle.storage_law.specs.Storage.{Storage, Stands, StandsOver, aux_of, stored_way}
 use Rattle.storage_law.specs.Reading.{ReadsSources, far_read}
@@ -106,7 +106,7 @@ other_far false e = refl
 other_far true e = refl
 
 -- the auxiliary tables of the far side are those of the other way's near side
-other_aux : {O : Type 0} (meaning : O → Meaning) (s : State) (x : Bool) (e : Link O) → (way x (meaning e.operator)).aux_at_target (pair_in s (crossing x e)) ≡ aux_of meaning s (crossing (not x) e)
+other_aux : {O : Type 0} (meaning : O → Meaning) (s : State) (x : Bool) (e : Link O) → (directed x (meaning e.operator)).aux_at_target (pair_in s (crossing x e)) ≡ aux_of meaning s (crossing (not x) e)
 other_aux meaning s false e = refl
 other_aux meaning s true e = refl
 
@@ -147,8 +147,8 @@ module _ {O : Type 0} (meaning : O → Meaning) (laws : (o : O) → Laws (meanin
 
   aux_is : after.aux e.number ≡ aux_of meaning s (crossing (not x) e)
   aux_is =
-      put_one storage.aux e.number ((way x (meaning e.operator)).aux_at_target (pair_read meaning storage e))
-      ∙ ap (λ (p : PairState). (way x (meaning e.operator)).aux_at_target p) pair_is ∙ other_aux meaning s x e
+      put_one storage.aux e.number ((directed x (meaning e.operator)).aux_at_target (pair_read meaning storage e))
+      ∙ ap (λ (p : PairState). (directed x (meaning e.operator)).aux_at_target p) pair_is ∙ other_aux meaning s x e
 
   -- ---- stored tables
 
@@ -209,7 +209,7 @@ module _ {O : Type 0} (meaning : O → Meaning) (laws : (o : O) → Laws (meanin
       let old = each_at (λ (g : Link O). StandsOver meaning (headings es) storage s (stored_way storage.layout g)) (forest es) f i st.edges in
       let side = same_test f.number new storage.layout (others_stay e.number storage.layout new turns f.number other) in
       subst (λ (b : Bool). StandsOver meaning (headings es) after s (crossing b f)) (sym side)
-      (record { related = old.related; aux = put_else storage.aux e.number ((way x (meaning e.operator)).aux_at_target (pair_read meaning storage e)) f.number other ∙ old.aux; memory = old.memory })
+      (record { related = old.related; aux = put_else storage.aux e.number ((directed x (meaning e.operator)).aux_at_target (pair_read meaning storage e)) f.number other ∙ old.aux; memory = old.memory })
 
   over_each : (f : Link O) → In f (forest es) → StandsOver meaning (headings es) after s (stored_way new f)
   over_each f i =
@@ -225,7 +225,7 @@ module _ {O : Type 0} (meaning : O → Meaning) (laws : (o : O) → Laws (meanin
     stored = stored_is;
     no_more = record {
       stored = stored_none;
-      aux = λ n none. put_else storage.aux e.number ((way x (meaning e.operator)).aux_at_target (pair_read meaning storage e)) n (λ same. none (subst (λ (k : ℕ). In k (numbers es)) (sym same) (link_number es e at))) ∙ st.no_more.aux n none;
+      aux = λ n none. put_else storage.aux e.number ((directed x (meaning e.operator)).aux_at_target (pair_read meaning storage e)) n (λ same. none (subst (λ (k : ℕ). In k (numbers es)) (sym same) (link_number es e at))) ∙ st.no_more.aux n none;
       memories = st.no_more.memories;
     };
   }

@@ -17,7 +17,7 @@ use Rattle.layout_rules.proofs.ChangeLaws.{joined, no_name, link_number}
 use Rattle.layout_rules.specs.Layouts.{IsMade, IsStored}
 use Rattle.version_model.specs.States.{State, empty_at, headings}
 use Rattle.version_model.specs.Sound.{IsSound}
-use Rattle.version_model.specs.Steps.{IsRelated, mapped, pair_in, way}
+use Rattle.version_model.specs.Steps.{IsRelated, mapped, pair_in, directed}
 use Rattle.version_model.specs.Evolving.{with_link}
 use Rattle.version_model.proofs.PutLaws.{put_else, put_one, put_other}
 use Rattle.version_model.proofs.RunLaws.{leaves_pair}
@@ -104,7 +104,7 @@ module _ {O : Type 0} (meaning : O → Meaning) (laws : (o : O) → Laws (meanin
       subst (λ (b : Bool). StandsOver meaning (headings (new ∷ es)) now next (crossing b f)) (sym side)
       (record {
         related = either_way meaning (headings (new ∷ es)) next false x f (each_at (λ (g : Link O). IsRelated meaning (headings (new ∷ es)) next (crossing false g)) (forest es) f i next_sound.related.1);
-        aux = put_else storage.aux new.number (aux_of meaning next (crossing create (link es new))) f.number (link_new f i) ∙ old.aux ∙ ap (way x (meaning f.operator)).aux_at_source (sym same);
+        aux = put_else storage.aux new.number (aux_of meaning next (crossing create (link es new))) f.number (link_new f i) ∙ old.aux ∙ ap (directed x (meaning f.operator)).aux_at_source (sym same);
         memory = put_else storage.memory new.number (next.memory new.number) f.number (link_new f i) ∙ old.memory ∙ ap (λ (q : PairState). q.memory) (sym same);
       })
 

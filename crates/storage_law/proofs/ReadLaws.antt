@@ -17,7 +17,7 @@ use Rattle.layout_rules.specs.Layouts.{IsMade, IsStored, IsValid}
 use Rattle.layout_rules.proofs.ChangeLaws.{number_lives}
 use Rattle.version_model.specs.Put.{put}
 use Rattle.version_model.specs.States.{State, headings}
-use Rattle.version_model.specs.Steps.{IsRelated, pair_in, way}
+use Rattle.version_model.specs.Steps.{IsRelated, pair_in, directed}
 use Rattle.version_model.proofs.PutLaws.{map_same, put_other}
 use Rattle.version_model.proofs.RunLaws.{way_laws}
 use Rattle.version_model.proofs.CrossingLaws.{targets_linked}
@@ -39,7 +39,7 @@ put_in rows f (k ∷ ks) t i =
 -- the far side of a crossing can be read from what is stored
 pub record IsRead {O : Type 0} (meaning : O → Meaning) (heading : ℕ → Heading) (storage : Storage) (s : State) (p : Crossing O) : Type 0 where
   pub stands : StandsOver meaning heading storage s p
-  pub reads : (way p.backward (meaning p.operator)).reads_target ≡ true
+  pub reads : (directed p.backward (meaning p.operator)).reads_target ≡ true
 
 module _ {O : Type 0} (meaning : O → Meaning) (laws : (o : O) → Laws (meaning o)) (heading : ℕ → Heading) (storage : Storage) (s : State) where
   abbrev Right : (ℕ → Rows) → ℕ → Type 0
@@ -47,7 +47,7 @@ module _ {O : Type 0} (meaning : O → Meaning) (laws : (o : O) → Laws (meanin
 
   pub far_right : (p : Crossing O) → IsRead meaning heading storage s p → (rows : ℕ → Rows) → ((t : ℕ) → In t p.near → Right rows t) → far_read meaning storage p rows ≡ map s.tables p.far
   far_right p st rows h =
-      let m = way p.backward (meaning p.operator) in
+      let m = directed p.backward (meaning p.operator) in
       let near : map rows p.near ≡ map s.tables p.near = map_same rows s.tables p.near h in
       let back : m.read_target (map s.tables p.near) (m.aux_at_source (pair_in s p)) (s.memory p.number) ≡ map s.tables p.far = (way_laws p.backward (meaning p.operator) (laws p.operator)).recovered (map heading p.near) (map heading p.far) (pair_in s p) st.reads st.stands.related in
       let aux : storage.aux p.number ≡ m.aux_at_source (pair_in s p) = st.stands.aux in
@@ -124,7 +124,7 @@ module _ {O : Type 0} (meaning : O → Meaning) (laws : (o : O) → Laws (meanin
 -- ---- each operator is stored on a side from which the other one is read
 
 module _ {O : Type 0} (meaning : O → Meaning) (laws : (o : O) → Laws (meaning o)) (reads : ReadsSources meaning) (es : List (Placed O)) (storage : Storage) (valid : IsValid (forest es) storage.layout) (s : State) where
-  reads_at : (e : Link O) → In e (forest es) → (x : Bool) → is_in e.number storage.layout ≡ x → IsRelated meaning (headings es) s (crossing x e) → (way x (meaning e.operator)).reads_target ≡ true
+  reads_at : (e : Link O) → In e (forest es) → (x : Bool) → is_in e.number storage.layout ≡ x → IsRelated meaning (headings es) s (crossing x e) → (directed x (meaning e.operator)).reads_target ≡ true
   reads_at e at true is related = reads e.operator
   reads_at e at false is related =
       elim ((laws e.operator).0.readable (map (headings es) e.sources) (map (headings es) e.targets) related.fits) as (λ _. (meaning e.operator).reads_target ≡ true) [

@@ -6,7 +6,7 @@ use Rattle.op_law.specs.Tables.{Tables}
 use Rattle.op_law.specs.Meaning.{Meaning, PairState}
 use Rattle.layout_rules.specs.Moves.{Flips, PutsIn, TakesOut}
 use Rattle.version_model.specs.Put.{put}
-use Rattle.version_model.specs.Steps.{way}
+use Rattle.version_model.specs.Steps.{directed}
 use Rattle.storage_law.specs.Storage.{Storage, stored_way}
 use Rattle.storage_law.specs.Reading.{far_read}
 
@@ -32,7 +32,7 @@ flipped meaning storage e new =
     record {
       layout = new;
       stored = put (put storage.stored p.near (none_for p.near)) p.far pair.target;
-      aux = put storage.aux (e.number ∷ []) ((way p.backward (meaning e.operator)).aux_at_target pair ∷ []);
+      aux = put storage.aux (e.number ∷ []) ((directed p.backward (meaning e.operator)).aux_at_target pair ∷ []);
       memory = storage.memory;
     }
 

@@ -6,7 +6,7 @@ use Rattle.version_graph.specs.Forest.{Crossing, Link, crossing}
 use Rattle.op_law.specs.Tables.{Tables}
 use Rattle.op_law.specs.Meaning.{Meaning}
 use Rattle.version_model.specs.Put.{put}
-use Rattle.version_model.specs.Steps.{way}
+use Rattle.version_model.specs.Steps.{directed}
 use Rattle.storage_law.specs.Storage.{Storage}
 
 -- the source of each operator is read back from its target, the auxiliary tables and the memory
@@ -15,7 +15,7 @@ ReadsSources {O} meaning = (o : O) → (meaning o).reads_source ≡ true
 
 -- the far side of a crossing, read from its near one
 abbrev pub far_read : {O : Type 0} → (O → Meaning) → Storage → Crossing O → (ℕ → Rows) → Tables
-far_read meaning storage p rows = (way p.backward (meaning p.operator)).read_target (map rows p.near) (storage.aux p.number) (storage.memory p.number)
+far_read meaning storage p rows = (directed p.backward (meaning p.operator)).read_target (map rows p.near) (storage.aux p.number) (storage.memory p.number)
 
 -- the tables that are known, with the far side of a crossing
 abbrev pub reach : {O : Type 0} → (O → Meaning) → Storage → Crossing O → (ℕ → Rows) → ℕ → Rows

@@ -10,7 +10,7 @@ use Rattle.op_law.specs.Tables.{Heading, Tables}
 use Rattle.op_law.specs.Meaning.{Meaning}
 use Rattle.layout_rules.specs.Layouts.{IsStored}
 use Rattle.version_model.specs.States.{State, headings}
-use Rattle.version_model.specs.Steps.{IsRelated, pair_in, way}
+use Rattle.version_model.specs.Steps.{IsRelated, pair_in, directed}
 
 -- the layout, the rows of each stored table, and the auxiliary tables and the memory of each operator, by their numbers
 pub record Storage : Type 0 where
@@ -25,7 +25,7 @@ stored_way layout e = crossing (is_in e.number layout) e
 
 -- the auxiliary tables of a crossing's pair: those of a pair whose near side is stored
 abbrev pub aux_of : {O : Type 0} → (O → Meaning) → State → Crossing O → Tables
-aux_of meaning s p = (way p.backward (meaning p.operator)).aux_at_source (pair_in s p)
+aux_of meaning s p = (directed p.backward (meaning p.operator)).aux_at_source (pair_in s p)
 
 -- the operator relates its two sides in the state, and what is stored of it is its pair's
 pub record StandsOver {O : Type 0} (meaning : O → Meaning) (heading : ℕ → Heading) (storage : Storage) (s : State) (p : Crossing O) : Type 0 where

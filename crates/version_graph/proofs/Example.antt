@@ -3,7 +3,7 @@ use Rattle.std.proofs.Common.{◌≡◌, ℕ, List, [], ◌∷◌, true, false, 
 use Rattle.std.specs.Prelude.{codes}
 use Rattle.version_graph.specs.Tables.{table_numbers}
 use Rattle.version_graph.specs.Edges.{Drawn, working}
-use Rattle.version_graph.specs.Forest.{forest, told, walk}
+use Rattle.version_graph.specs.Forest.{forest, step_told, walk}
 use Rattle.version_graph.specs.Dropped.{doomed, other_versions, dropped}
 use Rattle.version_graph.specs.Edges.{version_sets, numbers}
 use Rattle.version_graph.specs.declared.parts.Placed.{Placed}
@@ -31,7 +31,7 @@ example = record {
 abbrev a_step : ℕ → Rattle.std.proofs.Common.Bool → Step
 a_step n back = record { operator = n; backward = back }
 
-walk_is : map told (walk (forest example.edges) 4) ≡ a_step 4 true ∷ a_step 3 true ∷ a_step 1 true ∷ a_step 2 false ∷ []
+walk_is : map step_told (walk (forest example.edges) 4) ≡ a_step 4 true ∷ a_step 3 true ∷ a_step 1 true ∷ a_step 2 false ∷ []
 walk_is = refl
 
 doomed_is : doomed (version_sets (other_versions example.versions (codes "c"))) example.edges ≡ 4 ∷ 3 ∷ []

@@ -6,7 +6,7 @@ use Rattle.std.proofs.lemmas.List.{take_more, map-append, reverse-append}
 use mathlib.Core.List.{reverse}
 use Rattle.version_graph.specs.Sets.{In, Distinct}
 use Rattle.version_graph.specs.Edges.{AreEdges, numbers}
-use Rattle.version_graph.specs.Forest.{Link, forest, link, crossing, told, up, rest, tree}
+use Rattle.version_graph.specs.Forest.{Link, forest, link, crossing, step_told, up, rest, tree}
 use Rattle.version_graph.specs.Kept.{AreRight, placed_in, edges_of}
 use Rattle.version_graph.specs.declared.parts.Step.{Step}
 use Rattle.version_graph.specs.declared.node.Node.{Node}
@@ -73,55 +73,55 @@ module _ {O : Type 0} (nodes : List (Node O)) (left : ℕ) (k : Node O) (some : 
   opened : here left ≡ link (placed_in (reverse (take (left - 1) nodes))) k.placed ∷ here (left - 1)
   opened = ap (λ (l : List (Node O)). forest (placed_in l)) turned
 
-  up_here : at ≡ k.placed.number → map told (up (here left) at) ≡ step_at k.placed.number true ∷ map told (up (here (left - 1)) k.placed.parent)
+  up_here : at ≡ k.placed.number → map step_told (up (here left) at) ≡ step_at k.placed.number true ∷ map step_told (up (here (left - 1)) k.placed.parent)
   up_here e =
-      ap (λ (es : List (Link O)). map told (up es at)) opened
-      ∙ ap (λ (b : Bool). map told (cond b (crossing true (link (placed_in (reverse (take (left - 1) nodes))) k.placed) ∷ up (here (left - 1)) k.placed.parent) (up (here (left - 1)) at))) (eq-eqb at k.placed.number e)
+      ap (λ (es : List (Link O)). map step_told (up es at)) opened
+      ∙ ap (λ (b : Bool). map step_told (cond b (crossing true (link (placed_in (reverse (take (left - 1) nodes))) k.placed) ∷ up (here (left - 1)) k.placed.parent) (up (here (left - 1)) at))) (eq-eqb at k.placed.number e)
 
-  up_past : (at ≡ k.placed.number → ⊥) → map told (up (here left) at) ≡ map told (up (here (left - 1)) at)
+  up_past : (at ≡ k.placed.number → ⊥) → map step_told (up (here left) at) ≡ map step_told (up (here (left - 1)) at)
   up_past e =
-      ap (λ (es : List (Link O)). map told (up es at)) opened
-      ∙ ap (λ (b : Bool). map told (cond b (crossing true (link (placed_in (reverse (take (left - 1) nodes))) k.placed) ∷ up (here (left - 1)) k.placed.parent) (up (here (left - 1)) at))) (ne_eqb at k.placed.number e)
+      ap (λ (es : List (Link O)). map step_told (up es at)) opened
+      ∙ ap (λ (b : Bool). map step_told (cond b (crossing true (link (placed_in (reverse (take (left - 1) nodes))) k.placed) ∷ up (here (left - 1)) k.placed.parent) (up (here (left - 1)) at))) (ne_eqb at k.placed.number e)
 
-  rest_here : at ≡ k.placed.number → map told (rest test (here left) at) ≡ map told (rest test (here (left - 1)) k.placed.parent)
+  rest_here : at ≡ k.placed.number → map step_told (rest test (here left) at) ≡ map step_told (rest test (here (left - 1)) k.placed.parent)
   rest_here e =
-      ap (λ (es : List (Link O)). map told (rest test es at)) opened
-      ∙ ap (λ (b : Bool). map told (cond b (rest test (here (left - 1)) k.placed.parent) (rest test (here (left - 1)) at ++ cond (test k.placed.number) (crossing false (link (placed_in (reverse (take (left - 1) nodes))) k.placed) ∷ []) []))) (eq-eqb at k.placed.number e)
+      ap (λ (es : List (Link O)). map step_told (rest test es at)) opened
+      ∙ ap (λ (b : Bool). map step_told (cond b (rest test (here (left - 1)) k.placed.parent) (rest test (here (left - 1)) at ++ cond (test k.placed.number) (crossing false (link (placed_in (reverse (take (left - 1) nodes))) k.placed) ∷ []) []))) (eq-eqb at k.placed.number e)
 
-  rest_past : (b : Bool) → (at ≡ k.placed.number → ⊥) → test k.placed.number ≡ b → map told (rest test (here left) at) ≡ map told (rest test (here (left - 1)) at) ++ cond b (step_at k.placed.number false ∷ []) []
+  rest_past : (b : Bool) → (at ≡ k.placed.number → ⊥) → test k.placed.number ≡ b → map step_told (rest test (here left) at) ≡ map step_told (rest test (here (left - 1)) at) ++ cond b (step_at k.placed.number false ∷ []) []
   rest_past b e t =
-      ap (λ (es : List (Link O)). map told (rest test es at)) opened
-      ∙ ap (λ (c : Bool). map told (cond c (rest test (here (left - 1)) k.placed.parent) (rest test (here (left - 1)) at ++ cond (test k.placed.number) (crossing false (link (placed_in (reverse (take (left - 1) nodes))) k.placed) ∷ []) []))) (ne_eqb at k.placed.number e)
-      ∙ map-append told (rest test (here (left - 1)) at) (cond (test k.placed.number) (crossing false (link (placed_in (reverse (take (left - 1) nodes))) k.placed) ∷ []) [])
-      ∙ ap (λ (l : List Step). map told (rest test (here (left - 1)) at) ++ l)
-      (ap (λ (c : Bool). map told (cond c (crossing false (link (placed_in (reverse (take (left - 1) nodes))) k.placed) ∷ []) [])) t
-      ∙ elim b as (λ c. map told (cond c (crossing false (link (placed_in (reverse (take (left - 1) nodes))) k.placed) ∷ []) []) ≡ cond c (step_at k.placed.number false ∷ []) []) [ true ↦ refl | false ↦ refl ])
+      ap (λ (es : List (Link O)). map step_told (rest test es at)) opened
+      ∙ ap (λ (c : Bool). map step_told (cond c (rest test (here (left - 1)) k.placed.parent) (rest test (here (left - 1)) at ++ cond (test k.placed.number) (crossing false (link (placed_in (reverse (take (left - 1) nodes))) k.placed) ∷ []) []))) (ne_eqb at k.placed.number e)
+      ∙ map-append step_told (rest test (here (left - 1)) at) (cond (test k.placed.number) (crossing false (link (placed_in (reverse (take (left - 1) nodes))) k.placed) ∷ []) [])
+      ∙ ap (λ (l : List Step). map step_told (rest test (here (left - 1)) at) ++ l)
+      (ap (λ (c : Bool). map step_told (cond c (crossing false (link (placed_in (reverse (take (left - 1) nodes))) k.placed) ∷ []) [])) t
+      ∙ elim b as (λ c. map step_told (cond c (crossing false (link (placed_in (reverse (take (left - 1) nodes))) k.placed) ∷ []) []) ≡ cond c (step_at k.placed.number false ∷ []) []) [ true ↦ refl | false ↦ refl ])
 
-  module _ (ups others all_up all_rest : List Step) (so_up : ups ++ map told (up (here left) at) ≡ all_up) (so_rest : map told (rest test (here left) at) ++ reverse others ≡ all_rest) where
+  module _ (ups others all_up all_rest : List Step) (so_up : ups ++ map step_told (up (here left) at) ≡ all_up) (so_rest : map step_told (rest test (here left) at) ++ reverse others ≡ all_rest) where
     -- the node stands on the way up
     pub on_way : (more : List Step) → more ≡ ups ++ step_at k.placed.number true ∷ [] → at ≡ k.placed.number
-        → (more ++ map told (up (here (left - 1)) k.placed.parent) ≡ all_up) × (map told (rest test (here (left - 1)) k.placed.parent) ++ reverse others ≡ all_rest)
+        → (more ++ map step_told (up (here (left - 1)) k.placed.parent) ≡ all_up) × (map step_told (rest test (here (left - 1)) k.placed.parent) ++ reverse others ≡ all_rest)
     on_way more m e = (
-      ap (λ (l : List Step). l ++ map told (up (here (left - 1)) k.placed.parent)) m ∙ append_assoc ups (step_at k.placed.number true ∷ []) (map told (up (here (left - 1)) k.placed.parent)) ∙ ap (λ (l : List Step). ups ++ l) (sym (up_here e)) ∙ so_up,
+      ap (λ (l : List Step). l ++ map step_told (up (here (left - 1)) k.placed.parent)) m ∙ append_assoc ups (step_at k.placed.number true ∷ []) (map step_told (up (here (left - 1)) k.placed.parent)) ∙ ap (λ (l : List Step). ups ++ l) (sym (up_here e)) ∙ so_up,
       ap (λ (l : List Step). l ++ reverse others) (sym (rest_here e)) ∙ so_rest,
     )
 
     -- the node stands elsewhere in the tree
     pub in_tree : (more : List Step) → more ≡ others ++ step_at k.placed.number false ∷ [] → (at ≡ k.placed.number → ⊥) → test k.placed.number ≡ true
-        → (ups ++ map told (up (here (left - 1)) at) ≡ all_up) × (map told (rest test (here (left - 1)) at) ++ reverse more ≡ all_rest)
+        → (ups ++ map step_told (up (here (left - 1)) at) ≡ all_up) × (map step_told (rest test (here (left - 1)) at) ++ reverse more ≡ all_rest)
     in_tree more m e t = (
       ap (λ (l : List Step). ups ++ l) (sym (up_past e)) ∙ so_up,
-      ap (λ (l : List Step). map told (rest test (here (left - 1)) at) ++ l) (ap (λ (l : List Step). reverse l) m ∙ last_first others (step_at k.placed.number false))
-          ∙ sym (append_assoc (map told (rest test (here (left - 1)) at)) (step_at k.placed.number false ∷ []) (reverse others))
+      ap (λ (l : List Step). map step_told (rest test (here (left - 1)) at) ++ l) (ap (λ (l : List Step). reverse l) m ∙ last_first others (step_at k.placed.number false))
+          ∙ sym (append_assoc (map step_told (rest test (here (left - 1)) at)) (step_at k.placed.number false ∷ []) (reverse others))
           ∙ ap (λ (l : List Step). l ++ reverse others) (sym (rest_past true e t)) ∙ so_rest,
     )
 
     -- the node stands in another tree
     pub elsewhere : (at ≡ k.placed.number → ⊥) → test k.placed.number ≡ false
-        → (ups ++ map told (up (here (left - 1)) at) ≡ all_up) × (map told (rest test (here (left - 1)) at) ++ reverse others ≡ all_rest)
+        → (ups ++ map step_told (up (here (left - 1)) at) ≡ all_up) × (map step_told (rest test (here (left - 1)) at) ++ reverse others ≡ all_rest)
     elsewhere e t = (
       ap (λ (l : List Step). ups ++ l) (sym (up_past e)) ∙ so_up,
-      ap (λ (l : List Step). l ++ reverse others) (sym (rest_past false e t ∙ Rattle.std.proofs.lemmas.List.append-nil (map told (rest test (here (left - 1)) at)))) ∙ so_rest,
+      ap (λ (l : List Step). l ++ reverse others) (sym (rest_past false e t ∙ Rattle.std.proofs.lemmas.List.append-nil (map step_told (rest test (here (left - 1)) at)))) ∙ so_rest,
     )
 
 -- whether the node at a place is in the tree of a working set
@@ -136,9 +136,9 @@ module _ {O : Type 0} (nodes : List (Node O)) (right : AreRight (reverse nodes))
   other_tree e = ne_eqb (tree (forest (edges_of nodes)) k.placed.number) (tree (forest (edges_of nodes)) set) (λ same. e (sym own ∙ same ∙ sym of_set))
 
 -- the pass is over
-pub walked : {O : Type 0} (nodes : List (Node O)) (left at : ℕ) (test : ℕ → Bool) (ups others all_up all_rest : List Step) → left ≡ 0 → ups ++ map told (up (forest (placed_in (reverse (take left nodes)))) at) ≡ all_up
-    → map told (rest test (forest (placed_in (reverse (take left nodes)))) at) ++ reverse others ≡ all_rest → ups ++ reverse others ≡ all_up ++ all_rest
+pub walked : {O : Type 0} (nodes : List (Node O)) (left at : ℕ) (test : ℕ → Bool) (ups others all_up all_rest : List Step) → left ≡ 0 → ups ++ map step_told (up (forest (placed_in (reverse (take left nodes)))) at) ≡ all_up
+    → map step_told (rest test (forest (placed_in (reverse (take left nodes)))) at) ++ reverse others ≡ all_rest → ups ++ reverse others ≡ all_up ++ all_rest
 walked nodes left at test ups others all_up all_rest none so_up so_rest =
-    let a : ups ++ [] ≡ all_up = subst (λ (n : ℕ). ups ++ map told (up (forest (placed_in (reverse (take n nodes)))) at) ≡ all_up) none so_up in
-    let b : reverse others ≡ all_rest = subst (λ (n : ℕ). map told (rest test (forest (placed_in (reverse (take n nodes)))) at) ++ reverse others ≡ all_rest) none so_rest in
+    let a : ups ++ [] ≡ all_up = subst (λ (n : ℕ). ups ++ map step_told (up (forest (placed_in (reverse (take n nodes)))) at) ≡ all_up) none so_up in
+    let b : reverse others ≡ all_rest = subst (λ (n : ℕ). map step_told (rest test (forest (placed_in (reverse (take n nodes)))) at) ++ reverse others ≡ all_rest) none so_rest in
     ap (λ (l : List Step). l ++ reverse others) (sym (Rattle.std.proofs.lemmas.List.append-nil ups) ∙ a) ∙ ap (λ (l : List Step). all_up ++ l) b

@@ -93,8 +93,8 @@ abbrev pub MayEvolve : {O : Type 0} → Drawn O → Option (List ℕ) → List (
 MayEvolve g from edges = (w : ℕ) → start_of g.versions from ≡ Some w → FitInOrder (headings_of (working g.edges w)) edges
 
 -- what an evolution answers, and the graph after it
-abbrev pub Evolves : {O : Type 0} → Drawn O → List ℕ → Option (List ℕ) → List (Edge O) → Result ℕ (Fault Refusal) → Drawn O → Type 0
-Evolves g name from edges (Ok set) new =
+abbrev pub EvolvesGraph : {O : Type 0} → Drawn O → List ℕ → Option (List ℕ) → List (Edge O) → Result ℕ (Fault Refusal) → Drawn O → Type 0
+EvolvesGraph g name from edges (Ok set) new =
     (refusal_of g name from edges ≡ None) × (new ≡ evolved g name (unwrap_or (start_of g.versions from) 0) edges) × (set ≡ new.last_operator)
-Evolves g name from edges (Err (Refused r)) new = (refusal_of g name from edges ≡ Some r) × (new ≡ g)
-Evolves g name from edges (Err Memory) new = new ≡ g
+EvolvesGraph g name from edges (Err (Refused r)) new = (refusal_of g name from edges ≡ Some r) × (new ≡ g)
+EvolvesGraph g name from edges (Err Memory) new = new ≡ g

@@ -33,8 +33,8 @@ abbrev pub crossing : {O : Type 0} → Bool → Link O → Crossing O
 crossing back e = record { operator = e.operator; backward = back; number = e.number; near = cond back e.targets e.sources; far = cond back e.sources e.targets }
 
 -- the step that tells of it
-abbrev pub told : {O : Type 0} → Crossing O → Step
-told p = record { operator = p.number; backward = p.backward }
+abbrev pub step_told : {O : Type 0} → Crossing O → Step
+step_told p = record { operator = p.number; backward = p.backward }
 
 -- ---- working sets, over numbers
 

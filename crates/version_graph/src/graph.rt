@@ -4,14 +4,14 @@ ghost use Rattle.std.specs.Option.{option_copied, option_map};
 ghost use mathlib.Core.List.{reverse};
 ghost use Rattle.version_graph.specs.Tables.{table_numbers, headings_of};
 ghost use Rattle.version_graph.specs.Edges.{Drawn, IsGraph, edge_of as edge_of_lem, sources_at as sources_at_lem, tables_at as tables_at_lem, heading_of as heading_of_lem, maker_of as maker_of_lem, set_named as set_named_lem, working};
-ghost use Rattle.version_graph.specs.Evolve.{MayEvolve, Evolves, IsEvolvedFrom};
+ghost use Rattle.version_graph.specs.Evolve.{MayEvolve, EvolvesGraph, IsEvolvedFrom};
 ghost use Rattle.version_graph.specs.Sets.{In};
 ghost use Rattle.std.specs.Option.{IsSome};
 ghost use Rattle.version_graph.specs.Dropped.{Dooms, dropped};
 ghost use Rattle.version_graph.specs.Finished.{IsFinished};
 ghost use Rattle.version_graph.specs.Placing.{EndsPlacing, FitsParent, PlacesEdge, PlacesVersion};
 ghost use Rattle.version_graph.specs.Edges.{numbers};
-ghost use Rattle.version_graph.specs.Forest.{forest, told, walk as walk_lem};
+ghost use Rattle.version_graph.specs.Forest.{forest, step_told, walk as walk_lem};
 
 use crate::grow::{evolve, take_back};
 use crate::look::{
@@ -165,7 +165,7 @@ impl<O> Graph<O> {
     /// The walk from a live working set. It takes time in the number of live operators.
     pub fn walk(&self, alloc: Global, set: u32) -> Result<List<Step>, Memory>
         requires { In set (numbers self.now.edges) }
-        ensures { IfOk result (λ steps. steps ≡ map told (walk_lem (forest self.now.edges) set)) }
+        ensures { IfOk result (λ steps. steps ≡ map step_told (walk_lem (forest self.now.edges) set)) }
     {
         walk(alloc, self.parts.nodes.as_slice(), set)
     }
@@ -191,7 +191,7 @@ impl<O: Drop> Graph<O> {
     ) -> Result<u32, Fault<Refusal>>
         requires some { 0 < length edges }
         requires fits { MayEvolve self.old (option_copied from) edges }
-        ensures answers { Evolves self.old name (option_copied from.entry) edges result self.new }
+        ensures answers { EvolvesGraph self.old name (option_copied from.entry) edges result self.new }
         ensures finished { IsFinished self.old → IsFinished self.new }
     {
         evolve(self.alloc, &mut self.parts, name, from, edges)

@@ -4,7 +4,7 @@ ghost use mathlib.Core.List.{reverse};
 ghost use Rattle.std.specs.Option.{option_copied};
 ghost use Rattle.version_graph.specs.Sets.{In};
 ghost use Rattle.version_graph.specs.Edges.{AreEdges, Drawn, numbers, set_named as set_named_lem};
-ghost use Rattle.version_graph.specs.Evolve.{numbers_after, placed_next, grown, MayEvolve, Evolves, IsEvolvedFrom};
+ghost use Rattle.version_graph.specs.Evolve.{numbers_after, placed_next, grown, MayEvolve, EvolvesGraph, IsEvolvedFrom};
 ghost use Rattle.version_graph.specs.Finished.{IsFinished};
 ghost use Rattle.version_graph.specs.Kept.{AreRight, IsKept, drawn, edges_of};
 ghost use Rattle.version_graph.specs.Calls.{AddsNode, CanGrow, CanAdd, FindsStart, IsUnused, FindsRoom, FindsRoomAt};
@@ -271,7 +271,7 @@ pub fn evolve<O: Drop>(
     requires kept { IsKept parts.old }
     requires some { 0 < length edges }
     requires fits { MayEvolve (drawn parts.old) (option_copied from) edges }
-    ensures answers { Evolves (drawn parts.old) name (option_copied from.entry) edges result (drawn parts.new) }
+    ensures answers { EvolvesGraph (drawn parts.old) name (option_copied from.entry) edges result (drawn parts.new) }
     ensures kept { IsKept parts.new }
     ensures finished { IsFinished (drawn parts.old) → IsFinished (drawn parts.new) }
 {

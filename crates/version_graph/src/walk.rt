@@ -4,7 +4,7 @@ ghost use Rattle.std.specs.Prelude.{◌≡◌, ◌++◌, map, IfOk};
 ghost use mathlib.Core.List.{reverse};
 ghost use Rattle.version_graph.specs.Sets.{In};
 ghost use Rattle.version_graph.specs.Edges.{AreEdges, numbers};
-ghost use Rattle.version_graph.specs.Forest.{forest, told, tree, walk as walk_lem};
+ghost use Rattle.version_graph.specs.Forest.{forest, step_told, tree, walk as walk_lem};
 ghost use Rattle.version_graph.specs.Kept.{AreRight, edges_of};
 
 use crate::Step;
@@ -41,7 +41,7 @@ pub fn walk<O>(alloc: Global, nodes: &[Node<O>], set: u32) -> Result<List<Step>,
     requires right { AreRight (reverse nodes.now) }
     requires edges { AreEdges (edges_of nodes.now) }
     requires live { In set (numbers (edges_of nodes.now)) }
-    ensures { IfOk result (λ steps. steps ≡ map told (walk_lem (forest (edges_of nodes.now)) set)) }
+    ensures { IfOk result (λ steps. steps ≡ map step_told (walk_lem (forest (edges_of nodes.now)) set)) }
 {
     let tree = tree_of(nodes, set);
     let mut upward = Vec::new(alloc);

@@ -6,7 +6,7 @@ use Rattle.std.proofs.lemmas.Option.{slice_get-map}
 use mathlib.Core.List.{reverse}
 use Rattle.version_graph.specs.Sets.{Each}
 use Rattle.version_graph.specs.Edges.{AreEdges}
-use Rattle.version_graph.specs.Forest.{Crossing, Link, crossing, forest, told}
+use Rattle.version_graph.specs.Forest.{Crossing, Link, crossing, forest, step_told}
 use Rattle.version_graph.specs.declared.parts.Placed.{Placed}
 use Rattle.version_graph.specs.declared.parts.Step.{Step}
 use Rattle.version_graph.proofs.SetLaws.{each_append, each_more}
@@ -69,7 +69,7 @@ module _ {O : Type 0} where
       (each_more (λ (g : Link O). IsCrossing es (crossing true g) × IsCrossing es (crossing false g)) (λ (g : Link O). IsCrossing es (crossing false g)) (λ g c. c.1) (forest es) (crossings_live es edges)))
 
   -- a step that was told from the crossing of a live edge tells of it
-  told_some : (es : List (Placed O)) (step : Step) (p : Crossing O) (o : Option (Crossing O)) → IsCrossing es p → told p ≡ step → IsTold es step o → o ≡ Some p
+  told_some : (es : List (Placed O)) (step : Step) (p : Crossing O) (o : Option (Crossing O)) → IsCrossing es p → step_told p ≡ step → IsTold es step o → o ≡ Some p
   told_some es step p (Some q) c tells t = ap (λ (x : Crossing O). Some x) (told_is es step p q c tells t)
   told_some es step p None c tells (inl none) =
       let number : p.number ≡ step.operator = ap (λ (s : Step). s.operator) tells in

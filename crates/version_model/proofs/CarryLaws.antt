@@ -1,7 +1,7 @@
 -- A write carried along the walk.
 use Rattle.std.proofs.Common.{Ok, Err, zero, suc, ◌≡◌, ℕ, ◌+◌, ◌<◌, ◌≤◌, Bool, true, false, cond, List, [], ◌∷◌, map, length, take, get_or, Some, refl, sym, ap, ◌∙◌, subst, arith}
 use Rattle.version_graph.specs.Edges.{edge_of, sources_at}
-use Rattle.version_graph.specs.Forest.{Crossing, told}
+use Rattle.version_graph.specs.Forest.{Crossing, step_told}
 use Rattle.version_graph.specs.declared.parts.Placed.{Placed}
 use Rattle.version_graph.specs.declared.parts.Step.{Step}
 use Rattle.std.proofs.lemmas.List.{take_all, length-map}
@@ -18,7 +18,7 @@ use Rattle.op_law.specs.Laws.{Laws}
 use Rattle.op_law.specs.Premises.{SomeMap}
 use Rattle.op_law.specs.Calls.{first_refused, IsSpent}
 use Rattle.version_model.specs.States.{State, headings}
-use Rattle.version_model.specs.Steps.{way, pair_in, after, run}
+use Rattle.version_model.specs.Steps.{directed, pair_in, after, run}
 use Rattle.version_model.specs.Writes.{written, write}
 use Rattle.version_model.specs.Kept.{HasSides}
 use Rattle.version_model.specs.Calls.{IsCrossing, IsTold, MayCarry, MayStep, Crosses, Carries, WritesRows, before_state, made_state}
@@ -54,7 +54,7 @@ module _ {O : Type 0} where
   sides_of p e sources s t = sides_if p e sources p.backward refl s t
 
   -- what a step tells of is the crossing that it was told from
-  pub told_is : (es : List (Placed O)) (step : Step) (p q : Crossing O) → IsCrossing es p → told p ≡ step → IsTold es step (Some q) → q ≡ p
+  pub told_is : (es : List (Placed O)) (step : Step) (p q : Crossing O) → IsCrossing es p → step_told p ≡ step → IsTold es step (Some q) → q ≡ p
   told_is es step p q c tells t =
       let number : p.number ≡ step.operator = ap (λ (s : Step). s.operator) tells in
       let back : p.backward ≡ step.backward = ap (λ (s : Step). s.backward) tells in
@@ -110,7 +110,7 @@ module _ {O : Type 0} (meaning : O → Meaning) (laws : (o : O) → Laws (meanin
       (each_more HasSides (λ (e : Link O). ((length e.targets ≤ 2) × (length e.sources ≤ 2)) × ((length e.sources ≤ 2) × (length e.targets ≤ 2))) (λ e h. ((h.1, h.0), h)) (forest es) may.sides)
 
   -- a step may be made
-  pub may_step : (now : Made) (i : ℕ) (d : Crossing O) (step : Step) → i < length path → made_state b now ≡ carried i → step ≡ told (get_or path i d) → MayStep meaning es b now step
+  pub may_step : (now : Made) (i : ℕ) (d : Crossing O) (step : Step) → i < length path → made_state b now ≡ carried i → step ≡ step_told (get_or path i d) → MayStep meaning es b now step
   may_step now i d step within so_far is =
       let p = get_or path i d in
       let listed = in_at path i d within in
@@ -122,7 +122,7 @@ module _ {O : Type 0} (meaning : O → Meaning) (laws : (o : O) → Laws (meanin
         tells = sym is;
         near = sides.0;
         far = sides.1;
-        may = subst (λ (s : State). SomeMap (way p.backward (meaning p.operator)) (map s.tables p.near) (pair_in before p) s.next) (sym (so_far ∙ written_so_far i)) call;
+        may = subst (λ (s : State). SomeMap (directed p.backward (meaning p.operator)) (map s.tables p.near) (pair_in before p) s.next) (sym (so_far ∙ written_so_far i)) call;
       }
 
   start_rises : (i : ℕ) → made.ids.next ≤ (carried i).next
@@ -177,17 +177,17 @@ module _ {O : Type 0} (meaning : O → Meaning) (laws : (o : O) → Laws (meanin
   walk_made new i all so_far = so_far ∙ ap (λ (l : List (Crossing O)). run meaning before (made_state b made) l) (take_all i path all)
 
   -- the step at a place tells of the crossing there
-  pub step_at : (steps : List Step) (i : ℕ) (e : Step) → steps ≡ map told path → i < length steps → (d : Crossing O) × (i < length path) × (get_or steps i e ≡ told (get_or path i d))
+  pub step_at : (steps : List Step) (i : ℕ) (e : Step) → steps ≡ map step_told path → i < length steps → (d : Crossing O) × (i < length path) × (get_or steps i e ≡ step_told (get_or path i d))
   step_at steps i e is within =
-      let inside : i < length path = omega (arith, within, ap (λ (l : List Step). length l) is, length-map path told) in
+      let inside : i < length path = omega (arith, within, ap (λ (l : List Step). length l) is, length-map path step_told) in
       let d = some_item path i inside in
-      (d, inside, ap (λ (l : List Step). get_or l i e) is ∙ get_map told path i d e inside)
+      (d, inside, ap (λ (l : List Step). get_or l i e) is ∙ get_map step_told path i d e inside)
 
   pub crosses_at : (i : ℕ) (d : Crossing O) → i < length path → IsCrossing es (get_or path i d)
   crosses_at i d inside = each_at (IsCrossing es) path (get_or path i d) (in_at path i d inside) (walk_crosses_edges es may.edges set)
 
-  pub no_more : (steps : List Step) (i : ℕ) → steps ≡ map told path → length steps ≤ i → length path ≤ i
-  no_more steps i is all = omega (arith, all, ap (λ (l : List Step). length l) is, length-map path told)
+  pub no_more : (steps : List Step) (i : ℕ) → steps ≡ map step_told path → length steps ≤ i → length path ≤ i
+  no_more steps i is all = omega (arith, all, ap (λ (l : List Step). length l) is, length-map path step_told)
 
 -- a write whose carrying was refused
 pub write_refused : {O : Type 0} (meaning : O → Meaning) (es : List (Placed O)) (b : Before) (w : Written) (made new : Made) (fault : Fault IdsSpent) → made_state b made ≡ written (before_state b) w.table w.rows.rows w.ids.next → made.ids ≡ w.ids → Carries meaning es b w.set made new (Err fault) → WritesRows meaning es b w (Err fault)

@@ -25,7 +25,7 @@ use Rattle.version_model.specs.States.{State}
 use Rattle.version_model.specs.Evolving.{with_link}
 use Rattle.version_model.specs.Kept.{latest_of, value_of, rows_at, pairs_at, rows_now, pairs_now, newer_rows, newer_pairs}
 use Rattle.version_model.specs.Calls.{before_state, made_state}
-use Rattle.version_model.specs.Making.{ascending, newer, state_at, with_links, HasMore, Has, Holds, IsKeptFor, IsMade, Makes, MakesAt, MayMake, MayMakeAt}
+use Rattle.version_model.specs.Making.{ascending, newer, state_at, with_links, HasMore, Has, Holds, IsKeptFor, WasMade, Makes, MakesAt, MayMake, MayMakeAt}
 use Rattle.version_model.specs.declared.numbered.Numbered.{Numbered}
 use Rattle.version_model.specs.declared.progress.Before.{Before}
 use Rattle.version_model.specs.declared.progress.Made.{Made}
@@ -131,7 +131,7 @@ module _ {O : Type 0} (meaning : O → Meaning) where
     pub limit : made.ids.limit ≡ ids.limit
     pub done : List (Link O)
     pub parted : newer es first ≡ done ++ drop place (ascending es)
-    pub are_made : Each (IsMade made) done
+    pub are_made : Each (WasMade made) done
 
   module _ (es : List (Placed O)) (b : Before) (ids : CounterState) (first place : ℕ) (old : Made) (so_far : SoFar es b ids first place old) (inside : place < length (ascending es)) where
     abbrev here : (x : Link O) × (slice_get (ascending es) place ≡ Some x) × (drop place (ascending es) ≡ x ∷ drop (place + 1) (ascending es))
@@ -152,7 +152,7 @@ module _ {O : Type 0} (meaning : O → Meaning) where
     state_here : with_links meaning (with_link meaning (made_state b old) f) (drop (place + 1) (ascending es)) ≡ with_links meaning (before_state b) (newer es first)
     state_here = sym (ap (λ (l : List (Link O)). with_links meaning (made_state b old) l) here.2) ∙ so_far.state
 
-    still_made : (new : Made) → HasMore (crossing false f) old new → (g : Link O) → IsMade old g → IsMade new g
+    still_made : (new : Made) → HasMore (crossing false f) old new → (g : Link O) → WasMade old g → WasMade new g
     still_made new more g is = (each_more (Has old.tables) (Has new.tables) (λ t h. more.tables t (inr h)) g.targets is.0, more.memories g.number (inr is.1))
 
     -- one operator more
@@ -170,7 +170,7 @@ module _ {O : Type 0} (meaning : O → Meaning) where
           limit = c.2 ∙ so_far.limit;
           done = so_far.done ++ f ∷ [];
           parted = so_far.parted ∙ ap (λ (l : List (Link O)). so_far.done ++ l) here.2 ∙ sym (append_assoc so_far.done (f ∷ []) (drop (place + 1) (ascending es)));
-          are_made = each_append (IsMade new) so_far.done (f ∷ []) (each_more (IsMade old) (IsMade new) (still_made new more) so_far.done so_far.are_made)
+          are_made = each_append (WasMade new) so_far.done (f ∷ []) (each_more (WasMade old) (WasMade new) (still_made new more) so_far.done so_far.are_made)
               ((each_of (Has new.tables) f.targets (λ t i. more.tables t (inl i)), more.memories f.number (inl refl)), tt);
         }
 
@@ -215,7 +215,7 @@ module _ {O : Type 0} (meaning : O → Meaning) where
       let none = drop_past (ascending es) place past in
       let end : made_state b made ≡ with_links meaning (before_state b) (newer es first) = ap (λ (l : List (Link O)). with_links meaning (made_state b made) l) (sym none) ∙ so_far.state in
       let all : newer es first ≡ so_far.done = so_far.parted ∙ ap (λ (l : List (Link O)). so_far.done ++ l) none ∙ append-nil so_far.done in
-      (subst (λ (s : State). s.next ≤ first_refused ids) end so_far.within, end, so_far.limit, subst (λ (l : List (Link O)). Each (IsMade made) l) (sym all) so_far.are_made)
+      (subst (λ (s : State). s.next ≤ first_refused ids) end so_far.within, end, so_far.limit, subst (λ (l : List (Link O)). Each (WasMade made) l) (sym all) so_far.are_made)
 
 -- ---- what is kept of it
 
@@ -265,9 +265,9 @@ state_over b made tables all_tables memories all_memories held lent over above =
 pub start_is : (b : Before) (tables : List (Numbered TableState)) (memories : List (Numbered MemoryState)) (next : ℕ) → b.tables.now ≡ tables → b.memories.now ≡ memories → b.next ≡ next → before_state b ≡ state_at tables memories next
 start_is b tables memories next held lent first = state_is _ _ _ _ _ _ (ap (λ (l : List (Numbered TableState)). rows_at l) held) (ap (λ (l : List (Numbered MemoryState)). pairs_at l) lent) first
 
-pub kept_for : {O : Type 0} (made : Made) (tables all_tables : List (Numbered TableState)) (memories all_memories : List (Numbered MemoryState)) (fs : List (Link O)) → all_tables ≡ reverse made.tables ++ tables → all_memories ≡ reverse made.memories ++ memories → Each (IsMade made) fs → Each (IsKeptFor all_tables all_memories) fs
+pub kept_for : {O : Type 0} (made : Made) (tables all_tables : List (Numbered TableState)) (memories all_memories : List (Numbered MemoryState)) (fs : List (Link O)) → all_tables ≡ reverse made.tables ++ tables → all_memories ≡ reverse made.memories ++ memories → Each (WasMade made) fs → Each (IsKeptFor all_tables all_memories) fs
 kept_for {O} made tables all_tables memories all_memories fs over above are =
-    each_more (IsMade made) (IsKeptFor all_tables all_memories) (λ f is. (
+    each_more (WasMade made) (IsKeptFor all_tables all_memories) (λ f is. (
       each_more (Has made.tables) (λ t. IsSome (value_of all_tables t)) (new_there made.tables tables all_tables over) f.targets is.0,
       new_there made.memories memories all_memories above f.number is.1,
     )) fs are

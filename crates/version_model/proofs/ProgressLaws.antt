@@ -9,7 +9,7 @@ use Rattle.op_law.specs.Premises.{SomeMap}
 use Rattle.op_law.specs.Laws.{HalfLaws}
 use Rattle.version_model.specs.Put.{put}
 use Rattle.version_model.specs.States.{State}
-use Rattle.version_model.specs.Steps.{way}
+use Rattle.version_model.specs.Steps.{directed}
 use Rattle.version_model.specs.Kept.{rows_now, pairs_now}
 use Rattle.version_model.specs.Calls.{made_state, given, Crosses}
 use Rattle.version_model.specs.declared.numbered.Numbered.{Numbered}
@@ -46,15 +46,15 @@ state_is t u m k a b e f h = ap (λ (x : ℕ → Rows). state x m a) e ∙ ap (�
 -- what was made by a crossing
 pub crosses : {O : Type 0} (meaning : O → Meaning) (b : Before) (made new : Made) (p : Crossing O) (old : PairState) (near far : Tables) (memory : Pairs)
     → near ≡ map (rows_now b.tables.now made.tables) p.near
-    → ((way p.backward (meaning p.operator)).forward near old made.ids.next).next ≤ first_refused made.ids
-    → far ≡ ((way p.backward (meaning p.operator)).forward near old made.ids.next).far
-    → memory ≡ ((way p.backward (meaning p.operator)).forward near old made.ids.next).memory
-    → new.ids ≡ record made.ids { next = ((way p.backward (meaning p.operator)).forward near old made.ids.next).next }
+    → ((directed p.backward (meaning p.operator)).forward near old made.ids.next).next ≤ first_refused made.ids
+    → far ≡ ((directed p.backward (meaning p.operator)).forward near old made.ids.next).far
+    → memory ≡ ((directed p.backward (meaning p.operator)).forward near old made.ids.next).memory
+    → new.ids ≡ record made.ids { next = ((directed p.backward (meaning p.operator)).forward near old made.ids.next).next }
     → ((kept : List (Numbered TableState)) → rows_now kept new.tables ≡ put (rows_now kept made.tables) p.far far)
     → ((kept : List (Numbered MemoryState)) → pairs_now kept new.memories ≡ put (pairs_now kept made.memories) (p.number ∷ []) (memory ∷ []))
     → Crosses meaning b p old made new (Ok tt)
 crosses {O} meaning b made new p old near far memory is within side pairs ids tables memories =
-    let m = way p.backward (meaning p.operator) in
+    let m = directed p.backward (meaning p.operator) in
     let same : m.forward near old made.ids.next ≡ given meaning (made_state b made) p old = ap (λ (ts : Tables). m.forward ts old made.ids.next) is in (
       subst (λ (x : Mapped). x.next ≤ first_refused made.ids) same within,
       state_is _ _ _ _ _ _

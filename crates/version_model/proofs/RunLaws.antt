@@ -15,25 +15,25 @@ use Rattle.op_law.proofs.SoundLaws.{rows_more, tables_more, pairs_more}
 use Rattle.version_graph.proofs.SetLaws.{each_both}
 use Rattle.version_model.specs.Put.{put}
 use Rattle.version_model.specs.States.{State, IsWell}
-use Rattle.version_model.specs.Steps.{way, pair_in, IsRelated, mapped, after, run}
+use Rattle.version_model.specs.Steps.{directed, pair_in, IsRelated, mapped, after, run}
 use Rattle.version_model.proofs.PutLaws.{AsMany, EachAt, put_other, put_apart, put_here, put_holds, put_else}
 
 -- a crossing either way keeps the laws
-pub way_laws : (backward : Bool) (m : Meaning) → Laws m → HalfLaws (way backward m)
+pub way_laws : (backward : Bool) (m : Meaning) → Laws m → HalfLaws (directed backward m)
 way_laws false m laws = laws.0
 way_laws true m laws = laws.1
 
 -- a crossing whose old pair is related, and whose operator's expressions are closed
 pub record IsReady {O : Type 0} (meaning : O → Meaning) (heading : ℕ → Heading) (old : State) (p : Crossing O) : Type 0 where
   pub related : IsRelated meaning heading old p
-  pub closed : (way p.backward (meaning p.operator)).Closed old.next
+  pub closed : (directed p.backward (meaning p.operator)).Closed old.next
 
 -- a mapping may be made over a crossing
 abbrev pub MayCross : {O : Type 0} → (O → Meaning) → (ℕ → Heading) → State → State → Crossing O → Type 0
-MayCross meaning heading old now p = MayMap (way p.backward (meaning p.operator)) (map heading p.near) (map heading p.far) (map now.tables p.near) (pair_in old p) now.next
+MayCross meaning heading old now p = MayMap (directed p.backward (meaning p.operator)) (map heading p.near) (map heading p.far) (map now.tables p.near) (pair_in old p) now.next
 
 -- so the operator's call may be made
-pub may_call : {O : Type 0} (meaning : O → Meaning) (heading : ℕ → Heading) (old now : State) (p : Crossing O) → MayCross meaning heading old now p → SomeMap (way p.backward (meaning p.operator)) (map now.tables p.near) (pair_in old p) now.next
+pub may_call : {O : Type 0} (meaning : O → Meaning) (heading : ℕ → Heading) (old now : State) (p : Crossing O) → MayCross meaning heading old now p → SomeMap (directed p.backward (meaning p.operator)) (map now.tables p.near) (pair_in old p) now.next
 may_call meaning heading old now p may = record { hs = map heading p.near; ht = map heading p.far; may = may }
 
 -- the far side and the memory are as they were
@@ -124,7 +124,7 @@ module _ {O : Type 0} (meaning : O → Meaning) (old : State) where
 -- ---- operators that keep the laws
 
 module _ {O : Type 0} (meaning : O → Meaning) (laws : (o : O) → Laws (meaning o)) (heading : ℕ → Heading) (old : State) (sound : IsWell heading old) where
-  half : (p : Crossing O) → HalfLaws (way p.backward (meaning p.operator))
+  half : (p : Crossing O) → HalfLaws (directed p.backward (meaning p.operator))
   half p = way_laws p.backward (meaning p.operator) (laws p.operator)
 
   -- THE MAPPING OF A CROSSING MAY BE MADE
@@ -142,7 +142,7 @@ module _ {O : Type 0} (meaning : O → Meaning) (laws : (o : O) → Laws (meanin
   }
 
   -- the new pair
-  kept : (now : State) (p : Crossing O) → IsWell heading now → old.next ≤ now.next → IsReady meaning heading old p → IsPair (way p.backward (meaning p.operator)) (map heading p.near) (map heading p.far) (pair_after (way p.backward (meaning p.operator)) (map now.tables p.near) (pair_in old p) now.next)
+  kept : (now : State) (p : Crossing O) → IsWell heading now → old.next ≤ now.next → IsReady meaning heading old p → IsPair (directed p.backward (meaning p.operator)) (map heading p.near) (map heading p.far) (pair_after (directed p.backward (meaning p.operator)) (map now.tables p.near) (pair_in old p) now.next)
   kept now p well more m = (half p).kept (map heading p.near) (map heading p.far) (map now.tables p.near) (pair_in old p) now.next (may_cross now p well more m)
 
   below : (now : State) (p : Crossing O) → IsWell heading now → old.next ≤ now.next → IsReady meaning heading old p → IsBelowNext (map now.tables p.near) (pair_in old p) now.next (mapped meaning old now p)
@@ -169,8 +169,8 @@ module _ {O : Type 0} (meaning : O → Meaning) (laws : (o : O) → Laws (meanin
       let near : map (put now.tables p.far to.far) p.near ≡ map now.tables p.near = put_apart now.tables p.far to.far p.near apart in
       let far : map (put now.tables p.far to.far) p.far ≡ to.far = put_here now.tables p.far to.far distinct (as_many heading p.far to.far new.target_of) in
       let memory : map (put now.memory (p.number ∷ []) (to.memory ∷ [])) (p.number ∷ []) ≡ to.memory ∷ [] = put_here now.memory (p.number ∷ []) (to.memory ∷ []) (λ i. i, tt) tt in
-      let same : pair_in (after meaning old now p) p ≡ pair_after (way p.backward (meaning p.operator)) (map now.tables p.near) (pair_in old p) now.next = cc in
-      subst (λ (x : PairState). IsPair (way p.backward (meaning p.operator)) (map heading p.near) (map heading p.far) x) (sym same) new
+      let same : pair_in (after meaning old now p) p ≡ pair_after (directed p.backward (meaning p.operator)) (map now.tables p.near) (pair_in old p) now.next = cc in
+      subst (λ (x : PairState). IsPair (directed p.backward (meaning p.operator)) (map heading p.near) (map heading p.far) x) (sym same) new
 
   pub run_well : (ps : List (Crossing O)) (now : State) → IsWell heading now → old.next ≤ now.next → Each (IsReady meaning heading old) ps → IsWell heading (run meaning old now ps)
   run_well [] now well more m = well
@@ -207,6 +207,6 @@ module _ {O : Type 0} (meaning : O → Meaning) (laws : (o : O) → Laws (meanin
       let next = after meaning old now p in
       let here = after_related now p well more m.0 o.0 o.1 in
       let there = run_leaves meaning old ps next p o.2 in (
-        subst (λ (x : PairState). IsPair (way p.backward (meaning p.operator)) (map heading p.near) (map heading p.far) x) (sym there) here,
+        subst (λ (x : PairState). IsPair (directed p.backward (meaning p.operator)) (map heading p.near) (map heading p.far) x) (sym there) here,
         run_related ps next (after_well now p well more m.0) (omega arith) m.1 o.3,
       )

@@ -4,7 +4,7 @@ use Rattle.par_base.specs.declared.fault.Fault.{Fault}
 use Rattle.par_base.specs.declared.refusal.IdsSpent.{IdsSpent}
 use Rattle.version_graph.specs.Edges.{AreEdges, edge_of, numbers, sources_at}
 use Rattle.version_graph.specs.Sets.{In, Each}
-use Rattle.version_graph.specs.Forest.{Crossing, forest, told, walk}
+use Rattle.version_graph.specs.Forest.{Crossing, forest, step_told, walk}
 use Rattle.version_graph.specs.declared.parts.Placed.{Placed}
 use Rattle.version_graph.specs.declared.parts.Step.{Step}
 use Rattle.op_law.specs.Meaning.{Meaning, Mapped, PairState, exchanged}
@@ -16,7 +16,7 @@ use Rattle.version_model.specs.declared.crossing.Way.{Way}
 use Rattle.version_model.specs.declared.progress.Before.{Before}
 use Rattle.version_model.specs.declared.progress.Made.{Made}
 use Rattle.version_model.specs.Put.{put}
-use Rattle.version_model.specs.Steps.{way, pair_in, run}
+use Rattle.version_model.specs.Steps.{directed, pair_in, run}
 use Rattle.version_model.specs.Sound.{IsSound}
 use Rattle.version_model.specs.Writes.{written, write, MayWrite}
 use Rattle.version_model.specs.declared.write.Written.{Written}
@@ -53,7 +53,7 @@ made_state b made = record { tables = rows_now b.tables.now made.tables; memory 
 
 -- what a crossing gives, from this old pair
 abbrev pub given : {O : Type 0} → (O → Meaning) → State → Crossing O → PairState → Mapped
-given meaning now p old = (way p.backward (meaning p.operator)).forward (map now.tables p.near) old now.next
+given meaning now p old = (directed p.backward (meaning p.operator)).forward (map now.tables p.near) old now.next
 
 -- the state with what a crossing gives
 abbrev pub with_far : {O : Type 0} → State → Crossing O → Mapped → State
@@ -81,10 +81,10 @@ pub record IsCrossing {O : Type 0} (es : List (Placed O)) (p : Crossing O) : Typ
 pub record MayStep {O : Type 0} (meaning : O → Meaning) (es : List (Placed O)) (b : Before) (made : Made) (step : Step) : Type 0 where
   pub over : Crossing O
   pub crosses : IsCrossing es over
-  pub tells : told over ≡ step
+  pub tells : step_told over ≡ step
   pub near : length over.near ≤ 2
   pub far : length over.far ≤ 2
-  pub may : SomeMap (way over.backward (meaning over.operator)) (map (made_state b made).tables over.near) (pair_in (before_state b) over) made.ids.next
+  pub may : SomeMap (directed over.backward (meaning over.operator)) (map (made_state b made).tables over.near) (pair_in (before_state b) over) made.ids.next
 
 -- the state that was made so far is that of the written table alone
 pub record MayCarry {O : Type 0} (meaning : O → Meaning) (es : List (Placed O)) (b : Before) (made : Made) (set : ℕ) : Type 0 where

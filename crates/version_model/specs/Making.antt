@@ -75,14 +75,14 @@ pub record HasMore {O : Type 0} (p : Crossing O) (old new : Made) : Type 0 where
   pub memories : (n : ℕ) → (n ≡ p.number) ⊎ Has old.memories n → Has new.memories n
 
 -- an operator's tables and its memory were made
-abbrev pub IsMade : {O : Type 0} → Made → Link O → Type 0
-IsMade made f = Each (Has made.tables) f.targets × Has made.memories f.number
+abbrev pub WasMade : {O : Type 0} → Made → Link O → Type 0
+WasMade made f = Each (Has made.tables) f.targets × Has made.memories f.number
 
 -- the operators were made in their order, or one needs an identifier that the counter doesn't give
 abbrev pub Makes : {O : Type 0} → (O → Meaning) → Before → CounterState → List (Link O) → Result Made (Fault IdsSpent) → Type 0
 Makes meaning b ids fs (Ok made) =
     let end = with_links meaning (before_state b) fs in
-    (end.next ≤ first_refused ids) × (made_state b made ≡ end) × (made.ids.limit ≡ ids.limit) × Each (IsMade made) fs
+    (end.next ≤ first_refused ids) × (made_state b made ≡ end) × (made.ids.limit ≡ ids.limit) × Each (WasMade made) fs
 Makes meaning b ids fs (Err (Refused spent)) = IsSpent (with_links meaning (before_state b) fs).next ids ids spent
 Makes meaning b ids fs (Err OutOfMemory) = ⊤
 

@@ -8,9 +8,9 @@ use Rattle.version_model.specs.Put.{put}
 use Rattle.version_model.specs.States.{State}
 
 -- backward an operator is crossed as its flip is forward
-abbrev pub way : Bool → Meaning → Meaning
-way false m = m
-way true m = flip m
+abbrev pub directed : Bool → Meaning → Meaning
+directed false m = m
+directed true m = flip m
 
 -- the pair of a crossing, from its near side to its far one
 abbrev pub pair_in : {O : Type 0} → State → Crossing O → PairState
@@ -18,11 +18,11 @@ pair_in s p = record { source = map s.tables p.near; target = map s.tables p.far
 
 -- the operator relates both sides
 abbrev pub IsRelated : {O : Type 0} → (O → Meaning) → (ℕ → Heading) → State → Crossing O → Type 0
-IsRelated meaning heading s p = IsPair (way p.backward (meaning p.operator)) (map heading p.near) (map heading p.far) (pair_in s p)
+IsRelated meaning heading s p = IsPair (directed p.backward (meaning p.operator)) (map heading p.near) (map heading p.far) (pair_in s p)
 
 -- what a crossing gives: from the old pair, and the near side as it is now
 abbrev pub mapped : {O : Type 0} → (O → Meaning) → State → State → Crossing O → Mapped
-mapped meaning old now p = (way p.backward (meaning p.operator)).forward (map now.tables p.near) (pair_in old p) now.next
+mapped meaning old now p = (directed p.backward (meaning p.operator)).forward (map now.tables p.near) (pair_in old p) now.next
 
 -- the state after a crossing: its far side and its memory are replaced
 abbrev pub after : {O : Type 0} → (O → Meaning) → State → State → Crossing O → State

@@ -1,5 +1,5 @@
 //! A write carried along the walk.
-ghost use Rattle.version_graph.specs.Forest.{told, Crossing};
+ghost use Rattle.version_graph.specs.Forest.{step_told, Crossing};
 ghost use Rattle.version_model.specs.Steps.{pair_in};
 ghost use Rattle.version_model.specs.Calls.{before_state, Carries, Crosses, IsCrossing, MayCarry, MayStep};
 ghost use Rattle.std.specs.Prelude.{◌≡◌};
@@ -22,7 +22,7 @@ fn make_step<O: Operator, L: Ledger>(
     steps: &mut Steps<L>,
 ) -> Result<(), Fault<IdsSpent>>
     requires { MayStep O.meaning graph.now.edges before made.old step }
-    ensures { (p : Crossing O) → IsCrossing graph.now.edges p → told p ≡ step
+    ensures { (p : Crossing O) → IsCrossing graph.now.edges p → step_told p ≡ step
         → Crosses O.meaning before.entry p (pair_in (before_state before.entry) p) made.old made.new result }
 {
     let Some(over) = way_of(graph, step) else {

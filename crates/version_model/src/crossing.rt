@@ -3,7 +3,7 @@ ghost use Rattle.std.specs.Prelude.{◌≡◌};
 ghost use Rattle.std.specs.Option.{option_map};
 ghost use Rattle.op_law.specs.Premises.{SomeMap};
 ghost use Rattle.op_law.specs.Calls.{seen, IsMapped};
-ghost use Rattle.version_model.specs.Steps.{way};
+ghost use Rattle.version_model.specs.Steps.{directed};
 ghost use Rattle.version_model.specs.Calls.{crossing_of, crossing_over, seen_from, IsTold};
 
 use expr_lang::Steps;
@@ -68,8 +68,8 @@ pub fn map_over<O: Operator, L: Ledger>(
     ids: &mut IdCounter,
     steps: &mut Steps<L>,
 ) -> Result<Far, Fault<IdsSpent>>
-    requires { SomeMap (way backward (O.meaning operator.now)) near.now (seen_from backward (seen old.now)) ids.old.next }
-    ensures { IsMapped ((way backward (O.meaning operator.now)).forward near.now (seen_from backward (seen old.now)) ids.old.next)
+    requires { SomeMap (directed backward (O.meaning operator.now)) near.now (seen_from backward (seen old.now)) ids.old.next }
+    ensures { IsMapped ((directed backward (O.meaning operator.now)).forward near.now (seen_from backward (seen old.now)) ids.old.next)
         ids.old ids.new result }
 {
     if backward {

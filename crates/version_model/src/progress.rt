@@ -2,7 +2,7 @@
 ghost use Rattle.std.specs.Prelude.{◌≡◌, ◌≤◌, length, map, IfOk, OnOk};
 ghost use Rattle.op_law.specs.Calls.{seen};
 ghost use Rattle.op_law.specs.Premises.{SomeMap};
-ghost use Rattle.version_model.specs.Steps.{pair_in, way};
+ghost use Rattle.version_model.specs.Steps.{pair_in, directed};
 ghost use Rattle.version_model.specs.Calls.{before_state, crossing_of, made_state, seen_from, Crosses};
 ghost use Rattle.version_model.specs.Making.{HasMore};
 
@@ -67,7 +67,7 @@ pub fn cross<O: Operator, L: Ledger>(
 ) -> Result<(), Fault<IdsSpent>>
     requires near { length over.now.near.now ≤ 2 }
     requires far { length (seen_from over.now.backward (seen old.now)).target ≡ length over.now.far.now }
-    requires may { SomeMap (way over.now.backward (O.meaning over.now.operator.now))
+    requires may { SomeMap (directed over.now.backward (O.meaning over.now.operator.now))
         (map (made_state before made.old).tables over.now.near.now) (seen_from over.now.backward (seen old.now)) made.old.ids.next }
     ensures crosses { Crosses O.meaning before.entry (crossing_of over.now) (seen_from over.now.backward (seen old.now))
         made.old made.new result }

@@ -16,7 +16,7 @@ use Rattle.version_model.proofs.HeadingLaws.{in_or_not}
 use Rattle.storage_law.specs.Storage.{stored_way}
 use Rattle.storage_law.proofs.LinkLaws.{not_in_false}
 use Rattle.db_state.specs.Covered.{Covers, CoversItself}
-use Rattle.db_state.specs.Fields.{state_of}
+use Rattle.db_state.specs.Fields.{state_for}
 use Rattle.db_state.specs.declared.parts.Parts.{Parts}
 use Rattle.write_propagation.specs.Calls.{CopiesTree, beside, told_pairs, told_rows}
 use Rattle.write_propagation.specs.Trees.{IsBeside, IsWhole, cut}
@@ -40,18 +40,18 @@ module _ {O : Type 0} (meaning : O → Meaning) (d : Parts O) (tree : Tree) (who
   covers_itself e i own t near = covers t (whole.tables e i own t (near_beside e t near))
 
   module _ (read tables : List (Numbered TableState)) (memories : List (Numbered MemoryState))
-      (is_read : (t : ℕ) → In t (table_numbers (made_tables d.graph.edges)) → Covers (forest d.graph.edges) d.layout.operators tree.operators t → rows_now d.stored read t ≡ (state_of meaning d).tables t)
+      (is_read : (t : ℕ) → In t (table_numbers (made_tables d.graph.edges)) → Covers (forest d.graph.edges) d.layout.operators tree.operators t → rows_now d.stored read t ≡ (state_for meaning d).tables t)
       (copied : told_rows tables ≡ beside (rows_now d.stored read) tree.tables) (held : told_pairs memories ≡ beside (pairs_at d.memories) tree.operators) where
-    copied_table : (t : ℕ) → rows_at tables t ≡ (cut tree (state_of meaning d)).tables t
+    copied_table : (t : ℕ) → rows_at tables t ≡ (cut tree (state_for meaning d)).tables t
     copied_table t =
-        let s = state_of meaning d in
+        let s = state_for meaning d in
         in_or_not t tree.tables (rows_at tables t ≡ (cut tree s).tables t)
         (λ i. seen_told (λ (x : TableState). x.rows) (rows_now d.stored read) tables tree.tables copied t i [] ∙ is_read t (whole.live t i) (covers t i) ∙ sym (cond-true (is_in t tree.tables) (s.tables t) [] (is_in_true t tree.tables i)))
         (λ none. seen_untold (λ (x : TableState). x.rows) (rows_now d.stored read) tables tree.tables copied t none [] ∙ sym (cond-false (is_in t tree.tables) (s.tables t) [] (not_in_false t tree.tables none)))
 
-    copied_memory : (n : ℕ) → pairs_at memories n ≡ (cut tree (state_of meaning d)).memory n
+    copied_memory : (n : ℕ) → pairs_at memories n ≡ (cut tree (state_for meaning d)).memory n
     copied_memory n =
-        let s = state_of meaning d in
+        let s = state_for meaning d in
         in_or_not n tree.operators (pairs_at memories n ≡ (cut tree s).memory n)
         (λ i. seen_told (λ (x : MemoryState). x.entries) (pairs_at d.memories) memories tree.operators held n i [] ∙ sym (cond-true (is_in n tree.operators) (s.memory n) [] (is_in_true n tree.operators i)))
         (λ none. seen_untold (λ (x : MemoryState). x.entries) (pairs_at d.memories) memories tree.operators held n none [] ∙ sym (cond-false (is_in n tree.operators) (s.memory n) [] (not_in_false n tree.operators none)))

@@ -16,7 +16,7 @@ use Rattle.op_law.specs.Premises.{IsPair}
 use Rattle.version_model.specs.Put.{put}
 use Rattle.version_model.specs.Sound.{IsSound}
 use Rattle.version_model.specs.States.{State, empty_at, headings}
-use Rattle.version_model.specs.Steps.{IsRelated, after, mapped, pair_in, run, way}
+use Rattle.version_model.specs.Steps.{IsRelated, after, mapped, pair_in, run, directed}
 use Rattle.version_model.specs.Writes.{write, written}
 use Rattle.version_model.proofs.EvolveLaws.{empty_are, empty_map}
 use Rattle.version_model.proofs.HeadingLaws.{in_or_not}
@@ -68,7 +68,7 @@ module _ {O : Type 0} (meaning : O → Meaning) (tree : Tree) where
 
   same_mapped : (old other a b : State) (p : Crossing O) → Agrees tree old other → Agrees tree a b → IsInside tree p → mapped meaning old a p ≡ mapped meaning other b p
   same_mapped old other a b p before now inside =
-      let m = way p.backward (meaning p.operator) in
+      let m = directed p.backward (meaning p.operator) in
       let near : map a.tables p.near ≡ map b.tables p.near = map_same a.tables b.tables p.near (λ t i. now.tables t (inside.near t i)) in
       ap (λ (x : Tables). m.forward x (pair_in old p) a.next) near
       ∙ ap (λ (x : PairState). m.forward (map b.tables p.near) x a.next) (pair_inside old other p before inside)

@@ -29,7 +29,7 @@ use Rattle.version_model.specs.Calls.{MayWriteRows, WritesRows, before_state, ma
 use Rattle.version_model.specs.Kept.{HasSides, latest_of, newer_pairs, pairs_at, renewed, rows_at, rows_now, value_of}
 use Rattle.version_model.specs.Sound.{IsSound}
 use Rattle.version_model.specs.States.{State, headings}
-use Rattle.version_model.specs.Steps.{IsRelated, pair_in, way}
+use Rattle.version_model.specs.Steps.{IsRelated, pair_in, directed}
 use Rattle.version_model.specs.Writes.{MayWrite, write}
 use Rattle.version_model.specs.declared.numbered.Numbered.{Numbered}
 use Rattle.version_model.specs.declared.progress.Before.{Before}
@@ -42,7 +42,7 @@ use Rattle.version_model.proofs.WriteLaws.{write_is_ordinary}
 use Rattle.storage_law.specs.Storage.{StandsOver, aux_of, stored_way}
 use Rattle.storage_law.proofs.LinkLaws.{not_in_false}
 use Rattle.db_state.specs.Calls.{IsRelatedAt}
-use Rattle.db_state.specs.Fields.{IsDatabase, auxes_at, database_of, numbers_in, state_of, storage_in}
+use Rattle.db_state.specs.Fields.{IsDatabase, auxes_at, database_for, numbers_in, state_for, storage_in}
 use Rattle.db_state.specs.declared.parts.Parts.{Parts}
 use Rattle.db_state.proofs.FieldLaws.{IsShaped, Store, is_database}
 use Rattle.write_propagation.specs.Calls.{CopiesTree, IsMadeFor}
@@ -56,18 +56,18 @@ use Rattle.write_propagation.proofs.ItemLemmas.{in_turned, item_at, latest_at, l
 use Rattle.write_propagation.proofs.WholeLemmas.{has_held, lives, walk_inside, whole}
 
 -- what is lent for a write is the state cut down to the tree
-pub before_copied : {O : Type 0} (meaning : O → Meaning) (d : Parts O) (tree : Tree) (copies : Copies) (b : Before) → CopiesTree meaning d tree copies → b.tables.now ≡ copies.tables → b.memories.now ≡ copies.memories → b.next ≡ d.ids.next → before_state b ≡ cut tree (state_of meaning d)
+pub before_copied : {O : Type 0} (meaning : O → Meaning) (d : Parts O) (tree : Tree) (copies : Copies) (b : Before) → CopiesTree meaning d tree copies → b.tables.now ≡ copies.tables → b.memories.now ≡ copies.memories → b.next ≡ d.ids.next → before_state b ≡ cut tree (state_for meaning d)
 before_copied meaning d tree copies b copied tables memories next =
     state_is _ _ _ _ _ _ (ap (λ (l : List (Numbered TableState)). rows_at l) tables ∙ fun_ext copied.tables) (ap (λ (l : List (Numbered MemoryState)). pairs_at l) memories ∙ fun_ext copied.memories) next
 
 module _ {O : Type 0} (meaning : O → Meaning) (laws : (o : O) → Laws (meaning o)) (d : Parts O) (good : IsDatabase meaning d) (w : Written) (named : In w.set (numbers d.graph.edges))
-    (may : MayWrite d.graph.edges (state_of meaning d) w.set w.table w.rows.rows w.ids.next) (drawn : w.ids.next ≤ first_refused d.ids) (limit : w.ids.limit ≡ d.ids.limit)
-    (tree : Tree) (is : IsTree d.graph.edges w.set tree) (b : Before) (copied : before_state b ≡ cut tree (state_of meaning d)) where
+    (may : MayWrite d.graph.edges (state_for meaning d) w.set w.table w.rows.rows w.ids.next) (drawn : w.ids.next ≤ first_refused d.ids) (limit : w.ids.limit ≡ d.ids.limit)
+    (tree : Tree) (is : IsTree d.graph.edges w.set tree) (b : Before) (copied : before_state b ≡ cut tree (state_for meaning d)) where
   abbrev es : List (Placed O)
   es = d.graph.edges
 
   abbrev s : State
-  s = state_of meaning d
+  s = state_for meaning d
 
   -- after the whole write, and after that of the tree alone
   abbrev end : State
@@ -179,7 +179,7 @@ module _ {O : Type 0} (meaning : O → Meaning) (laws : (o : O) → Laws (meanin
       pair_of_others e false i other = same_pair s end (crossing false e) (λ t k. sym (same_table t (λ j. other (of_tree.operators e i t j (inl k))))) (λ t k. sym (same_table t (λ j. other (of_tree.operators e i t j (inr k))))) (sym (same_memory e.number other))
 
       abbrev seen_over : Link O → PairState → Tables
-      seen_over e x = (way (is_in e.number d.layout.operators) (meaning e.operator)).aux_at_source x
+      seen_over e x = (directed (is_in e.number d.layout.operators) (meaning e.operator)).aux_at_source x
 
       stored_aux : (e : Link O) → In e (forest es) → auxes_at aux e.number ≡ aux_of meaning end (stored_way d.layout.operators e)
       stored_aux e i =
@@ -249,7 +249,7 @@ module _ {O : Type 0} (meaning : O → Meaning) (laws : (o : O) → Laws (meanin
       }
 
       -- WITH THE PLAN THE DATABASE HAS THE STATE AFTER THE WRITE
-      pub leads : IsDatabase meaning new × (database_of meaning new ≡ record (database_of meaning d) { state = end })
+      pub leads : IsDatabase meaning new × (database_for meaning new ≡ record (database_for meaning d) { state = end })
       leads =
           let sound = (write_is_ordinary meaning es s good.sound w.set w.table w.rows.rows w.ids.next may laws good.graph.edges).sound in
           let made_new = is_database meaning laws good.reads new end shaped sound store in
@@ -269,6 +269,6 @@ module _ {O : Type 0} (meaning : O → Meaning) (laws : (o : O) → Laws (meanin
     pub planned : (plan : Plan) → IsMadeFor meaning d tree b made plan → Plans meaning d w.set w.table w.rows.rows w.ids.next (Ok plan)
     planned plan for = (
       subst (λ (n : ℕ). n ≤ first_refused d.ids) next_is (subst (λ (n : ℕ). (write meaning es (before_state b) w.set w.table w.rows.rows w.ids.next).next ≤ n) refuses_same was.0),
-      λ new puts. subst (λ (x : Parts O). IsDatabase meaning x × (database_of meaning x ≡ record (database_of meaning d) { state = end })) (put_is plan new puts)
+      λ new puts. subst (λ (x : Parts O). IsDatabase meaning x × (database_for meaning x ≡ record (database_for meaning d) { state = end })) (put_is plan new puts)
           (leads plan for new.stored new.aux new.memories puts.tables puts.auxes puts.memories puts.stored puts.aux puts.memory),
     )

@@ -4,7 +4,7 @@ use Rattle.std.proofs.Common.{◌≡◌, ℕ, ◌+◌, ◌<◌, List, [], ◌∷
 use Rattle.version_graph.specs.Sets.{In, Each, Within}
 use Rattle.version_graph.specs.Tables.{table_numbers}
 use Rattle.version_graph.specs.Edges.{AreEdges, edge_of, working}
-use Rattle.version_graph.specs.Forest.{Crossing, Link, crossing, forest, told, tree as root_in, walk}
+use Rattle.version_graph.specs.Forest.{Crossing, Link, crossing, forest, step_told, tree as root_in, walk}
 use Rattle.version_graph.specs.declared.parts.Step.{Step}
 use Rattle.version_graph.proofs.TakenLaws.{map_map}
 use Rattle.std.proofs.lemmas.List.{append_assoc, append-nil, take_more}
@@ -136,5 +136,5 @@ targets_more {O} es ns i within = ap (λ (l : List ℕ). targets_at es l) (take_
     appended (m ∷ ms) n = ap (λ (l : List ℕ). targets es m ++ l) (appended ms n) ∙ sym (append_assoc (targets es m) (targets_at es ms) (targets es n))
 
 -- the operators of a walk's steps are those that it crosses
-pub steps_cross : {O : Type 0} (ps : List (Crossing O)) (steps : List Step) (ns : List ℕ) → steps ≡ map told ps → ns ≡ map (λ (step : Step). step.operator) steps → ns ≡ crossed ps
-steps_cross ps steps ns walked operators = operators ∙ ap (λ (l : List Step). map (λ (step : Step). step.operator) l) walked ∙ map_map (λ (step : Step). step.operator) told ps
+pub steps_cross : {O : Type 0} (ps : List (Crossing O)) (steps : List Step) (ns : List ℕ) → steps ≡ map step_told ps → ns ≡ map (λ (step : Step). step.operator) steps → ns ≡ crossed ps
+steps_cross ps steps ns walked operators = operators ∙ ap (λ (l : List Step). map (λ (step : Step). step.operator) l) walked ∙ map_map (λ (step : Step). step.operator) step_told ps

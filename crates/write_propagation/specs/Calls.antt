@@ -12,7 +12,7 @@ use Rattle.version_model.specs.declared.numbered.Numbered.{Numbered}
 use Rattle.version_model.specs.declared.progress.Before.{Before}
 use Rattle.version_model.specs.declared.progress.Made.{Made}
 use Rattle.db_state.specs.Calls.{AreAuxesOf}
-use Rattle.db_state.specs.Fields.{state_of}
+use Rattle.db_state.specs.Fields.{state_for}
 use Rattle.db_state.specs.declared.parts.Parts.{Parts}
 use Rattle.write_propagation.specs.Trees.{cut}
 use Rattle.write_propagation.specs.declared.change.Plan.{Plan}
@@ -33,8 +33,8 @@ beside f ns = map (λ n. (n, f n)) ns
 
 -- the copies hold the state cut down to the tree
 pub record CopiesTree {O : Type 0} (meaning : O → Meaning) (d : Parts O) (tree : Tree) (copies : Copies) : Type 0 where
-  pub tables : (t : ℕ) → rows_at copies.tables t ≡ (cut tree (state_of meaning d)).tables t
-  pub memories : (n : ℕ) → pairs_at copies.memories n ≡ (cut tree (state_of meaning d)).memory n
+  pub tables : (t : ℕ) → rows_at copies.tables t ≡ (cut tree (state_for meaning d)).tables t
+  pub memories : (n : ℕ) → pairs_at copies.memories n ≡ (cut tree (state_for meaning d)).memory n
 
 -- a plan from what was made: the stored tables of the tree, and the auxiliary tables and memories of its operators
 pub record IsMadeFor {O : Type 0} (meaning : O → Meaning) (d : Parts O) (tree : Tree) (before : Before) (made : Made) (plan : Plan) : Type 0 where

@@ -8,7 +8,7 @@ use Rattle.op_law.specs.Meaning.{Meaning}
 use Rattle.op_law.specs.Calls.{IsSpent, first_refused}
 use Rattle.version_model.specs.Kept.{latest_of, renewed, value_of}
 use Rattle.version_model.specs.Writes.{write}
-use Rattle.db_state.specs.Fields.{IsDatabase, database_of, numbers_in, state_of}
+use Rattle.db_state.specs.Fields.{IsDatabase, database_for, numbers_in, state_for}
 use Rattle.db_state.specs.declared.parts.Parts.{Parts}
 use Rattle.write_propagation.specs.declared.change.Plan.{Plan}
 
@@ -31,7 +31,7 @@ Fits {O} meaning old plan = (new : Parts O) → Puts old plan new → IsDatabase
 -- A WRITE, WHATEVER IS STORED: the database with the plan has the state after the model's write; it is refused exactly where the write would draw an identifier above the limit
 abbrev pub Plans : {O : Type 0} → (O → Meaning) → Parts O → ℕ → ℕ → Rows → ℕ → Result Plan (Fault IdsSpent) → Type 0
 Plans {O} meaning d w t rows next (Ok plan) =
-    let end = write meaning d.graph.edges (state_of meaning d) w t rows next in
-    (end.next ≤ first_refused d.ids) × ((new : Parts O) → Puts d plan new → IsDatabase meaning new × (database_of meaning new ≡ record (database_of meaning d) { state = end }))
-Plans meaning d w t rows next (Err (Refused spent)) = IsSpent (write meaning d.graph.edges (state_of meaning d) w t rows next).next d.ids d.ids spent
+    let end = write meaning d.graph.edges (state_for meaning d) w t rows next in
+    (end.next ≤ first_refused d.ids) × ((new : Parts O) → Puts d plan new → IsDatabase meaning new × (database_for meaning new ≡ record (database_for meaning d) { state = end }))
+Plans meaning d w t rows next (Err (Refused spent)) = IsSpent (write meaning d.graph.edges (state_for meaning d) w t rows next).next d.ids d.ids spent
 Plans meaning d w t rows next (Err Memory) = ⊤

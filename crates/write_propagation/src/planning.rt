@@ -6,7 +6,7 @@ ghost use Rattle.op_law.specs.Calls.{first_refused};
 ghost use Rattle.version_model.specs.Writes.{MayWrite};
 ghost use Rattle.version_model.specs.Calls.{made_state};
 ghost use Rattle.db_state.specs.Calls.{IsRelatedAt};
-ghost use Rattle.db_state.specs.Fields.{state_of};
+ghost use Rattle.db_state.specs.Fields.{state_for};
 ghost use Rattle.write_propagation.specs.Plans.{Plans};
 ghost use Rattle.write_propagation.specs.Calls.{IsMadeFor};
 
@@ -67,7 +67,7 @@ pub fn plan<O: Operator, L: Ledger>(
     steps: &mut Steps<L>,
 ) -> Result<Plan, Fault<IdsSpent>>
     requires lives { In written.set (numbers db.now.graph.edges) }
-    requires may { MayWrite db.now.graph.edges (state_of O.meaning db.now) written.set written.table written.rows.rows written.ids.next }
+    requires may { MayWrite db.now.graph.edges (state_for O.meaning db.now) written.set written.table written.rows.rows written.ids.next }
     requires drawn { written.ids.next ≤ first_refused db.now.ids }
     requires limit { written.ids.limit ≡ db.now.ids.limit }
     ensures { Plans O.meaning db.now written.set written.table written.rows.rows written.ids.next result }

@@ -4,7 +4,7 @@ use Rattle.row_store.specs.Rows.{Rows}
 use Rattle.version_graph.specs.Sets.{In}
 use Rattle.version_graph.specs.Tables.{table_numbers}
 use Rattle.version_graph.specs.Edges.{is_in, made as made_by}
-use Rattle.version_graph.specs.Forest.{Crossing, Link, crossing, forest, told}
+use Rattle.version_graph.specs.Forest.{Crossing, Link, crossing, forest, step_told}
 use Rattle.version_graph.specs.declared.parts.Step.{Step}
 use Rattle.row_store.specs.States.{TableState}
 use Rattle.op_law.specs.Meaning.{Meaning}
@@ -15,7 +15,7 @@ use Rattle.version_model.specs.declared.numbered.Numbered.{Numbered}
 use Rattle.storage_law.specs.Storage.{stored_way}
 use Rattle.db_state.specs.declared.parts.Parts.{Parts}
 use Rattle.db_state.specs.declared.read.Pass.{Pass}
-use Rattle.db_state.specs.Fields.{state_of}
+use Rattle.db_state.specs.Fields.{state_for}
 use Rattle.layout_rules.specs.Layouts.{IsMade, IsStored}
 use Rattle.db_state.specs.Covered.{Covers}
 
@@ -42,30 +42,30 @@ pub record IsUpTo {O : Type 0} (es : List (Link O)) (layout ns : List ℕ) (tabl
 
 -- all operators were passed down
 abbrev pub IsDown : {O : Type 0} → (O → Meaning) → Parts O → List ℕ → List (Numbered TableState) → Type 0
-IsDown meaning p ns made = IsDownTo (forest p.graph.edges) p.layout.operators ns (state_of meaning p).tables [] (rows_now p.stored made)
+IsDown meaning p ns made = IsDownTo (forest p.graph.edges) p.layout.operators ns (state_for meaning p).tables [] (rows_now p.stored made)
 
 -- each covered table was read
 abbrev pub AreRead : {O : Type 0} → (O → Meaning) → Parts O → List ℕ → List (Numbered TableState) → Type 0
-AreRead meaning p ns made = (t : ℕ) → In t (table_numbers (made_by p.graph.edges)) → Covers (forest p.graph.edges) p.layout.operators ns t → rows_now p.stored made t ≡ (state_of meaning p).tables t
+AreRead meaning p ns made = (t : ℕ) → In t (table_numbers (made_by p.graph.edges)) → Covers (forest p.graph.edges) p.layout.operators ns t → rows_now p.stored made t ≡ (state_for meaning p).tables t
 
 -- the step comes from the stored side of a live operator, and the tables of that side are right
 pub record MayCross {O : Type 0} (meaning : O → Meaning) (p : Parts O) (made : List (Numbered TableState)) (step : Step) : Type 0 where
   pub over : Link O
   pub lives : In over (forest p.graph.edges)
   pub crosses : IsCrossing p.graph.edges (stored_way p.layout.operators over)
-  pub tells : told (stored_way p.layout.operators over) ≡ step
-  pub near : (t : ℕ) → In t (stored_way p.layout.operators over).near → rows_now p.stored made t ≡ (state_of meaning p).tables t
+  pub tells : step_told (stored_way p.layout.operators over) ≡ step
+  pub near : (t : ℕ) → In t (stored_way p.layout.operators over).near → rows_now p.stored made t ≡ (state_for meaning p).tables t
 
 -- the far tables of the step's crossing were read
-abbrev pub Crosses : {O : Type 0} → (O → Meaning) → Parts O → List (Numbered TableState) → List (Numbered TableState) → Step → Type 0
-Crosses {O} meaning p made new step = (q : Crossing O) → IsCrossing p.graph.edges q → told q ≡ step → Settles (state_of meaning p).tables q.far (rows_now p.stored made) (rows_now p.stored new)
+abbrev pub PassesOver : {O : Type 0} → (O → Meaning) → Parts O → List (Numbered TableState) → List (Numbered TableState) → Step → Type 0
+PassesOver {O} meaning p made new step = (q : Crossing O) → IsCrossing p.graph.edges q → step_told q ≡ step → Settles (state_for meaning p).tables q.far (rows_now p.stored made) (rows_now p.stored new)
 
 -- where the pass goes over the operator at a place, the tables on its stored side are right
 abbrev pub MayPass : {O : Type 0} → (O → Meaning) → Parts O → Pass → ℕ → List (Numbered TableState) → Type 0
 MayPass {O} meaning p pass place made = (f : Link O) → slice_get (ascending p.graph.edges) place ≡ Some f → is_passed p.layout.operators pass.operators.now pass.backward f.number ≡ true
-    → (t : ℕ) → In t (crossing pass.backward f).near → rows_now p.stored made t ≡ (state_of meaning p).tables t
+    → (t : ℕ) → In t (crossing pass.backward f).near → rows_now p.stored made t ≡ (state_for meaning p).tables t
 
 -- there the tables on its other side were read
 abbrev pub Passes : {O : Type 0} → (O → Meaning) → Parts O → Pass → ℕ → List (Numbered TableState) → List (Numbered TableState) → Type 0
 Passes {O} meaning p pass place made new = (f : Link O) → slice_get (ascending p.graph.edges) place ≡ Some f
-    → Settles (state_of meaning p).tables (cond (is_passed p.layout.operators pass.operators.now pass.backward f.number) (crossing pass.backward f).far []) (rows_now p.stored made) (rows_now p.stored new)
+    → Settles (state_for meaning p).tables (cond (is_passed p.layout.operators pass.operators.now pass.backward f.number) (crossing pass.backward f).far []) (rows_now p.stored made) (rows_now p.stored new)

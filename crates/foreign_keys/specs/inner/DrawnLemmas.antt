@@ -7,8 +7,8 @@ use Rattle.op_law.specs.Tables.{RowsWide}
 use Rattle.op_law.specs.Sound.{ValuesSound, RowsSound}
 use Rattle.op_rows.specs.inner.CellLemmas.{is_same}
 use Rattle.row_parts.specs.RowCells.{by_test, by_option}
-use Rattle.foreign_keys.specs.Parts.{FkParts, FkWell}
-use Rattle.foreign_keys.specs.Drawn.{Values, numbered, add_once, has, place, drawn}
+use Rattle.foreign_keys.specs.KeyParts.{FkParts, FkWell}
+use Rattle.foreign_keys.specs.DrawnIds.{Values, numbered, add_once, has, place, drawn}
 use Rattle.op_tables.specs.Lookups.{eq_above, own_row, later, wide_at}
 use Rattle.op_law.proofs.SoundLaws.{rows_more}
 use Rattle.par_base.specs.SameRows.{same_row, row_equal, row_same}

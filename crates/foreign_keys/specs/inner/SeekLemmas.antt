@@ -4,7 +4,7 @@ use Rattle.par_base.specs.declared.value.Value.{Value}
 use Rattle.row_store.specs.Rows.{Rows, RiseFrom, row_of}
 use Rattle.op_rows.specs.inner.CellLemmas.{is_same, has_id, IdsRise, has_put, rise_put}
 use Rattle.row_parts.specs.RowCells.{Cell, by_test}
-use Rattle.foreign_keys.specs.Parts.{FkParts}
+use Rattle.foreign_keys.specs.KeyParts.{FkParts}
 use Rattle.foreign_keys.specs.References.{goal_of, is_goal, referred}
 use Rattle.op_tables.specs.Lookups.{own_row, later}
 use Rattle.foreign_keys.specs.Seeking.{put_goal, seek, first_led, out_at, goals_in}

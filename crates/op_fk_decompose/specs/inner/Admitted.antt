@@ -2,7 +2,7 @@
 use Rattle.std.specs.Prelude.{◌≡◌, ℕ, [], true, ◌&&◌, Option, Some, None}
 use Rattle.id_memory.specs.Pairs.{Pairs}
 use Rattle.op_law.specs.Tables.{Tables}
-use Rattle.foreign_keys.specs.Parts.{FkParts}
+use Rattle.foreign_keys.specs.KeyParts.{FkParts}
 use Rattle.op_tables.specs.SideTables.{first_table, second_table}
 use Rattle.op_tables.specs.Wide.{are_wide}
 use Rattle.op_fk_decompose.specs.Decompose.{decompose_source, decompose_aux, decompose_read}

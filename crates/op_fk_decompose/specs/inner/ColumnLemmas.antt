@@ -6,7 +6,7 @@ use Rattle.par_base.specs.declared.value.Value.TheVariants.{Null}
 use Rattle.op_law.specs.Tables.{Heading}
 use Rattle.op_law.specs.Laws.{Laws}
 use Rattle.row_parts.specs.RowCells.{value_or}
-use Rattle.foreign_keys.specs.Parts.{FkParts, FkWell}
+use Rattle.foreign_keys.specs.KeyParts.{FkParts, FkWell}
 use Rattle.row_parts.specs.RowEdits.{value_at-insert, remove-insert, insert-remove, insert_sound, remove_sound}
 use Rattle.row_parts.specs.Places.{value_for, ArePartition, names_at}
 use Rattle.op_fk_decompose.specs.Columns.{column_parts, DecomposeFits, decompose_columns}

@@ -14,7 +14,7 @@ use Rattle.op_rows.specs.Cells.{CellWide, CellSound}
 use Rattle.op_rows.specs.inner.CellLemmas.{below_ids}
 use Rattle.row_parts.specs.RowCells.{Cell, row_or, by_option}
 use Rattle.op_tables.specs.SideTables.{first_table, second_table}
-use Rattle.foreign_keys.specs.Parts.{FkParts, FkWell}
+use Rattle.foreign_keys.specs.KeyParts.{FkParts, FkWell}
 use Rattle.foreign_keys.specs.References.{goal_of, at_goal, far_part}
 use Rattle.op_tables.specs.Lookups.{sound_at, wide_at, two_at, two_rise, wide_table, sound_table, Two, one_wide, sound0, sound1, in_first, in_second}
 use Rattle.op_fk_decompose.specs.Decompose.{alone, joined_in, joined, joined_table, decompose_fk}

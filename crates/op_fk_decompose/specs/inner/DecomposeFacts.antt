@@ -4,7 +4,7 @@ use Rattle.par_base.specs.declared.value.Value.{Value}
 use Rattle.par_base.specs.declared.value.Value.TheVariants.{Reference}
 use Rattle.row_store.specs.Rows.{Rows, RiseFrom, row_of}
 use Rattle.row_parts.specs.RowCells.{Cell, by_test}
-use Rattle.foreign_keys.specs.Parts.{FkParts}
+use Rattle.foreign_keys.specs.KeyParts.{FkParts}
 use Rattle.foreign_keys.specs.References.{far_part}
 use Rattle.op_tables.specs.Lookups.{own_row, later}
 use Rattle.op_fk_decompose.specs.Decompose.{alone, least_in, how_in, draws_for}

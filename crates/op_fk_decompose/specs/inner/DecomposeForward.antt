@@ -9,10 +9,10 @@ use Rattle.op_rows.specs.Cells.{first_cell, other_cells, CellSound}
 use Rattle.op_rows.specs.inner.CellLemmas.{none_at}
 use Rattle.op_rows.specs.inner.Tabulated.{row_from}
 use Rattle.row_parts.specs.RowCells.{Cell, is_there, or_else, kept_if, map_cell, in_cell, id_or, value_or, by_test, by_option}
-use Rattle.foreign_keys.specs.Parts.{FkParts, FkWell}
+use Rattle.foreign_keys.specs.KeyParts.{FkParts, FkWell}
 use Rattle.foreign_keys.specs.References.{referred}
 use Rattle.foreign_keys.specs.Shared.{Ready}
-use Rattle.foreign_keys.specs.Drawn.{numbered, has, place}
+use Rattle.foreign_keys.specs.DrawnIds.{numbered, has, place}
 use Rattle.op_tables.specs.Lookups.{sound_at}
 use Rattle.op_law.proofs.SoundLaws.{below_more, value_more, values_more}
 use Rattle.foreign_keys.specs.inner.DrawnLemmas.{place_under, has_needed}

@@ -4,9 +4,9 @@ use Rattle.par_base.specs.declared.value.Value.{Value}
 use Rattle.par_base.specs.declared.value.Value.TheVariants.{Null, Int, Text, Reference}
 use Rattle.row_store.specs.Rows.{Rows, row_of}
 use Rattle.row_parts.specs.RowCells.{Cell, is_there, or_else, kept_if, row_or, map_cell, in_cell, id_or, value_or, by_test, by_option}
-use Rattle.foreign_keys.specs.Parts.{FkParts, FkWell}
+use Rattle.foreign_keys.specs.KeyParts.{FkParts, FkWell}
 use Rattle.foreign_keys.specs.References.{goal_of, referred, far_part}
-use Rattle.foreign_keys.specs.Drawn.{numbered, place}
+use Rattle.foreign_keys.specs.DrawnIds.{numbered, place}
 use Rattle.op_tables.specs.Lookups.{sound_at, wide_at, one_rise}
 use Rattle.foreign_keys.specs.inner.ReferenceLemmas.{goal_below, referred_by, referrer}
 use Rattle.foreign_keys.specs.inner.DrawnLemmas.{Distinct, numbered_at, numbered_from, distinct, Needer, needer, low_none}

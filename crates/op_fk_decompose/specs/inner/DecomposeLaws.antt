@@ -14,9 +14,9 @@ use Rattle.op_rows.specs.Cells.{CellWide, CellSound}
 use Rattle.op_rows.specs.inner.CellLemmas.{below_ids}
 use Rattle.row_parts.specs.RowCells.{Cell, is_there, or_else, kept_if, map_cell, value_or, by_option}
 use Rattle.op_tables.specs.SideTables.{first_table, second_table}
-use Rattle.foreign_keys.specs.Parts.{FkParts, FkWell}
+use Rattle.foreign_keys.specs.KeyParts.{FkParts, FkWell}
 use Rattle.foreign_keys.specs.References.{referred}
-use Rattle.foreign_keys.specs.Drawn.{numbered}
+use Rattle.foreign_keys.specs.DrawnIds.{numbered}
 use Rattle.op_tables.specs.Lookups.{sound_at, wide_at, one_rise, three_rise, wide_table, sound_table, One, one_table, Two, two_tables, two_wide, sound0, sound1, in_first, in_second}
 use Rattle.op_law.proofs.SoundLaws.{rows_more}
 use Rattle.foreign_keys.specs.inner.DrawnLemmas.{numbered_from, distinct, numbered_rise, drawn_wide, drawn_sound}

@@ -5,9 +5,9 @@ use Rattle.par_base.specs.declared.value.Value.TheVariants.{Reference}
 use Rattle.row_store.specs.Rows.{Rows, row_of}
 use Rattle.row_store.proofs.UndoLaws.{ext}
 use Rattle.row_parts.specs.RowCells.{Cell, is_there, row_or, map_cell, by_test, by_option}
-use Rattle.foreign_keys.specs.Parts.{FkParts, FkWell}
+use Rattle.foreign_keys.specs.KeyParts.{FkParts, FkWell}
 use Rattle.foreign_keys.specs.References.{goal_of, at_goal, referred, far_part}
-use Rattle.foreign_keys.specs.Drawn.{numbered}
+use Rattle.foreign_keys.specs.DrawnIds.{numbered}
 use Rattle.op_tables.specs.Lookups.{wide_at, one_rise, three_rise}
 use Rattle.foreign_keys.specs.inner.DrawnLemmas.{numbered_rise, drawn_none}
 use Rattle.op_fk_decompose.specs.Decompose.{alone, joined_in, joined, least_in, how_in, how, draws_for, needs, values_drawn, new_first, new_second, s_after, t_after}

@@ -8,7 +8,7 @@ use Rattle.par_base.specs.declared.value.Value.{Value}
 use Rattle.op_law.specs.Tables.{Heading}
 use Rattle.op_law.specs.Sound.{ValuesSound}
 use Rattle.op_law.specs.Laws.{Laws}
-use Rattle.foreign_keys.specs.Parts.{FkWell}
+use Rattle.foreign_keys.specs.KeyParts.{FkWell}
 use Rattle.row_parts.specs.RowEdits.{value_at-insert, remove-insert, insert-remove, insert_sound, remove_sound}
 use Rattle.row_parts.specs.inner.PlaceLemmas.{length-nulls, nulls_sound, value_at_sound}
 use Rattle.foreign_keys.specs.Shared.{FkFits}

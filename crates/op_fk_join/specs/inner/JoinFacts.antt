@@ -3,9 +3,9 @@ use Rattle.std.proofs.Common.{◌≡◌, ℕ, ◌+◌, ◌<◌, ◌≤◌, List,
 use Rattle.par_base.specs.declared.value.Value.{Value}
 use Rattle.row_store.specs.Rows.{Rows, RiseFrom, row_of}
 use Rattle.row_parts.specs.RowCells.{Cell, or_else, map_cell, id_or, value_or, by_test, by_option}
-use Rattle.foreign_keys.specs.Parts.{FkParts, FkWell}
+use Rattle.foreign_keys.specs.KeyParts.{FkParts, FkWell}
 use Rattle.foreign_keys.specs.References.{goal_of, at_goal}
-use Rattle.foreign_keys.specs.Drawn.{numbered, place}
+use Rattle.foreign_keys.specs.DrawnIds.{numbered, place}
 use Rattle.op_tables.specs.Lookups.{own_row, later, sound_at, wide_at}
 use Rattle.foreign_keys.specs.inner.ReferenceLemmas.{goal_below}
 use Rattle.foreign_keys.specs.inner.DrawnLemmas.{Distinct, numbered_at, distinct, has_needed, low_none}

@@ -14,7 +14,7 @@ use Rattle.op_rows.specs.inner.CellLemmas.{has_id, none_at, rise_ids}
 use Rattle.op_rows.specs.inner.Tabulated.{row_from, rise_from}
 use Rattle.row_parts.specs.RowCells.{Cell, is_there, or_else, kept_if, map_cell, in_cell, by_test, by_option}
 use Rattle.op_tables.specs.SideTables.{first_table, second_table}
-use Rattle.foreign_keys.specs.Parts.{FkParts, FkWell}
+use Rattle.foreign_keys.specs.KeyParts.{FkParts, FkWell}
 use Rattle.foreign_keys.specs.References.{goal_of, is_goal, at_goal, referred}
 use Rattle.op_tables.specs.Lookups.{wide_at, one_at, two_at, one_rise, two_rise}
 use Rattle.foreign_keys.specs.inner.ReferenceLemmas.{is_goal_of, goal_is, referrer}

@@ -10,9 +10,9 @@ use Rattle.op_law.specs.Identifiers.{ids_over}
 use Rattle.op_rows.specs.Cells.{CellWide, CellSound}
 use Rattle.op_rows.specs.inner.CellLemmas.{below_ids}
 use Rattle.row_parts.specs.RowCells.{Cell, or_else, id_or, value_or, by_test, by_option}
-use Rattle.foreign_keys.specs.Parts.{FkParts, FkWell}
+use Rattle.foreign_keys.specs.KeyParts.{FkParts, FkWell}
 use Rattle.foreign_keys.specs.References.{goal_of, at_goal}
-use Rattle.foreign_keys.specs.Drawn.{numbered, place}
+use Rattle.foreign_keys.specs.DrawnIds.{numbered, place}
 use Rattle.op_tables.specs.Lookups.{sound_at, wide_at, two_at, two_rise, wide_table, sound_table}
 use Rattle.op_law.proofs.SoundLaws.{below_more, value_more, rows_more}
 use Rattle.foreign_keys.specs.inner.DrawnLemmas.{place_under, numbered_from, distinct, has_needed, numbered_rise, drawn_none, drawn_wide, drawn_sound}

@@ -8,8 +8,8 @@ use Rattle.phrases.proofs.StepsLaws.{chain_ends, chain_full, chain_spent, chain_
 use Rattle.bidel_expr.specs.Literals.{close_of}
 use Rattle.bidel_expr.specs.Operators.{op_of}
 use Rattle.bidel_expr.specs.Expressions.{comp_item, comp_tail, expr_item, level_item, neg_item, unary_item, sum_item, primary_item, atom_item, operand_item}
-use Rattle.bidel_expr.specs.Answers.{ahead}
-use Rattle.bidel_expr.specs.inner.Parts.{part_of}
+use Rattle.bidel_expr.specs.ReadAnswers.{ahead}
+use Rattle.bidel_expr.specs.inner.ExpressionParts.{part_of}
 use Rattle.bidel_expr.proofs.CursorsLaws.{ahead_length, fails_through, gives_through}
 use Rattle.bidel_expr.proofs.ExpressionSteps.{made, further_of, tail_of, level_is, neg_zero, neg_other, neg_goes, comp_is, tail_compares, compare_spent, unary_other, unary_number, unary_spent, unary_minus, closing, closed_by, primary_atom, primary_spent, primary_open}
 use Rattle.bidel_expr.proofs.expressions.+expression.Goals as goal

@@ -3,7 +3,7 @@ use Rattle.expr_lang.specs.Terms.{text_term, Binary}
 use Rattle.phrases.specs.Chains.{joined}
 use Rattle.bidel_expr.specs.Operators.{op_of}
 use Rattle.bidel_expr.specs.Expressions.{operand_item, primary_item}
-use Rattle.bidel_expr.specs.Answers.{ahead}
+use Rattle.bidel_expr.specs.ReadAnswers.{ahead}
 use Rattle.bidel_expr.specs.declared.levels.Level.{Level}
 use Rattle.bidel_expr.specs.declared.levels.Level.TheVariants.{Disjunction, Conjunction, Sum, Product}
 use Rattle.bidel_expr.proofs.expressions.+expression.Given as goal

@@ -2,7 +2,7 @@ use Rattle.std.proofs.Common.{◌∙◌, ap, sym}
 use Rattle.std.proofs.lemmas.Result.{err_from_is_err_and}
 use Rattle.expr_lang.specs.Terms.{text_term}
 use Rattle.bidel_expr.specs.Expressions.{null_test_at}
-use Rattle.bidel_expr.specs.Answers.{ahead}
+use Rattle.bidel_expr.specs.ReadAnswers.{ahead}
 use Rattle.bidel_expr.proofs.CursorsLaws.{ahead_length, fails_through}
 use Rattle.bidel_expr.proofs.ExpressionSteps.{tail_ends, tail_tests, test_spent, tested_by}
 use Rattle.bidel_expr.proofs.expressions.tested.Goals as goal

@@ -4,7 +4,7 @@ use Rattle.std.proofs.lemmas.Result.{err_from_is_err_and}
 use Rattle.phrases.specs.Reading.{with_front}
 use Rattle.phrases.proofs.StepsLaws.{rest_turns, rest_full, rest_ends, rest_goes, rest_stops}
 use Rattle.bidel_expr.specs.Literals.{comma_of}
-use Rattle.bidel_expr.specs.Answers.{ahead}
+use Rattle.bidel_expr.specs.ReadAnswers.{ahead}
 use Rattle.bidel_expr.proofs.CursorsLaws.{ahead_length, fails_through}
 use Rattle.bidel_expr.proofs.lists.further_items.Goals as goal
 use Rattle.bidel_expr.proofs.lists.further_items.Goals.{else-loop-turn-test, then-loop-turn-test+in-Some+in_ok-item+in_ok-push-2+else-turn-turn-end}

@@ -2,7 +2,7 @@ use Rattle.std.proofs.Common.{◌≡◌, ◌∷◌, [], ◌+◌, ◌-◌, length
 use Rattle.phrases.specs.Reading.{is, rest_at, behind_at, with_front}
 use Rattle.phrases.proofs.StepsLaws.{rest_turns}
 use Rattle.bidel_expr.specs.Literals.{comma_of}
-use Rattle.bidel_expr.specs.Answers.{ahead}
+use Rattle.bidel_expr.specs.ReadAnswers.{ahead}
 use Rattle.bidel_expr.proofs.lists.further_items.Given as goal
 
 abbrev pub invariant-loop-turn : goal.invariant-loop-turn

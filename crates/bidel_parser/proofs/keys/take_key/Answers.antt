@@ -1,5 +1,5 @@
 use Rattle.phrases.specs.Reading.{and_then, done}
-use Rattle.bidel_expr.specs.Answers.{ahead}
+use Rattle.bidel_expr.specs.ReadAnswers.{ahead}
 use Rattle.bidel_expr.specs.Expressions.{expression_at}
 use Rattle.bidel_parser.specs.Words.{choice_of}
 use Rattle.statements.specs.Views.{key_view, Condition}

@@ -1,5 +1,5 @@
 use Rattle.std.proofs.Common.{sym, ◌∙◌, arith}
-use Rattle.bidel_expr.specs.Answers.{ahead}
+use Rattle.bidel_expr.specs.ReadAnswers.{ahead}
 use Rattle.bidel_expr.proofs.CursorsLaws.{ahead_length}
 use Rattle.bidel_parser.proofs.ReadSteps.{alone_begins, pair_begins}
 use Rattle.bidel_parser.proofs.operator_list.operator_begins.Goals as goal

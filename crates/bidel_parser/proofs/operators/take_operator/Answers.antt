@@ -1,5 +1,5 @@
 use Rattle.phrases.specs.Reading.{one_at}
-use Rattle.bidel_expr.specs.Answers.{ahead}
+use Rattle.bidel_expr.specs.ReadAnswers.{ahead}
 use Rattle.bidel_parser.specs.Words.{choice_of}
 use Rattle.statements.specs.Views.{op_view}
 use Rattle.bidel_parser.specs.Operators.{operator_words, operator_rest_at, operator_at}

@@ -6,7 +6,7 @@ use Rattle.version_graph.specs.declared.parts.Step.{Step}
 use Rattle.version_model.specs.Calls.{crossing_of}
 use Rattle.version_model.specs.Kept.{rows_now}
 use Rattle.storage_law.specs.Storage.{stored_way}
-use Rattle.db_state.specs.Fields.{state_of}
+use Rattle.db_state.specs.Fields.{state_for}
 use Rattle.db_state.specs.inner.Passes.{Settles}
 use Rattle.db_state.proofs.CrossLemmas.{far_long, has_aux, has_memory, may_read, near_kept, near_within, none_kept, same_crossing, settles, some_kept}
 use Rattle.db_state.proofs.read.cross.Goals as goal
@@ -70,7 +70,7 @@ returns g c other crosses tells =
     let near = near_kept c.stored.result.now p.stored c.as_slice.result.now c.args.made.now c.in_ok-near.near q.near c.in_ok-near.ensures c.stored.ensures c.as_slice.ensures in
     let aux = some_kept c.in-Some-value_of.aux.now c.aux.result.now p.aux c.args.step.operator c.in-Some-value_of.ensures c.aux.ensures in
     let memory = some_kept c.in-Some-value_of-2.memory.now c.memories.result.now p.memories c.args.step.operator c.in-Some-value_of-2.ensures c.memories.ensures in
-    subst (λ (x : Crossing _). Settles (state_of g.O.Operator.meaning p).tables x.far (rows_now p.stored c.args.made.now) (rows_now p.stored c.put_side.new.made)) same
+    subst (λ (x : Crossing _). Settles (state_for g.O.Operator.meaning p).tables x.far (rows_now p.stored c.args.made.now) (rows_now p.stored c.put_side.new.made)) same
     (settles g.O.Operator.meaning g.met.O.Operator.laws p c.graph.ensures.kept e c.requires.lives q over (rows_now p.stored c.args.made.now) c.requires.near
     c.in_ok-near.near c.args.step.operator (ap (λ (s : Step). s.operator) c.requires.tells) c.in-Some-value_of.aux.now c.in-Some-value_of-2.memory.now
     near aux memory

@@ -5,7 +5,7 @@ use Rattle.layout_rules.proofs.DownLaws.{below}
 use Rattle.version_model.specs.Kept.{rows_now}
 use Rattle.version_model.specs.Making.{ascending}
 use Rattle.version_model.proofs.AscendingLaws.{length_ascending}
-use Rattle.db_state.specs.Fields.{state_of}
+use Rattle.db_state.specs.Fields.{state_for}
 use Rattle.db_state.specs.inner.Passes.{IsDownTo}
 use Rattle.db_state.proofs.PlaceLemmas.{down_end, down_start, goes_down, may_down}
 use Rattle.db_state.proofs.read.pass_down.Goals as goal
@@ -24,7 +24,7 @@ pass_at-requires g c =
     let p = c.args.db.now in
     let kept = c.graph.ensures.kept in
     let l = c.loop-left in
-    let s = state_of g.O.Operator.meaning p in
+    let s = state_for g.O.Operator.meaning p in
     let some = c.loop-left-test.true in
     let one : l.left - 1 + 1 ≡ l.left = omega (arith, some) in
     let down = subst (λ (n : ℕ). IsDownTo (forest p.graph.edges) p.layout.operators c.args.operators.now s.tables (below p.graph.edges n) (rows_now p.stored l.made)) (sym one) l.invariant.so_far in
@@ -35,7 +35,7 @@ loop-left-preserved g c =
     let p = c.args.db.now in
     let kept = c.graph.ensures.kept in
     let l = c.loop-left in
-    let s = state_of g.O.Operator.meaning p in
+    let s = state_for g.O.Operator.meaning p in
     let some = c.loop-left-test.true in
     let one : l.left - 1 + 1 ≡ l.left = omega (arith, some) in
     let down = subst (λ (n : ℕ). IsDownTo (forest p.graph.edges) p.layout.operators c.args.operators.now s.tables (below p.graph.edges n) (rows_now p.stored l.made)) (sym one) l.invariant.so_far in

@@ -1,5 +1,5 @@
 use Rattle.std.proofs.Common.{◌≡◌, [], drop}
-use Rattle.foreign_keys.specs.Drawn.{drawn}
+use Rattle.foreign_keys.specs.DrawnIds.{drawn}
 use Rattle.foreign_keys.proofs.drawn.draw_values.Given as goal
 
 abbrev pub invariant-loop-row : goal.invariant-loop-row

@@ -1,6 +1,6 @@
 use Rattle.std.proofs.Common.{◌≡◌, ◌+◌, ◌≤◌, take}
 use Rattle.op_law.specs.Calls.{first_refused}
-use Rattle.foreign_keys.specs.Drawn.{numbered}
+use Rattle.foreign_keys.specs.DrawnIds.{numbered}
 use Rattle.foreign_keys.proofs.drawn.number.Given as goal
 
 abbrev pub invariant-loop-value : goal.invariant-loop-value

@@ -7,7 +7,7 @@ use Rattle.layout_rules.specs.Changes.{dropped_layout}
 use Rattle.version_model.specs.Databases.{dropped_database}
 use Rattle.version_model.specs.declared.numbered.Numbered.{Numbered}
 use Rattle.storage_law.specs.Changes.{GoFromSources}
-use Rattle.db_state.specs.Fields.{IsDatabase, database_of}
+use Rattle.db_state.specs.Fields.{IsDatabase, database_for}
 use Rattle.db_state.specs.declared.parts.Parts.{Parts}
 use Rattle.migration.proofs.CutLemmas.{cut_database, cut_is, cut_kept}
 use Rattle.migration.proofs.dropping.cut.Goals as goal
@@ -39,9 +39,9 @@ returns-clause-database g c =
     (c.from_vec-2.ensures ∙ c.keep_live_tables.ensures ∙ ap (filter (λ (i : Numbered _). is_in i.number (table_numbers (made es)))) c.into_vec-tables.ensures)
     (c.from_vec-3.ensures ∙ c.keep_live_operators.ensures ∙ ap (filter (λ (i : Numbered _). is_in i.number (numbers es))) c.into_vec-auxes.ensures)
     (c.from_vec-4.ensures ∙ c.keep_live_operators-2.ensures ∙ ap (filter (λ (i : Numbered _). is_in i.number (numbers es))) c.into_vec-pairs.ensures) refl in
-    ap (λ (p : Parts _). database_of g.O.Operator.meaning p) (c.put_parts.ensures ∙ sym is)
+    ap (λ (p : Parts _). database_for g.O.Operator.meaning p) (c.put_parts.ensures ∙ sym is)
     ∙ cut_database g.O.Operator.meaning g.met.O.Operator.laws took c.take_parts-graph.ensures.kept name aside
-    ∙ ap (λ (p : Parts _). dropped_database (database_of g.O.Operator.meaning p) name) c.take_parts-graph.ensures.parts
+    ∙ ap (λ (p : Parts _). dropped_database (database_for g.O.Operator.meaning p) name) c.take_parts-graph.ensures.parts
 
 pub returns-clause-layout : goal.returns-clause-layout
 returns-clause-layout g c =

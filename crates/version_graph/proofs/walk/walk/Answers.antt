@@ -2,7 +2,7 @@ use Rattle.std.proofs.Common.{◌≡◌, ℕ, ◌-◌, List, subst, sym, ◌∙�
 use Rattle.std.proofs.lemmas.List.{map-append}
 use Rattle.std.specs.Prelude.{◌==◌, IfOk}
 use Rattle.version_graph.specs.declared.parts.Step.{Step}
-use Rattle.version_graph.specs.Forest.{forest, tree, told, up, rest}
+use Rattle.version_graph.specs.Forest.{forest, tree, step_told, up, rest}
 use Rattle.version_graph.specs.Kept.{edges_of}
 use Rattle.version_graph.proofs.WalkStepLaws.{on_way, in_tree, elsewhere, same_tree, other_tree, walked}
 use Rattle.version_graph.proofs.walk.walk.Goals as goal
@@ -47,4 +47,4 @@ returns g c =
     let none : l.left ≡ 0 = omega arith in
     let done = walked nodes l.left l.at (λ n. tree all n == tree all c.args.set) l.upward.items l.others.items _ _ none l.invariant.upward l.invariant.others in
     let test = λ (n : ℕ). tree all n == tree all c.args.set in
-    subst (λ (r : List Step). IfOk c.joined.result (λ steps. steps ≡ r)) (done ∙ sym (map-append told (up all c.args.set) (rest test all c.args.set))) c.joined.ensures
+    subst (λ (r : List Step). IfOk c.joined.result (λ steps. steps ≡ r)) (done ∙ sym (map-append step_told (up all c.args.set) (rest test all c.args.set))) c.joined.ensures

@@ -3,7 +3,7 @@ use Rattle.version_graph.specs.Forest.{Crossing, crossing}
 use Rattle.op_law.specs.Meaning.{PairState}
 use Rattle.op_law.specs.Premises.{SomeMap}
 use Rattle.version_model.specs.States.{empty_at}
-use Rattle.version_model.specs.Steps.{way, pair_in}
+use Rattle.version_model.specs.Steps.{directed, pair_in}
 use Rattle.version_model.specs.Calls.{crossing_of, made_state}
 use Rattle.version_model.proofs.CarryLaws.{some_is}
 use Rattle.version_model.proofs.evolve.make_at.Goals as goal
@@ -14,5 +14,5 @@ cross-requires-clause-may g c =
     let now = made_state c.args.before c.args.made.now in
     let meaning = g.O.Operator.meaning in
     let same : over ≡ crossing false c.requires.over = some_is over (crossing false c.requires.over) (c.in-Some.ensures c.requires.over c.requires.here) in
-    subst (λ (pair : PairState). SomeMap (way over.backward (meaning over.operator)) (map now.tables over.near) pair now.next) (sym c.in_ok-old.ensures)
-    (subst (λ (p : Crossing _). SomeMap (way p.backward (meaning p.operator)) (map now.tables p.near) (pair_in (empty_at now.next) p) now.next) (sym same) c.requires.may)
+    subst (λ (pair : PairState). SomeMap (directed over.backward (meaning over.operator)) (map now.tables over.near) pair now.next) (sym c.in_ok-old.ensures)
+    (subst (λ (p : Crossing _). SomeMap (directed p.backward (meaning p.operator)) (map now.tables p.near) (pair_in (empty_at now.next) p) now.next) (sym same) c.requires.may)

@@ -1,7 +1,7 @@
 use Rattle.std.proofs.Common.{List, map, ap, ◌∙◌}
 use Rattle.op_law.specs.Calls.{seen}
 use Rattle.row_store.specs.States.{TableState}
-use Rattle.version_model.specs.Steps.{way}
+use Rattle.version_model.specs.Steps.{directed}
 use Rattle.version_model.specs.Kept.{rows_now}
 use Rattle.version_model.specs.Calls.{crossing_of, seen_from}
 use Rattle.version_model.specs.declared.numbered.Numbered.{Numbered}
@@ -13,7 +13,7 @@ use Rattle.version_model.proofs.progress.cross.Goals as goal
 pub put_side-requires : goal.put_side-requires
 put_side-requires g c =
     let over = c.args.over.now in
-    let m = way over.backward (g.O.Operator.meaning over.operator.now) in
+    let m = directed over.backward (g.O.Operator.meaning over.operator.now) in
     let laws = way_laws over.backward (g.O.Operator.meaning over.operator.now) (g.met.O.Operator.laws over.operator.now) in
     let kept = c.args.before.tables.now in
     let now = map (rows_now kept c.args.made.now.tables) over.near.now in
@@ -33,7 +33,7 @@ returns-clause-crosses g c =
 pub returns-clause-has : goal.returns-clause-has
 returns-clause-has g c =
     let over = c.args.over.now in
-    let m = way over.backward (g.O.Operator.meaning over.operator.now) in
+    let m = directed over.backward (g.O.Operator.meaning over.operator.now) in
     let laws = way_laws over.backward (g.O.Operator.meaning over.operator.now) (g.met.O.Operator.laws over.operator.now) in
     let kept = c.args.before.tables.now in
     let now = map (rows_now kept c.args.made.now.tables) over.near.now in

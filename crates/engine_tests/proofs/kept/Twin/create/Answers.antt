@@ -7,7 +7,7 @@ use Rattle.op_any.specs.Checks.{Gives}
 use Rattle.op_kinds.specs.Operators.{any_meaning}
 use Rattle.version_model.specs.Databases.{Evolves}
 use Rattle.version_model.specs.Kept.{database_of}
-use Rattle.engine_state.specs.State.{State}
+use Rattle.engine_state.specs.AnyDatabase.{AnyDatabase}
 use Rattle.engine_versions.specs.Evolve.{created}
 use Rattle.engine_versions.specs.Plans.{IsPlanned}
 use Rattle.engine_tests.specs.Twins.{moved_state}
@@ -54,7 +54,7 @@ returns-clause-twin g c =
     let new : Twin = record { plain = c.evolve.new.self; moved = c.create_version.new.database } in
     let made : created (moved_state c.args.self.now) c.args.name.now from texts ≡ Ok (moved_state new) = subst (λ (n : List ℕ). created (moved_state c.args.self.now) n from texts ≡ Ok (moved_state new)) first c.in_ok-create_version.ensures.gives in
     let evolves : Evolves any_meaning d c.args.name.now from c.in_ok-edges.edges c.evolve.result (database_of new.plain) = subst (λ (n : List ℕ). Evolves any_meaning d n from c.in_ok-edges.edges c.evolve.result (database_of new.plain)) second c.evolve.ensures in
-    let gives : Gives (λ _. database_of new.plain) c.evolve.result (created (moved_state c.args.self.now) c.args.name.now from texts) = subst (λ (s : State). Gives (λ _. database_of new.plain) c.evolve.result (created s c.args.name.now from texts)) c.requires.twin (planned.gives c.evolve.result (database_of new.plain) evolves) in
+    let gives : Gives (λ _. database_of new.plain) c.evolve.result (created (moved_state c.args.self.now) c.args.name.now from texts) = subst (λ (s : AnyDatabase). Gives (λ _. database_of new.plain) c.evolve.result (created s c.args.name.now from texts)) c.requires.twin (planned.gives c.evolve.result (database_of new.plain) evolves) in
     stays_created (created (moved_state c.args.self.now) c.args.name.now from texts) c.args.self.now new c.evolve.result made gives
 
 pub returns-clause-gives : goal.returns-clause-gives
@@ -69,5 +69,5 @@ returns-clause-gives g c =
     let new : Twin = record { plain = c.evolve.new.self; moved = c.create_version.new.database } in
     let made : created (moved_state c.args.self.now) c.args.name.now from texts ≡ Ok (moved_state new) = subst (λ (n : List ℕ). created (moved_state c.args.self.now) n from texts ≡ Ok (moved_state new)) first c.in_ok-create_version.ensures.gives in
     let evolves : Evolves any_meaning d c.args.name.now from c.in_ok-edges.edges c.evolve.result (database_of new.plain) = subst (λ (n : List ℕ). Evolves any_meaning d n from c.in_ok-edges.edges c.evolve.result (database_of new.plain)) second c.evolve.ensures in
-    let gives : Gives (λ _. database_of new.plain) c.evolve.result (created (moved_state c.args.self.now) c.args.name.now from texts) = subst (λ (s : State). Gives (λ _. database_of new.plain) c.evolve.result (created s c.args.name.now from texts)) c.requires.twin (planned.gives c.evolve.result (database_of new.plain) evolves) in
+    let gives : Gives (λ _. database_of new.plain) c.evolve.result (created (moved_state c.args.self.now) c.args.name.now from texts) = subst (λ (s : AnyDatabase). Gives (λ _. database_of new.plain) c.evolve.result (created s c.args.name.now from texts)) c.requires.twin (planned.gives c.evolve.result (database_of new.plain) evolves) in
     gives_created (created (moved_state c.args.self.now) c.args.name.now from texts) new c.evolve.result made gives

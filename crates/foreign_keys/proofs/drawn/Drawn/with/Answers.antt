@@ -1,6 +1,6 @@
 use Rattle.std.proofs.Common.{◌≡◌, false, sym, ◌∙◌, subst, ℕ}
 use Rattle.row_map.specs.RowNumbers.{IsWithRow}
-use Rattle.foreign_keys.specs.Drawn.{has}
+use Rattle.foreign_keys.specs.DrawnIds.{has}
 use Rattle.foreign_keys.proofs.DrawLemmas.{add_new, add_there, placed_next}
 use Rattle.foreign_keys.proofs.drawn.Drawn.with.Goals as goal
 

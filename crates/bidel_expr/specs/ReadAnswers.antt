@@ -19,9 +19,9 @@ Fails Memory read = ⊤
 Fails (Left left) read = (rest : List Lexeme) × (read ≡ Err rest) × (left ≡ length rest)
 
 -- a value, seen in this way, and the place behind it: what is read from here
-abbrev pub Gives : {X Y : Type 0} → (X → Y) → (List Lexeme → Read Lexeme Y) → Cursor → Result (X × Cursor) ReadError → Type 0
-Gives view p cursor (Ok x) = p (ahead cursor) ≡ Ok (view x.0, ahead x.1)
-Gives view p cursor (Err e) = Fails e (p (ahead cursor))
+abbrev pub ReadsAs : {X Y : Type 0} → (X → Y) → (List Lexeme → Read Lexeme Y) → Cursor → Result (X × Cursor) ReadError → Type 0
+ReadsAs view p cursor (Ok x) = p (ahead cursor) ≡ Ok (view x.0, ahead x.1)
+ReadsAs view p cursor (Err e) = Fails e (p (ahead cursor))
 
 -- the place behind what is read from here
 abbrev pub Passes : (List Lexeme → Read Lexeme (Unit {0})) → Cursor → Result Cursor ReadError → Type 0

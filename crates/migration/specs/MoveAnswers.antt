@@ -14,7 +14,7 @@ use Rattle.layout_rules.specs.Closed.{closing}
 use Rattle.layout_rules.specs.Closing.{Closes}
 use Rattle.version_model.specs.Databases.{dropped_database}
 use Rattle.storage_law.specs.Changes.{GoFromSources}
-use Rattle.db_state.specs.Fields.{database_of}
+use Rattle.db_state.specs.Fields.{database_for}
 use Rattle.db_state.specs.declared.parts.Parts.{Parts}
 use Rattle.migration.specs.declared.moved.Moved.{Moved}
 use Rattle.migration.specs.Sides.{flip_count}
@@ -44,6 +44,6 @@ PreparesDrop meaning old name (Err Memory) = ⊤
 -- the version was dropped, or there is none of this name; then nothing changes
 abbrev pub Drops : {O : Type 0} → (O → Meaning) → Parts O → List ℕ → Result (Unit {0}) (Fault Refusal) → Parts O → Type 0
 Drops meaning old name (Ok done) new =
-    IsSome (set_named old.graph.versions name) × (database_of meaning new ≡ dropped_database (database_of meaning old) name) × (new.layout.operators ≡ dropped_layout old.graph name old.layout.operators)
+    IsSome (set_named old.graph.versions name) × (database_for meaning new ≡ dropped_database (database_for meaning old) name) × (new.layout.operators ≡ dropped_layout old.graph name old.layout.operators)
 Drops meaning old name (Err (Refused r)) new = (set_named old.graph.versions name ≡ None) × (r ≡ UnknownVersion name) × (new ≡ old)
 Drops meaning old name (Err Memory) new = new ≡ old

@@ -2,5 +2,5 @@
 use Rattle.op_kinds.specs.Operators.{AnyView}
 use Rattle.version_model.specs.Kept.{Database}
 
-abbrev pub State : Type 0
-State = Database AnyView
+abbrev pub AnyDatabase : Type 0
+AnyDatabase = Database AnyView
