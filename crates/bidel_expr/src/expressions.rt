@@ -123,7 +123,8 @@ fn further<'a>(
     cursor: Cursor<'a>,
     depth: u32,
 ) -> Result<(Part, Cursor<'a>), ReadError>
-    ensures gives { GivesPart (further_item level (text_term first.tree) (primary_item depth)) first.limits cursor.entry result }
+    ensures gives { GivesPart (further_item level (text_term first.tree)
+        (primary_item depth)) first.limits cursor.entry result }
 {
     let mut tree = first.tree;
     let mut limits = first.limits;
@@ -217,7 +218,8 @@ fn compared<'a>(
     cursor: Cursor<'a>,
     depth: u32,
 ) -> Result<(Part, Cursor<'a>), ReadError>
-    ensures gives { GivesPart (comp_tail (sum_item (primary_item depth)) (text_term first.tree)) first.limits cursor.entry result }
+    ensures gives { GivesPart (comp_tail (sum_item (primary_item depth))
+        (text_term first.tree)) first.limits cursor.entry result }
 {
     let Some((op, rest)) = next_comparison(cursor) else {
         return tested(alloc, first, cursor);
@@ -247,7 +249,8 @@ fn tested<'a>(
     cursor: Cursor<'a>,
 ) -> Result<(Part, Cursor<'a>), ReadError>
     requires { starts (is compare_of) (ahead cursor) ≡ false }
-    ensures { (sum : Item Lexeme Tree) → GivesPart (comp_tail sum (text_term first.tree)) first.limits cursor.entry result }
+    ensures { (sum : Item Lexeme Tree) → GivesPart (comp_tail sum
+        (text_term first.tree)) first.limits cursor.entry result }
 {
     let Some(rest) = next_keyword(cursor, "is") else {
         return Ok((first, cursor));

@@ -61,7 +61,8 @@ pub fn is_keyword_next(cursor: Cursor<'_>, word: &str) -> bool
 
 /// Whether two reserved words come next.
 pub fn are_keywords_next(cursor: Cursor<'_>, first: &str, second: &str) -> bool
-    ensures { result ≡ starts_both (is (keyword first.now)) (is (keyword second.now)) (ahead cursor.entry) }
+    ensures { result ≡ starts_both (is (keyword first.now)) (is (keyword second.now))
+        (ahead cursor.entry) }
 {
     match next_keyword(cursor, first) {
         Some(rest) => is_keyword_next(rest, second),

@@ -1,6 +1,7 @@
 -- Tests on bytes, and the first byte of a token.
 use Rattle.std.proofs.Common.{◌≡◌, ◌⊎◌, inl, inr, ◌-◌, ◌<◌, ◌≤◌, ◌||◌, ◌&&◌, ℕ, Bool, true, false, cond, nat_le, nat_lt, refl, arith}
 use Rattle.std.specs.Char.{digit_value}
+use Rattle.std.proofs.lemmas.Bool.{and_parts}
 use Rattle.bidel_lex.specs.declared.unfinished.Unfinished.TheVariants.{Word, Number}
 use Rattle.bidel_lex.specs.declared.next.First.TheVariants.{Space, Alone, Opens}
 use Rattle.bidel_lex.specs.Classes.{is_between, is_digit, is_lone_symbol, is_space, is_word_start}
@@ -22,10 +23,6 @@ digit_test b h = grind arith
 pub or_cases : (p q : Bool) → (p || q) ≡ true → (p ≡ true) ⊎ (q ≡ true)
 or_cases true q h = inl refl
 or_cases false q h = inr h
-
-pub and_both : (p q : Bool) → (p && q) ≡ true → (p ≡ true) × (q ≡ true)
-and_both true q h = (refl, h)
-and_both false q h = absurd cc
 
 pub or_none : (p q : Bool) → (p || q) ≡ false → (p ≡ false) × (q ≡ false)
 or_none true q h = absurd cc

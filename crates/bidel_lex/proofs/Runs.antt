@@ -4,6 +4,7 @@ use Rattle.std.specs.List.{AllPass}
 use Rattle.std.specs.Char.{digit_value}
 use Rattle.std.specs.Str.Parse.{AllDigits, digits_value_after}
 use Rattle.std.proofs.lemmas.List.Elements.{All-head, All-tail}
+use Rattle.std.proofs.lemmas.Bool.{and_parts}
 use Rattle.bidel_lex.specs.declared.tokens.TokenKind.{TokenKind}
 use Rattle.bidel_lex.specs.declared.tokens.TokenKind.TheVariants as kind
 use Rattle.bidel_lex.specs.declared.unfinished.Unfinished.{Unfinished}
@@ -16,7 +17,7 @@ use Rattle.bidel_lex.specs.Words.{number_with, reference_with}
 use Rattle.bidel_lex.specs.Spelled.{CanFollow, goes_on, is_closed, IsReference, is_symbol, IsNumber, IsWord}
 use Rattle.bidel_lex.specs.Next.{after_turn, first_of, first_turn, found, kind_of, lexed_at, over_as, step_of, step_turn, turn_at}
 use Rattle.bidel_lex.proofs.Held.{digit_is, same_byte}
-use Rattle.bidel_lex.proofs.ByteTests.{and_both, digit_first, digit_test, le_test, lone_first, lt_test, or_cases, word_first}
+use Rattle.bidel_lex.proofs.ByteTests.{digit_first, digit_test, le_test, lone_first, lt_test, or_cases, word_first}
 
 -- an unfinished token becomes another by these bytes
 abbrev pub Runs : Unfinished → List ℕ → Unfinished → Type 0
@@ -239,10 +240,10 @@ one_symbol_reads a h =
 two_symbol_reads : (a b : ℕ) → is_symbol (a ∷ b ∷ []) ≡ true → Reads kind.Symbol (a ∷ b ∷ [])
 two_symbol_reads a b h =
     elim (or_cases ((a == 60 && (b == 61 || b == 62)) || (a == 62 && b == 61)) (a == 124 && b == 124) h) [
-      | inr e ↦ (let p : (a == 124 ≡ true) × (b == 124 ≡ true) = and_both (a == 124) (b == 124) e in bar_two_reads a b (same_byte a 124 p.0) p.1)
+      | inr e ↦ (let p : (a == 124 ≡ true) × (b == 124 ≡ true) = and_parts (a == 124) (b == 124) e in bar_two_reads a b (same_byte a 124 p.0) p.1)
       | inl h ↦ elim (or_cases (a == 60 && (b == 61 || b == 62)) (a == 62 && b == 61) h) [
-        | inr e ↦ (let p : (a == 62 ≡ true) × (b == 61 ≡ true) = and_both (a == 62) (b == 61) e in greater_two_reads a b (same_byte a 62 p.0) p.1)
-        | inl e ↦ (let p : (a == 60 ≡ true) × ((b == 61 || b == 62) ≡ true) = and_both (a == 60) (b == 61 || b == 62) e in less_two_reads a b (same_byte a 60 p.0) p.1)
+        | inr e ↦ (let p : (a == 62 ≡ true) × (b == 61 ≡ true) = and_parts (a == 62) (b == 61) e in greater_two_reads a b (same_byte a 62 p.0) p.1)
+        | inl e ↦ (let p : (a == 60 ≡ true) × ((b == 61 || b == 62) ≡ true) = and_parts (a == 60) (b == 61 || b == 62) e in less_two_reads a b (same_byte a 60 p.0) p.1)
       ]
     ]
 

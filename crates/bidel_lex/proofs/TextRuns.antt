@@ -2,7 +2,7 @@
 use Rattle.std.proofs.Common.{◌≡◌, ◌⊎◌, inl, inr, ◌+◌, ◌/◌, ◌<◌, ◌≤◌, ◌==◌, ℕ, true, false, List, [], ◌∷◌, ◌++◌, cond, refl, sym, ap, ◌∙◌, subst, arith}
 use lib.Utf8.{encode, encodes, next, scalar, scalars, scalar_cases}
 use Rattle.std.specs.Str.{IsUtf8}
-use Rattle.std.proofs.lemmas.Bool.{cases_lt}
+use Rattle.std.proofs.lemmas.Bool.{and_parts, cases_lt}
 use Rattle.std.proofs.lemmas.Str.{encode_ascii}
 use Rattle.bidel_lex.specs.declared.texts.Wanted.{Wanted}
 use Rattle.bidel_lex.specs.declared.texts.Wanted.TheVariants.{Character, Last, LastTwo, LastThree, AfterE0, AfterED, AfterF0, AfterF4}
@@ -16,7 +16,7 @@ use Rattle.bidel_lex.specs.Next.{first_of, kind_of, step_of}
 use Rattle.bidel_lex.proofs.Characters.{doubled-append, doubled_one, doubled_quote, IsIn, is_four, is_three, is_two, plain_more, plain_nil}
 use Rattle.bidel_lex.proofs.Held.{same_byte}
 use Rattle.bidel_lex.proofs.Runs.{closes, opened_reads, Reads, run_append, run_nil, Runs, step_runs}
-use Rattle.bidel_lex.proofs.ByteTests.{and_both, between_test}
+use Rattle.bidel_lex.proofs.ByteTests.{between_test}
 
 -- the first byte of a character
 lead_ascii : (a : ℕ) → a ≤ 127 → a == 39 ≡ false → lead_step a ≡ step.Longer (Text Character)
@@ -186,7 +186,7 @@ char_run c s =
 body_run : (cs : List ℕ) → scalars cs ≡ true → CharRun (encodes cs)
 body_run [] s = subst (λ (l : List ℕ). Runs (Text Character) l (Text Character)) (sym plain_nil) (run_nil (Text Character))
 body_run (c ∷ cs) s =
-    let b : (scalar c ≡ true) × (scalars cs ≡ true) = and_both (scalar c) (scalars cs) s in
+    let b : (scalar c ≡ true) × (scalars cs ≡ true) = and_parts (scalar c) (scalars cs) s in
     subst (λ (l : List ℕ). Runs (Text Character) l (Text Character)) (sym (doubled-append (encode c) (encodes cs)))
     (run_append (Text Character) (Text Character) (Text Character) (doubled (encode c)) (doubled (encodes cs)) (char_run c b.0) (body_run cs b.1))
 

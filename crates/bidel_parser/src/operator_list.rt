@@ -51,7 +51,8 @@ fn further_operators<'a>(
     cursor: Cursor<'a>,
     ended: bool,
 ) -> Result<(List<OpText>, Cursor<'a>), ReadError>
-    ensures { ReadsAs (map op_view) (further_operators_at ended (op_view first)) cursor.entry result }
+    ensures { ReadsAs (map op_view) (further_operators_at ended
+        (op_view first)) cursor.entry result }
 {
     let mut operators = List::new(alloc);
     operators.push(first)?;

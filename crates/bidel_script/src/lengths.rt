@@ -83,7 +83,8 @@ fn known_from(bytes: &[u8], tail: Tail, tokens: &[Token], start: usize) -> usize
     requires tokens { AreTokens bytes.now tokens.now }
     requires fits { Fits bytes.now tail }
     requires start { start ≤ length bytes.now }
-    ensures { (at : ℕ) → at ≤ length tokens.now → start ≡ start_of (length bytes.now) (drop at tokens.now)
+    ensures { (at : ℕ) → at ≤ length tokens.now → start ≡ start_of (length bytes.now)
+        (drop at tokens.now)
         → result ≡ known_end bytes.now tail tokens.now at }
 {
     let _tokens = tokens;
@@ -155,7 +156,8 @@ pub fn is_long_fault(bytes: &[u8], tail: Tail, tokens: &[Token], start: usize) -
     requires tokens { AreTokens bytes.now tokens.now }
     requires fits { Fits bytes.now tail }
     requires start { start ≤ length bytes.now }
-    ensures { (at : ℕ) → at ≤ length tokens.now → start ≡ start_of (length bytes.now) (drop at tokens.now)
+    ensures { (at : ℕ) → at ≤ length tokens.now → start ≡ start_of (length bytes.now)
+        (drop at tokens.now)
         → result ≡ is_long_fault bytes.now tail tokens.now at }
 {
     is_long(begin(tail, tokens), known_from(bytes, tail, tokens, start))

@@ -3,7 +3,7 @@ use Rattle.std.proofs.Common.{◌≡◌, ℕ, ◌-◌, ◌<◌, ◌≤◌, get_o
 use Rattle.std.specs.Prelude.{◌==◌, ◌&&◌, ◌||◌, filter}
 use Rattle.std.specs.List.{list_all}
 use Rattle.std.specs.Str.{bytes_eq}
-use Rattle.std.proofs.lemmas.Bool.{eqb-true}
+use Rattle.std.proofs.lemmas.Bool.{and_parts, eqb-true}
 use Rattle.std.proofs.lemmas.List.{take_all}
 use Rattle.std.proofs.lemmas.Slice.Eq.{bytes_eq-Decides}
 use Rattle.version_graph.specs.Sets.{Apart, Distinct, Each, In}
@@ -52,13 +52,9 @@ none_left : {X : Type 0} (xs : List X) → (length xs == 0) ≡ true → xs ≡ 
 none_left [] e = refl
 none_left (x ∷ xs) e = absurd (let h = eqb-true (length (x ∷ xs)) 0 e in omega arith)
 
-both : (a b : Bool) → (a && b) ≡ true → (a ≡ true) × (b ≡ true)
-both true b e = (refl, e)
-both false b e = cc
-
 bare_one : {O : Type 0} (set : List Heading) (e : Edge O) → is_bare e ≡ true → FitsSet set e
 bare_one set e bare =
-    let h = both (length e.sources == 0) (length e.targets == 0) bare in
+    let h = and_parts (length e.sources == 0) (length e.targets == 0) bare in
     let s = none_left e.sources h.0 in
     let t = none_left e.targets h.1 in
     fits_of set e
@@ -71,7 +67,7 @@ bare_one set e bare =
 pub bare_fit : {O : Type 0} (set : List Heading) (edges : List (Edge O)) → list_all is_bare edges ≡ true → FitInOrder set edges
 bare_fit set [] e = tt
 bare_fit set (f ∷ edges) e =
-    let h = both (is_bare f) (list_all is_bare edges) e in
+    let h = and_parts (is_bare f) (list_all is_bare edges) e in
     (bare_one set f h.0, bare_fit (headings_after set f) edges h.1)
 
 pub no_columns : (h : Heading) → h.columns ≡ [] → IsHeading h

@@ -28,13 +28,17 @@ fn evolve_parts<O: Operator + Drop, L: Ledger>(
     steps: &mut Steps<L>,
 ) -> Result<(), Fault<Refusal>>
     requires kept { IsDatabase O.meaning parts.old }
-    requires sources { AreSources parts.old.graph (state_for O.meaning parts.old) (option_copied from) edges sources.now }
+    requires sources { AreSources parts.old.graph (state_for O.meaning parts.old)
+        (option_copied from) edges sources.now }
     requires some { 0 < length edges }
-    requires may { MayEvolveTo O.meaning (database_for O.meaning parts.old) (option_copied from) edges }
+    requires may { MayEvolveTo O.meaning (database_for O.meaning parts.old)
+        (option_copied from) edges }
     ensures kept { IsDatabase O.meaning parts.new }
-    ensures evolves { Evolves O.meaning (database_for O.meaning parts.old) name (option_copied from.entry) edges
+    ensures evolves { Evolves O.meaning (database_for O.meaning parts.old) name
+        (option_copied from.entry) edges
         result (database_for O.meaning parts.new) }
-    ensures layout { OnOk result (parts.new.layout.operators ≡ evolved_layout parts.old.graph edges parts.old.layout.operators) }
+    ensures layout { OnOk result (parts.new.layout.operators
+        ≡ evolved_layout parts.old.graph edges parts.old.layout.operators) }
     ensures same { OnErr result (parts.new.layout ≡ parts.old.layout) }
 {
     let operators = parts.graph.live_operators();
@@ -68,10 +72,13 @@ pub fn evolve_db<O: Operator + Drop, L: Ledger>(
     steps: &mut Steps<L>,
 ) -> Result<(), Fault<Refusal>>
     requires some { 0 < length edges }
-    requires may { MayEvolveTo O.meaning (database_for O.meaning db.old) (option_copied from) edges }
-    ensures evolves { Evolves O.meaning (database_for O.meaning db.old) name (option_copied from.entry) edges
+    requires may { MayEvolveTo O.meaning (database_for O.meaning db.old)
+        (option_copied from) edges }
+    ensures evolves { Evolves O.meaning (database_for O.meaning db.old) name
+        (option_copied from.entry) edges
         result (database_for O.meaning db.new) }
-    ensures layout { OnOk result (db.new.layout.operators ≡ evolved_layout db.old.graph edges db.old.layout.operators) }
+    ensures layout { OnOk result (db.new.layout.operators
+        ≡ evolved_layout db.old.graph edges db.old.layout.operators) }
     ensures same { OnErr result (db.new.layout ≡ db.old.layout) }
 {
     let sources = read_sources(alloc, db, from, edges.as_slice(), steps)?;

@@ -34,7 +34,8 @@ pub fn push_all(numbers: &mut List<u32>, more: &[u32]) -> Result<(), Memory>
 }
 
 fn push_edge<O>(edge: Option<&Placed<O>>, fresh: &mut Fresh) -> Result<(), Memory>
-    ensures { OnOk result (AddsEdges (option_to_list (option_copied edge.entry)) fresh.old fresh.new) }
+    ensures { OnOk result (AddsEdges (option_to_list (option_copied edge.entry)) fresh.old
+        fresh.new) }
 {
     let Some(placed) = edge else {
         return Ok(());
@@ -49,7 +50,8 @@ fn push_edge<O>(edge: Option<&Placed<O>>, fresh: &mut Fresh) -> Result<(), Memor
 
 /// The operators from a place on, by ascending number.
 pub fn fresh_from<O>(alloc: Global, graph: &Graph<O>, first: usize) -> Result<Fresh, Memory>
-    ensures adds { IfOk result (AddsEdges (newer_edges graph.now.edges first) (record { operators = []; creates = []; tables = [] })) }
+    ensures adds { IfOk result (AddsEdges (newer_edges graph.now.edges first)
+        (record { operators = []; creates = []; tables = [] })) }
     ensures graph { IsGraph graph.now }
 {
     let mut fresh = Fresh {

@@ -59,7 +59,8 @@ fn push_source<O: Operator, L: Ledger>(
     steps: &mut Steps<L>,
 ) -> Result<(), Memory>
     requires { In table (table_numbers (made_lem db.now.graph.edges)) }
-    ensures { OnOk result (ReadsMore (state_for O.meaning db.now) (is_source_lem db.now.graph.edges edges.now) table read.old read.new) }
+    ensures { OnOk result (ReadsMore (state_for O.meaning db.now)
+        (is_source_lem db.now.graph.edges edges.now) table read.old read.new) }
 {
     if is_source(db.graph(), edges, table) {
         let value = read_table(alloc, db, table, steps)?;
@@ -79,7 +80,8 @@ fn read_named<O: Operator, L: Ledger>(
     steps: &mut Steps<L>,
 ) -> Result<List<Numbered<Table>>, Memory>
     requires { Each (λ t. In t (table_numbers (made_lem db.now.graph.edges))) tables.now }
-    ensures { IfOk result (AreRead (state_for O.meaning db.now) (filter (is_source_lem db.now.graph.edges edges.now) tables.now)) }
+    ensures { IfOk result (AreRead (state_for O.meaning db.now)
+        (filter (is_source_lem db.now.graph.edges edges.now) tables.now)) }
 {
     let mut read = List::new(alloc);
     for table in tables {
@@ -97,7 +99,8 @@ pub fn read_sources<O: Operator, L: Ledger>(
     edges: &[Edge<O>],
     steps: &mut Steps<L>,
 ) -> Result<List<Numbered<Table>>, Memory>
-    ensures { IfOk result (AreSources db.now.graph (state_for O.meaning db.now) (option_copied from.entry) edges.now) }
+    ensures { IfOk result (AreSources db.now.graph (state_for O.meaning db.now)
+        (option_copied from.entry) edges.now) }
 {
     let Some(name) = from else {
         return Ok(List::new(alloc));

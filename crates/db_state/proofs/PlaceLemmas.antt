@@ -1,7 +1,7 @@
 -- One operator of a pass, by its place.
 use Rattle.std.specs.Prelude.{◌<◌, ◌≤◌, slice_get}
 use Rattle.std.proofs.Common.{◌≡◌, ℕ, ◌+◌, List, [], ◌∷◌, ◌++◌, Bool, true, false, not, cond, drop, length, take, Option, Some, None, refl, sym, ap, ◌∙◌, subst, arith}
-use Rattle.std.proofs.lemmas.Bool.{cond-false, cond-true, false≢true}
+use Rattle.std.proofs.lemmas.Bool.{and_from, and_parts, cond-false, cond-true, false≢true}
 use Rattle.std.proofs.lemmas.List.{reverse-append, reverse-reverse, take-append-drop}
 use mathlib.Core.List.{reverse}
 use Rattle.row_store.specs.Rows.{Rows}
@@ -13,8 +13,8 @@ use Rattle.version_graph.proofs.SetLaws.{in_of_test, is_in_true}
 use Rattle.version_graph.proofs.WalkLaws.{is_forest}
 use Rattle.layout_rules.specs.declared.layout.Layout.{Layout}
 use Rattle.layout_rules.proofs.DownLaws.{Beside, below, below_all, below_next, below_past, beside, link_listed}
-use Rattle.layout_rules.proofs.LookupLaws.{and_true, not_off, not_on}
-use Rattle.layout_rules.proofs.NeededLaws.{both_true}
+use Rattle.layout_rules.proofs.LookupLaws.{not_off, not_on}
+
 use Rattle.op_law.specs.Meaning.{Meaning}
 use Rattle.row_store.specs.States.{TableState}
 use Rattle.version_model.specs.Kept.{rows_now}
@@ -65,7 +65,7 @@ module _ {O : Type 0} (es : List (Placed O)) (edges : AreEdges es) (layout ns : 
   -- the pass down may go over the next operator
   pub may_down : (i : ℕ) (rows : ℕ → Rows) → IsDownTo (forest es) layout ns tables (below es (i + 1)) rows → MayGo true i rows
   may_down i rows down f here passed t j =
-      let tests = both_true (is_in f.number ns) (is_in f.number layout) passed in
+      let tests = and_parts (is_in f.number ns) (is_in f.number layout) passed in
       near_down (forest es) (is_forest es edges) layout ns covers tables (newer (i + 1)) f (below es i) (split_at i f here) rows (subst (λ (l : List (Link O)). IsDownTo (forest es) layout ns tables l rows) (next i f here) down)
       (listed i f here) (in_of_test f.number layout tests.1) (in_of_test f.number ns tests.0) t j
 
@@ -75,12 +75,12 @@ module _ {O : Type 0} (es : List (Placed O)) (edges : AreEdges es) (layout ns : 
       let got = stands_at (ascending es) i within in
       let f = got.0 in
       down_step (forest es) (is_forest es edges) layout ns covers tables f (below es i) rows new (cond (is_passed layout ns true f.number) f.sources []) (listed i f got.1) (subst (λ (l : List (Link O)). IsDownTo (forest es) layout ns tables l rows) (next i f got.1) down)
-      (goes f got.1) (λ has mine. cond-true (is_passed layout ns true f.number) f.sources [] (and_true (is_in f.number ns) (is_in f.number layout) (is_in_true f.number ns mine) (is_in_true f.number layout has)))
+      (goes f got.1) (λ has mine. cond-true (is_passed layout ns true f.number) f.sources [] (and_from (is_in f.number ns) (is_in f.number layout) (is_in_true f.number ns mine) (is_in_true f.number layout has)))
 
   -- the pass up may go over the next operator
   pub may_up : (i : ℕ) (rows : ℕ → Rows) → IsUpTo (forest es) layout ns tables (below es i) rows → MayGo false i rows
   may_up i rows up f here passed t j =
-      let tests = both_true (is_in f.number ns) (not (is_in f.number layout)) passed in
+      let tests = and_parts (is_in f.number ns) (not (is_in f.number layout)) passed in
       near_up (forest es) (is_forest es edges) layout ns covers tables (newer (i + 1)) f (below es i) (split_at i f here) rows up (listed i f here) (λ has. not_off (is_in f.number layout) tests.1 (is_in_true f.number layout has)) (in_of_test f.number ns tests.0) t j
 
   -- and then more are behind
@@ -90,7 +90,7 @@ module _ {O : Type 0} (es : List (Placed O)) (edges : AreEdges es) (layout ns : 
       let f = got.0 in
       subst (λ (l : List (Link O)). IsUpTo (forest es) layout ns tables l new) (sym (next i f got.1))
       (up_step (forest es) (is_forest es edges) layout ns covers tables f (below es i) rows new (cond (is_passed layout ns false f.number) f.targets []) up (goes f got.1)
-      (λ off mine. cond-true (is_passed layout ns false f.number) f.targets [] (and_true (is_in f.number ns) (not (is_in f.number layout)) (is_in_true f.number ns mine) (not_on (is_in f.number layout) (λ is. off (in_of_test f.number layout is))))))
+      (λ off mine. cond-true (is_passed layout ns false f.number) f.targets [] (and_from (is_in f.number ns) (not (is_in f.number layout)) (is_in_true f.number ns mine) (not_on (is_in f.number layout) (λ is. off (in_of_test f.number layout is))))))
 
 -- ---- what the call at a place supposes and ensures
 
@@ -142,7 +142,7 @@ module _ {O : Type 0} (meaning : O → Meaning) (p : Parts O) (is : IsDatabase m
         let f = l.0 in
         let mine : test f.number ≡ true = subst (λ (n : ℕ). test n ≡ true) l.2 passed in
         let has = is_in f.number p.layout.operators in
-        let back : has ≡ pass.backward = stored_side has pass.backward (both_true (is_in f.number pass.operators.now) (cond pass.backward has (not has)) mine).1 in
+        let back : has ≡ pass.backward = stored_side has pass.backward (and_parts (is_in f.number pass.operators.now) (cond pass.backward has (not has)) mine).1 in
         let at = link_listed p.graph.edges i f (sym l.1) in
         record {
           over = f;

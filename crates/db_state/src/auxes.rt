@@ -72,9 +72,11 @@ fn aux_over<O: Operator, L: Ledger>(
     pair: &Pair,
     steps: &mut Steps<L>,
 ) -> Result<Aux, Memory>
-    requires { SomePair (directed backward (O.meaning operator.now)) (seen_from backward (seen pair.now)) }
+    requires { SomePair (directed backward (O.meaning operator.now))
+        (seen_from backward (seen pair.now)) }
     ensures { IfOk result (λ aux. tables_of aux
-        ≡ (directed backward (O.meaning operator.now)).aux_at_source (seen_from backward (seen pair.now))) }
+        ≡ (directed backward (O.meaning operator.now)).aux_at_source
+            (seen_from backward (seen pair.now))) }
 {
     if backward {
         operator.aux_at_target(alloc, pair, steps)
@@ -94,7 +96,8 @@ fn aux_in<O: Operator, L: Ledger>(
 ) -> Result<Aux, Memory>
     requires edges { AreEdges graph.now.edges }
     requires related { IsRelatedAt O.meaning graph.now.edges (made_state before made.now) number }
-    ensures { IfOk result (λ aux. IsAuxOf O.meaning graph.now.edges layout.now.operators (made_state before.entry made.now) number (tables_of aux)) }
+    ensures { IfOk result (λ aux. IsAuxOf O.meaning graph.now.edges layout.now.operators
+        (made_state before.entry made.now) number (tables_of aux)) }
 {
     let Some(over) = stored_way(graph, layout, number) else {
         unreachable!()
@@ -114,8 +117,10 @@ pub fn auxes_in<O: Operator, L: Ledger>(
     operators: &[u32],
     steps: &mut Steps<L>,
 ) -> Result<List<Numbered<Aux>>, Memory>
-    requires { Each (IsRelatedAt O.meaning graph.now.edges (made_state before made.now)) operators.now }
-    ensures { IfOk result (AreAuxesOf O.meaning graph.now.edges layout.now.operators (made_state before.entry made.now) operators.now) }
+    requires { Each (IsRelatedAt O.meaning graph.now.edges
+        (made_state before made.now)) operators.now }
+    ensures { IfOk result (AreAuxesOf O.meaning graph.now.edges layout.now.operators
+        (made_state before.entry made.now) operators.now) }
 {
     // What this call promises of the graph is what each look-up needs.
     let _live = graph.live_operators();

@@ -101,7 +101,8 @@ impl<O: Operator> Db<O> {
     /// table before it.
     pub fn stored_table(&self, table: u32) -> Option<&Table>
         ensures table { option_copied result ≡ value_of_lem self.now.stored table }
-        ensures rows { IfSome result (λ stored. stored.now.rows ≡ (state_for O.meaning self.now).tables table) }
+        ensures rows { IfSome result (λ stored. stored.now.rows
+            ≡ (state_for O.meaning self.now).tables table) }
     {
         value_of(self.stored.as_slice(), table)
     }

@@ -41,8 +41,10 @@ fn read_far<O: Operator, L: Ledger>(
     memory: &PairMemory,
     steps: &mut Steps<L>,
 ) -> Result<Side, Memory>
-    requires { SomeStored (directed over.now.backward (O.meaning over.now.operator.now)) near.now (tables_of aux.now) memory.now.entries }
-    ensures { IfOk result (λ side. side ≡ (directed over.now.backward (O.meaning over.now.operator.now)).read_target
+    requires { SomeStored (directed over.now.backward (O.meaning over.now.operator.now)) near.now
+        (tables_of aux.now) memory.now.entries }
+    ensures { IfOk result (λ side. side ≡ (directed over.now.backward
+        (O.meaning over.now.operator.now)).read_target
         near.now (tables_of aux.now) memory.now.entries) }
 {
     if over.backward {
@@ -78,7 +80,8 @@ fn cross<O: Operator, L: Ledger>(
 }
 
 fn is_passed(layout: &[u32], pass: Pass<'_>, number: u32) -> bool
-    ensures { result ≡ is_passed_lem layout.now pass.entry.operators.now pass.entry.backward number }
+    ensures { result ≡ is_passed_lem layout.now pass.entry.operators.now pass.entry.backward number
+        }
 {
     let is_stored = if pass.backward {
         holds(layout, number)
@@ -141,7 +144,8 @@ fn pass_up<O: Operator, L: Ledger>(
     made: &mut List<Numbered<Table>>,
     steps: &mut Steps<L>,
 ) -> Result<(), Memory>
-    requires covers { CoversItself (forest db.now.graph.edges) db.now.layout.operators operators.now }
+    requires covers { CoversItself (forest db.now.graph.edges) db.now.layout.operators operators.now
+        }
     requires down { IsDown O.meaning db.now operators.now made.old }
     ensures { OnOk result (AreRead O.meaning db.now operators.now made.new) }
 {

@@ -85,7 +85,8 @@ impl Engine {
             (state_of self.new) }
         ensures same { OnErr result (state_of self.new ≡ state_of self.old) }
         ensures reply { IfOk result IsReply }
-        ensures ordinary { (p : Planned) → planned_write (data_of self.old) (statement_view statement) ≡ Ok p
+        ensures ordinary { (p : Planned) → planned_write (data_of self.old)
+            (statement_view statement) ≡ Ok p
             → OnOk result (IsOrdinary (data_of self.old) p (data_of self.new)) }
     {
         let _session = session;
@@ -109,7 +110,8 @@ impl Engine {
     /// brings back state and layout, brings back every stored table, auxiliary table and memory. It
     /// does nothing: its contract is the law.
     pub fn storage_comes_back(&self, other: &Engine)
-        ensures { state_of self.now ≡ state_of other.now → SameStored (storage_in self.now) (storage_in other.now) }
+        ensures { state_of self.now ≡ state_of other.now
+            → SameStored (storage_in self.now) (storage_in other.now) }
     {
         states_are_stored_once::<AnyOp>();
         let _graph = self.database.graph();
@@ -129,7 +131,8 @@ impl Engine {
             (state_of self.new) }
         ensures same { OnErr result (state_of self.new ≡ state_of self.old) }
         ensures reply { IfOk result IsReply }
-        ensures ordinary { (p : Planned) → planned_write (data_of self.old) (statement_view statement.now) ≡ Ok p
+        ensures ordinary { (p : Planned) → planned_write (data_of self.old)
+            (statement_view statement.now) ≡ Ok p
             → OnOk result (IsOrdinary (data_of self.old) p (data_of self.new)) }
     {
         // That the layout stays where the graph does rests on it.
@@ -166,12 +169,14 @@ impl Engine {
     ) -> Result<Reply, Fault<Refusal>>
         requires texts { TextsWithin text_limit (statement_view statement.now) }
         requires built { is_built_statement (statement_view statement.now) ≡ true }
-        ensures answers { Answers (acted_data (data_of self.old) (statement_view statement.now)) result
+        ensures answers { Answers (acted_data (data_of self.old)
+            (statement_view statement.now)) result
             (data_of self.new) }
         ensures same { OnErr result (data_of self.new ≡ data_of self.old) }
         ensures layout { Follows self.old self.new }
         ensures reply { IfOk result IsReply }
-        ensures ordinary { (p : Planned) → planned_write (data_of self.old) (statement_view statement.now) ≡ Ok p
+        ensures ordinary { (p : Planned) → planned_write (data_of self.old)
+            (statement_view statement.now) ≡ Ok p
             → OnOk result (IsOrdinary (data_of self.old) p (data_of self.new)) }
     {
         // That the layout stays where the graph does rests on it.
@@ -205,9 +210,11 @@ impl Engine {
         operators: &[OpText],
         steps: &mut Steps<L>,
     ) -> Result<Reply, Fault<Refusal>>
-        requires texts { All (OpTexts (λ bytes. length bytes ≤ text_limit)) (map op_view operators.now) }
+        requires texts { All (OpTexts (λ bytes. length bytes ≤ text_limit))
+            (map op_view operators.now) }
         requires built { are_built (map op_view operators.now) ≡ true }
-        ensures answers { Answers ((created (data_of self.old) name.now from.now (map op_view operators.now))
+        ensures answers { Answers ((created (data_of self.old) name.now from.now
+            (map op_view operators.now))
             then λ next. Ok (Reply.Done, next)) result (data_of self.new) }
         ensures same { OnErr result (data_of self.new ≡ data_of self.old) }
         ensures layout { Follows self.old self.new }
@@ -240,7 +247,8 @@ impl Engine {
         ensures same { OnErr result (data_of self.new ≡ data_of self.old) }
         ensures layout { Follows self.old self.new }
         ensures reply { IfOk result IsReply }
-        ensures ordinary { (p : Planned) → planned_write (data_of self.old) (statement_view statement.now) ≡ Ok p
+        ensures ordinary { (p : Planned) → planned_write (data_of self.old)
+            (statement_view statement.now) ≡ Ok p
             → OnOk result (IsOrdinary (data_of self.old) p (data_of self.new)) }
     {
         // That the layout stays where the graph does rests on it.
@@ -292,12 +300,14 @@ impl Engine {
         steps: &mut Steps<L>,
     ) -> Result<Reply, Fault<Refusal>>
         requires { TakesWrite self.old plan }
-        ensures answers { Answers (wrote (data_of self.old) (planned_view self.old.graph.edges plan)) result
+        ensures answers { Answers (wrote (data_of self.old)
+            (planned_view self.old.graph.edges plan)) result
             (data_of self.new) }
         ensures same { OnErr result (data_of self.new ≡ data_of self.old) }
         ensures layout { Follows self.old self.new }
         ensures reply { IsReply plan.reply → IfOk result IsReply }
-        ensures ordinary { OnOk result (IsOrdinary (data_of self.old) (planned_view self.old.graph.edges plan)
+        ensures ordinary { OnOk result (IsOrdinary (data_of self.old)
+            (planned_view self.old.graph.edges plan)
             (data_of self.new)) }
     {
         // What follows in the other versions rests on it.

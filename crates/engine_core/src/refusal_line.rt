@@ -103,7 +103,8 @@ fn too_many_columns(alloc: Global, table: &Name, limit: u64) -> Result<Text, Mem
 
 #[tactic(auto, unfolding(crate::specs::Texts::refusal_bytes))]
 fn columns_differ(alloc: Global, first: &Name, second: &Name) -> Result<Text, Memory>
-    ensures { IfOk result (λ text. text ≡ refusal_bytes (Refusal.ColumnsDiffer first.now second.now)) }
+    ensures { IfOk result (λ text. text ≡ refusal_bytes (Refusal.ColumnsDiffer first.now
+        second.now)) }
 {
     let text = format!(in alloc;
         "refused 15 columns differ {} {}\n",

@@ -67,7 +67,8 @@ fn rows_text(alloc: Global, header: &[Name], rows: &[Row]) -> Result<Text, Memor
 
 // Adds the line of a header.
 fn push_header(text: &mut String, names: &[Name]) -> Result<(), Memory>
-    ensures { OnOk result (string_bytes text.new ≡ string_bytes text.old ++ line (header_text names.now)) }
+    ensures { OnOk result (string_bytes text.new ≡ string_bytes text.old ++ line
+        (header_text names.now)) }
 {
     match names {
         [] => {
@@ -96,7 +97,8 @@ fn push_more_names(text: &mut String, names: &[Name]) -> Result<(), Memory>
 
 // Adds the line of a row.
 fn push_row(alloc: Global, text: &mut String, row: &[Value]) -> Result<(), Memory>
-    ensures { OnOk result (string_bytes text.new ≡ string_bytes text.old ++ line (row_text row.now)) }
+    ensures { OnOk result (string_bytes text.new ≡ string_bytes text.old ++ line
+        (row_text row.now)) }
 {
     match row {
         [] => {
@@ -113,7 +115,8 @@ fn push_row(alloc: Global, text: &mut String, row: &[Value]) -> Result<(), Memor
 // Adds the literal text of each value with a `|` before it, and the line feed.
 fn push_more_values(alloc: Global, text: &mut String, values: &[Value]) -> Result<(), Memory>
     ensures { OnOk result (string_bytes text.new
-        ≡ string_bytes text.old ++ line (flat_map (λ value. codes "|" ++ literal_of value) values.now)) }
+        ≡ string_bytes text.old ++ line (flat_map (λ value.
+            codes "|" ++ literal_of value) values.now)) }
 {
     for value in values {
         text.push('|')?;
@@ -158,7 +161,8 @@ fn push_tables(text: &mut String, tables: &[StoredTable]) -> Result<(), Memory>
 }
 
 fn push_table(text: &mut String, table: &StoredTable) -> Result<(), Memory>
-    ensures { OnOk result (string_bytes text.new ≡ string_bytes text.old ++ line (table_text table.now)) }
+    ensures { OnOk result (string_bytes text.new ≡ string_bytes text.old ++ line
+        (table_text table.now)) }
 {
     let number = table.number;
     let rows = table.rows;
@@ -169,7 +173,8 @@ fn push_table(text: &mut String, table: &StoredTable) -> Result<(), Memory>
 // Adds the line of each operator.
 fn push_operators(text: &mut String, operators: &[StoredOperator]) -> Result<(), Memory>
     ensures { OnOk result (string_bytes text.new
-        ≡ string_bytes text.old ++ flat_map (λ operator. line (operator_text operator)) operators.now) }
+        ≡ string_bytes text.old ++ flat_map (λ operator.
+            line (operator_text operator)) operators.now) }
 {
     for operator in operators {
         push_operator(text, operator)?;
@@ -184,7 +189,8 @@ fn side_word(on_target: bool) -> &'static str
 }
 
 fn push_operator(text: &mut String, operator: &StoredOperator) -> Result<(), Memory>
-    ensures { OnOk result (string_bytes text.new ≡ string_bytes text.old ++ line (operator_text operator.now)) }
+    ensures { OnOk result (string_bytes text.new ≡ string_bytes text.old ++ line
+        (operator_text operator.now)) }
 {
     let number = operator.number;
     let side = side_word(operator.on_target);

@@ -9,7 +9,8 @@ use par_base::{Fault, IdsSpent, Refusal};
 /// limit.
 pub fn counter_at(ids: &IdCounter, next: u64) -> Result<IdCounter, Fault<Refusal>>
     requires { ids.now.next ≤ next }
-    ensures ok { IfOk result (λ new. (new ≡ record ids.now { next = next }) × (next ≤ first_refused ids.now)) }
+    ensures ok { IfOk result (λ new. (new ≡ record ids.now { next = next })
+        × (next ≤ first_refused ids.now)) }
     ensures err { IfErr result (λ fault. (first_refused ids.now < next)
         × (fault ≡ Fault.Refused (Refusal.IdsSpent (first_refused ids.now) ids.now.limit))) }
 {

@@ -29,7 +29,8 @@ pub fn write_through<L: Ledger>(
         written.set written.table written.rows.rows written.ids.next }
     requires drawn { written.ids.next ≤ first_refused database.old.ids }
     requires limit { written.ids.limit ≡ database.old.ids.limit }
-    ensures writes { Writes any_meaning (database_for any_meaning database.old) written.set written.table written.rows.rows
+    ensures writes { Writes any_meaning (database_for any_meaning database.old) written.set
+        written.table written.rows.rows
         written.ids.next result (database_for any_meaning database.new) }
     ensures layout { database.new.layout ≡ database.old.layout }
 {

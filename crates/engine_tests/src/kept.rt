@@ -56,7 +56,8 @@ impl Twin {
         requires fit { Each TextsFit (map op_view texts.now) }
         ensures twin { Stays result self.old self.new }
         ensures gives { Gives (λ _. moved_state self.new) result
-            (created (moved_state self.old) name.now (option_copied from.entry) (map op_view texts.now)) }
+            (created (moved_state self.old) name.now (option_copied from.entry)
+                (map op_view texts.now)) }
     {
         let next = self.plain.ids().next();
         let edges = plan_edges(alloc, self.plain.graph(), next, name, from, texts)?;
@@ -75,7 +76,8 @@ impl Twin {
     ) -> Result<(), Fault<Refusal>>
         requires twin { IsTwin self.old }
         ensures twin { IsTwin self.new }
-        ensures gives { Gives (λ _. moved_state self.new) result (dropped_version (moved_state self.old) name.now) }
+        ensures gives { Gives (λ _. moved_state self.new) result
+            (dropped_version (moved_state self.old) name.now) }
         ensures same { OnErr result (moved_state self.new ≡ moved_state self.old) }
     {
         drop_version(alloc, &mut self.moved, name, steps)?;
@@ -92,7 +94,8 @@ impl Twin {
     ) -> Result<usize, Fault<Refusal>>
         requires twin { IsTwin self.old }
         ensures twin { IsTwin self.new }
-        ensures moves { Materializes (laid_of self.old.moved) named.now result (laid_of self.new.moved) }
+        ensures moves { Materializes (laid_of self.old.moved) named.now result
+            (laid_of self.new.moved) }
     {
         materialize(alloc, &mut self.moved, named, steps)
     }

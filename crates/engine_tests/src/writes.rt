@@ -18,7 +18,8 @@ use write_propagation::{commit, plan};
 // The counter at a later identifier, where that isn't above the first one that is refused.
 fn counter_at(ids: &IdCounter, next: u64) -> Result<IdCounter, IdsSpent>
     requires { ids.now.next ≤ next }
-    ensures { IfOk result (λ new. (new ≡ record ids.now { next = next }) × (next ≤ first_refused ids.now)) }
+    ensures { IfOk result (λ new. (new ≡ record ids.now { next = next })
+        × (next ≤ first_refused ids.now)) }
 {
     let limit = ids.limit();
     let needed = ids.next().max(limit + 1);

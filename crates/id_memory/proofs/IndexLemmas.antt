@@ -2,14 +2,14 @@
 use Rattle.std.specs.Prelude.{◌&&◌, count_by, IfSome, IfNone, ◌↔◌}
 use Rattle.std.proofs.Common.{◌≡◌, ℕ, ◌+◌, ◌<◌, ◌≤◌, ◌==◌, ◌⊎◌, List, [], ◌∷◌, Bool, true, false, if◌then◌else◌, Option, Some, None, refl, sym, ap, ◌∙◌, subst, arith}
 use Rattle.std.proofs.lemmas.Bool.Decides.{nat_tests}
-use Rattle.std.proofs.lemmas.Bool.{cases_lt}
+use Rattle.std.proofs.lemmas.Bool.{and_from, and_parts, cases_lt}
 use mathlib.Core.Logic.{inl, inr}
 use Rattle.id_memory.specs.Pairs.{Pairs, RiseFrom, IsOneToOne, pair_of, id_of, has_pair}
 use Rattle.id_memory.specs.PairKeys.{SortedFrom, has_key, is_triple}
 use Rattle.id_memory.specs.inner.Calls.{CountsMore, CountsLess}
 use Rattle.id_memory.specs.Indexed.{IsIndexed, by_pair, by_turned_pair}
 use Rattle.id_memory.proofs.EntryLemmas.{eq_self, same_number, entry, none_under}
-use Rattle.id_memory.proofs.KeyLemmas.{count_cons, count_yes, count_no, and_parts}
+use Rattle.id_memory.proofs.KeyLemmas.{count_cons, count_yes, count_no}
 
 none_by : (e : ℕ × ℕ × ℕ) (es : Pairs) (s t : ℕ) (b : Bool) → has_pair s t e ≡ b → count_by (has_pair s t) (e ∷ es) ≡ 0 → (count_by (has_pair s t) es ≡ 0 → id_of es s t ≡ None) → id_of (e ∷ es) s t ≡ None
 none_by e es s t true is none rest = let more = count_yes (has_pair s t) e es is in absurd (omega (arith, more, none))
@@ -38,14 +38,11 @@ fewer : (p q : ℕ × ℕ × ℕ → Bool) (es : Pairs) → ((e : ℕ × ℕ × 
 fewer p q [] passes = omega arith
 fewer p q (e ∷ es) passes = fewer_by p q e es (p e) refl (passes e) (fewer p q es passes)
 
-and_both : (a b : Bool) → a ≡ true → b ≡ true → (a && b) ≡ true
-and_both a b e f = rw (e, f) refl
-
 has_from : (s t p : ℕ) (e : ℕ × ℕ × ℕ) → is_triple s t p (by_pair e) ≡ true → has_pair s t e ≡ true
 has_from s t p e is =
     let parts = and_parts (e.1 == s) (e.2 == t && e.0 == p) is in
     let rest = and_parts (e.2 == t) (e.0 == p) parts.1 in
-    and_both (e.1 == s) (e.2 == t) parts.0 rest.0
+    and_from (e.1 == s) (e.2 == t) parts.0 rest.0
 
 id_from : (s t p : ℕ) (e : ℕ × ℕ × ℕ) → is_triple s t p (by_pair e) ≡ true → e.0 ≡ p
 id_from s t p e is =

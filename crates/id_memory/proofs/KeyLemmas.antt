@@ -4,7 +4,7 @@ use Rattle.std.specs.List.{insert, remove}
 use Rattle.std.specs.List.Sorted.{IsPartitionedBy}
 use Rattle.std.proofs.Common.{◌≡◌, ℕ, zero, suc, leb, ◌+◌, ◌<◌, ◌≤◌, ◌==◌, ◌⊎◌, List, [], ◌∷◌, Bool, true, false, cond, length, get_or, refl, sym, ap, ◌∙◌, arith}
 use Rattle.std.proofs.lemmas.Bool.Decides.{nat_tests}
-use Rattle.std.proofs.lemmas.Bool.{cases_order, cases_lt}
+use Rattle.std.proofs.lemmas.Bool.{and_parts, cases_lt, cases_order}
 use Rattle.std.proofs.lemmas.List.Sums.{sum_by-cons, get_or-le-sum_by}
 use mathlib.Core.Logic.{inl, inr}
 use Rattle.id_memory.specs.PairKeys.{key, SortedFrom, place_of_key, is_under, has_key, is_triple}
@@ -58,10 +58,6 @@ key_is a b x small_x small_b e =
       | inr (inl h) ↦ absurd (omega arith)
       | inr (inr h) ↦ absurd (omega arith)
     ]
-
-pub and_parts : (a b : Bool) → (a && b) ≡ true → (a ≡ true) × (b ≡ true)
-and_parts true b e = (refl, e)
-and_parts false b e = cc
 
 pub key_same : (a b : ℕ) (x : Triple) → has_key a b x ≡ true → (x.0 ≡ a) × (x.1 ≡ b)
 key_same a b x e =

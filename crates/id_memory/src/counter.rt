@@ -21,7 +21,8 @@ impl Model for IdCounter {
 
     ghost view = { λ counter. record { next = counter.next; limit = counter.limit } };
 
-    ghost invariant = { λ counter. (1 ≤ counter.next) × (counter.next ≤ 2 ^ 63) × (counter.limit < 2 ^ 63) };
+    ghost invariant = { λ counter. (1 ≤ counter.next) × (counter.next ≤ 2 ^ 63)
+        × (counter.limit < 2 ^ 63) };
 }
 
 impl IdCounter {
@@ -66,7 +67,8 @@ impl IdCounter {
         ensures ok { IfOk result (λ id. (id ≡ self.old.next) × (id ≤ self.old.limit)) }
         ensures raised { OnOk result (self.new ≡ record self.old { next = self.old.next + 1 }) }
         ensures refused { OnErr result (self.old.limit < self.old.next) }
-        ensures spent { IfErr result (λ spent. spent ≡ record { needed = self.old.next; limit = self.old.limit }) }
+        ensures spent { IfErr result (λ spent. spent ≡ record
+            { needed = self.old.next; limit = self.old.limit }) }
         ensures err { OnErr result (self.new ≡ self.old) }
     {
         let id = self.next;

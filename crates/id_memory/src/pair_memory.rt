@@ -30,10 +30,12 @@ impl Model for PairMemory {
     ghost view = { λ memory. record {
       entries = memory.entries.items;
       room = min (vec_capacity memory.entries - vec_len memory.entries)
-          (min (vec_capacity memory.by_first - vec_len memory.by_first) (vec_capacity memory.by_second - vec_len memory.by_second));
+          (min (vec_capacity memory.by_first - vec_len memory.by_first)
+              (vec_capacity memory.by_second - vec_len memory.by_second));
     } };
 
-    ghost invariant = { λ memory. IsIndexed memory.entries.items memory.by_first.items memory.by_second.items };
+    ghost invariant = { λ memory. IsIndexed memory.entries.items memory.by_first.items
+        memory.by_second.items };
 }
 
 impl PairMemory {
@@ -131,8 +133,10 @@ impl PairMemory {
     /// Takes an identifier out with its pair, where it is there. It takes no memory.
     pub fn remove(&mut self, p: u64)
         ensures without { IsWith self.old.entries p None self.new.entries }
-        ensures len { length self.new.entries + (if is_some (pair_of self.old.entries p) then 1 else 0) ≡ length self.old.entries }
-        ensures room { self.new.room + length self.new.entries ≡ self.old.room + length self.old.entries }
+        ensures len { length self.new.entries + (if is_some
+            (pair_of self.old.entries p) then 1 else 0) ≡ length self.old.entries }
+        ensures room { self.new.room + length self.new.entries
+            ≡ self.old.room + length self.old.entries }
     {
         if let Some((s, t)) = entry_list::find(&self.entries, p) {
             entry_list::leave(&mut self.entries, p, s, t);

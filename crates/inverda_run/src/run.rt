@@ -39,7 +39,8 @@ pub fn run_tokens<K: Sink, L: Ledger>(
 ) -> Ran
     requires tokens { AreTokens bytes.now tokens.now }
     requires fits { Fits bytes.now tail }
-    ensures runs { Runs bytes.now tail tokens.now (K.held out.old) (K.held out.new) (K.faults out.old)
+    ensures runs { Runs bytes.now tail tokens.now (K.held out.old) (K.held out.new)
+        (K.faults out.old)
         (K.faults out.new) result }
     ensures later { K.faults out.old ≤ K.faults out.new }
 {

@@ -45,7 +45,8 @@ pub fn run_script<K: Sink, L: Ledger>(
 
 // Puts a line.
 fn put_line<K: Sink>(stop: Stop, text: &[u8], out: &mut K) -> Ran
-    ensures puts { PutsLine stop text.now (K.held out.old) (K.held out.new) (K.faults out.old) (K.faults out.new) result }
+    ensures puts { PutsLine stop text.now (K.held out.old) (K.held out.new) (K.faults out.old)
+        (K.faults out.new) result }
     ensures later { K.faults out.old ≤ K.faults out.new }
 {
     match write_all(out, text) {
@@ -57,7 +58,8 @@ fn put_line<K: Sink>(stop: Stop, text: &[u8], out: &mut K) -> Ran
 // Puts the last line; `stopped` is the line of what stopped the reading.
 fn put_last<K: Sink>(alloc: Global, bytes: &[u8], stopped: &[u8], stop: Stop, out: &mut K) -> Ran
     requires { AtWithin bytes.now stop }
-    ensures puts { PutsLine stop (last_line bytes.now stopped.now (outcome_of stop)) (K.held out.old) (K.held out.new)
+    ensures puts { PutsLine stop (last_line bytes.now stopped.now (outcome_of stop))
+        (K.held out.old) (K.held out.new)
         (K.faults out.old) (K.faults out.new) result }
     ensures later { K.faults out.old ≤ K.faults out.new }
 {
@@ -85,7 +87,8 @@ pub fn end_script<K: Sink, L: Ledger>(
     requires name { blank.name ≡ L.name }
     requires parts { blank.parts ≡ L.parts }
     requires one { blank.parts ≡ 1 }
-    ensures ends { EndsScript bytes.now ended stopped.now (K.held out.old) (K.held out.new) (K.faults out.old)
+    ensures ends { EndsScript bytes.now ended stopped.now (K.held out.old) (K.held out.new)
+        (K.faults out.old)
         (K.faults out.new) result }
     ensures later { K.faults out.old ≤ K.faults out.new }
 {

@@ -79,7 +79,8 @@ fn end_of(ran: Ran, stopped: End) -> End
 // Reads the script to its end and runs it.
 fn run<S: Source, K: Sink>(alloc: Global, words: &[String], script: &mut S, out: &mut K) -> End
     ensures ends { Ends words.now (S.left script.old) (S.left script.new) (S.faults script.old)
-        (S.faults script.new) (K.held out.old) (K.held out.new) (K.faults out.old) (K.faults out.new)
+        (S.faults script.new) (K.held out.old) (K.held out.new) (K.faults out.old)
+            (K.faults out.new)
         result }
     ensures untouched { words.now ≢ [] → (S.left script.new ≡ S.left script.old)
         × (S.faults script.new ≡ S.faults script.old) }
@@ -135,7 +136,8 @@ pub fn inverda<S: Source, K: Sink, F: Files>(
     // A script is answered as its statements say. Where nothing fails, the bytes decide the status.
     ensures done { result ≡ 0 → (words.now ≡ [])
         × Done (S.left script.old) (S.left script.new) (K.held out.old) (K.held out.new) }
-    ensures answers { result ≡ 0 → AnswersScript (S.left script.old) (K.held out.old) (K.held out.new) }
+    ensures answers { result ≡ 0 → AnswersScript (S.left script.old) (K.held out.old)
+        (K.held out.new) }
     ensures unseen { result ≡ 0
         → MovesUnseen (S.left script.old) (S.left script.new) (K.held out.old) (K.held out.new) }
     ensures complete { words.now ≡ [] → HadScript (S.left script.old)

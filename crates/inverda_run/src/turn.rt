@@ -69,7 +69,8 @@ pub fn take_turn<K: Sink, L: Ledger>(
 ) -> Turn
     requires tokens { AreTokens bytes.now tokens.now }
     requires fits { Fits bytes.now tail }
-    ensures turns { Turns bytes.now tail tokens.now (K.held out.old) (K.held out.new) (K.faults out.old)
+    ensures turns { Turns bytes.now tail tokens.now (K.held out.old) (K.held out.new)
+        (K.faults out.old)
         (K.faults out.new) (state_of engine.old) (state_of engine.new) result }
     ensures later { K.faults out.old ≤ K.faults out.new }
 {

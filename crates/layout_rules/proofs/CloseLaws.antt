@@ -3,7 +3,7 @@ use Rattle.std.specs.Prelude.{◌<◌, ◌≤◌, ◌==◌, ◌&&◌, if◌then�
 use Rattle.std.specs.List.{find, list_all, list_any}
 use Rattle.std.specs.Option.{IsSome}
 use Rattle.std.proofs.Common.{◌≡◌, ℕ, ◌+◌, List, [], ◌∷◌, ◌++◌, Bool, true, false, not, cond, filter, length, take, drop, get_or, inl, inr, refl, sym, ap, ◌∙◌, subst, arith}
-use Rattle.std.proofs.lemmas.Bool.{eq-eqb, false≢true, ne_eqb}
+use Rattle.std.proofs.lemmas.Bool.{and_from, and_parts, eq-eqb, false≢true, ne_eqb}
 use Rattle.std.proofs.lemmas.List.{append_assoc, append-nil, drop_more, reverse-reverse, take-append-drop, take_all, take_more}
 use mathlib.Core.List.{reverse}
 use Rattle.par_base.specs.declared.fault.Fault.{Fault}
@@ -29,8 +29,8 @@ use Rattle.layout_rules.specs.Lookups.{in_trees, is_shared, is_stored, numbers_u
 use Rattle.layout_rules.specs.declared.layout.Layout.{Layout}
 use Rattle.layout_rules.proofs.LinkLaws.{source_made, target_link}
 use Rattle.layout_rules.proofs.ChangeLaws.{filter_in, link_number, number_lives}
-use Rattle.layout_rules.proofs.NeededLaws.{both_true, found_has, found_needed}
-use Rattle.layout_rules.proofs.LookupLaws.{all_at, all_true, and_true, any_at, any_true, not_off, source_link, sources_link, stored_test, stored_told}
+use Rattle.layout_rules.proofs.NeededLaws.{found_has, found_needed}
+use Rattle.layout_rules.proofs.LookupLaws.{all_at, all_true, any_at, any_true, not_off, source_link, sources_link, stored_test, stored_told}
 use Rattle.layout_rules.proofs.PassLaws.{along_both, reverse_next, rises_both, rises_filter, tables_rise, take_next, target_up, up_made}
 
 -- ---- targets in their order
@@ -188,16 +188,16 @@ module _ {O : Type 0} where
     shared_test : (t : ℕ) → IsShared (forest es) trees tables t → is_shared es wanted t ≡ true
     shared_test t s =
         any_true (λ n. takes es t n && list_any (takes_too es t n) wanted) wanted s.0.number (needed_wanted s.0.number s.4)
-        (and_true (takes es t s.0.number) (list_any (takes_too es t s.0.number) wanted) (takes_link t s.0 s.2 s.7)
+        (and_from (takes es t s.0.number) (list_any (takes_too es t s.0.number) wanted) (takes_link t s.0 s.2 s.7)
         (any_true (takes_too es t s.0.number) wanted s.1.number (needed_wanted s.1.number s.5)
-        (and_true (not (s.0.number == s.1.number)) (takes es t s.1.number) (ap not (ne_eqb s.0.number s.1.number s.6)) (takes_link t s.1 s.3 s.8))))
+        (and_from (not (s.0.number == s.1.number)) (takes es t s.1.number) (ap not (ne_eqb s.0.number s.1.number s.6)) (takes_link t s.1 s.3 s.8))))
 
     pub shared_told : (t : ℕ) → is_shared es wanted t ≡ true → IsShared (forest es) trees tables t
     shared_told t h =
         let a = any_at (λ n. takes es t n && list_any (takes_too es t n) wanted) wanted h in
-        let p = both_true (takes es t a.0) (list_any (takes_too es t a.0) wanted) a.2 in
+        let p = and_parts (takes es t a.0) (list_any (takes_too es t a.0) wanted) a.2 in
         let b = any_at (takes_too es t a.0) wanted p.1 in
-        let q = both_true (not (a.0 == b.0)) (takes es t b.0) b.2 in
+        let q = and_parts (not (a.0 == b.0)) (takes es t b.0) b.2 in
         let e = source_link es a.0 t (in_of_test t (sources_or_none es a.0) p.0) in
         let f = source_link es b.0 t (in_of_test t (sources_or_none es b.0) q.1) in (
           e.0,

@@ -3,7 +3,7 @@ use Rattle.std.specs.Prelude.{◌==◌, ◌&&◌, ◌||◌, ◌↔◌, Option, S
 use Rattle.std.specs.List.{find, list_all, list_any}
 use Rattle.std.specs.Option.{option_map_or}
 use Rattle.std.proofs.Common.{◌≡◌, ℕ, List, [], ◌∷◌, Bool, true, false, not, cond, inl, inr, refl, sym, ap, ◌∙◌, subst, arith}
-use Rattle.std.proofs.lemmas.Bool.{cases_eq, cond-false, cond-true, eq-eqb, eqb-true, false≢true, ne_eqb}
+use Rattle.std.proofs.lemmas.Bool.{and_from, and_parts, cases_eq, cond-false, cond-true, eq-eqb, eqb-true, false≢true, ne_eqb}
 use Rattle.std.proofs.lemmas.List.{reverse-reverse}
 use mathlib.Core.List.{reverse}
 use Rattle.version_graph.specs.Sets.{In}
@@ -21,7 +21,7 @@ use Rattle.layout_rules.specs.Passes.{meet}
 use Rattle.layout_rules.specs.Lookups.{clash, clashes, has_makers, is_made, is_stored, is_taken, is_valid, may_miss, may_stand, numbers_up, sources_or_none, takes}
 use Rattle.layout_rules.proofs.LinkLaws.{target_listed}
 use Rattle.layout_rules.proofs.ChangeLaws.{link_number, number_lives}
-use Rattle.layout_rules.proofs.NeededLaws.{both_true, meet_at, meet_true}
+use Rattle.layout_rules.proofs.NeededLaws.{meet_at, meet_true}
 
 -- ---- tests of lists
 
@@ -61,9 +61,6 @@ not_off false h k = false≢true k
 
 pub not_on : (b : Bool) → (b ≡ true → ⊥) → not b ≡ true
 not_on b h = ap not (off b h)
-
-pub and_true : (a b : Bool) → a ≡ true → b ≡ true → (a && b) ≡ true
-and_true a b h k = ap (λ (x : Bool). x && b) h ∙ k
 
 -- ---- sources and makers
 
@@ -129,11 +126,11 @@ module _ {O : Type 0} where
         (f.0, f.1, subst (λ (k : ℕ). In k layout) f.2 a.1, f.3)
 
     pub stored_test : (t : ℕ) → IsStored (forest es) layout t → is_stored es layout t ≡ true
-    stored_test t s = and_true (is_made es layout t) (not (is_taken es layout t)) (made_test t s.made) (not_on (is_taken es layout t) (λ h. s.free (taken_told t h)))
+    stored_test t s = and_from (is_made es layout t) (not (is_taken es layout t)) (made_test t s.made) (not_on (is_taken es layout t) (λ h. s.free (taken_told t h)))
 
     pub stored_told : (t : ℕ) → is_stored es layout t ≡ true → IsStored (forest es) layout t
     stored_told t h =
-        let p = both_true (is_made es layout t) (not (is_taken es layout t)) h in
+        let p = and_parts (is_made es layout t) (not (is_taken es layout t)) h in
         record { made = made_told t p.0; free = λ m. not_off (is_taken es layout t) p.1 (taken_test t m) }
 
     -- ---- valid layouts
@@ -151,7 +148,7 @@ module _ {O : Type 0} where
 
     shared : (n m : ℕ) → clash es n m ≡ true → (e : Link O) × (f : Link O) × In e (forest es) × In f (forest es) × (n ≡ e.number) × (m ≡ f.number) × Share e f × (n ≡ m → ⊥)
     shared n m h =
-        let p = both_true (not (n == m)) (meet (sources_or_none es n) (sources_or_none es m)) h in
+        let p = and_parts (not (n == m)) (meet (sources_or_none es n) (sources_or_none es m)) h in
         let t = meet_at (sources_or_none es n) (sources_or_none es m) p.1 in
         let e = source_link es n t.0 t.1 in
         let f = source_link es m t.0 t.2 in
@@ -159,15 +156,15 @@ module _ {O : Type 0} where
 
     sharing : (e f : Link O) → In e (forest es) → In f (forest es) → Share e f → (e.number ≡ f.number → ⊥) → clash es e.number f.number ≡ true
     sharing e f i j s apart =
-        and_true (not (e.number == f.number)) (meet (sources_or_none es e.number) (sources_or_none es f.number)) (ap not (ne_eqb e.number f.number apart))
+        and_from (not (e.number == f.number)) (meet (sources_or_none es e.number) (sources_or_none es f.number)) (ap not (ne_eqb e.number f.number apart))
         (meet_true s.0 (sources_or_none es e.number) (sources_or_none es f.number)
         (subst (λ (l : List ℕ). In s.0 l) (sym (sources_link es edges e i)) s.1) (subst (λ (l : List ℕ). In s.0 l) (sym (sources_link es edges f j)) s.2))
 
     stands : IsValid (forest es) layout → (n : ℕ) → In n layout → may_stand es layout n ≡ true
     stands valid n i =
         let rest = has_makers es layout n && not (clashes es layout n) in
-        and_true (is_some (edge_of es n)) rest (edge_some n (valid.live n i))
-        (and_true (has_makers es layout n) (not (clashes es layout n))
+        and_from (is_some (edge_of es n)) rest (edge_some n (valid.live n i))
+        (and_from (has_makers es layout n) (not (clashes es layout n))
         (all_true (is_made es layout) (sources_or_none es n) (λ t j.
         let f = source_link es n t j in
         made_test t (valid.makers f.0 f.1 (subst (λ (k : ℕ). In k layout) f.2 i) t f.3)))
@@ -188,7 +185,7 @@ module _ {O : Type 0} where
 
     pub valid_test : IsValid (forest es) layout → is_valid es layout ≡ true
     valid_test valid =
-        and_true (list_all (may_miss es layout) (numbers_up es)) (list_all (may_stand es layout) layout)
+        and_from (list_all (may_miss es layout) (numbers_up es)) (list_all (may_stand es layout) layout)
         (all_true (may_miss es layout) (numbers_up es) (λ n i. none_missing valid n (subst (λ (l : List ℕ). In n l) (reverse-reverse (numbers es)) (in_reverse n (reverse (numbers es)) i))))
         (all_true (may_stand es layout) layout (stands valid))
 
@@ -197,10 +194,10 @@ module _ {O : Type 0} where
 
     pub valid_told : is_valid es layout ≡ true → IsValid (forest es) layout
     valid_told h =
-        let p = both_true (list_all (may_miss es layout) (numbers_up es)) (list_all (may_stand es layout) layout) h in
+        let p = and_parts (list_all (may_miss es layout) (numbers_up es)) (list_all (may_stand es layout) layout) h in
         let stand : (n : ℕ) → In n layout → (is_some (edge_of es n) ≡ true) × (has_makers es layout n ≡ true) × (not (clashes es layout n) ≡ true) = λ n i.
-        (let a = both_true (is_some (edge_of es n)) (has_makers es layout n && not (clashes es layout n)) (all_at (may_stand es layout) layout p.1 n i) in
-        let b = both_true (has_makers es layout n) (not (clashes es layout n)) a.1 in
+        (let a = and_parts (is_some (edge_of es n)) (has_makers es layout n && not (clashes es layout n)) (all_at (may_stand es layout) layout p.1 n i) in
+        let b = and_parts (has_makers es layout n) (not (clashes es layout n)) a.1 in
         (a.0, b.0, b.1)) in
         record {
           live = λ n i. number_lives es n (edge_listed es n (stand n i).0);

@@ -1,7 +1,7 @@
 -- One pass finds what closing needs, and no more.
 use Rattle.std.specs.Prelude.{◌&&◌, ◌||◌, ◌⊎◌}
 use Rattle.std.proofs.Common.{◌≡◌, ℕ, List, [], ◌∷◌, ◌++◌, Bool, true, false, cond, inl, inr, refl, sym, ap, ◌∙◌, subst, arith}
-use Rattle.std.proofs.lemmas.Bool.{cases_eq, cond-true, false≢true}
+use Rattle.std.proofs.lemmas.Bool.{and_parts, cases_eq, cond-true, false≢true}
 use Rattle.version_graph.specs.Sets.{In}
 use Rattle.version_graph.specs.Edges.{is_in}
 use Rattle.version_graph.specs.Forest.{Link, tree}
@@ -33,10 +33,6 @@ empty_is : (xs : List ℕ) → is_empty xs ≡ true → xs ≡ []
 empty_is [] h = refl
 empty_is (x ∷ xs) h = absurd (false≢true h)
 
-pub both_true : (a b : Bool) → (a && b) ≡ true → (a ≡ true) × (b ≡ true)
-both_true true b h = (refl, h)
-both_true false b h = absurd (false≢true h)
-
 pub either_true : (a b : Bool) → (a || b) ≡ true → (a ≡ true) ⊎ (b ≡ true)
 either_true true b h = inl refl
 either_true false b h = inr h
@@ -63,7 +59,7 @@ module _ {O : Type 0} (named : ℕ → Bool) where
       let later : (ts : List ℕ) → In n (needed named es ts) → Lives (x ∷ es) n × (named n ≡ true) = λ ts j. (let l = needed_live es ts n j in ((l.0.0, inr l.0.1, l.0.2), l.1)) in
       (elim (test x tables) as (λ b. test x tables ≡ b → In n (cond b (x.number ∷ needed named es (tables ++ x.sources)) (needed named es tables)) → Lives (x ∷ es) n × (named n ≡ true)) [
         | true ↦ λ is j. elim j as (λ _. Lives (x ∷ es) n × (named n ≡ true)) [
-          | inl same ↦ ((x, inl refl, same), ap named same ∙ (both_true (named x.number) (is_empty x.sources || meet x.targets tables) is).0)
+          | inl same ↦ ((x, inl refl, same), ap named same ∙ (and_parts (named x.number) (is_empty x.sources || meet x.targets tables) is).0)
           | inr k ↦ later (tables ++ x.sources) k
         ]
         | false ↦ λ is j. later tables j
@@ -118,7 +114,7 @@ module _ {O : Type 0} (named : ℕ → Bool) where
   -- what has all this has these
   least_here : (x : Link O) (tables layout : List ℕ) → test x tables ≡ true → (named x.number ≡ true → IsCreate x → In x.number layout) → (named x.number ≡ true → (t : ℕ) → In t x.targets → In t tables → In x.number layout) → In x.number layout
   least_here x tables layout is creates makers =
-      let p = both_true (named x.number) (is_empty x.sources || meet x.targets tables) is in
+      let p = and_parts (named x.number) (is_empty x.sources || meet x.targets tables) is in
       elim (either_true (is_empty x.sources) (meet x.targets tables) p.1) as (λ _. In x.number layout) [
         | inl none ↦ creates p.0 (empty_is x.sources none)
         | inr met ↦ (let m = meet_at x.targets tables met in makers p.0 m.0 m.1 m.2)
@@ -135,7 +131,7 @@ module _ {O : Type 0} (named : ℕ → Bool) where
       (elim (test x tables) as (λ b. test x tables ≡ b → In n (cond b (x.number ∷ needed named es (tables ++ x.sources)) (needed named es tables)) → In n layout) [
         | true ↦ λ is j.
             let here = least_here x tables layout is (creates x (inl refl)) (makers x (inl refl)) in
-            let mine = (both_true (named x.number) (is_empty x.sources || meet x.targets tables) is).0 in
+            let mine = (and_parts (named x.number) (is_empty x.sources || meet x.targets tables) is).0 in
             elim j as (λ _. In n layout) [
               | inl same ↦ subst (λ (k : ℕ). In k layout) (sym same) here
               | inr k ↦ rest (tables ++ x.sources) (λ e l own t a b. elim (in_append t tables x.sources b) as (λ _. In e.number layout) [

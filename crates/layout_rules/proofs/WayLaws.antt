@@ -1,7 +1,7 @@
 -- The two passes of the way to storage reach what they are to reach.
 use Rattle.std.specs.Prelude.{◌&&◌, ◌⊎◌}
 use Rattle.std.proofs.Common.{◌≡◌, ℕ, zero, suc, List, [], ◌∷◌, ◌++◌, Bool, true, false, not, cond, inl, inr, refl, sym, ◌∙◌, subst}
-use Rattle.std.proofs.lemmas.Bool.{cond-true, false≢true}
+use Rattle.std.proofs.lemmas.Bool.{and_from, and_parts, cond-true, false≢true}
 use Rattle.version_graph.specs.Sets.{In, Within}
 use Rattle.version_graph.specs.Edges.{is_in}
 use Rattle.version_graph.specs.Forest.{Link, forest}
@@ -12,8 +12,8 @@ use Rattle.layout_rules.specs.Passes.{meet}
 use Rattle.layout_rules.specs.Ways.{Reads, ReadsFrom}
 use Rattle.layout_rules.specs.inner.Reached.{down_from, up_from}
 use Rattle.layout_rules.proofs.LinkLaws.{maker_in, source_made}
-use Rattle.layout_rules.proofs.NeededLaws.{both_true, meet_at, meet_true}
-use Rattle.layout_rules.proofs.LookupLaws.{and_true, not_off, not_on}
+use Rattle.layout_rules.proofs.NeededLaws.{meet_at, meet_true}
+use Rattle.layout_rules.proofs.LookupLaws.{not_off, not_on}
 
 module _ {O : Type 0} (layout : List ℕ) where
   abbrev ups : Link O → List ℕ → Bool
@@ -52,7 +52,7 @@ module _ {O : Type 0} (layout : List ℕ) where
   up_first x es forest ts t u out a c true is i = up_more es (ts ++ x.sources) u (in_right u ts x.sources c)
   up_first x es forest ts t u out a c false is i =
       elim (up_older es forest.1 ts t i) as (λ _. In u (up_from layout es ts)) [
-        | inl j ↦ absurd (false≢true (sym is ∙ and_true (not (is_in x.number layout)) (meet x.targets ts) (not_on (is_in x.number layout) (λ h. out (in_of_test x.number layout h))) (meet_true t x.targets ts a j)))
+        | inl j ↦ absurd (false≢true (sym is ∙ and_from (not (is_in x.number layout)) (meet x.targets ts) (not_on (is_in x.number layout) (λ h. out (in_of_test x.number layout h))) (meet_true t x.targets ts a j)))
         | inr j ↦ absurd (forest.0.fresh t a j)
       ]
 
@@ -73,7 +73,7 @@ module _ {O : Type 0} (layout : List ℕ) where
       let later = λ (e : Link O) (t u : ℕ) (j : In e es). step e t u (inr j) in
       (elim (ups x ts) as (λ b. ups x ts ≡ b → In t (cond b (up_from layout es (ts ++ x.sources)) (up_from layout es ts)) → P t) [
         | true ↦ λ is. (
-            let p = both_true (not (is_in x.number layout)) (meet x.targets ts) is in
+            let p = and_parts (not (is_in x.number layout)) (meet x.targets ts) is in
             let m = meet_at x.targets ts p.1 in
             up_holds P es later (ts ++ x.sources) (λ u j. elim (in_append u ts x.sources j) as (λ _. P u) [
               | inl k ↦ h u k
@@ -100,7 +100,7 @@ module _ {O : Type 0} (layout : List ℕ) where
       (elim (downs x (down_from layout es ts)) as (λ b. downs x (down_from layout es ts) ≡ b → In t (cond b (down_from layout es ts ++ x.targets) (down_from layout es ts)) → In t ts ⊎ IsMade (x ∷ es) layout t) [
         | true ↦ λ is j. elim (in_append t (down_from layout es ts) x.targets j) as (λ _. In t ts ⊎ IsMade (x ∷ es) layout t) [
           | inl k ↦ older k
-          | inr k ↦ inr (x, inl refl, in_of_test x.number layout (both_true (is_in x.number layout) (meet x.sources (down_from layout es ts)) is).0, k)
+          | inr k ↦ inr (x, inl refl, in_of_test x.number layout (and_parts (is_in x.number layout) (meet x.sources (down_from layout es ts)) is).0, k)
         ]
         | false ↦ λ is j. older j
       ]) refl i
@@ -123,7 +123,7 @@ module _ {O : Type 0} (layout : List ℕ) where
       let mine = subst (λ (y : Link O). In t y.sources) same a in
       elim (down_last x es ts t j) as (λ _. In u (down_from layout (x ∷ es) ts)) [
         | inl k ↦
-            let is = and_true (is_in x.number layout) (meet x.sources (down_from layout es ts)) (is_in_true x.number layout (subst (λ (y : Link O). In y.number layout) same has)) (meet_true t x.sources (down_from layout es ts) mine k) in
+            let is = and_from (is_in x.number layout) (meet x.sources (down_from layout es ts)) (is_in_true x.number layout (subst (λ (y : Link O). In y.number layout) same has)) (meet_true t x.sources (down_from layout es ts) mine k) in
             subst (λ (l : List ℕ). In u l) (sym (cond-true (downs x (down_from layout es ts)) (down_from layout es ts ++ x.targets) (down_from layout es ts) is)) (in_right u (down_from layout es ts) x.targets (subst (λ (y : Link O). In u y.targets) same c))
         | inr k ↦ absurd (targets_apart es x forest.0 t k mine)
       ]
@@ -141,7 +141,7 @@ module _ {O : Type 0} (layout : List ℕ) where
         | true ↦ λ is j. elim (in_append t (down_from layout es ts) x.targets j) as (λ _. P t) [
           | inl k ↦ older t k
           | inr k ↦
-              let p = both_true (is_in x.number layout) (meet x.sources (down_from layout es ts)) is in
+              let p = and_parts (is_in x.number layout) (meet x.sources (down_from layout es ts)) is in
               let m = meet_at x.sources (down_from layout es ts) p.1 in
               step x m.0 t (inl refl) (in_of_test x.number layout p.0) m.1 k (older m.0 m.2)
         ]

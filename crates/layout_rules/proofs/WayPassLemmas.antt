@@ -2,6 +2,7 @@
 use Rattle.std.specs.Prelude.{◌&&◌, ◌||◌, ◌↔◌, if◌then◌else◌, Option, Some, None, option_to_list, slice_get}
 use Rattle.std.proofs.Common.{◌≡◌, ℕ, ◌+◌, ◌-◌, ◌<◌, ◌≤◌, List, [], ◌∷◌, ◌++◌, Bool, true, false, not, cond, map, length, take, inl, inr, refl, sym, ap, ◌∙◌, subst, arith}
 use Rattle.std.proofs.lemmas.List.{append_assoc, append-nil, reverse-reverse, take_all}
+use Rattle.std.proofs.lemmas.Bool.{and_from, and_parts}
 use mathlib.Core.List.{reverse}
 use Rattle.version_graph.specs.Sets.{In}
 use Rattle.version_graph.specs.Edges.{AreEdges, Rises, is_in}
@@ -15,8 +16,8 @@ use Rattle.layout_rules.specs.Passes.{meet}
 use Rattle.layout_rules.specs.Ways.{IsOnWay, ReadsOver}
 use Rattle.layout_rules.specs.Lookups.{sources_or_none}
 use Rattle.layout_rules.specs.inner.Reached.{down_from, down_with, goes_down, goes_up, up_from, up_with, way_along, way_with}
-use Rattle.layout_rules.proofs.NeededLaws.{both_true, either_true, meet_at, meet_true}
-use Rattle.layout_rules.proofs.LookupLaws.{and_true, not_off, not_on, sources_link}
+use Rattle.layout_rules.proofs.NeededLaws.{either_true, meet_at, meet_true}
+use Rattle.layout_rules.proofs.LookupLaws.{not_off, not_on, sources_link}
 use Rattle.layout_rules.proofs.PassLaws.{map_reverse, rises_lower, take_next}
 use Rattle.layout_rules.proofs.DownLaws.{Beside, SameSides, below, below_next, beside, link_listed}
 use Rattle.layout_rules.proofs.CloseLaws.{numbers_rise}
@@ -153,11 +154,11 @@ module _ {O : Type 0} (es : List (Placed O)) (edges : AreEdges es) (layout : Lis
     over_edge e f i same h =
         elim (either_true (goes_up layout found e) (goes_down es layout found e) h) as (λ _. (u : ℕ) × In u found × ReadsOver (forest es) layout u f) [
           | inl a ↦ (
-              let p = both_true (not (is_in e.number layout)) (meet e.tables found) a in
+              let p = and_parts (not (is_in e.number layout)) (meet e.tables found) a in
               let m = meet_at e.tables found p.1 in
               (m.0, m.2, inl (subst (λ (l : List ℕ). In m.0 l) same.2 m.1, (λ has. not_off (is_in e.number layout) p.0 (is_in_true e.number layout (subst (λ (k : ℕ). In k layout) (sym same.0) has))))))
           | inr a ↦ (
-              let p = both_true (is_in e.number layout) (meet (sources_or_none es e.number) found) a in
+              let p = and_parts (is_in e.number layout) (meet (sources_or_none es e.number) found) a in
               let m = meet_at (sources_or_none es e.number) found p.1 in
               let takes = subst (λ (l : List ℕ). In m.0 l) (sources_beside e f i same) m.1 in
               let has = subst (λ (k : ℕ). In k layout) same.0 (in_of_test e.number layout p.0) in
@@ -167,11 +168,11 @@ module _ {O : Type 0} (es : List (Placed O)) (edges : AreEdges es) (layout : Lis
     edge_over : (e : Placed O) (f : Link O) (u : ℕ) → In f (forest es) → SameSides e f → In u found → ReadsOver (forest es) layout u f → goes found e ≡ true
     edge_over e f u i same j (inl up) =
         or_left (goes_up layout found e) (goes_down es layout found e)
-        (and_true (not (is_in e.number layout)) (meet e.tables found) (not_on (is_in e.number layout) (λ h. up.1 (subst (λ (k : ℕ). In k layout) same.0 (in_of_test e.number layout h))))
+        (and_from (not (is_in e.number layout)) (meet e.tables found) (not_on (is_in e.number layout) (λ h. up.1 (subst (λ (k : ℕ). In k layout) same.0 (in_of_test e.number layout h))))
         (meet_true u e.tables found (subst (λ (l : List ℕ). In u l) (sym same.2) up.0) j))
     edge_over e f u i same j (inr down) =
         or_right (goes_up layout found e) (goes_down es layout found e)
-        (and_true (is_in e.number layout) (meet (sources_or_none es e.number) found) (is_in_true e.number layout (subst (λ (k : ℕ). In k layout) (sym same.0) down.2))
+        (and_from (is_in e.number layout) (meet (sources_or_none es e.number) found) (is_in_true e.number layout (subst (λ (k : ℕ). In k layout) (sym same.0) down.2))
         (meet_true u (sources_or_none es e.number) found (subst (λ (l : List ℕ). In u l) (sym (sources_beside e f i same)) down.1) j))
 
     pub way_listed : (n : ℕ) → In n (way_along es layout (reached (forest es) (is_forest es edges) layout valid t) (reverse es)) ↔ IsOnWay (forest es) layout t n

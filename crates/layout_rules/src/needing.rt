@@ -66,7 +66,8 @@ fn add_needed<O>(
     ensures tables { OnOk result (tables.new.items
         ≡ tables_with graph.now.edges trees.now tables.old.items (option_copied placed.entry)) }
     ensures made { OnOk result (made.new.items
-        ≡ needed_with graph.now.edges trees.now tables.old.items made.old.items (option_copied placed.entry)) }
+        ≡ needed_with graph.now.edges trees.now tables.old.items made.old.items
+            (option_copied placed.entry)) }
 {
     let Some(edge) = placed else {
         return Ok(());
@@ -87,7 +88,8 @@ pub fn needed<O>(
     named: Vec<u32>,
 ) -> Result<Vec<u32>, Memory>
     ensures value { IfOk result (λ made. made.items
-        ≡ needed_lem (in_trees_lem graph.now.edges trees.now) (forest graph.now.edges) named.items) }
+        ≡ needed_lem (in_trees_lem graph.now.edges trees.now)
+            (forest graph.now.edges) named.items) }
     ensures edges { AreEdges graph.now.edges }
 {
     let mut left = graph.live_operators();

@@ -62,7 +62,8 @@ fn shared_at<O>(graph: &Graph<O>, wanted: &[u32], place: usize) -> Option<u32>
 }
 
 fn first_shared<O>(graph: &Graph<O>, wanted: &[u32]) -> Option<u32>
-    ensures value { result ≡ find (is_shared_lem graph.now.edges wanted.now) (tables_up graph.now.edges) }
+    ensures value { result ≡ find (is_shared_lem graph.now.edges wanted.now)
+        (tables_up graph.now.edges) }
     ensures edges { AreEdges graph.now.edges }
 {
     for place in 0..graph.live_operators() {

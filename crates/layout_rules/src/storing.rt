@@ -68,7 +68,8 @@ fn push_stored<O>(
     tables: &[u32],
     made: &mut List<u32>,
 ) -> Result<(), Memory>
-    ensures { OnOk result (made.new ≡ made.old ++ filter (is_stored_lem graph.now.edges layout.now) tables.now) }
+    ensures { OnOk result (made.new ≡ made.old ++ filter
+        (is_stored_lem graph.now.edges layout.now) tables.now) }
 {
     for table in tables {
         if is_stored(graph, layout, *table) {

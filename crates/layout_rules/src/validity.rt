@@ -90,7 +90,8 @@ fn may_miss_at<O>(graph: &Graph<O>, layout: &[u32], place: usize) -> bool
 }
 
 fn none_misses<O>(graph: &Graph<O>, layout: &[u32]) -> bool
-    ensures value { result ≡ list_all (may_miss_lem graph.now.edges layout.now) (numbers_up graph.now.edges) }
+    ensures value { result ≡ list_all (may_miss_lem graph.now.edges layout.now)
+        (numbers_up graph.now.edges) }
     ensures edges { AreEdges graph.now.edges }
 {
     for place in 0..graph.live_operators() {

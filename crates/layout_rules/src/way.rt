@@ -67,7 +67,8 @@ fn add_down<O>(
 }
 
 fn reach_up<O>(graph: &Graph<O>, layout: &[u32], tables: &mut Vec<u32>) -> Result<(), Memory>
-    ensures value { OnOk result (tables.new.items ≡ up_from layout.now (forest graph.now.edges) tables.old.items) }
+    ensures value { OnOk result (tables.new.items ≡ up_from layout.now
+        (forest graph.now.edges) tables.old.items) }
     ensures edges { AreEdges graph.now.edges }
 {
     let mut left = graph.live_operators();
@@ -79,7 +80,8 @@ fn reach_up<O>(graph: &Graph<O>, layout: &[u32], tables: &mut Vec<u32>) -> Resul
 }
 
 fn reach_down<O>(graph: &Graph<O>, layout: &[u32], tables: &mut Vec<u32>) -> Result<(), Memory>
-    ensures { OnOk result (tables.new.items ≡ down_from layout.now (forest graph.now.edges) tables.old.items) }
+    ensures { OnOk result (tables.new.items ≡ down_from layout.now
+        (forest graph.now.edges) tables.old.items) }
 {
     for place in 0..graph.live_operators() {
         add_down(graph, layout, graph.edge_at(place), tables)?;

@@ -24,7 +24,8 @@ pub(crate) fn find_table<'a>(
     set: &'a [Heading],
     name: &Name,
 ) -> Result<&'a Heading, Fault<Refusal>>
-    ensures { Gives (λ heading. heading.now) result (known_table name.now (heading_named set.entry.now name.now)) }
+    ensures { Gives (λ heading. heading.now) result (known_table name.now
+        (heading_named set.entry.now name.now)) }
 {
     match find_heading(set, name) {
         Some(heading) => Ok(heading),
@@ -41,7 +42,8 @@ pub(crate) fn check_new_table(
     sources: &[Name],
     name: &Name,
 ) -> Result<(), Fault<Refusal>>
-    ensures { Gives (λ x. x) result (new_table name.now (is_passing_name set.now sources.now name.now)) }
+    ensures { Gives (λ x. x) result (new_table name.now (is_passing_name set.now sources.now
+        name.now)) }
 {
     if is_passing(set, sources, name) {
         return Err(Fault::Refused(Refusal::TableExists {
@@ -60,7 +62,8 @@ pub(crate) fn check_second_table(
     name: &Name,
 ) -> Result<(), Fault<Refusal>>
     ensures { Gives (λ x. x) result
-        (new_table name.now (bytes_eq name.now first.now || is_passing_name set.now sources.now name.now)) }
+        (new_table name.now (bytes_eq name.now first.now || is_passing_name set.now sources.now
+            name.now)) }
 {
     if has_name(name, first) || is_passing(set, sources, name) {
         return Err(Fault::Refused(Refusal::TableExists {
@@ -89,7 +92,8 @@ pub(crate) fn check_other_table(
 /// The place of the first column with this name, or the refusal. It takes one comparison for each
 /// column before it.
 pub fn find_place(alloc: Global, columns: &[Name], name: &Name) -> Result<usize, Fault<Refusal>>
-    ensures gives { Gives (λ place. place) result (known_column name.now (place_of columns.now name.now)) }
+    ensures gives { Gives (λ place. place) result (known_column name.now
+        (place_of columns.now name.now)) }
     ensures within { IfOk result (λ place. place < length columns.now) }
 {
     match find_column(columns, name) {
@@ -142,7 +146,8 @@ pub(crate) fn check_divided(
     first: &[Name],
     second: &[Name],
 ) -> Result<(), Fault<Refusal>>
-    ensures { Gives (λ x. x) result (well_divided (misdivided columns.now (first.now ++ second.now))) }
+    ensures { Gives (λ x. x) result (well_divided (misdivided columns.now
+        (first.now ++ second.now))) }
 {
     refuse_division(alloc, find_misdivided(columns, first, second))
 }

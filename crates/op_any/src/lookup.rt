@@ -71,7 +71,8 @@ fn is_taken(known: &[Name], before: &[Name], name: &Name) -> bool
 /// the number of pairs of names.
 #[tactic(auto, unfolding(crate::specs::NameChecks::repeated))]
 pub(crate) fn find_repeated<'a>(known: &[Name], names: &'a [Name]) -> Option<&'a Name>
-    ensures { option_map (λ name. name.now) result ≡ repeated (row_name ∷ known.now) names.entry.now }
+    ensures { option_map (λ name. name.now) result ≡ repeated
+        (row_name ∷ known.now) names.entry.now }
 {
     for (at, name) in names.iter().enumerate() {
         if is_taken(known, &names[..at], name) {
@@ -103,7 +104,8 @@ pub(crate) fn find_again<'a>(known: &[Name], names: &'a [Name]) -> Option<&'a Na
 
 #[tactic(auto, using(crate::proofs::NameLists::repeated_both))]
 fn find_twice<'a>(first: &'a [Name], second: &'a [Name]) -> Option<&'a Name>
-    ensures { option_map (λ name. name.now) result ≡ repeated [] (first.entry.now ++ second.entry.now) }
+    ensures { option_map (λ name. name.now) result ≡ repeated []
+        (first.entry.now ++ second.entry.now) }
 {
     match find_again(&[], first) {
         Some(name) => Some(name),
@@ -112,7 +114,8 @@ fn find_twice<'a>(first: &'a [Name], second: &'a [Name]) -> Option<&'a Name>
 }
 
 fn find_left_out<'a>(columns: &'a [Name], first: &[Name], second: &[Name]) -> Option<&'a Name>
-    ensures { option_map (λ name. name.now) result ≡ left_out columns.entry.now (first.now ++ second.now) }
+    ensures { option_map (λ name. name.now) result ≡ left_out columns.entry.now
+        (first.now ++ second.now) }
 {
     columns
         .iter()

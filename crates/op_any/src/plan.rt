@@ -115,7 +115,8 @@ fn add_column(
     value: &ExprText,
     table: &Name,
 ) -> Result<Edge<BuiltOp>, Fault<Refusal>>
-    ensures { Gives edge_view result (adding_column set.now next column.now (text_term value.now) table.now) }
+    ensures { Gives edge_view result (adding_column set.now next column.now
+        (text_term value.now) table.now) }
 {
     let source = find_table(alloc, set, table)?;
     let known = source.columns.as_slice();
@@ -141,7 +142,8 @@ fn drop_column(
     table: &Name,
     value: &ExprText,
 ) -> Result<Edge<BuiltOp>, Fault<Refusal>>
-    ensures { Gives edge_view result (dropping_column set.now next column.now table.now (text_term value.now)) }
+    ensures { Gives edge_view result (dropping_column set.now next column.now table.now
+        (text_term value.now)) }
 {
     let source = find_table(alloc, set, table)?;
     let place = find_place(alloc, source.columns.as_slice(), column)?;

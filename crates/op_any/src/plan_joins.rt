@@ -64,7 +64,8 @@ fn find_sources<'a>(
 // So many places from the number of the columns before on.
 #[tactic(auto, unfolding(crate::specs::BuildJoins::places_from))]
 fn places_after(alloc: Global, before: &[Name], columns: &[Name]) -> Result<List<usize>, Memory>
-    ensures { IfOk result (λ places. places ≡ places_from (length before.now) (length columns.now)) }
+    ensures { IfOk result (λ places. places ≡ places_from (length before.now)
+        (length columns.now)) }
 {
     let mut places = List::new(alloc);
     for (at, _column) in columns.iter().enumerate() {
@@ -129,7 +130,8 @@ fn join_on_pk(
     names: &JoinNames,
 ) -> Result<Edge<BuiltOp>, Fault<Refusal>>
     ensures { Gives edge_view result
-        (joining_on_pk set.now outer names.now.first.now names.now.second.now names.now.target.now) }
+        (joining_on_pk set.now outer names.now.first.now names.now.second.now names.now.target.now)
+            }
 {
     let sources = find_sources(alloc, set, names)?;
     let first = sources.first.columns.as_slice();

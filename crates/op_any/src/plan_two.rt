@@ -28,7 +28,8 @@ fn split_in_one(
     table: &Name,
     first: &Branch,
 ) -> Result<Edge<BuiltOp>, Fault<Refusal>>
-    ensures { Gives edge_view result (splitting_in_one set.now next table.now (branch_view first.now)) }
+    ensures { Gives edge_view result (splitting_in_one set.now next table.now
+        (branch_view first.now)) }
 {
     let source = find_table(alloc, set, table)?;
     let columns = source.columns.as_slice();

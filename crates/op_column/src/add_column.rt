@@ -104,7 +104,8 @@ impl AddColumn {
         aux: &Cells,
     ) -> Result<Option<Cells>, Memory>
         requires { NearRows (add_column self.now.place (expr_term self.now.value)) near.now }
-        ensures { IfOk result (λ far. AdmitsRows (add_column self.now.place (expr_term self.now.value)) near.now aux.now far) }
+        ensures { IfOk result (λ far. AdmitsRows (add_column self.now.place
+            (expr_term self.now.value)) near.now aux.now far) }
     {
         if !is_kept_beside(near, aux) {
             return Ok(None);

@@ -25,7 +25,8 @@ fn new_value<L: Ledger>(
     steps: &mut Steps<L>,
 ) -> Result<Value, Memory>
     requires { fits_row (expr_term value.now) (length row.now) ≡ true }
-    ensures ok { IfOk result (λ made. made ≡ added_value place (expr_term value.now) (option_copied old.entry) row.now) }
+    ensures ok { IfOk result (λ made. made ≡ added_value place (expr_term value.now)
+        (option_copied old.entry) row.now) }
     ensures steps { steps.new ≤ steps.old + 1 }
 {
     match old {
@@ -44,7 +45,8 @@ pub(crate) fn with_new<L: Ledger>(
     steps: &mut Steps<L>,
 ) -> Result<Cells, Memory>
     requires { MayAdd place (expr_term value.now) (first_cell near.now) }
-    ensures ok { IfOk result (λ far. far ≡ added place (expr_term value.now) (first_cell near.now) (first_cell old.now) ∷ []) }
+    ensures ok { IfOk result (λ far. far ≡ added place (expr_term value.now) (first_cell near.now)
+        (first_cell old.now) ∷ []) }
     ensures steps { steps.new ≤ steps.old + 1 }
 {
     match first_row(near) {
@@ -75,7 +77,8 @@ pub(crate) fn with_kept(
     aux: &Cells,
 ) -> Result<Cells, Memory>
     requires { TakesPlace place (first_cell source.now) }
-    ensures { IfOk result (λ far. far ≡ restored place (first_cell source.now) (first_cell aux.now) ∷ []) }
+    ensures { IfOk result (λ far. far ≡ restored place (first_cell source.now) (first_cell aux.now)
+        ∷ []) }
 {
     match first_row(source) {
         Some(row) => {

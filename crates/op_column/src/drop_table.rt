@@ -104,7 +104,8 @@ impl DropTable {
         _near: &Cells,
         aux: &Cells,
     ) -> Result<Option<Cells>, Memory>
-        ensures { IfOk result (λ far. AdmitsRows (flip_row (drop_table self.now.width)) _near.now aux.now far) }
+        ensures { IfOk result (λ far. AdmitsRows (flip_row
+            (drop_table self.now.width)) _near.now aux.now far) }
     {
         if !is_one_row(aux, self.width) {
             return Ok(None);

@@ -56,7 +56,8 @@ pub(crate) fn admit_target(
 ) -> Result<Option<Side>, Memory>
     requires { SomeNear (join_on (joining join.now)) source.now }
     ensures { IfOk result (λ target.
-        Admits (join_on (joining join.now)) source.now (tables_of aux.now) memory.now.entries target) }
+        Admits (join_on (joining join.now)) source.now (tables_of aux.now) memory.now.entries
+            target) }
 {
     if aux.tables.len() != 0 {
         return Ok(None);
@@ -89,7 +90,8 @@ fn is_source(alloc: Global, join: &JoinOn, it: &Candidate<'_>) -> Result<bool, M
     ensures second_rise { RiseFrom 0 it.now.t.now.rows }
     ensures answer { IfOk result (λ yes. IsTrue yes ↔
         IsSource (joining join.now) it.now.target.now.rows it.now.memory.now.entries
-        it.now.first_alone.now.rows it.now.second_alone.now.rows it.now.s.now.rows it.now.t.now.rows) }
+        it.now.first_alone.now.rows it.now.second_alone.now.rows it.now.s.now.rows
+            it.now.t.now.rows) }
 {
     let s = it.s.as_slice();
     let t = it.t.as_slice();
@@ -125,7 +127,8 @@ pub(crate) fn admit_source(
 ) -> Result<Option<Side>, Memory>
     requires { SomeNear (flip (join_on (joining join.now))) target.now }
     ensures { IfOk result (λ source.
-        Admits (flip (join_on (joining join.now))) target.now (tables_of aux.now) memory.now.entries source) }
+        Admits (flip (join_on (joining join.now))) target.now
+            (tables_of aux.now) memory.now.entries source) }
 {
     let kept = aux.tables.as_slice();
     if kept.len() != 2 {

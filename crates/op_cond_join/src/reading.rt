@@ -57,7 +57,8 @@ pub(crate) fn read_source(
     memory: &PairMemory,
 ) -> Result<Side, Memory>
     ensures { IfOk result (λ side. side ≡
-        (join_on (joining join.now)).read_source target.now (tables_of aux.now) memory.now.entries) }
+        (join_on (joining join.now)).read_source target.now
+            (tables_of aux.now) memory.now.entries) }
 {
     let none = Table::new(alloc);
     let r = table_in(target, 0, &none);

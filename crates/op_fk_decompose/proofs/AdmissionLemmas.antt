@@ -1,5 +1,6 @@
 -- What is told of a target or a source is what is admitted.
 use Rattle.std.proofs.Common.{◌≡◌, ℕ, ◌+◌, List, [], ◌∷◌, length, Option, Some, None, refl, ap, sym, ◌∙◌, subst}
+use Rattle.std.proofs.lemmas.Bool.{and_from, and_parts}
 use Rattle.row_store.specs.Rows.{Rows, RiseFrom, row_of}
 use Rattle.id_memory.specs.Pairs.{Pairs}
 use Rattle.op_law.specs.Tables.{Tables, Heading, AreTablesOf}
@@ -13,7 +14,7 @@ use Rattle.foreign_keys.specs.KeyParts.{FkParts}
 use Rattle.op_fk_decompose.specs.Decompose.{first_again, get_first, get_second, get_at, leads, decompose_source, decompose_read}
 use Rattle.foreign_keys.specs.Seeking.{goals_in}
 use Rattle.foreign_keys.specs.inner.SeekLemmas.{goals_rise}
-use Rattle.op_tables.specs.Wide.{are_wide, wide_are, are_wide_all, both_parts, both_of}
+use Rattle.op_tables.specs.Wide.{are_wide, wide_are, are_wide_all}
 use Rattle.op_tables.specs.Lookups.{one_wide, two_wide, ids_rise}
 use Rattle.op_fk_decompose.specs.inner.DecomposeBackward.{joined_at, back_wide, back_rise}
 use Rattle.op_fk_decompose.specs.inner.DecomposeLaws.{target_of}
@@ -54,7 +55,7 @@ module _ (first second : List ℕ) (place : ℕ) where
       let fk = fits first second place hs ht f in
       let s = get_first k (first_table near) (first_table aux) in
       let t = get_second k (first_table near) s (second_table aux) (third_table aux) in
-      let wide = both_parts (are_wide z s) (are_wide b t) agrees.1.0 in
+      let wide = and_parts (are_wide z s) (are_wide b t) agrees.1.0 in
       record {
         pair = record {
           fits = f;
@@ -75,7 +76,7 @@ module _ (first second : List ℕ) (place : ℕ) where
       let two = target_of (DecomposeFits first second place) k (length first + length second) (length first) b z (fits first second place) hs ht far h.pair.fits h.pair.target_of in
       let back : decompose_source k far ≡ near = laws.1.recovered ht hs (exchanged p) refl (record { fits = h.pair.fits; related = h.pair.related; source_of = h.pair.target_of; target_of = h.pair.source_of }) in
       subst (λ (x : Tables). Agrees k z b near aux memory x) (sym read)
-      (h.pair.related.0, (both_of (are_wide z (first_table far)) (are_wide b (second_table far)) (are_wide_all z (first_table far) two.wide0) (are_wide_all b (second_table far) two.wide1), (back, sym h.aux_is)))
+      (h.pair.related.0, (and_from (are_wide z (first_table far)) (are_wide b (second_table far)) (are_wide_all z (first_table far) two.wide0) (are_wide_all b (second_table far) two.wide1), (back, sym h.aux_is)))
 
   -- what is told of a source is admitted
   pub told : (near aux : Tables) (memory : Pairs) (far : Option Tables) → IsTold k z b near aux memory far → Admits m near aux memory far

@@ -22,7 +22,8 @@ pub(crate) fn forward<P: RowParts>(
     old: &Pair,
     ids: &mut IdCounter,
 ) -> Result<Far, Fault<IdsSpent>>
-    ensures { let mapped = decompose_forward (P.parts parts.now) near.now (seen old.now) ids.old.next in
+    ensures { let mapped = decompose_forward (P.parts parts.now) near.now
+        (seen old.now) ids.old.next in
         IsMapped mapped ids.old ids.new result }
 {
     let empty = Table::new(alloc);

@@ -26,7 +26,8 @@ impl<'a, P: RowParts> Model for OldTarget<'a, P> {
 
     ghost view = { λ it. it.rows };
 
-    ghost invariant = { λ it. AreLeast (may_share (P.parts it.rows.by) it.rows.s it.rows.t) it.rows.t it.shared };
+    ghost invariant = { λ it. AreLeast (may_share (P.parts it.rows.by) it.rows.s it.rows.t)
+        it.rows.t it.shared };
 }
 
 impl<'a, P: RowParts> OldTarget<'a, P> {
@@ -37,7 +38,8 @@ impl<'a, P: RowParts> OldTarget<'a, P> {
         s: &'a Table,
         t: &'a Table,
     ) -> Result<OldTarget<'a, P>, Memory>
-        ensures { IfOk result (λ it. it ≡ record { by = parts.now; s = s.now.rows; t = t.now.rows }) }
+        ensures { IfOk result (λ it. it ≡ record { by = parts.now; s = s.now.rows; t = t.now.rows })
+            }
     {
         let rows = TargetRows::new(alloc, parts, s, t)?;
         let shared = least_rows(alloc, &rows, t)?;

@@ -132,7 +132,8 @@ pub(crate) fn second_table<P: RowParts>(
     it: &NewSecond<'_, P>,
 ) -> Result<Table, Memory>
     requires { AreReferred (P.parts it.now.old.now.by) it.now.new.now.rows it.now.referred.now }
-    ensures { let old = it.now.old.now in let k = P.parts old.by in let near = it.now.near.now.rows in
+    ensures { let old = it.now.old.now in let k = P.parts old.by in
+        let near = it.now.near.now.rows in
         let drawn = it.now.drawn.now.rows in let new = it.now.new.now.rows in
         IfOk result (λ made. made.rows ≡ t_from k old.s old.t drawn near new) }
 {

@@ -1,5 +1,6 @@
 -- JOIN ON FK: what is told of a source or a target is what is admitted.
 use Rattle.std.proofs.Common.{◌≡◌, ℕ, ◌+◌, ◌-◌, List, [], ◌∷◌, Option, Some, None, refl, ap, sym, ◌∙◌, subst}
+use Rattle.std.proofs.lemmas.Bool.{and_from, and_parts}
 use Rattle.row_store.specs.Rows.{Rows, RiseFrom, row_of}
 use Rattle.id_memory.specs.Pairs.{Pairs}
 use Rattle.op_law.specs.Tables.{Tables, Heading, AreTablesOf}
@@ -13,7 +14,7 @@ use Rattle.foreign_keys.specs.KeyParts.{FkParts}
 use Rattle.op_fk_join.specs.Join.{key_leads, back_first_at, back_first, back_second_at, back_second, join_target, join_read}
 use Rattle.foreign_keys.specs.Seeking.{goals_in}
 use Rattle.foreign_keys.specs.inner.SeekLemmas.{goals_rise}
-use Rattle.op_tables.specs.Wide.{are_wide, wide_are, are_wide_all, both_parts, both_of}
+use Rattle.op_tables.specs.Wide.{are_wide, wide_are, are_wide_all}
 use Rattle.op_tables.specs.Lookups.{one_wide, two_wide, ids_rise}
 use Rattle.op_fk_join.specs.inner.JoinLaws.{joined_at, table_rise, table_wide, source_two}
 use Rattle.op_fk_join.specs.Columns.{side_parts, JoinFits, join_columns}
@@ -52,7 +53,7 @@ module _ (first second place : ℕ) where
       let fk = fits first second place hs ht f in
       let s = back_first k (first_table near) (first_table aux) (second_table aux) in
       let t = back_second k (first_table near) (first_table aux) (third_table aux) in
-      let wide = both_parts (are_wide z s) (are_wide second t) agrees.1.0 in
+      let wide = and_parts (are_wide z s) (are_wide second t) agrees.1.0 in
       record {
         pair = record {
           fits = f;
@@ -73,7 +74,7 @@ module _ (first second place : ℕ) where
       let two = source_two (JoinFits first second place) k w (first - 1) second z (fits first second place) hs ht far h.pair.fits h.pair.target_of in
       let on : join_target k far ≡ near = laws.0.recovered hs ht (exchanged p) refl (record { fits = h.pair.fits; related = h.pair.related; source_of = h.pair.target_of; target_of = h.pair.source_of }) in
       subst (λ (x : Tables). JoinAgrees k z second near aux memory x) (sym read)
-      (h.pair.related.0, (both_of (are_wide z (first_table far)) (are_wide second (second_table far)) (are_wide_all z (first_table far) two.wide0) (are_wide_all second (second_table far) two.wide1), (on, sym h.aux_is)))
+      (h.pair.related.0, (and_from (are_wide z (first_table far)) (are_wide second (second_table far)) (are_wide_all z (first_table far) two.wide0) (are_wide_all second (second_table far) two.wide1), (on, sym h.aux_is)))
 
   -- what is told of a target is what is admitted
   pub join_told : (near aux : Tables) (memory : Pairs) (far : Option Tables) → IsJoinTold k z second near aux memory far → Admits (flip m) near aux memory far

@@ -46,7 +46,8 @@ pub(crate) fn joined(
     first: Option<&Row>,
     second: Option<&Row>,
 ) -> Result<Cells, Memory>
-    ensures { IfOk result (λ far. far ≡ the_joined (option_copied first.entry) (option_copied second.entry) ∷ []) }
+    ensures { IfOk result (λ far. far ≡ the_joined (option_copied first.entry)
+        (option_copied second.entry) ∷ []) }
 {
     match (first, second) {
         (Some(first), Some(second)) => {
@@ -59,7 +60,8 @@ pub(crate) fn joined(
 
 /// A source's row that isn't in the target.
 pub(crate) fn row_alone<'a>(target: Option<&Row>, cell: Option<&'a Row>) -> Option<&'a Row>
-    ensures { option_copied result ≡ the_row_alone (option_copied target.entry) (option_copied cell.entry) }
+    ensures { option_copied result ≡ the_row_alone (option_copied target.entry)
+        (option_copied cell.entry) }
 {
     row_if(!has_row(target), cell)
 }
@@ -72,7 +74,8 @@ pub(crate) fn sources_of(
     alone_first: Option<&Row>,
     alone_second: Option<&Row>,
 ) -> Result<Cells, Memory>
-    ensures { IfOk result (λ far. far ≡ the_sources_of count (option_copied target.entry) (option_copied alone_first.entry) (option_copied alone_second.entry)) }
+    ensures { IfOk result (λ far. far ≡ the_sources_of count (option_copied target.entry)
+        (option_copied alone_first.entry) (option_copied alone_second.entry)) }
 {
     match target {
         Some(row) => {
@@ -95,7 +98,8 @@ pub(crate) fn may_stand_alone(
     first: Option<&Row>,
     second: Option<&Row>,
 ) -> bool
-    ensures { IsTrue result ↔ MayStandAlone first_width second_width (option_copied first.entry) (option_copied second.entry) }
+    ensures { IsTrue result ↔ MayStandAlone first_width second_width (option_copied first.entry)
+        (option_copied second.entry) }
 {
     if !is_wide(first, first_width) || !is_wide(second, second_width) {
         return false;

@@ -18,7 +18,8 @@ fn shown_part(
     source: Option<&Row>,
     null_stands: bool,
 ) -> Result<Option<Row>, Memory>
-    ensures { IfOk result (λ part. part ≡ the_shown places.now (option_copied source.entry) null_stands) }
+    ensures { IfOk result (λ part. part ≡ the_shown places.now
+        (option_copied source.entry) null_stands) }
 {
     let Some(row) = source else {
         return Ok(None);
@@ -39,7 +40,9 @@ pub(crate) fn shown_parts(
     null_first: Option<&Row>,
     null_second: Option<&Row>,
 ) -> Result<Cells, Memory>
-    ensures { IfOk result (λ far. far ≡ the_shown_parts first_places.now second_places.now (option_copied source.entry) (option_copied null_first.entry) (option_copied null_second.entry)) }
+    ensures { IfOk result (λ far. far ≡ the_shown_parts first_places.now second_places.now
+        (option_copied source.entry) (option_copied null_first.entry)
+        (option_copied null_second.entry)) }
 {
     let first = shown_part(alloc, first_places, source, has_row(null_first))?;
     let second = shown_part(alloc, second_places, source, has_row(null_second))?;
@@ -59,7 +62,8 @@ pub(crate) fn row_of_neither<'a>(
     first: Option<&Row>,
     second: Option<&Row>,
 ) -> Option<&'a Row>
-    ensures { option_copied result ≡ the_row_of_neither (option_copied source.entry) (option_copied first.entry) (option_copied second.entry) }
+    ensures { option_copied result ≡ the_row_of_neither (option_copied source.entry)
+        (option_copied first.entry) (option_copied second.entry) }
 {
     match (first, second) {
         (None, None) => source,
@@ -85,7 +89,8 @@ fn row_of_parts(
     first: Option<&Row>,
     second: Option<&Row>,
 ) -> Result<Row, Memory>
-    ensures { IfOk result (λ row. row ≡ the_row_of_parts first_places.now second_places.now (option_copied first.entry) (option_copied second.entry)) }
+    ensures { IfOk result (λ row. row ≡ the_row_of_parts first_places.now second_places.now
+        (option_copied first.entry) (option_copied second.entry)) }
 {
     let first = row_or_nulls(alloc, first_places.len(), first)?;
     let second = row_or_nulls(alloc, second_places.len(), second)?;
@@ -101,7 +106,9 @@ pub(crate) fn joined_parts(
     second: Option<&Row>,
     neither: Option<&Row>,
 ) -> Result<Cells, Memory>
-    ensures { IfOk result (λ far. far ≡ the_joined first_places.now second_places.now (option_copied first.entry) (option_copied second.entry) (option_copied neither.entry) ∷ []) }
+    ensures { IfOk result (λ far. far ≡ the_joined first_places.now second_places.now
+        (option_copied first.entry) (option_copied second.entry) (option_copied neither.entry)
+        ∷ []) }
 {
     match (first, second) {
         (None, None) => {

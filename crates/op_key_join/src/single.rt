@@ -31,7 +31,8 @@ pub(crate) fn rest_of(
     width: usize,
     cell: Option<&Row>,
 ) -> Result<Cells, Memory>
-    ensures { IfOk result (λ cells. cells ≡ the_rest columns.now width (option_copied cell.entry) ∷ []) }
+    ensures { IfOk result (λ cells. cells ≡ the_rest columns.now width (option_copied cell.entry)
+        ∷ []) }
 {
     match cell {
         Some(row) => {
@@ -52,7 +53,8 @@ pub(crate) fn with_rest(
     part: Option<&Row>,
     kept: Option<&Row>,
 ) -> Result<Cells, Memory>
-    ensures { IfOk result (λ cells. cells ≡ with_the_rest columns.now width (option_copied part.entry) (option_copied kept.entry) ∷ []) }
+    ensures { IfOk result (λ cells. cells ≡ with_the_rest columns.now width
+        (option_copied part.entry) (option_copied kept.entry) ∷ []) }
 {
     match part {
         Some(row) => {

@@ -83,7 +83,8 @@ fn copy_add_column(
     value: &ExprText,
     table: &Name,
 ) -> Result<OpText, Memory>
-    ensures { IfOk result (λ made. op_view made ≡ AddColumn column.now (text_term value.now) table.now) }
+    ensures { IfOk result (λ made. op_view made ≡ AddColumn column.now
+        (text_term value.now) table.now) }
 {
     Ok(OpText::AddColumn {
         column: column.copy(alloc)?,
@@ -98,7 +99,8 @@ fn copy_drop_column(
     table: &Name,
     value: &ExprText,
 ) -> Result<OpText, Memory>
-    ensures { IfOk result (λ made. op_view made ≡ DropColumn column.now table.now (text_term value.now)) }
+    ensures { IfOk result (λ made. op_view made ≡ DropColumn column.now table.now
+        (text_term value.now)) }
 {
     Ok(OpText::DropColumn {
         column: column.copy(alloc)?,
@@ -113,7 +115,8 @@ fn copy_decompose_single(
     target: &Name,
     columns: &List<Name>,
 ) -> Result<OpText, Memory>
-    ensures { IfOk result (λ made. op_view made ≡ DecomposeSingle table.now target.now columns.now) }
+    ensures { IfOk result (λ made. op_view made ≡ DecomposeSingle table.now target.now columns.now)
+        }
 {
     Ok(OpText::DecomposeSingle {
         table: table.copy(alloc)?,
@@ -132,7 +135,8 @@ fn copy_decompose(
     key: &KeyText,
 ) -> Result<OpText, Memory>
     ensures { IfOk result (λ made. op_view made
-        ≡ Decompose table.now first.now first_columns.now second.now second_columns.now (key_view key.now)) }
+        ≡ Decompose table.now first.now first_columns.now second.now second_columns.now
+            (key_view key.now)) }
 {
     Ok(OpText::Decompose {
         table: table.copy(alloc)?,
@@ -152,7 +156,8 @@ fn copy_join(
     target: &Name,
     key: &KeyText,
 ) -> Result<OpText, Memory>
-    ensures { IfOk result (λ made. op_view made ≡ Join outer first.now second.now target.now (key_view key.now)) }
+    ensures { IfOk result (λ made. op_view made ≡ Join outer first.now second.now target.now
+        (key_view key.now)) }
 {
     Ok(OpText::Join {
         outer,
@@ -169,7 +174,8 @@ fn copy_split(
     first: &Branch,
     second: &Option<Branch>,
 ) -> Result<OpText, Memory>
-    ensures { IfOk result (λ made. op_view made ≡ Split table.now (branch_view first.now) (second_view second.now)) }
+    ensures { IfOk result (λ made. op_view made ≡ Split table.now (branch_view first.now)
+        (second_view second.now)) }
 {
     Ok(OpText::Split {
         table: table.copy(alloc)?,
@@ -184,7 +190,8 @@ fn copy_merge(
     second: &Branch,
     target: &Name,
 ) -> Result<OpText, Memory>
-    ensures { IfOk result (λ made. op_view made ≡ Merge (branch_view first.now) (branch_view second.now) target.now) }
+    ensures { IfOk result (λ made. op_view made ≡ Merge (branch_view first.now)
+        (branch_view second.now) target.now) }
 {
     Ok(OpText::Merge {
         first: copy_branch(alloc, first)?,

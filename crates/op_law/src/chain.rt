@@ -144,8 +144,10 @@ impl<A: Operator, B: Operator> Chain<A, B> {
     ) -> Result<(Aux, Aux), Memory>
         requires first { SomePair (A.meaning self.now.first) (seen first.now) }
         requires second { SomePair (B.meaning self.now.second) (seen second.now) }
-        ensures first { IfOk result (λ aux. tables_of aux.0 ≡ (A.meaning self.now.first).aux_at_source (seen first.now)) }
-        ensures second { IfOk result (λ aux. tables_of aux.1 ≡ (B.meaning self.now.second).aux_at_source (seen second.now)) }
+        ensures first { IfOk result (λ aux. tables_of aux.0
+            ≡ (A.meaning self.now.first).aux_at_source (seen first.now)) }
+        ensures second { IfOk result (λ aux. tables_of aux.1
+            ≡ (B.meaning self.now.second).aux_at_source (seen second.now)) }
     {
         let first_aux = self.first.aux_at_source(alloc, first, steps)?;
         let second_aux = self.second.aux_at_source(alloc, second, steps)?;
@@ -161,9 +163,12 @@ impl<A: Operator, B: Operator> Chain<A, B> {
         steps: &mut Steps<L>,
     ) -> Result<(Aux, Aux), Memory>
         requires first { SomePair (flip (A.meaning self.now.first)) (exchanged (seen first.now)) }
-        requires second { SomePair (flip (B.meaning self.now.second)) (exchanged (seen second.now)) }
-        ensures first { IfOk result (λ aux. tables_of aux.0 ≡ (A.meaning self.now.first).aux_at_target (seen first.now)) }
-        ensures second { IfOk result (λ aux. tables_of aux.1 ≡ (B.meaning self.now.second).aux_at_target (seen second.now)) }
+        requires second { SomePair (flip (B.meaning self.now.second))
+            (exchanged (seen second.now)) }
+        ensures first { IfOk result (λ aux. tables_of aux.0
+            ≡ (A.meaning self.now.first).aux_at_target (seen first.now)) }
+        ensures second { IfOk result (λ aux. tables_of aux.1
+            ≡ (B.meaning self.now.second).aux_at_target (seen second.now)) }
     {
         let first_aux = self.first.aux_at_target(alloc, first, steps)?;
         let second_aux = self.second.aux_at_target(alloc, second, steps)?;

@@ -11,7 +11,8 @@ use crate::Operator;
 
 /// What may stand while an identifier is the next one may stand while a greater one is.
 pub fn sound_stays_sound()
-    ensures tables { (n k : ℕ) (tables : Tables) → n ≤ k → TablesSound n tables → TablesSound k tables }
+    ensures tables { (n k : ℕ) (tables : Tables) → n ≤ k → TablesSound n tables
+        → TablesSound k tables }
     ensures memory { (n k : ℕ) (pairs : Pairs) → n ≤ k → PairsSound n pairs → PairsSound k pairs }
 {}
 
@@ -24,5 +25,6 @@ pub fn sound_terms_have_sound_values()
 /// The laws of one operator after another, forward and backward.
 pub fn chains_keep_the_laws<A: Operator, B: Operator>()
     ensures forward { (first : A) (second : B) → ChainLaws (A.meaning first) (B.meaning second) }
-    ensures backward { (first : A) (second : B) → ChainLaws (flip (B.meaning second)) (flip (A.meaning first)) }
+    ensures backward { (first : A) (second : B) → ChainLaws (flip (B.meaning second))
+        (flip (A.meaning first)) }
 {}

@@ -30,7 +30,8 @@ pub trait Operator {
         steps: &mut Steps<L>,
     ) -> Result<Far, Fault<IdsSpent>>
         requires { SomeMap (meaning self.now) near.now (seen old.now) ids.old.next }
-        ensures { IsMapped ((meaning self.now).forward near.now (seen old.now) ids.old.next) ids.old ids.new result };
+        ensures { IsMapped ((meaning self.now).forward near.now
+            (seen old.now) ids.old.next) ids.old ids.new result };
 
     /// The source and memory from a new target and the old pair, likewise.
     fn backward<L: Ledger>(
@@ -41,8 +42,10 @@ pub trait Operator {
         ids: &mut IdCounter,
         steps: &mut Steps<L>,
     ) -> Result<Far, Fault<IdsSpent>>
-        requires { SomeMap (flip (meaning self.now)) near.now (exchanged (seen old.now)) ids.old.next }
-        ensures { IsMapped ((meaning self.now).backward near.now (seen old.now) ids.old.next) ids.old ids.new result };
+        requires { SomeMap (flip (meaning self.now)) near.now
+            (exchanged (seen old.now)) ids.old.next }
+        ensures { IsMapped ((meaning self.now).backward near.now
+            (seen old.now) ids.old.next) ids.old ids.new result };
 
     /// The target of the pair to which a source, its auxiliary tables and the memory belong.
     fn read_target<L: Ledger>(
@@ -54,8 +57,10 @@ pub trait Operator {
         steps: &mut Steps<L>,
     ) -> Result<Side, Memory>
         requires { SomeStored (meaning self.now) source.now (tables_of aux.now) memory.now.entries }
-        ensures answer { IfOk result (λ side. side ≡ (meaning self.now).read_target source.now (tables_of aux.now) memory.now.entries) }
-        ensures steps { StepsWithin (meaning self.now) 2 source.now (tables_of aux.now) steps.old steps.new };
+        ensures answer { IfOk result (λ side. side ≡ (meaning self.now).read_target source.now
+            (tables_of aux.now) memory.now.entries) }
+        ensures steps { StepsWithin (meaning self.now) 2 source.now
+            (tables_of aux.now) steps.old steps.new };
 
     /// The source of the pair to which a target, its auxiliary tables and the memory belong.
     fn read_source<L: Ledger>(
@@ -66,9 +71,12 @@ pub trait Operator {
         memory: &PairMemory,
         steps: &mut Steps<L>,
     ) -> Result<Side, Memory>
-        requires { SomeStored (flip (meaning self.now)) target.now (tables_of aux.now) memory.now.entries }
-        ensures answer { IfOk result (λ side. side ≡ (meaning self.now).read_source target.now (tables_of aux.now) memory.now.entries) }
-        ensures steps { StepsWithin (meaning self.now) 2 target.now (tables_of aux.now) steps.old steps.new };
+        requires { SomeStored (flip (meaning self.now)) target.now
+            (tables_of aux.now) memory.now.entries }
+        ensures answer { IfOk result (λ side. side ≡ (meaning self.now).read_source target.now
+            (tables_of aux.now) memory.now.entries) }
+        ensures steps { StepsWithin (meaning self.now) 2 target.now
+            (tables_of aux.now) steps.old steps.new };
 
     /// The auxiliary tables of a pair whose source is stored.
     fn aux_at_source<L: Ledger>(
@@ -78,8 +86,10 @@ pub trait Operator {
         steps: &mut Steps<L>,
     ) -> Result<Aux, Memory>
         requires { SomePair (meaning self.now) (seen pair.now) }
-        ensures answer { IfOk result (λ aux. tables_of aux ≡ (meaning self.now).aux_at_source (seen pair.now)) }
-        ensures steps { StepsWithin (meaning self.now) 8 pair.now.source pair.now.target steps.old steps.new };
+        ensures answer { IfOk result (λ aux. tables_of aux
+            ≡ (meaning self.now).aux_at_source (seen pair.now)) }
+        ensures steps { StepsWithin (meaning self.now) 8 pair.now.source pair.now.target steps.old
+            steps.new };
 
     /// The auxiliary tables of a pair whose target is stored.
     fn aux_at_target<L: Ledger>(
@@ -89,8 +99,10 @@ pub trait Operator {
         steps: &mut Steps<L>,
     ) -> Result<Aux, Memory>
         requires { SomePair (flip (meaning self.now)) (exchanged (seen pair.now)) }
-        ensures answer { IfOk result (λ aux. tables_of aux ≡ (meaning self.now).aux_at_target (seen pair.now)) }
-        ensures steps { StepsWithin (meaning self.now) 8 pair.now.target pair.now.source steps.old steps.new };
+        ensures answer { IfOk result (λ aux. tables_of aux
+            ≡ (meaning self.now).aux_at_target (seen pair.now)) }
+        ensures steps { StepsWithin (meaning self.now) 8 pair.now.target pair.now.source steps.old
+            steps.new };
 
     /// The target of the related pair to which a source, any auxiliary tables and any memory
     /// belong, where there is one.
@@ -103,7 +115,8 @@ pub trait Operator {
         steps: &mut Steps<L>,
     ) -> Result<Option<Side>, Memory>
         requires { SomeNear (meaning self.now) source.now }
-        ensures { IfOk result (λ target. Admits (meaning self.now) source.now (tables_of aux.now) memory.now.entries target) };
+        ensures { IfOk result (λ target. Admits (meaning self.now) source.now
+            (tables_of aux.now) memory.now.entries target) };
 
     /// The source of the related pair to which a target, any auxiliary tables and any memory
     /// belong, where there is one.
@@ -116,7 +129,8 @@ pub trait Operator {
         steps: &mut Steps<L>,
     ) -> Result<Option<Side>, Memory>
         requires { SomeNear (flip (meaning self.now)) target.now }
-        ensures { IfOk result (λ source. Admits (flip (meaning self.now)) target.now (tables_of aux.now) memory.now.entries source) };
+        ensures { IfOk result (λ source. Admits (flip (meaning self.now)) target.now
+            (tables_of aux.now) memory.now.entries source) };
 
     ghost laws: { (operator : Self) → Laws (meaning operator) };
 }

@@ -32,7 +32,8 @@ fn next_id(ids: &[u64], in_ids: usize, rows: &[(u64, Row)], in_rows: usize) -> N
     ensures in_ids { result.in_ids ≤ length ids.now }
     ensures in_rows { result.in_rows ≤ length rows.now }
     ensures further { in_ids + in_rows < result.in_ids + result.in_rows }
-    ensures next { ids_left ids.now in_ids rows.now in_rows ≡ result.id ∷ ids_left ids.now result.in_ids rows.now result.in_rows }
+    ensures next { ids_left ids.now in_ids rows.now in_rows
+        ≡ result.id ∷ ids_left ids.now result.in_ids rows.now result.in_rows }
 {
     if in_rows == rows.len() {
         return Next {
@@ -109,7 +110,8 @@ pub(crate) fn ids_of_two(
     first: &[Table],
     second: &[Table],
 ) -> Result<List<u64>, Memory>
-    ensures value { IfOk result (λ ids. ids ≡ ids_over (contents first.now) (ids_over (contents second.now) [])) }
+    ensures value { IfOk result (λ ids. ids ≡ ids_over (contents first.now)
+        (ids_over (contents second.now) [])) }
     ensures rise { IfOk result (λ ids. IdsRise 0 ids) }
     ensures first { IfOk result (λ _. AllRise (contents first.now)) }
     ensures second { IfOk result (λ _. AllRise (contents second.now)) }
@@ -125,7 +127,8 @@ pub(crate) fn ids_of_three(
     second: &[Table],
     third: &[Table],
 ) -> Result<List<u64>, Memory>
-    ensures value { let of_others = ids_over (contents second.now) (ids_over (contents third.now) []) in
+    ensures value { let of_others = ids_over (contents second.now)
+        (ids_over (contents third.now) []) in
         IfOk result (λ ids. ids ≡ ids_over (contents first.now) of_others) }
     ensures rise { IfOk result (λ ids. IdsRise 0 ids) }
 {

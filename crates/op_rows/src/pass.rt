@@ -95,7 +95,8 @@ pub(crate) fn tabulate<M: MakesCells, L: Ledger>(
 ) -> Result<List<Table>, Memory>
     requires rise { IdsRise 0 ids.now }
     requires takes { (id : ℕ) → M.takes each.now id }
-    ensures value { IfOk result (λ made. contents made ≡ tables_from count ids.now (M.made each.now)) }
+    ensures value { IfOk result (λ made. contents made ≡ tables_from count ids.now
+        (M.made each.now)) }
     ensures steps { steps.new ≤ steps.old + M.most each.now * length ids.now }
 {
     let mut tables = empty_tables(alloc, count)?;
@@ -117,7 +118,8 @@ pub(crate) fn admit_each<A: AdmitsCells, L: Ledger>(
 ) -> Result<Option<List<Table>>, Memory>
     requires rise { IdsRise 0 ids.now }
     requires near { (id : ℕ) → NearRows (A.row_meaning each.now) (cells_at (A.near each.now) id) }
-    ensures { IfOk result (AdmitsEach (A.row_meaning each.now) (A.near each.now) (A.aux each.now) count ids.now) }
+    ensures { IfOk result (AdmitsEach (A.row_meaning each.now) (A.near each.now)
+        (A.aux each.now) count ids.now) }
 {
     let mut tables = empty_tables(alloc, count)?;
     for id in ids {

@@ -28,9 +28,12 @@ pub(crate) fn map_tables<R: RowOperator, L: Ledger>(
     steps: &mut Steps<L>,
 ) -> Result<Far, Memory>
     requires { (id : ℕ) → MayRows (seen_from each.now.side (R.row_meaning each.now.operator.now))
-        (cells_at each.now.near.now id) (cells_at each.now.old_near.now id) (cells_at each.now.old_far.now id) }
-    ensures { IfOk result (IsFar ((rowwise (seen_from each.now.side (R.row_meaning each.now.operator.now))).forward
-        each.now.near.now (record { source = each.now.old_near.now; target = each.now.old_far.now; memory = [] }) 0)) }
+        (cells_at each.now.near.now id) (cells_at each.now.old_near.now id)
+            (cells_at each.now.old_far.now id) }
+    ensures { IfOk result (IsFar ((rowwise (seen_from each.now.side
+        (R.row_meaning each.now.operator.now))).forward
+        each.now.near.now (record { source = each.now.old_near.now; target = each.now.old_far.now;
+            memory = [] }) 0)) }
 {
     let ids = ids_of_three(
         alloc,
@@ -54,9 +57,11 @@ pub(crate) fn keep_tables<R: RowOperator, L: Ledger>(
 ) -> Result<Aux, Memory>
     requires { (id : ℕ) → SomeRows (seen_from each.now.side (R.row_meaning each.now.operator.now))
         (cells_at each.now.near.now id) (cells_at each.now.far.now id) }
-    ensures answer { IfOk result (λ aux. tables_of aux ≡ (rowwise (seen_from each.now.side (R.row_meaning each.now.operator.now))).aux_at_source
+    ensures answer { IfOk result (λ aux. tables_of aux ≡
+        (rowwise (seen_from each.now.side (R.row_meaning each.now.operator.now))).aux_at_source
         (record { source = each.now.near.now; target = each.now.far.now; memory = [] })) }
-    ensures steps { steps.new ≤ steps.old + 8 * length (ids_over each.now.near.now (ids_over each.now.far.now [])) }
+    ensures steps { steps.new ≤ steps.old + 8 * length (ids_over each.now.near.now
+        (ids_over each.now.far.now [])) }
 {
     let ids = ids_of_two(alloc, each.near.tables(), each.far.tables())?;
     let count = each.operator.count_aux(each.side);
@@ -73,9 +78,11 @@ pub(crate) fn read_tables<R: RowOperator, L: Ledger>(
 ) -> Result<Side, Memory>
     requires { (id : ℕ) → StoredRows (seen_from each.now.side (R.row_meaning each.now.operator.now))
         (cells_at each.now.near.now id) (cells_at (tables_of each.now.aux.now) id) }
-    ensures answer { IfOk result (λ side. side ≡ (rowwise (seen_from each.now.side (R.row_meaning each.now.operator.now))).read_target
+    ensures answer { IfOk result (λ side. side ≡ (rowwise
+        (seen_from each.now.side (R.row_meaning each.now.operator.now))).read_target
         each.now.near.now (tables_of each.now.aux.now) []) }
-    ensures steps { steps.new ≤ steps.old + 2 * length (ids_over each.now.near.now (ids_over (tables_of each.now.aux.now) [])) }
+    ensures steps { steps.new ≤ steps.old + 2 * length (ids_over each.now.near.now
+        (ids_over (tables_of each.now.aux.now) [])) }
 {
     let ids = ids_of_two(alloc, each.near.tables(), each.aux.tables.as_slice())?;
     let count = each.operator.count_tables(each.side.far());
@@ -91,8 +98,10 @@ pub(crate) fn admit_tables<R: RowOperator, L: Ledger>(
     memory: &PairMemory,
     steps: &mut Steps<L>,
 ) -> Result<Option<Side>, Memory>
-    requires { SomeNear (rowwise (seen_from each.now.side (R.row_meaning each.now.operator.now))) each.now.near.now }
-    ensures { IfOk result (λ far. Admits (rowwise (seen_from each.now.side (R.row_meaning each.now.operator.now)))
+    requires { SomeNear (rowwise (seen_from each.now.side (R.row_meaning each.now.operator.now)))
+        each.now.near.now }
+    ensures { IfOk result (λ far. Admits (rowwise (seen_from each.now.side
+        (R.row_meaning each.now.operator.now)))
         each.now.near.now (tables_of each.now.aux.now) memory.now.entries far) }
 {
     let kept = each.aux.tables.as_slice();

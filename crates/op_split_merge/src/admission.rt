@@ -47,8 +47,10 @@ fn is_rest<L: Ledger>(
     source: Option<&Row>,
     steps: &mut Steps<L>,
 ) -> Result<bool, Memory>
-    requires { CanTestBoth (expr_term split.now.first) (option_map expr_term split.now.second) (option_copied source) }
-    ensures { IfOk result (λ yes. IsTrue yes ↔ AreTwinsOf (holds_at (expr_term split.now.first)) (test_of (option_map expr_term split.now.second)) (option_copied source.entry) None None) }
+    requires { CanTestBoth (expr_term split.now.first) (option_map expr_term split.now.second)
+        (option_copied source) }
+    ensures { IfOk result (λ yes. IsTrue yes ↔ AreTwinsOf (holds_at (expr_term split.now.first))
+        (test_of (option_map expr_term split.now.second)) (option_copied source.entry) None None) }
 {
     if meets(alloc, Some(&split.first), source, steps)? {
         return Ok(false);
@@ -65,8 +67,11 @@ fn is_related<L: Ledger>(
     second: Option<&Row>,
     steps: &mut Steps<L>,
 ) -> Result<bool, Memory>
-    requires { CanTestBoth (expr_term split.now.first) (option_map expr_term split.now.second) (option_copied source) }
-    ensures { IfOk result (λ yes. IsTrue yes ↔ AreTwinsOf (holds_at (expr_term split.now.first)) (test_of (option_map expr_term split.now.second)) (option_copied source.entry) (option_copied first.entry) (option_copied second.entry)) }
+    requires { CanTestBoth (expr_term split.now.first) (option_map expr_term split.now.second)
+        (option_copied source) }
+    ensures { IfOk result (λ yes. IsTrue yes ↔ AreTwinsOf (holds_at (expr_term split.now.first))
+        (test_of (option_map expr_term split.now.second)) (option_copied source.entry)
+        (option_copied first.entry) (option_copied second.entry)) }
 {
     match (first, second) {
         (Some(row), _) => Ok(is_twin(source, row)),
@@ -85,9 +90,12 @@ pub(crate) fn target_belongs<L: Ledger>(
     far: &Cells,
     steps: &mut Steps<L>,
 ) -> Result<bool, Memory>
-    requires tests { TestsWithin split.now.width (expr_term split.now.first) (option_map expr_term split.now.second) }
+    requires tests { TestsWithin split.now.width (expr_term split.now.first)
+        (option_map expr_term split.now.second) }
     requires wide { CellWide split.now.width (nth_cell 0 source.now) }
-    ensures { IfOk result (λ yes. IsTrue yes ↔ TargetBelongs split.now.width (expr_term split.now.first) (option_map expr_term split.now.second) source.now aux.now far.now) }
+    ensures { IfOk result (λ yes. IsTrue yes ↔ TargetBelongs split.now.width
+        (expr_term split.now.first) (option_map expr_term split.now.second) source.now aux.now
+        far.now) }
 {
     let row = row_at(source, 0);
     let first = row_at(far, 0);
@@ -112,8 +120,11 @@ pub(crate) fn source_belongs<L: Ledger>(
     far: &Cells,
     steps: &mut Steps<L>,
 ) -> Result<bool, Memory>
-    requires { TestsWithin split.now.width (expr_term split.now.first) (option_map expr_term split.now.second) }
-    ensures { IfOk result (λ yes. IsTrue yes ↔ SourceBelongs split.now.width (expr_term split.now.first) (option_map expr_term split.now.second) target.now aux.now far.now) }
+    requires { TestsWithin split.now.width (expr_term split.now.first)
+        (option_map expr_term split.now.second) }
+    ensures { IfOk result (λ yes. IsTrue yes ↔ SourceBelongs split.now.width
+        (expr_term split.now.first) (option_map expr_term split.now.second) target.now aux.now
+        far.now) }
 {
     let row = row_at(far, 0);
     let first = row_at(target, 0);

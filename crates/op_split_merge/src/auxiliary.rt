@@ -26,7 +26,9 @@ fn lost<L: Ledger>(
     steps: &mut Steps<L>,
 ) -> Result<Option<Row>, Memory>
     requires { CanTest (option_map expr_term (option_copied condition)) (option_copied source) }
-    ensures ok { IfOk result (λ aux. aux ≡ lost_of (test_of (option_map expr_term (option_copied condition.entry))) (option_copied source.entry) (option_copied here.entry)) }
+    ensures ok { IfOk result (λ aux. aux ≡ lost_of (test_of
+        (option_map expr_term (option_copied condition.entry))) (option_copied source.entry)
+        (option_copied here.entry)) }
     ensures steps { steps.new ≤ steps.old + 1 }
 {
     let meets = meets(alloc, condition, source, steps)?;
@@ -42,7 +44,9 @@ fn against_second<L: Ledger>(
     steps: &mut Steps<L>,
 ) -> Result<Option<Row>, Memory>
     requires { CanTest (option_map expr_term (option_copied condition)) (option_copied second) }
-    ensures ok { IfOk result (λ aux. aux ≡ against_second_of (test_of (option_map expr_term (option_copied condition.entry))) (option_copied first.entry) (option_copied second.entry)) }
+    ensures ok { IfOk result (λ aux. aux ≡ against_second_of
+        (test_of (option_map expr_term (option_copied condition.entry))) (option_copied first.entry)
+        (option_copied second.entry)) }
     ensures steps { steps.new ≤ steps.old + 1 }
 {
     let fails = fails(alloc, condition, second, steps)?;
@@ -59,10 +63,15 @@ pub(crate) fn aux_at_source<L: Ledger>(
     second: Option<&Row>,
     steps: &mut Steps<L>,
 ) -> Result<Cells, Memory>
-    requires source { CanTestBoth (expr_term split.now.first) (option_map expr_term split.now.second) (option_copied source) }
-    requires first { CanTestBoth (expr_term split.now.first) (option_map expr_term split.now.second) (option_copied first) }
-    requires second { CanTestBoth (expr_term split.now.first) (option_map expr_term split.now.second) (option_copied second) }
-    ensures ok { IfOk result (λ aux. aux ≡ split_aux (holds_at (expr_term split.now.first)) (test_of (option_map expr_term split.now.second)) (option_map expr_term split.now.second) (option_copied source.entry) (option_copied first.entry) (option_copied second.entry)) }
+    requires source { CanTestBoth (expr_term split.now.first)
+        (option_map expr_term split.now.second) (option_copied source) }
+    requires first { CanTestBoth (expr_term split.now.first) (option_map expr_term split.now.second)
+        (option_copied first) }
+    requires second { CanTestBoth (expr_term split.now.first)
+        (option_map expr_term split.now.second) (option_copied second) }
+    ensures ok { IfOk result (λ aux. aux ≡ split_aux (holds_at (expr_term split.now.first))
+        (test_of (option_map expr_term split.now.second)) (option_map expr_term split.now.second)
+        (option_copied source.entry) (option_copied first.entry) (option_copied second.entry)) }
     ensures steps { steps.new ≤ steps.old + 4 }
 {
     let mut aux = List::new(alloc);
@@ -85,7 +94,8 @@ pub(crate) fn rest<'a>(
     first: Option<&'a Row>,
     second: Option<&'a Row>,
 ) -> Option<&'a Row>
-    ensures { option_copied result ≡ rest_of (option_copied source.entry) (option_copied first.entry) (option_copied second.entry) }
+    ensures { option_copied result ≡ rest_of (option_copied source.entry)
+        (option_copied first.entry) (option_copied second.entry) }
 {
     match (first, second) {
         (None, None) => source,
@@ -100,7 +110,8 @@ pub(crate) fn aux_at_target(
     first: Option<&Row>,
     second: Option<&Row>,
 ) -> Result<Cells, Memory>
-    ensures { IfOk result (λ aux. aux ≡ rest_of (option_copied source.entry) (option_copied first.entry) (option_copied second.entry) ∷ []) }
+    ensures { IfOk result (λ aux. aux ≡ rest_of (option_copied source.entry)
+        (option_copied first.entry) (option_copied second.entry) ∷ []) }
 {
     let kept = copied(alloc, rest(source, first, second))?;
     Ok(one_cell(alloc, kept)?)

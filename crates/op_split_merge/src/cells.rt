@@ -30,7 +30,8 @@ pub(crate) fn has_row(cell: Option<&Row>) -> bool
 
 /// This row, or else the other.
 pub(crate) fn or_other<'a>(cell: Option<&'a Row>, other: Option<&'a Row>) -> Option<&'a Row>
-    ensures { option_copied result ≡ or_else (option_copied cell.entry) (option_copied other.entry) }
+    ensures { option_copied result ≡ or_else (option_copied cell.entry)
+        (option_copied other.entry) }
 {
     match cell {
         Some(row) => Some(row),

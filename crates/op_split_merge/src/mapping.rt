@@ -24,7 +24,8 @@ pub(crate) fn targets(
     first: Option<&Row>,
     second: Option<&Row>,
 ) -> Result<Cells, Memory>
-    ensures { IfOk result (λ cells. cells ≡ targets_of (option_map expr_term (option_copied condition.entry)) (option_copied first.entry) (option_copied second.entry)) }
+    ensures { IfOk result (λ cells. cells ≡ targets_of (option_map expr_term
+        (option_copied condition.entry)) (option_copied first.entry) (option_copied second.entry)) }
 {
     let mut cells = List::new(alloc);
     cells.push(copied(alloc, first)?)?;
@@ -51,7 +52,9 @@ fn own_or_new<'a>(
     goes_first: bool,
     given: Option<&'a Row>,
 ) -> Option<&'a Row>
-    ensures { option_copied result ≡ (if are_separated (option_copied first.entry) (option_copied second.entry) && goes_first then option_copied second.entry else option_copied given.entry) }
+    ensures { option_copied result ≡ (if are_separated (option_copied first.entry)
+        (option_copied second.entry) && goes_first then option_copied second.entry else
+        option_copied given.entry) }
 {
     if is_separated(first, second) && goes_first {
         second
@@ -69,12 +72,19 @@ pub(crate) fn targets_to<L: Ledger>(
     second: Option<&Row>,
     steps: &mut Steps<L>,
 ) -> Result<Cells, Memory>
-    requires new { CanTestBoth (expr_term split.now.first) (option_map expr_term split.now.second) (option_copied new) }
-    requires first { CanTestBoth (expr_term split.now.first) (option_map expr_term split.now.second) (option_copied first) }
-    requires second { CanTestBoth (expr_term split.now.first) (option_map expr_term split.now.second) (option_copied second) }
+    requires new { CanTestBoth (expr_term split.now.first) (option_map expr_term split.now.second)
+        (option_copied new) }
+    requires first { CanTestBoth (expr_term split.now.first) (option_map expr_term split.now.second)
+        (option_copied first) }
+    requires second { CanTestBoth (expr_term split.now.first)
+        (option_map expr_term split.now.second) (option_copied second) }
     ensures ok { IfOk result (λ far. far ≡ targets_of (option_map expr_term split.now.second)
-        (first_to (holds_at (expr_term split.now.first)) (test_of (option_map expr_term split.now.second)) (option_copied new.entry) (option_copied first.entry) (option_copied second.entry))
-        (second_to (holds_at (expr_term split.now.first)) (test_of (option_map expr_term split.now.second)) (option_copied new.entry) (option_copied first.entry) (option_copied second.entry))) }
+        (first_to (holds_at (expr_term split.now.first))
+            (test_of (option_map expr_term split.now.second)) (option_copied new.entry)
+            (option_copied first.entry) (option_copied second.entry))
+        (second_to (holds_at (expr_term split.now.first))
+            (test_of (option_map expr_term split.now.second)) (option_copied new.entry)
+            (option_copied first.entry) (option_copied second.entry))) }
     ensures steps { steps.new ≤ steps.old + 6 }
 {
     let condition = split.second.as_ref();
@@ -99,7 +109,8 @@ pub(crate) fn source_of(
     second: Option<&Row>,
     rest: Option<&Row>,
 ) -> Result<Cells, Memory>
-    ensures { IfOk result (λ far. far ≡ source_to (option_copied first.entry) (option_copied second.entry) (option_copied rest.entry) ∷ []) }
+    ensures { IfOk result (λ far. far ≡ source_to (option_copied first.entry)
+        (option_copied second.entry) (option_copied rest.entry) ∷ []) }
 {
     let row = copied(alloc, or_other(first, or_other(second, rest)))?;
     Ok(one_cell(alloc, row)?)

@@ -28,7 +28,9 @@ fn shown<'a, L: Ledger>(
     steps: &mut Steps<L>,
 ) -> Result<Option<&'a Row>, Memory>
     requires { CanTest (option_map expr_term (option_copied condition)) (option_copied source) }
-    ensures ok { IfOk result (λ row. option_copied row ≡ shown_by (test_of (option_map expr_term (option_copied condition.entry))) (option_copied source.entry) (option_copied lost.entry) (option_copied against.entry)) }
+    ensures ok { IfOk result (λ row. option_copied row ≡ shown_by
+        (test_of (option_map expr_term (option_copied condition.entry)))
+        (option_copied source.entry) (option_copied lost.entry) (option_copied against.entry)) }
     ensures steps { steps.new ≤ steps.old + 1 }
 {
     let meets = meets(alloc, condition, source, steps)?;
@@ -43,8 +45,10 @@ pub(crate) fn read_target<L: Ledger>(
     aux: &Cells,
     steps: &mut Steps<L>,
 ) -> Result<Cells, Memory>
-    requires { CanTestBoth (expr_term split.now.first) (option_map expr_term split.now.second) (nth_cell 0 source.now) }
-    ensures ok { IfOk result (λ far. far ≡ split_read_target (expr_term split.now.first) (option_map expr_term split.now.second) source.now aux.now) }
+    requires { CanTestBoth (expr_term split.now.first) (option_map expr_term split.now.second)
+        (nth_cell 0 source.now) }
+    ensures ok { IfOk result (λ far. far ≡ split_read_target (expr_term split.now.first)
+        (option_map expr_term split.now.second) source.now aux.now) }
     ensures steps { steps.new ≤ steps.old + 2 }
 {
     let condition = split.second.as_ref();

@@ -30,7 +30,8 @@ pub struct Split {
 }
 
 impl RowOperator for Split {
-    ghost row_meaning = { λ it. split_of it.width (expr_term it.first) (option_map expr_term it.second) };
+    ghost row_meaning = { λ it. split_of it.width (expr_term it.first)
+        (option_map expr_term it.second) };
 
     fn count_tables(&self, side: NearSide) -> usize {
         match (side, &self.second) {
@@ -119,7 +120,8 @@ impl RowOperator for Split {
         }
     }
 
-    ghost row_laws = { λ it. split_laws it.width (expr_term it.first) (option_map expr_term it.second) };
+    ghost row_laws = { λ it. split_laws it.width (expr_term it.first)
+        (option_map expr_term it.second) };
 }
 
 impl Split {
@@ -130,9 +132,11 @@ impl Split {
         aux: &Cells,
         steps: &mut Steps<L>,
     ) -> Result<Option<Cells>, Memory>
-        requires { let it = split_of self.now.width (expr_term self.now.first) (option_map expr_term self.now.second) in
+        requires { let it = split_of self.now.width (expr_term self.now.first)
+            (option_map expr_term self.now.second) in
             NearRows it source.now }
-        ensures { let it = split_of self.now.width (expr_term self.now.first) (option_map expr_term self.now.second) in
+        ensures { let it = split_of self.now.width (expr_term self.now.first)
+            (option_map expr_term self.now.second) in
             IfOk result (λ far. AdmitsRows it source.now aux.now far) }
     {
         let far = read_target(alloc, self, source, aux, steps)?;
@@ -149,9 +153,11 @@ impl Split {
         aux: &Cells,
         steps: &mut Steps<L>,
     ) -> Result<Option<Cells>, Memory>
-        requires { let it = split_of self.now.width (expr_term self.now.first) (option_map expr_term self.now.second) in
+        requires { let it = split_of self.now.width (expr_term self.now.first)
+            (option_map expr_term self.now.second) in
             NearRows (flip_row it) target.now }
-        ensures { let it = split_of self.now.width (expr_term self.now.first) (option_map expr_term self.now.second) in
+        ensures { let it = split_of self.now.width (expr_term self.now.first)
+            (option_map expr_term self.now.second) in
             IfOk result (λ far. AdmitsRows (flip_row it) target.now aux.now far) }
     {
         let far = source_of(alloc, row_at(target, 0), row_at(target, 1), row_at(aux, 0))?;

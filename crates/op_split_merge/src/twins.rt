@@ -19,7 +19,8 @@ pub(crate) fn meets<L: Ledger>(
     steps: &mut Steps<L>,
 ) -> Result<bool, Memory>
     requires { CanTest (option_map expr_term (option_copied condition)) (option_copied cell) }
-    ensures ok { IfOk result (λ yes. yes ≡ meets_test (test_of (option_map expr_term (option_copied condition.entry))) (option_copied cell.entry)) }
+    ensures ok { IfOk result (λ yes. yes ≡ meets_test (test_of
+        (option_map expr_term (option_copied condition.entry))) (option_copied cell.entry)) }
     ensures steps { steps.new ≤ steps.old + 1 }
 {
     match (condition, cell) {
@@ -36,7 +37,8 @@ pub(crate) fn fails<L: Ledger>(
     steps: &mut Steps<L>,
 ) -> Result<bool, Memory>
     requires { CanTest (option_map expr_term (option_copied condition)) (option_copied cell) }
-    ensures ok { IfOk result (λ yes. yes ≡ fails_test (test_of (option_map expr_term (option_copied condition.entry))) (option_copied cell.entry)) }
+    ensures ok { IfOk result (λ yes. yes ≡ fails_test (test_of
+        (option_map expr_term (option_copied condition.entry))) (option_copied cell.entry)) }
     ensures steps { steps.new ≤ steps.old + 1 }
 {
     match cell {
@@ -54,7 +56,9 @@ pub(crate) fn is_lost<L: Ledger>(
     steps: &mut Steps<L>,
 ) -> Result<bool, Memory>
     requires { CanTest (option_map expr_term (option_copied condition)) (option_copied there) }
-    ensures ok { IfOk result (λ yes. yes ≡ twin_lost (test_of (option_map expr_term (option_copied condition.entry))) (option_copied here.entry) (option_copied there.entry)) }
+    ensures ok { IfOk result (λ yes. yes ≡ twin_lost (test_of
+        (option_map expr_term (option_copied condition.entry))) (option_copied here.entry)
+        (option_copied there.entry)) }
     ensures steps { steps.new ≤ steps.old + 1 }
 {
     match here {
@@ -73,8 +77,11 @@ pub(crate) fn wants<L: Ledger>(
     steps: &mut Steps<L>,
 ) -> Result<bool, Memory>
     requires here { CanTest (option_map expr_term (option_copied condition)) (option_copied here) }
-    requires there { CanTest (option_map expr_term (option_copied condition)) (option_copied there) }
-    ensures ok { IfOk result (λ yes. yes ≡ wants_row (test_of (option_map expr_term (option_copied condition.entry))) (option_copied here.entry) (option_copied there.entry) new_meets) }
+    requires there { CanTest (option_map expr_term (option_copied condition))
+        (option_copied there) }
+    ensures ok { IfOk result (λ yes. yes ≡ wants_row (test_of
+        (option_map expr_term (option_copied condition.entry))) (option_copied here.entry)
+        (option_copied there.entry) new_meets) }
     ensures steps { steps.new ≤ steps.old + 2 }
 {
     let fails = fails(alloc, condition, here, steps)?;

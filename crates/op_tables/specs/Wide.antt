@@ -2,6 +2,7 @@
 use Rattle.std.specs.Prelude.{◌&&◌}
 use Rattle.std.proofs.Common.{◌≡◌, ℕ, ◌==◌, [], ◌∷◌, length, Bool, true, false, if◌then◌else◌, refl, arith}
 use Rattle.std.proofs.lemmas.Bool.Decides.{nat_tests}
+use Rattle.std.proofs.lemmas.Bool.{and_from, and_parts}
 use Rattle.row_store.specs.Rows.{Rows}
 use Rattle.op_law.specs.Tables.{RowsWide}
 use Rattle.op_rows.specs.inner.CellLemmas.{is_same}
@@ -26,11 +27,3 @@ are_wide_all width [] h = refl
 are_wide_all width (r ∷ rs) h =
     let own : (length r.1 == width) ≡ true = grind (arith, nat_tests, h.0) in
     rw own (are_wide_all width rs h.1)
-
--- two tests that hold both, taken apart
-pub both_parts : (u v : Bool) → (u && v) ≡ true → (u ≡ true) × (v ≡ true)
-both_parts u v h = grind arith
-
--- and put together
-pub both_of : (u v : Bool) → u ≡ true → v ≡ true → (u && v) ≡ true
-both_of u v h g = grind arith

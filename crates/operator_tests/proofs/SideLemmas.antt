@@ -2,6 +2,7 @@
 use Rattle.std.proofs.Common.{◌≡◌, ℕ, ◌==◌, ◌&&◌, nat_lt, Bool, true, false, List, [], ◌∷◌, length, Some, refl, sym, subst, arith}
 use Rattle.std.specs.List.{list_all}
 use Rattle.std.proofs.lemmas.Bool.Decides.{nat_tests}
+use Rattle.std.proofs.lemmas.Bool.{and_parts}
 use Rattle.par_base.specs.declared.value.Value.{Value}
 use Rattle.par_base.specs.declared.value.Value.TheVariants.{Null, Int, Text, Reference}
 use Rattle.id_memory.specs.Pairs.{Pairs}
@@ -13,27 +14,23 @@ use Rattle.op_law.specs.Premises.{IsPair, SomeMap, SomeNear}
 use Rattle.op_law.specs.Calls.{Admits}
 use Rattle.operator_tests.specs.Worked.{is_sound, is_row, is_below, IsTable, AreTables, widths, IsBuiltFor, IsWorked}
 
-both : (a b : Bool) → (a && b) ≡ true → (a ≡ true) × (b ≡ true)
-both true b h = (refl, h)
-both false b h = absurd (cc)
-
 values_sound : (n : ℕ) (row : List Value) → list_all (is_sound n) row ≡ true → ValuesSound n row
 values_sound n [] h = tt
 values_sound n (Null ∷ vs) h = (tt, values_sound n vs h)
 values_sound n (Int number ∷ vs) h = (tt, values_sound n vs h)
 values_sound n (Text text ∷ vs) h = absurd (cc)
 values_sound n (Reference id ∷ vs) h =
-    let a = both (nat_lt 0 id && nat_lt id n) (list_all (is_sound n) vs) h in
-    let b = both (nat_lt 0 id) (nat_lt id n) a.0 in
+    let a = and_parts (nat_lt 0 id && nat_lt id n) (list_all (is_sound n) vs) h in
+    let b = and_parts (nat_lt 0 id) (nat_lt id n) a.0 in
     ((grind (arith, nat_tests), grind (arith, nat_tests)), values_sound n vs a.1)
 
 rows_good : (width n : ℕ) (rows : Rows) → list_all (is_row width n) rows ≡ true → RowsWide width rows × RowsSound n rows
 rows_good width n [] h = (tt, tt)
 rows_good width n (r ∷ rs) h =
-    let a = both (is_row width n r) (list_all (is_row width n) rs) h in
-    let b = both (nat_lt 0 r.0 && nat_lt r.0 n && length r.1 == width) (list_all (is_sound n) r.1) a.0 in
-    let c = both (nat_lt 0 r.0 && nat_lt r.0 n) (length r.1 == width) b.0 in
-    let d = both (nat_lt 0 r.0) (nat_lt r.0 n) c.0 in
+    let a = and_parts (is_row width n r) (list_all (is_row width n) rs) h in
+    let b = and_parts (nat_lt 0 r.0 && nat_lt r.0 n && length r.1 == width) (list_all (is_sound n) r.1) a.0 in
+    let c = and_parts (nat_lt 0 r.0 && nat_lt r.0 n) (length r.1 == width) b.0 in
+    let d = and_parts (nat_lt 0 r.0) (nat_lt r.0 n) c.0 in
     let rest = rows_good width n rs a.1 in
     ((grind (arith, nat_tests), rest.0), (((grind (arith, nat_tests), grind (arith, nat_tests)), values_sound n r.1 b.1), rest.1))
 
@@ -42,7 +39,7 @@ table_good width n rows rise h = let good = rows_good width n rows h in record {
 
 pub below_good : (id : ℕ) (rows : Rows) → list_all (is_below id) rows ≡ true → AreBelow rows id
 below_good id [] h = tt
-below_good id (r ∷ rs) h = let a = both (is_below id r) (list_all (is_below id) rs) h in (grind (arith, nat_tests), below_good id rs a.1)
+below_good id (r ∷ rs) h = let a = and_parts (is_below id r) (list_all (is_below id) rs) h in (grind (arith, nat_tests), below_good id rs a.1)
 
 -- ---- sides
 

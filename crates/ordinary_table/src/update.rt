@@ -60,7 +60,8 @@ fn row_after<L: Ledger>(
     requires filter { condition_fits (condition_of filter) (length row.now.1 + 1) ≡ true }
     ensures values { IfOk result (λ after. after.values
         ≡ updated_row (sets_of sets.now) (condition_of filter.entry) row.now) }
-    ensures chosen { IfOk result (λ after. after.is_chosen ≡ meets (condition_of filter.entry) row.now) }
+    ensures chosen { IfOk result (λ after. after.is_chosen
+        ≡ meets (condition_of filter.entry) row.now) }
     ensures steps { steps.new ≤ steps.old + (1 + length sets.now) }
 {
     let before = shown_row(alloc, row)?;

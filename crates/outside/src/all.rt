@@ -25,7 +25,8 @@ pub enum ReadAll {
 /// Reads a source to its end, or until more bytes than the limit were taken.
 pub fn read_all<S: Source>(alloc: Global, source: &mut S, limit: u32) -> Result<ReadAll, Memory>
     ensures later { S.faults source.old ≤ S.faults source.new }
-    ensures reads { IfOk result (λ answer. ReadsAll limit (S.left source.old) (S.left source.new) (S.faults source.old) (S.faults source.new) answer) }
+    ensures reads { IfOk result (λ answer. ReadsAll limit (S.left source.old) (S.left source.new)
+        (S.faults source.old) (S.faults source.new) answer) }
 {
     let mut bytes = Vec::new(alloc);
     let mut piece = [0u8; PIECE];
@@ -42,7 +43,8 @@ pub fn read_all<S: Source>(alloc: Global, source: &mut S, limit: u32) -> Result<
 /// Puts all of the bytes, in as many calls as that takes. At `Err` a front of them was put.
 pub fn write_all<K: Sink>(sink: &mut K, bytes: &[u8]) -> Result<(), Failed>
     ensures ok { OnOk result (Appends (K.held sink.old) (K.held sink.new) bytes.now) }
-    ensures err { OnErr result ((n : ℕ) × Appends (K.held sink.old) (K.held sink.new) (take n bytes.now)) }
+    ensures err { OnErr result ((n : ℕ) × Appends (K.held sink.old) (K.held sink.new)
+        (take n bytes.now)) }
     ensures cause { HasCause (K.faults sink.old) (K.faults sink.new) result }
 {
     let mut at = 0;

@@ -62,16 +62,19 @@ pub trait Files {
     fn read_at(&mut self, name: &str, offset: u64, buf: &mut [u8]) -> Result<usize, Failed>
         requires { 0 < length buf.old }
         ensures bound { ReadsAtMost result buf.new }
-        ensures bytes { IfOk result (λ n. ReadsFile (told self.old name.now) offset (take n buf.new)) }
+        ensures bytes { IfOk result (λ n. ReadsFile (told self.old name.now) offset
+            (take n buf.new)) }
         ensures same { (file : List ℕ) → told self.new file ≡ told self.old file }
         ensures cause { HasCause (faults self.old) (faults self.new) result }
-        ensures absent { HasCauseIf (IsMissing (told self.old name.now)) (missing self.old) (missing self.new) result };
+        ensures absent { HasCauseIf (IsMissing (told self.old name.now)) (missing self.old)
+            (missing self.new) result };
 
     /// Makes a file hold exactly the bytes. After `Failed` nothing is known of that file. No other
     /// file changes.
     fn replace(&mut self, name: &str, bytes: &[u8]) -> Result<(), Failed>
         ensures ok { OnOk result (ToldAs (told self.new name.now) bytes.now) }
-        ensures others { (file : List ℕ) → file ≢ name.now → told self.new file ≡ told self.old file }
+        ensures others { (file : List ℕ) → file ≢ name.now
+            → told self.new file ≡ told self.old file }
         ensures cause { HasCause (faults self.old) (faults self.new) result }
         ensures missing { missing self.new ≡ missing self.old };
 }

@@ -28,7 +28,8 @@ impl Failures {
         ensures due { result ≡ list_any (λ call. call == self.old.calls) self.old.failing.items }
         ensures calls { self.new.calls ≡ min (self.old.calls + 1) (2 ^ 64 - 1) }
         ensures failing { self.new.failing ≡ self.old.failing }
-        ensures faults { self.new.faults ≡ (if result then min (self.old.faults + 1) (2 ^ 64 - 1) else self.old.faults) }
+        ensures faults { self.new.faults ≡ (if result then min (self.old.faults + 1)
+            (2 ^ 64 - 1) else self.old.faults) }
     {
         let call = self.calls;
         self.calls = call.saturating_add(1);

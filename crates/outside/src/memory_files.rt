@@ -27,7 +27,8 @@ impl Model for MemoryFiles {
 
     ghost Value = { FilesState };
 
-    ghost view = { λ files. record { files = files.files.items; faults = files.failures.faults; missing = files.missing } };
+    ghost view = { λ files. record { files = files.files.items; faults = files.failures.faults;
+        missing = files.missing } };
 
     ghost invariant = { λ files. 0 < files.most };
 }
@@ -56,7 +57,8 @@ impl MemoryFiles {
         bytes: &[u8],
         room: usize,
     ) -> Result<(), Memory>
-        ensures ok { OnOk result (self.new ≡ record self.old { files = record { name = name.now; bytes = Some bytes.now } ∷ self.old.files }) }
+        ensures ok { OnOk result (self.new ≡ record self.old
+            { files = record { name = name.now; bytes = Some bytes.now } ∷ self.old.files }) }
         ensures err { OnErr result (self.new ≡ self.old) }
     {
         let file = NamedFile::new(alloc, name, bytes, room)?;
@@ -66,7 +68,8 @@ impl MemoryFiles {
 
     /// Adds the room for a file that isn't there yet, before the other files.
     pub fn add_room(&mut self, alloc: Global, name: &str, room: usize) -> Result<(), Memory>
-        ensures ok { OnOk result (self.new ≡ record self.old { files = record { name = name.now; bytes = None } ∷ self.old.files }) }
+        ensures ok { OnOk result (self.new ≡ record self.old
+            { files = record { name = name.now; bytes = None } ∷ self.old.files }) }
         ensures err { OnErr result (self.new ≡ self.old) }
     {
         let file = NamedFile::vacant(alloc, name, room)?;
@@ -76,7 +79,8 @@ impl MemoryFiles {
 
     /// The bytes of a file, if it is there.
     pub fn bytes(&self, name: &str) -> Option<&[u8]>
-        ensures { MatchOption result (bytes_in self.now.files name.now ≡ None) (λ bytes. bytes_in self.now.files name.now ≡ Some bytes.now) }
+        ensures { MatchOption result (bytes_in self.now.files name.now ≡ None)
+            (λ bytes. bytes_in self.now.files name.now ≡ Some bytes.now) }
     {
         match find(self.files.as_slice(), name) {
             Some(file) if file.is_told() => Some(file.bytes()),

@@ -22,7 +22,8 @@ impl Model for MemorySource {
 
     ghost Value = { SourceState };
 
-    ghost view = { λ source. record { left = drop source.at source.bytes.items; faults = source.failures.faults } };
+    ghost view = { λ source. record { left = drop source.at source.bytes.items; faults =
+        source.failures.faults } };
 
     ghost invariant = { λ source. (source.at ≤ vec_len source.bytes) × (0 < source.most) };
 }

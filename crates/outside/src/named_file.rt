@@ -21,7 +21,8 @@ impl Model for NamedFile {
 
     ghost Value = { FileState };
 
-    ghost view = { λ file. record { name = string_bytes file.name; bytes = if file.is_told then Some file.bytes.items else None } };
+    ghost view = { λ file. record { name = string_bytes file.name; bytes = if file.is_told then Some
+        file.bytes.items else None } };
 }
 
 impl NamedFile {
@@ -116,7 +117,8 @@ fn place_of(files: &[NamedFile], name: &str) -> Option<usize>
 
 /// The file of this name.
 pub(crate) fn find<'a>(files: &'a [NamedFile], name: &str) -> Option<&'a NamedFile>
-    ensures { MatchOption result (bytes_in files.now name.now ≡ None) (λ file. bytes_in files.now name.now ≡ file.now.bytes) }
+    ensures { MatchOption result (bytes_in files.now name.now ≡ None)
+        (λ file. bytes_in files.now name.now ≡ file.now.bytes) }
 {
     let at = place_of(files, name)?;
     Some(&files[at])
@@ -125,7 +127,8 @@ pub(crate) fn find<'a>(files: &'a [NamedFile], name: &str) -> Option<&'a NamedFi
 /// Has the file of this name hold the bytes. False where there is no room.
 pub(crate) fn hold_in(files: &mut [NamedFile], name: &str, bytes: &[u8]) -> bool
     ensures held { result ≡ true → bytes_in files.new name.now ≡ Some bytes.now }
-    ensures others { (file : List ℕ) → file ≢ name.now → bytes_in files.new file ≡ bytes_in files.old file }
+    ensures others { (file : List ℕ) → file ≢ name.now → bytes_in files.new file
+        ≡ bytes_in files.old file }
 {
     match place_of(files, name) {
         Some(at) => files[at].hold(bytes),
@@ -136,7 +139,8 @@ pub(crate) fn hold_in(files: &mut [NamedFile], name: &str, bytes: &[u8]) -> bool
 /// Tells the bytes of this name no longer.
 pub(crate) fn forget_in(files: &mut [NamedFile], name: &str)
     ensures gone { bytes_in files.new name.now ≡ None }
-    ensures others { (file : List ℕ) → file ≢ name.now → bytes_in files.new file ≡ bytes_in files.old file }
+    ensures others { (file : List ℕ) → file ≢ name.now → bytes_in files.new file
+        ≡ bytes_in files.old file }
 {
     if let Some(at) = place_of(files, name) {
         files[at].forget();

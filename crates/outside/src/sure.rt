@@ -90,7 +90,8 @@ impl SureFiles {
 
     /// Adds a file before the others.
     pub fn add(&mut self, alloc: Global, name: &str, bytes: &[u8]) -> Result<(), Memory>
-        ensures ok { OnOk result (self.new ≡ record { name = name.now; bytes = Some bytes.now } ∷ self.old) }
+        ensures ok { OnOk result (self.new ≡ record { name = name.now; bytes = Some bytes.now }
+            ∷ self.old) }
         ensures err { OnErr result (self.new ≡ self.old) }
     {
         let file = NamedFile::new(alloc, name, bytes, bytes.len())?;

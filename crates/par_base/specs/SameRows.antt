@@ -2,7 +2,7 @@
 use Rattle.std.specs.Prelude.{◌≡◌, List, [], ◌∷◌, Bool, true, false, ◌&&◌, ◌==◌, refl}
 use Rattle.std.specs.Ordering.{int_eq}
 use Rattle.std.specs.Str.{bytes_eq}
-use Rattle.std.proofs.lemmas.Bool.{eqb-true, eq-eqb, false≢true}
+use Rattle.std.proofs.lemmas.Bool.{and_parts, eq-eqb, eqb-true, false≢true}
 use Rattle.std.proofs.lemmas.Bool.Decides.{Decides-int_eq}
 use Rattle.std.proofs.lemmas.Slice.Eq.{bytes_eq-Decides}
 use Rattle.std.proofs.Common.{ap, arith}
@@ -43,10 +43,6 @@ value_equal (Reference m) Null e = absurd (false≢true e)
 value_equal (Reference m) (Int y) e = absurd (false≢true e)
 value_equal (Reference m) (Text b) e = absurd (false≢true e)
 
--- both of two tests hold
-both_true : (a b : Bool) → (a && b) ≡ true → (a ≡ true) × (b ≡ true)
-both_true a b e = grind arith
-
 -- rows with the same values are equal
 pub row_equal : (a b : List Value) → same_row a b ≡ true → a ≡ b
 unfolding same_row
@@ -54,7 +50,7 @@ row_equal [] [] e = refl
 row_equal [] (w ∷ ws) e = absurd (false≢true e)
 row_equal (v ∷ vs) [] e = absurd (false≢true e)
 row_equal (v ∷ vs) (w ∷ ws) e =
-    let both = both_true (same_value v w) (same_row vs ws) e in
+    let both = and_parts (same_value v w) (same_row vs ws) e in
     let head = value_equal v w both.0 in
     let tail = row_equal vs ws both.1 in
     cc

@@ -54,7 +54,8 @@ fn quoted_text(alloc: Global, text: &str) -> Result<Text, Memory>
 // Adds the character, and a quote twice.
 #[tactic(auto, using(crate::proofs::LiteralLaws::plain_char, crate::proofs::LiteralLaws::quote_char))]
 fn push_doubled(made: &mut String, c: char) -> Result<(), Memory>
-    ensures { OnOk result (string_bytes made.new ≡ string_bytes made.old ++ flat_map doubled (encode_utf8 c)) }
+    ensures { OnOk result (string_bytes made.new ≡ string_bytes made.old ++ flat_map doubled
+        (encode_utf8 c)) }
 {
     if c == '\'' {
         made.push_str("''")?;
@@ -67,7 +68,8 @@ fn push_doubled(made: &mut String, c: char) -> Result<(), Memory>
 /// The value whose literal text the bytes are. None exactly where they are that of no value.
 pub fn read_literal(alloc: Global, bytes: &[u8]) -> Result<Option<Value>, Memory>
     ensures found { IfOk result (λ o. IfSome o (λ value. bytes.now ≡ literal_of value)) }
-    ensures none { IfOk result (λ o. o ≡ None → (value : Value) → IsValue value → bytes.now ≡ literal_of value → ⊥) }
+    ensures none { IfOk result (λ o. o ≡ None → (value : Value) → IsValue value
+        → bytes.now ≡ literal_of value → ⊥) }
     ensures back { IfOk result (λ o. IsCandidate bytes.now o) }
 {
     let Some(value) = candidate(alloc, bytes)? else {
@@ -84,7 +86,8 @@ pub fn read_literal(alloc: Global, bytes: &[u8]) -> Result<Option<Value>, Memory
 /// Two values with one literal text are equal.
 #[tactic(auto, using(crate::proofs::LiteralLaws::same_value))]
 pub fn one_literal()
-    ensures { (value other : Value) → IsValue value → IsValue other → literal_of value ≡ literal_of other → value ≡ other }
+    ensures { (value other : Value) → IsValue value → IsValue other
+        → literal_of value ≡ literal_of other → value ≡ other }
 {}
 
 fn is_same(some: &[u8], others: &[u8]) -> bool
@@ -115,7 +118,8 @@ fn first_byte(bytes: &[u8]) -> u8
 }
 
 fn int_candidate(bytes: &[u8]) -> Option<Value>
-    ensures { (n : ℤ) → FitsSigned w64 n → bytes.now ≡ signed_decimal n → result ≡ Some (Value.Int n) }
+    ensures { (n : ℤ) → FitsSigned w64 n → bytes.now ≡ signed_decimal n
+        → result ≡ Some (Value.Int n) }
 {
     let number = read_int(bytes)?;
     Some(Value::Int(number))
@@ -131,7 +135,8 @@ fn read_int(bytes: &[u8]) -> Option<i64>
 }
 
 fn reference_candidate(bytes: &[u8]) -> Option<Value>
-    ensures { (id : ℕ) → id < 2 ^ 64 → bytes.now ≡ 35 ∷ decimal id → result ≡ Some (Value.Reference id) }
+    ensures { (id : ℕ) → id < 2 ^ 64 → bytes.now ≡ 35 ∷ decimal id
+        → result ≡ Some (Value.Reference id) }
 {
     let [b'#', digits @ ..] = bytes else {
         return None;
@@ -150,7 +155,8 @@ fn read_id(bytes: &[u8]) -> Option<u64>
 }
 
 fn text_candidate(alloc: Global, bytes: &[u8]) -> Result<Option<Value>, Memory>
-    ensures { IfOk result (λ found. (text : List ℕ) → IsUtf8 text → bytes.now ≡ quoted text → found ≡ Some (Value.Text text)) }
+    ensures { IfOk result (λ found. (text : List ℕ) → IsUtf8 text → bytes.now ≡ quoted text
+        → found ≡ Some (Value.Text text)) }
 {
     match bytes {
         [b'\'', inner @ .., b'\''] => inner_candidate(alloc, inner),
@@ -159,7 +165,8 @@ fn text_candidate(alloc: Global, bytes: &[u8]) -> Result<Option<Value>, Memory>
 }
 
 fn inner_candidate(alloc: Global, inner: &[u8]) -> Result<Option<Value>, Memory>
-    ensures { IfOk result (λ found. (text : List ℕ) → IsUtf8 text → inner.now ≡ flat_map doubled text → found ≡ Some (Value.Text text)) }
+    ensures { IfOk result (λ found. (text : List ℕ) → IsUtf8 text
+        → inner.now ≡ flat_map doubled text → found ≡ Some (Value.Text text)) }
 {
     let bytes = without_doubling(alloc, inner)?;
     match String::from_utf8(bytes) {

@@ -155,7 +155,8 @@ impl Hash for Name {
 /// The name that the bytes spell, in lower case. None exactly where they spell none.
 #[tactic(auto, using(crate::proofs::NameText::name_is_utf8))]
 pub fn read_name(alloc: Global, bytes: &[u8]) -> Result<Option<Name>, Memory>
-    ensures { IfOk result (λ o. MatchOption o (is_name (map folded bytes.now) ≡ false) (λ name. name ≡ map folded bytes.now)) }
+    ensures { IfOk result (λ o. MatchOption o (is_name (map folded bytes.now) ≡ false) (λ name. name
+        ≡ map folded bytes.now)) }
 {
     let bytes = folded_bytes(alloc, bytes)?;
     if !is_name_text(bytes.as_slice()) {

@@ -5,7 +5,7 @@ use Rattle.std.specs.declared.cmp.Ordering.{Ordering}
 use Rattle.std.specs.declared.cmp.Ordering.TheVariants.{Less, Equal, Greater}
 use Rattle.std.specs.Map.{lookup}
 use Rattle.std.specs.Cmp.{unsigned_tied}
-use Rattle.std.proofs.lemmas.Bool.{eqb-true, eq-eqb, false≢true}
+use Rattle.std.proofs.lemmas.Bool.{and_parts, eq-eqb, eqb-true, false≢true}
 use Rattle.std.proofs.lemmas.Bool.Decides.{Decides-int_eq}
 use Rattle.row_map.specs.declared.symbol.Symbol.{Symbol}
 use Rattle.row_map.specs.declared.symbol.Symbol.TheVariants.{Null, Int, Text, Reference}
@@ -62,12 +62,9 @@ symbol_same (Int x) = (Decides-int_eq x x).1 refl
 symbol_same (Text m) = eq-eqb m m refl
 symbol_same (Reference m) = eq-eqb m m refl
 
-both_true : (a b : Bool) → (a && b) ≡ true → (a ≡ true) × (b ≡ true)
-both_true a b e = grind arith
-
 pub same_steps : (a b : ℕ × Symbol) → same_step a b ≡ true → a ≡ b
 same_steps a b e =
-    let both = both_true (a.0 == b.0) (same_symbol a.1 b.1) e in
+    let both = and_parts (a.0 == b.0) (same_symbol a.1 b.1) e in
     λ i. (eqb-true a.0 b.0 both.0 i, same_symbols a.1 b.1 both.1 i)
 
 pub step_same : (a : ℕ × Symbol) → same_step a a ≡ true

@@ -25,7 +25,8 @@ impl Model for Table {
 
     ghost use Rattle.row_store.specs.Rows.{RiseFrom};
 
-    ghost view = { λ table. record { rows = table.rows.items; spare = vec_capacity table.rows - vec_len table.rows } };
+    ghost view = { λ table. record { rows = table.rows.items; spare = vec_capacity table.rows -
+        vec_len table.rows } };
 
     ghost invariant = { λ table. RiseFrom 0 table.rows.items };
 }
@@ -99,7 +100,8 @@ impl Table {
         requires fit { AreOld self.old.rows changes.old }
         requires spare { length changes.old ≤ self.old.spare }
         ensures applied { WasApplied self.old.rows changes.old self.new.rows changes.new }
-        ensures room { self.new.spare + length self.new.rows ≡ self.old.spare + length self.old.rows }
+        ensures room { self.new.spare + length self.new.rows
+            ≡ self.old.spare + length self.old.rows }
     {
         changes.exchange(&mut self.rows, Which::All);
     }
@@ -109,7 +111,8 @@ impl Table {
     pub fn undo(&mut self, changes: &mut Changes)
         requires applied { IsUndoable self.old changes.old }
         ensures restores { Restores self.old.rows changes.old self.new.rows changes.new }
-        ensures room { self.new.spare + length self.new.rows ≡ self.old.spare + length self.old.rows }
+        ensures room { self.new.spare + length self.new.rows
+            ≡ self.old.spare + length self.old.rows }
     {
         // Rows that were added go first, so that there is room for those that come back.
         changes.exchange(&mut self.rows, Which::Added);

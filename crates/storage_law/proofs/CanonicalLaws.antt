@@ -2,7 +2,7 @@
 use Rattle.std.specs.Prelude.{◌⊎◌, ◌==◌, ◌&&◌, ◌||◌}
 use Rattle.std.specs.List.{list_any}
 use Rattle.std.proofs.Common.{◌≡◌, ℕ, List, [], ◌∷◌, Bool, true, false, not, inl, inr, refl, sym, ap, ◌∙◌, subst, arith}
-use Rattle.std.proofs.lemmas.Bool.{and_from, cond-true, cond-false, eq-eqb, ne_eqb, false≢true, false_from_ne_true}
+use Rattle.std.proofs.lemmas.Bool.{and_from, and_parts, cond-false, cond-true, eq-eqb, false_from_ne_true, false≢true, ne_eqb}
 use Rattle.version_graph.specs.Sets.{In}
 use Rattle.version_graph.specs.Edges.{AreEdges, is_in, numbers}
 use Rattle.version_graph.specs.Forest.{Link, crossing, forest, link}
@@ -24,10 +24,6 @@ use Rattle.layout_rules.proofs.LinkLaws.{number_listed}
 use Rattle.storage_law.proofs.LinkLaws.{same_test}
 
 -- ---- the tests of stored tables
-
-both_of : (a b : Bool) → (a && b) ≡ true → (a ≡ true) × (b ≡ true)
-both_of true b h = (refl, h)
-both_of false b h = absurd (false≢true h)
 
 any_true : {X : Type 0} (test : X → Bool) (xs : List X) (x : X) → In x xs → test x ≡ true → list_any test xs ≡ true
 any_true test [] x i is = absurd i
@@ -52,7 +48,7 @@ module _ {O : Type 0} (side : Link O → List ℕ) (es : List (Link O)) (layout 
   side_found : list_any on_side es ≡ true → (e : Link O) × In e es × In e.number layout × In t (side e)
   side_found h =
       let m = any_found on_side es h in
-      let b = both_of (is_in m.0.number layout) (is_in t (side m.0)) m.2 in
+      let b = and_parts (is_in m.0.number layout) (is_in t (side m.0)) m.2 in
       (m.0, m.1, in_of_test m.0.number layout b.0, in_of_test t (side m.0) b.1)
 
 module _ {O : Type 0} (es : List (Link O)) (layout : List ℕ) (t : ℕ) where
@@ -66,7 +62,7 @@ module _ {O : Type 0} (es : List (Link O)) (layout : List ℕ) (t : ℕ) where
 
   stored_found : stores ≡ true → IsStored es layout t
   stored_found h =
-      let b = both_of (is_made es layout t) (not (is_taken es layout t)) h in
+      let b = and_parts (is_made es layout t) (not (is_taken es layout t)) h in
       record {
         made = side_found (λ (e : Link O). e.targets) es layout t b.0;
         free = λ k. false≢true (sym (ap not (side_true (λ (e : Link O). e.sources) es layout t k)) ∙ b.1);

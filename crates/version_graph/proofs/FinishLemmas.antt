@@ -2,7 +2,7 @@
 use mathlib.Core.List.{reverse}
 use Rattle.std.proofs.Common.{◌≡◌, ℕ, ◌-◌, ◌<◌, ◌≤◌, List, [], ◌∷◌, get_or, take, drop, Bool, true, false, cond, refl, sym, ap, ◌∙◌, subst, length, arith, inl, inr}
 use Rattle.std.specs.Prelude.{◌==◌, ◌&&◌}
-use Rattle.std.proofs.lemmas.Bool.{eqb-true, eq-eqb, ne_eqb, cond-true, cond-false}
+use Rattle.std.proofs.lemmas.Bool.{and_from, cond-false, cond-true, eq-eqb, eqb-true, ne_eqb}
 use Rattle.version_graph.specs.Sets.{In, Each}
 use Rattle.version_graph.specs.Edges.{AreEdges, numbers, is_in}
 use Rattle.version_graph.specs.Finished.{HasBelow, are_needed, way}
@@ -19,10 +19,6 @@ first_holds false b e = e
 second_holds : (a b : Bool) → (a && b) ≡ true → b ≡ true
 second_holds true b e = e
 second_holds false b e = cc
-
-both_hold : (a b : Bool) → a ≡ true → b ≡ true → (a && b) ≡ true
-both_hold true b e f = f
-both_hold false b e f = cc
 
 module _ {O : Type 0} where
   -- a way has live operators alone
@@ -99,7 +95,7 @@ module _ {O : Type 0} where
   pub below_needed : (es : List (Placed O)) (sets : List ℕ) → AreEdges es → Each (HasBelow es sets) (numbers es) → are_needed sets es ≡ true
   below_needed [] sets edges h = refl
   below_needed (f ∷ es) sets edges h =
-      both_hold (is_in f.number sets) (are_needed (f.parent ∷ sets) es) (is_in_true f.number sets (newest_named f es sets edges h.0))
+      and_from (is_in f.number sets) (are_needed (f.parent ∷ sets) es) (is_in_true f.number sets (newest_named f es sets edges h.0))
       (below_needed es (f.parent ∷ sets) edges.1 (each_of (HasBelow es (f.parent ∷ sets)) (numbers es) (λ n i. less_below f es sets n edges i (each_at (HasBelow (f ∷ es) sets) (numbers es) n i h.1))))
 
 -- one node less to test

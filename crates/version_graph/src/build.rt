@@ -57,7 +57,8 @@ fn numbers_named<O>(
     names: &[Name],
 ) -> Result<List<u32>, Memory>
     requires { AreEdges (edges_of nodes.now) }
-    ensures { IfOk result (λ made. made ≡ numbers_named_lem (edges_of nodes.now) tables.now names.now) }
+    ensures { IfOk result (λ made. made ≡ numbers_named_lem
+        (edges_of nodes.now) tables.now names.now) }
 {
     let mut made = List::new(alloc);
     for name in names {

@@ -93,7 +93,8 @@ impl<O> Graph<O> {
     /// The numbers of the source tables of a live operator. It takes time in the number of live
     /// operators.
     pub fn source_tables(&self, operator: u32) -> Option<&[u32]>
-        ensures { option_map (λ tables. tables.now) result ≡ sources_at_lem self.now.edges operator }
+        ensures { option_map (λ tables. tables.now) result
+            ≡ sources_at_lem self.now.edges operator }
     {
         sources_at(self.parts.nodes.as_slice(), operator)
     }
@@ -147,7 +148,8 @@ impl<O> Graph<O> {
     /// The tables of a version. It takes time in the number of live operators.
     pub fn tables_of(&self, name: &Name) -> Option<&[u32]>
         ensures { option_map (λ tables. tables.now) result
-            ≡ option_map (λ set. table_numbers (working self.now.edges set)) (set_named_lem self.now.versions name.now) }
+            ≡ option_map (λ set. table_numbers (working self.now.edges set))
+                (set_named_lem self.now.versions name.now) }
     {
         version_tables(self.parts.nodes.as_slice(), &self.parts.versions, name)
     }
@@ -165,7 +167,8 @@ impl<O> Graph<O> {
     /// The walk from a live working set. It takes time in the number of live operators.
     pub fn walk(&self, alloc: Global, set: u32) -> Result<List<Step>, Memory>
         requires { In set (numbers self.now.edges) }
-        ensures { IfOk result (λ steps. steps ≡ map step_told (walk_lem (forest self.now.edges) set)) }
+        ensures { IfOk result (λ steps. steps ≡ map step_told
+            (walk_lem (forest self.now.edges) set)) }
     {
         walk(alloc, self.parts.nodes.as_slice(), set)
     }
@@ -191,7 +194,8 @@ impl<O: Drop> Graph<O> {
     ) -> Result<u32, Fault<Refusal>>
         requires some { 0 < length edges }
         requires fits { MayEvolve self.old (option_copied from) edges }
-        ensures answers { EvolvesGraph self.old name (option_copied from.entry) edges result self.new }
+        ensures answers { EvolvesGraph self.old name (option_copied from.entry) edges result
+            self.new }
         ensures finished { IsFinished self.old → IsFinished self.new }
     {
         evolve(self.alloc, &mut self.parts, name, from, edges)

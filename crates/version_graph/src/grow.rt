@@ -271,7 +271,8 @@ pub fn evolve<O: Drop>(
     requires kept { IsKept parts.old }
     requires some { 0 < length edges }
     requires fits { MayEvolve (drawn parts.old) (option_copied from) edges }
-    ensures answers { EvolvesGraph (drawn parts.old) name (option_copied from.entry) edges result (drawn parts.new) }
+    ensures answers { EvolvesGraph (drawn parts.old) name (option_copied from.entry) edges result
+        (drawn parts.new) }
     ensures kept { IsKept parts.new }
     ensures finished { IsFinished (drawn parts.old) → IsFinished (drawn parts.new) }
 {
@@ -298,7 +299,8 @@ pub fn take_back<O: Drop>(parts: &mut Parts<O>, operators: usize, last: Last)
     requires kept { IsKept parts.old }
     requires evolved { (before : Drawn O)
         × IsEvolvedFrom before operators last.operator last.table (drawn parts.old) }
-    ensures back { (before : Drawn O) → IsEvolvedFrom before operators last.operator last.table (drawn parts.old)
+    ensures back { (before : Drawn O) → IsEvolvedFrom before operators last.operator last.table
+        (drawn parts.old)
         → drawn parts.new ≡ before }
     ensures kept { IsKept parts.new }
 {

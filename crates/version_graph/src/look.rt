@@ -61,7 +61,8 @@ pub fn edge_of<O>(nodes: &[Node<O>], operator: u32) -> Option<&Placed<O>>
 /// The source tables of an operator.
 pub fn sources_at<O>(nodes: &[Node<O>], operator: u32) -> Option<&[u32]>
     requires { AreRight (reverse nodes.now) }
-    ensures { option_map (λ tables. tables.now) result ≡ sources_at_lem (edges_of nodes.now) operator }
+    ensures { option_map (λ tables. tables.now) result ≡ sources_at_lem
+        (edges_of nodes.now) operator }
 {
     match node_of(nodes, operator) {
         Some(node) => Some(node.sources.as_slice()),

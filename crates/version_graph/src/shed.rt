@@ -41,7 +41,8 @@ fn sets_without(
     versions: &IndexMap<Name, u32>,
     name: &Name,
 ) -> Result<Vec<u32>, Memory>
-    ensures { IfOk result (λ sets. sets.items ≡ version_sets (other_versions versions.now.entries name.now)) }
+    ensures { IfOk result (λ sets. sets.items ≡ version_sets
+        (other_versions versions.now.entries name.now)) }
 {
     let mut sets = sets_of(alloc, versions)?;
     match versions.get_index_of(name) {
@@ -96,7 +97,8 @@ pub fn is_last_needed<O>(nodes: &[Node<O>], count: usize, versions: &IndexMap<Na
     requires some { 0 < count }
     requires within { count ≤ length nodes.now }
     ensures { (k : ANode O) → k ≡ slice_index_or nodes.now (count - 1) k
-        → result ≡ is_in k.placed.number (needed_by (drop count nodes.now) (version_sets versions.now.entries)) }
+        → result ≡ is_in k.placed.number (needed_by (drop count nodes.now)
+            (version_sets versions.now.entries)) }
 {
     let node = &nodes[count - 1];
     is_needed(&nodes[count..], versions, node.placed.number)

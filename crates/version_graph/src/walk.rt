@@ -41,7 +41,8 @@ pub fn walk<O>(alloc: Global, nodes: &[Node<O>], set: u32) -> Result<List<Step>,
     requires right { AreRight (reverse nodes.now) }
     requires edges { AreEdges (edges_of nodes.now) }
     requires live { In set (numbers (edges_of nodes.now)) }
-    ensures { IfOk result (λ steps. steps ≡ map step_told (walk_lem (forest (edges_of nodes.now)) set)) }
+    ensures { IfOk result (λ steps. steps ≡ map step_told
+        (walk_lem (forest (edges_of nodes.now)) set)) }
 {
     let tree = tree_of(nodes, set);
     let mut upward = Vec::new(alloc);

@@ -26,7 +26,8 @@ pub struct Way<'a, O> {
 
 fn way_over<'a, O>(placed: &'a Placed<O>, sources: &'a [u32], step: Step) -> Way<'a, O>
     ensures { crossing_of result
-        ≡ record (crossing_over step.backward placed.entry.now sources.entry.now) { number = step.operator } }
+        ≡ record (crossing_over step.backward placed.entry.now sources.entry.now)
+            { number = step.operator } }
 {
     let targets = placed.tables.as_slice();
     let operator = &placed.edge.operator;
@@ -68,8 +69,10 @@ pub fn map_over<O: Operator, L: Ledger>(
     ids: &mut IdCounter,
     steps: &mut Steps<L>,
 ) -> Result<Far, Fault<IdsSpent>>
-    requires { SomeMap (directed backward (O.meaning operator.now)) near.now (seen_from backward (seen old.now)) ids.old.next }
-    ensures { IsMapped ((directed backward (O.meaning operator.now)).forward near.now (seen_from backward (seen old.now)) ids.old.next)
+    requires { SomeMap (directed backward (O.meaning operator.now)) near.now
+        (seen_from backward (seen old.now)) ids.old.next }
+    ensures { IsMapped ((directed backward (O.meaning operator.now)).forward near.now
+        (seen_from backward (seen old.now)) ids.old.next)
         ids.old ids.new result }
 {
     if backward {

@@ -86,7 +86,8 @@ impl<O: Operator> PlainDatabase<O> {
 
     /// The table of a number. It takes one comparison for each table before it.
     pub fn table(&self, number: u32) -> Option<&Table>
-        ensures rows { option_map_or (λ table. table.now.rows) result [] ≡ (state_of self.now).tables number }
+        ensures rows { option_map_or (λ table. table.now.rows) result []
+            ≡ (state_of self.now).tables number }
         ensures live { In number (table_numbers (made_lem self.now.graph.edges)) → IsSome result }
     {
         value_of(self.tables.as_slice(), number)
@@ -101,10 +102,12 @@ impl<O: Operator> PlainDatabase<O> {
         steps: &mut Steps<L>,
     ) -> Result<(), Fault<IdsSpent>>
         requires lives { In written.set (numbers self.old.graph.edges) }
-        requires may { MayWrite self.old.graph.edges (state_of self.old) written.set written.table written.rows.rows written.ids.next }
+        requires may { MayWrite self.old.graph.edges (state_of self.old) written.set written.table
+            written.rows.rows written.ids.next }
         requires drawn { written.ids.next ≤ first_refused self.old.ids }
         requires limit { written.ids.limit ≡ self.old.ids.limit }
-        ensures { Writes O.meaning (database_of self.old) written.set written.table written.rows.rows written.ids.next
+        ensures { Writes O.meaning (database_of self.old) written.set written.table
+            written.rows.rows written.ids.next
             result (database_of self.new) }
     {
         let before = Before {

@@ -94,7 +94,8 @@ fn put_in_front(
     newer_memories: List<Numbered<PairMemory>>,
 ) -> Result<(), Memory>
     ensures tables { OnOk result (tables.new.items ≡ reverse newer_tables ++ tables.old.items) }
-    ensures memories { OnOk result (memories.new.items ≡ reverse newer_memories ++ memories.old.items) }
+    ensures memories { OnOk result (memories.new.items ≡ reverse newer_memories
+        ++ memories.old.items) }
     ensures err { OnErr result ((tables.new.items ≡ tables.old.items)
         × (memories.new.items ≡ memories.old.items)) }
 {
@@ -124,9 +125,11 @@ pub fn keep_newer<O: Operator, L: Ledger>(
 ) -> Result<(), Fault<IdsSpent>>
     requires { AreEdges graph.now.edges → MayMake O.meaning
         (state_at tables.old.items memories.old.items ids.old.next) (newer graph.now.edges first) }
-    ensures keeps { Keeps O.meaning (state_at tables.old.items memories.old.items ids.old.next) ids.old (newer graph.now.edges first)
+    ensures keeps { Keeps O.meaning (state_at tables.old.items memories.old.items ids.old.next)
+        ids.old (newer graph.now.edges first)
         result (state_at tables.new.items memories.new.items ids.new.next) ids.new }
-    ensures there { OnOk result (Each (IsKeptFor tables.new.items memories.new.items) (newer graph.now.edges first)) }
+    ensures there { OnOk result (Each (IsKeptFor tables.new.items memories.new.items)
+        (newer graph.now.edges first)) }
     ensures tables { Holds tables.old.items tables.new.items }
     ensures memories { Holds memories.old.items memories.new.items }
     ensures err { OnErr result ((tables.new.items ≡ tables.old.items)

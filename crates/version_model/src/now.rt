@@ -20,7 +20,8 @@ fn table_now<'a>(
     made: &'a [Numbered<Table>],
     number: u32,
 ) -> Option<&'a Table>
-    ensures { option_map_or (λ table. table.now.rows) result [] ≡ rows_now kept.entry.now made.entry.now number }
+    ensures { option_map_or (λ table. table.now.rows) result []
+        ≡ rows_now kept.entry.now made.entry.now number }
 {
     match latest_of(made, number) {
         Some(table) => Some(table),
@@ -110,7 +111,8 @@ pub fn put_memory(
     value: PairMemory,
 ) -> Result<(), Memory>
     ensures { OnOk result ((kept : List (ANumbered MemoryState))
-        → pairs_now kept made.new ≡ put (pairs_now kept made.old) (number ∷ []) (value.entries ∷ [])) }
+        → pairs_now kept made.new ≡ put (pairs_now kept made.old) (number ∷ [])
+            (value.entries ∷ [])) }
 {
     made.push(Numbered { number, value })
 }

@@ -55,8 +55,10 @@ fn place_of<T>(items: &[Numbered<T>], number: u32) -> Option<usize>
 /// Puts another value under a number, where there is one. It takes no memory.
 pub fn replace<T: Drop>(items: &mut Vec<Numbered<T>>, item: Numbered<T>)
     ensures values { (n : ℕ) → value_of_lem items.new.items n
-        ≡ renewed (value_of_lem items.old.items n) (if n == item.number then Some item.value else None) }
-    ensures numbers { map (λ item. item.number) items.new.items ≡ map (λ item. item.number) items.old.items }
+        ≡ renewed (value_of_lem items.old.items n) (if n == item.number then Some item.value else
+            None) }
+    ensures numbers { map (λ item. item.number) items.new.items
+        ≡ map (λ item. item.number) items.old.items }
 {
     let Numbered { number, value } = item;
     if let Some(at) = place_of(items.as_slice(), number) {
@@ -69,7 +71,8 @@ pub fn replace<T: Drop>(items: &mut Vec<Numbered<T>>, item: Numbered<T>)
 pub fn replace_all<T: Drop>(items: &mut Vec<Numbered<T>>, newer: List<Numbered<T>>)
     ensures values { (n : ℕ) → value_of_lem items.new.items n
         ≡ renewed (value_of_lem items.old.items n) (latest_of_lem newer n) }
-    ensures numbers { map (λ item. item.number) items.new.items ≡ map (λ item. item.number) items.old.items }
+    ensures numbers { map (λ item. item.number) items.new.items
+        ≡ map (λ item. item.number) items.old.items }
 {
     let mut left = newer.into_vec();
     left.as_mut_slice().reverse();

@@ -66,10 +66,13 @@ pub fn cross<O: Operator, L: Ledger>(
     steps: &mut Steps<L>,
 ) -> Result<(), Fault<IdsSpent>>
     requires near { length over.now.near.now ≤ 2 }
-    requires far { length (seen_from over.now.backward (seen old.now)).target ≡ length over.now.far.now }
+    requires far { length (seen_from over.now.backward (seen old.now)).target
+        ≡ length over.now.far.now }
     requires may { SomeMap (directed over.now.backward (O.meaning over.now.operator.now))
-        (map (made_state before made.old).tables over.now.near.now) (seen_from over.now.backward (seen old.now)) made.old.ids.next }
-    ensures crosses { Crosses O.meaning before.entry (crossing_of over.now) (seen_from over.now.backward (seen old.now))
+        (map (made_state before made.old).tables over.now.near.now)
+            (seen_from over.now.backward (seen old.now)) made.old.ids.next }
+    ensures crosses { Crosses O.meaning before.entry (crossing_of over.now)
+        (seen_from over.now.backward (seen old.now))
         made.old made.new result }
     ensures has { OnOk result (HasMore (crossing_of over.now) made.old made.new) }
 {

@@ -31,7 +31,8 @@ pub fn copy_tables(
     made: &[Numbered<Table>],
     numbers: &[u32],
 ) -> Result<List<Numbered<Table>>, Memory>
-    ensures { IfOk result (λ copies. told_rows copies ≡ beside (rows_now kept.now made.now) numbers.now) }
+    ensures { IfOk result (λ copies. told_rows copies ≡ beside
+        (rows_now kept.now made.now) numbers.now) }
 {
     let mut copies = List::new(alloc);
     for number in numbers {
@@ -87,7 +88,8 @@ pub fn kept_of(
     kept: &[Numbered<Table>],
     numbers: &[u32],
 ) -> Result<List<u32>, Memory>
-    ensures { IfOk result (λ made. made ≡ filter (λ number. is_some (value_of_lem kept.now number)) numbers.now) }
+    ensures { IfOk result (λ made. made ≡ filter (λ number.
+        is_some (value_of_lem kept.now number)) numbers.now) }
 {
     let mut made = List::new(alloc);
     for table in numbers {

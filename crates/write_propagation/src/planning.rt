@@ -29,7 +29,8 @@ fn plan_of<O: Operator, L: Ledger>(
     made: Made,
     steps: &mut Steps<L>,
 ) -> Result<Plan, Memory>
-    requires { Each (IsRelatedAt O.meaning db.now.graph.edges (made_state before made)) tree.now.operators }
+    requires { Each (IsRelatedAt O.meaning db.now.graph.edges
+        (made_state before made)) tree.now.operators }
     ensures { IfOk result (IsMadeFor O.meaning db.now tree.now before.entry made) }
 {
     let operators = tree.operators.as_slice();
@@ -67,10 +68,12 @@ pub fn plan<O: Operator, L: Ledger>(
     steps: &mut Steps<L>,
 ) -> Result<Plan, Fault<IdsSpent>>
     requires lives { In written.set (numbers db.now.graph.edges) }
-    requires may { MayWrite db.now.graph.edges (state_for O.meaning db.now) written.set written.table written.rows.rows written.ids.next }
+    requires may { MayWrite db.now.graph.edges (state_for O.meaning db.now) written.set
+        written.table written.rows.rows written.ids.next }
     requires drawn { written.ids.next ≤ first_refused db.now.ids }
     requires limit { written.ids.limit ≡ db.now.ids.limit }
-    ensures { Plans O.meaning db.now written.set written.table written.rows.rows written.ids.next result }
+    ensures { Plans O.meaning db.now written.set written.table written.rows.rows written.ids.next
+        result }
 {
     let graph = db.graph();
     let tree = tree_of(alloc, graph, written.set)?;

@@ -27,7 +27,8 @@ fn operators_of(alloc: Global, steps: &[Step]) -> Result<List<u32>, Memory>
 }
 
 fn targets_of<O>(graph: &Graph<O>, operator: u32) -> &[u32]
-    ensures { result.now ≡ option_map_or (λ edge. edge.tables) (edge_of graph.entry.now.edges operator) [] }
+    ensures { result.now ≡ option_map_or (λ edge. edge.tables)
+        (edge_of graph.entry.now.edges operator) [] }
 {
     match graph.edge(operator) {
         Some(placed) => placed.tables.as_slice(),
