@@ -18,7 +18,7 @@ use Rattle.bidel_parser.proofs.OperatorListLaws.{lone, shared}
 pub gives_same : {X Y : Type 0} (view : X → Y) (p q : List Lexeme → Read Lexeme Y) (c d : Cursor) (result : Result (X × Cursor) ReadError)
     → p (ahead c) ≡ q (ahead d) → ReadsAs view q d result → ReadsAs view p c result
 gives_same view p q c d (Ok x) e h = e ∙ h
-gives_same view p q c d (Err Memory) e h = tt
+gives_same view p q c d (Err (Memory memory)) e h = tt
 gives_same view p q c d (Err (Left n)) e h = (h.0, e ∙ h.1, h.2)
 
 -- behind what is read, the rest is read

@@ -67,7 +67,7 @@ fn add_needed<O>(
         ≡ tables_with graph.now.edges trees.now tables.old.items (option_copied placed.entry)) }
     ensures made { OnOk result (made.new.items
         ≡ needed_with graph.now.edges trees.now tables.old.items made.old.items
-            (option_copied placed.entry)) }
+        (option_copied placed.entry)) }
 {
     let Some(edge) = placed else {
         return Ok(());
@@ -89,7 +89,7 @@ pub fn needed<O>(
 ) -> Result<Vec<u32>, Memory>
     ensures value { IfOk result (λ made. made.items
         ≡ needed_lem (in_trees_lem graph.now.edges trees.now)
-            (forest graph.now.edges) named.items) }
+        (forest graph.now.edges) named.items) }
     ensures edges { AreEdges graph.now.edges }
 {
     let mut left = graph.live_operators();

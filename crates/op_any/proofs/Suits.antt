@@ -20,7 +20,7 @@ use Rattle.version_graph.specs.declared.parts.Edge.{Edge}
 use Rattle.version_graph.proofs.SetLaws.{each_at}
 use Rattle.version_graph.proofs.NameLaws.{name_is}
 use Rattle.op_law.specs.SoundTerms.{TermSound}
-use Rattle.op_any.specs.Checks.{Checked, ◌then◌}
+use Rattle.par_base.specs.Checked.{Checked, ◌then◌}
 use Rattle.op_kinds.specs.Operators.{Built, meaning_of}
 use Rattle.op_any.specs.NameChecks.{heading_named, known_table, other_table, new_table, known_column, known_columns, unrepeated, new_columns, same_columns, few_columns, known_id}
 use Rattle.op_any.specs.Texts.{TermFits, TextsFit}

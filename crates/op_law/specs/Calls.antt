@@ -37,7 +37,7 @@ IsSpent next old new spent = (first_refused old < next) × (spent.needed ≡ fir
 abbrev pub IsMapped : Mapped → CounterState → CounterState → Result Far (Fault IdsSpent) → Type 0
 IsMapped to old new (Ok far) = (to.next ≤ first_refused old) × IsFar to far × (new ≡ record old { next = to.next })
 IsMapped to old new (Err (Refused spent)) = IsSpent to.next old new spent
-IsMapped to old new (Err OutOfMemory) = new ≡ old
+IsMapped to old new (Err (OutOfMemory memory)) = new ≡ old
 
 -- the target of a related pair to which the source, the auxiliary tables and the memory belong, or none exactly where they belong to none
 abbrev pub Admits : Meaning → Tables → Tables → Pairs → Option Tables → Type 0

@@ -3,7 +3,8 @@ use Rattle.std.specs.Prelude.{◌≢◌}
 use Rattle.std.proofs.Common.{◌≡◌, ℕ, List, true, false, refl, arith}
 use Rattle.par_base.specs.declared.value.Value.{Value}
 use Rattle.expr_lang.specs.Terms.{Term}
-use Rattle.par_base.specs.SameRows.{same_row, row_equal}
+use Rattle.par_base.specs.SameRows.{same_row}
+use Rattle.par_base.specs.inner.SameLaws.{row_equal}
 use Rattle.op_split_merge.specs.Shown.{NewInBoth, NewInFirst, NewInSecond, NewInNeither, LostFirstStays, LostSecondStays, SeparatedStay, AgainstStays}
 
 -- rows that differ are told apart

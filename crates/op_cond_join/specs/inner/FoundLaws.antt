@@ -11,7 +11,7 @@ use Rattle.row_parts.specs.Places.{pick as part, ArePartition}
 use Rattle.row_parts.specs.RowCells.{Cell, map_cell, by_test, by_option}
 use Rattle.row_parts.specs.inner.PlaceLemmas.{pick_sound, join_parts}
 use Rattle.pair_rows.specs.inner.Numbers.{is_own}
-use Rattle.par_base.specs.SameRows.{row_same}
+use Rattle.par_base.specs.inner.SameLaws.{row_same}
 use Rattle.pair_rows.specs.inner.Lookups.{apart, sound_at, filter_found, filter_all}
 use Rattle.op_cond_join.specs.Shown.{Joining, row_at, joined, AreThere, IsJoined}
 use Rattle.op_cond_join.specs.inner.ShownLaws.{row_for, joined_found, there_cells}
