@@ -10,7 +10,8 @@ use Rattle.bidel_expr.specs.declared.read_error.ReadError.TheVariants.{Memory, L
 use Rattle.bidel_expr.specs.ReadAnswers.{ahead, ReadsAs}
 use Rattle.bidel_parser.specs.declared.first_words.OperatorWord.{OperatorWord}
 use Rattle.bidel_parser.specs.Words.{choice_of}
-use Rattle.bidel_parser.specs.Operators.{shared_words, goes_on_with, shows_operator, begins_operator, closed_operator_at, operators_at, listed_operators_at, further_operators_at}
+use Rattle.bidel_parser.specs.Operators.{shared_words, goes_on_with, shows_operator, begins_operator}
+use Rattle.bidel_parser.specs.inner.OperatorReaders.{closed_operator_at, operators_at, listed_operators_at, further_operators_at}
 use Rattle.statements.specs.Views.{OpView}
 use Rattle.bidel_parser.proofs.OperatorListLaws.{lone, shared}
 
