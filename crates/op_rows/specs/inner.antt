@@ -1,3 +1,4 @@
+pub mod CellLemmas
+pub mod Merging
 pub mod Passes
 pub mod Tabulated
-pub mod CellLemmas
