@@ -6,6 +6,7 @@ use Rattle.std.proofs.lemmas.Bool.{and_from, cond-false, cond-true, eq-eqb, eqb-
 use Rattle.version_graph.specs.Sets.{In, Each}
 use Rattle.version_graph.specs.Edges.{AreEdges, numbers, is_in}
 use Rattle.version_graph.specs.Finished.{HasBelow, are_needed, way}
+use Rattle.version_graph.specs.Forest.{crossed, crossing, forest, link, up}
 use Rattle.version_graph.specs.Kept.{placed_in, needed_by}
 use Rattle.version_graph.specs.declared.node.Node.{Node}
 use Rattle.version_graph.specs.declared.parts.Placed.{Placed}
@@ -21,6 +22,11 @@ second_holds true b e = e
 second_holds false b e = cc
 
 module _ {O : Type 0} where
+  -- a way begins at its own operator, and goes on from the parent
+  pub way_step : (e : Placed O) (es : List (Placed O)) (w : ℕ) → way (e ∷ es) w ≡ cond (w == e.number) (e.number ∷ way es e.parent) (way es w)
+  way_step e es w =
+      elim (w == e.number) as (λ b. crossed (cond b (crossing true (link es e) ∷ up (forest es) e.parent) (up (forest es) w)) ≡ cond b (e.number ∷ way es e.parent) (way es w)) [ true ↦ refl | false ↦ refl ]
+
   -- a way has live operators alone
   pub way_lives : (es : List (Placed O)) (w n : ℕ) → In n (way es w) → In n (numbers es)
   way_lives [] w n i = i
@@ -28,7 +34,7 @@ module _ {O : Type 0} where
       (elim (w == e.number) as (λ b. In n (cond b (e.number ∷ way es e.parent) (way es w)) → In n (e.number ∷ numbers es)) [
         | true ↦ λ j. elim j as (λ _. In n (e.number ∷ numbers es)) [ inl same ↦ inl same | inr k ↦ inr (way_lives es e.parent n k) ]
         | false ↦ λ j. inr (way_lives es w n j)
-      ]) i
+      ]) (subst (λ (l : List ℕ). In n l) (way_step e es w) i)
 
   -- a way that has an operator goes from a live one
   pub way_from : (es : List (Placed O)) (w n : ℕ) → In n (way es w) → In w (numbers es)
@@ -37,13 +43,13 @@ module _ {O : Type 0} where
       (elim (w == e.number) as (λ b. (w == e.number) ≡ b → In n (cond b (e.number ∷ way es e.parent) (way es w)) → In w (e.number ∷ numbers es)) [
         | true ↦ λ same j. inl (eqb-true w e.number same)
         | false ↦ λ other j. inr (way_from es w n j)
-      ]) refl i
+      ]) refl (subst (λ (l : List ℕ). In n l) (way_step e es w) i)
 
   pub newest_way : (e : Placed O) (es : List (Placed O)) → way (e ∷ es) e.number ≡ e.number ∷ way es e.parent
-  newest_way e es = cond-true (e.number == e.number) (e.number ∷ way es e.parent) (way es e.number) (eq-eqb e.number e.number refl)
+  newest_way e es = way_step e es e.number ∙ cond-true (e.number == e.number) (e.number ∷ way es e.parent) (way es e.number) (eq-eqb e.number e.number refl)
 
   pub older_way : (e : Placed O) (es : List (Placed O)) (w : ℕ) → (w ≡ e.number → ⊥) → way (e ∷ es) w ≡ way es w
-  older_way e es w other = cond-false (w == e.number) (e.number ∷ way es e.parent) (way es w) (ne_eqb w e.number other)
+  older_way e es w other = way_step e es w ∙ cond-false (w == e.number) (e.number ∷ way es e.parent) (way es w) (ne_eqb w e.number other)
 
   -- the newest number is no older one
   pub not_older : (e : Placed O) (es : List (Placed O)) → AreEdges (e ∷ es) → In e.number (numbers es) → ⊥
@@ -71,7 +77,7 @@ module _ {O : Type 0} where
       (elim (h.0 == e.number) as (λ b. (h.0 == e.number) ≡ b → In e.number (cond b (e.number ∷ way es e.parent) (way es h.0)) → In e.number sets) [
         | true ↦ λ same i. subst (λ (k : ℕ). In k sets) (eqb-true h.0 e.number same) h.1
         | false ↦ λ other i. absurd (not_older e es edges (way_lives es h.0 e.number i))
-      ]) refl h.2
+      ]) refl (subst (λ (l : List ℕ). In e.number l) (way_step e es h.0) h.2)
 
   -- what is at or below an older operator is so without the newest edge
   less_below : (e : Placed O) (es : List (Placed O)) (sets : List ℕ) (n : ℕ) → AreEdges (e ∷ es) → In n (numbers es) → HasBelow (e ∷ es) sets n → HasBelow es (e.parent ∷ sets) n
@@ -82,7 +88,7 @@ module _ {O : Type 0} where
           | inr j ↦ (e.parent, inl refl, j)
         ]
         | false ↦ λ i. (h.0, inr h.1, i)
-      ]) h.2
+      ]) (subst (λ (l : List ℕ). In n l) (way_step e es h.0) h.2)
 
   -- EACH OPERATOR HAS ONE OF THE WORKING SETS AT OR BELOW IT WHERE THE TEST SAYS SO
   pub needed_below : (es : List (Placed O)) (sets : List ℕ) → AreEdges es → are_needed sets es ≡ true → Each (HasBelow es sets) (numbers es)

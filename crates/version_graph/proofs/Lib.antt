@@ -13,6 +13,8 @@ mod Example
 pub mod WalkLaws
 pub mod PlaceLaws
 mod FinishLemmas
+mod HalvingLemmas
+mod AscendLemmas
 pub mod UnneededLaws
 pub mod TreeLaws
 pub mod BackLaws

@@ -127,6 +127,26 @@ module _ {O : Type 0} where
   edge_of_place ns i =
       ap (λ (es : List (Placed O)). slice_get es i) (reverse_placed (reverse ns) ∙ ap (λ (l : List (Node O)). placed_in l) (reverse-reverse ns)) ∙ at_place ns i
 
+  reverse_numbers : (es : List (Placed O)) → reverse (numbers es) ≡ numbers (reverse es)
+  reverse_numbers [] = refl
+  reverse_numbers (e ∷ es) =
+      reverse-append (e.number ∷ []) (numbers es) ∙ ap (λ (l : List ℕ). l ++ (e.number ∷ [])) (reverse_numbers es) ∙ sym (numbers_behind (reverse es) e)
+      ∙ ap (λ (l : List (Placed O)). numbers l) (sym (reverse-append (e ∷ []) es))
+    where
+      numbers_behind : (fs : List (Placed O)) (e : Placed O) → numbers (fs ++ e ∷ []) ≡ numbers fs ++ e.number ∷ []
+      numbers_behind [] e = refl
+      numbers_behind (f ∷ fs) e = ap (λ (l : List ℕ). f.number ∷ l) (numbers_behind fs e)
+
+  number_there : (es : List (Placed O)) (i : ℕ) → slice_get (numbers es) i ≡ option_map (λ (e : Placed O). e.number) (slice_get es i)
+  number_there [] i = refl
+  number_there (e ∷ es) zero = refl
+  number_there (e ∷ es) (suc i) = number_there es i
+
+  -- the operators from the oldest on
+  pub number_place : (es : List (Placed O)) (i : ℕ) (o : Option (Placed O)) → o ≡ slice_get (reverse es) i → option_map (λ (e : Placed O). e.number) o ≡ slice_get (reverse (numbers es)) i
+  number_place es i o e =
+      ap (option_map (λ (e : Placed O). e.number)) e ∙ sym (number_there (reverse es) i) ∙ ap (λ (l : List ℕ). slice_get l i) (sym (reverse_numbers es))
+
   pub not_zero : (es : List (Placed O)) (w : ℕ) → (w ≡ 0 → ⊥) → tables_at es w ≡ option_map (λ e. table_numbers (working es w)) (edge_of es w)
   not_zero es w other = cond-false (w == 0) (Some []) (option_map (λ (e : Placed O). table_numbers (working es w)) (edge_of es w)) (ne_eqb w 0 other)
 

@@ -11,9 +11,9 @@ use Rattle.std.proofs.lemmas.List.Elements.{filter_map-append}
 use Rattle.std.proofs.lemmas.List.Folds.{list_any-append}
 use Rattle.version_graph.specs.Sets.{In, Distinct, Each}
 use Rattle.version_graph.specs.Tables.{TableVersion, table_numbers, headings_of, heading_names, is_among, passing, taken, table_named}
-use Rattle.version_graph.specs.Edges.{AreEdges, set_after, made_by_edge, sources_of, working, made, heading_of, is_in}
+use Rattle.version_graph.specs.Edges.{AreEdges, set_after, made_by_edge, sources_of, working, made, has_name, heading_of, is_in, number_named}
 use Rattle.version_graph.specs.Forest.{minus}
-use Rattle.version_graph.specs.Kept.{IsRight, tree_on, has_name, number_named, numbers_named}
+use Rattle.version_graph.specs.Kept.{IsRight, tree_on, numbers_named}
 use Rattle.version_graph.specs.declared.parts.Placed.{Placed}
 use Rattle.version_graph.specs.declared.parts.Heading.{Heading}
 use Rattle.version_graph.specs.declared.node.Node.{Node}

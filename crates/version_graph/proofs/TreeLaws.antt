@@ -5,12 +5,13 @@ use Rattle.std.proofs.lemmas.Bool.{eqb-true, eq-eqb, ne_eqb, cond-true, cond-fal
 use Rattle.std.proofs.lemmas.List.{map-append}
 use Rattle.version_graph.specs.Sets.{In}
 use Rattle.version_graph.specs.Edges.{AreEdges, numbers}
-use Rattle.version_graph.specs.Forest.{Crossing, crossing, forest, link, rest, tree, up, walk}
-use Rattle.version_graph.specs.Laws.{crossed}
+use Rattle.version_graph.specs.Forest.{Crossing, crossed, crossing, forest, link, rest, tree, up, walk}
+use Rattle.version_graph.specs.Finished.{way}
+use Rattle.version_graph.specs.Laws.{HangTogether}
 use Rattle.version_graph.specs.declared.parts.Placed.{Placed}
 use Rattle.version_graph.proofs.SetLaws.{in_append, in_left, in_right}
 use Rattle.version_graph.proofs.NodeLaws.{above_zero}
-use Rattle.version_graph.proofs.FinishLemmas.{not_older}
+use Rattle.version_graph.proofs.FinishLemmas.{not_older, way_from, way_lives}
 
 module _ {O : Type 0} where
   in_both : (n : ℕ) (ps qs : List (Crossing O)) → In n (crossed ps ++ crossed qs) → In n (crossed (ps ++ qs))
@@ -54,15 +55,6 @@ module _ {O : Type 0} where
         ]
       ]) i
 
-  -- the way up has live operators alone
-  up_lives : (es : List (Placed O)) (w n : ℕ) → In n (crossed (up (forest es) w)) → In n (numbers es) × In w (numbers es)
-  up_lives [] w n i = absurd i
-  up_lives (e ∷ es) w n i =
-      (elim (w == e.number) as (λ b. (w == e.number) ≡ b → In n (crossed (cond b (crossing true (link es e) ∷ up (forest es) e.parent) (up (forest es) w))) → In n (e.number ∷ numbers es) × In w (e.number ∷ numbers es)) [
-        | true ↦ λ is j. (elim j as (λ _. In n (e.number ∷ numbers es)) [ inl same ↦ inl same | inr k ↦ inr (up_lives es e.parent n k).0 ], inl (eqb-true w e.number is))
-        | false ↦ λ is j. let more = up_lives es w n j in (inr more.0, inr more.1)
-      ]) refl i
-
   older_tree : (e : Placed O) (es : List (Placed O)) (n : ℕ) → AreEdges (e ∷ es) → In n (numbers es) → tree (forest (e ∷ es)) n ≡ tree (forest es) n
   older_tree e es n edges i = cond-false (n == e.number) (cond (e.parent == 0) e.number (tree (forest es) e.parent)) (tree (forest es) n) (ne_eqb n e.number (λ same. not_older e es edges (subst (λ (k : ℕ). In k (numbers es)) same i)))
 
@@ -77,16 +69,45 @@ module _ {O : Type 0} where
             elim j as (λ _. tree (forest (e ∷ es)) n ≡ tree (forest (e ∷ es)) w) [
               | inl same ↦ ap (λ (k : ℕ). tree (forest (e ∷ es)) k) (same ∙ sym at)
               | inr k ↦
-                  let lives = up_lives es e.parent n k in
-                  let more = above_zero es edges.1 e.parent lives.1 in
+                  let more = above_zero es edges.1 e.parent (way_from es e.parent n k) in
                   let root = cond-false (e.parent == 0) e.number (tree f e.parent) (ne_eqb e.parent 0 (λ z. omega arith)) in
                   let here = cond-true (w == e.number) (cond (e.parent == 0) e.number (tree f e.parent)) (tree f w) is in
-                  older_tree e es n edges lives.0 ∙ up_in_tree es edges.1 e.parent n k ∙ sym root ∙ sym here
+                  older_tree e es n edges (way_lives es e.parent n k) ∙ up_in_tree es edges.1 e.parent n k ∙ sym root ∙ sym here
             ]
         | false ↦ λ is j.
-            let lives = up_lives es w n j in
-            older_tree e es n edges lives.0 ∙ up_in_tree es edges.1 w n j ∙ sym (older_tree e es w edges lives.1)
+            older_tree e es n edges (way_lives es w n j) ∙ up_in_tree es edges.1 w n j ∙ sym (older_tree e es w edges (way_from es w n j))
       ]) refl i
+
+  -- the oldest edge of a tree stands on each way of it
+  tree_in_way : (es : List (Placed O)) → AreEdges es → (w : ℕ) → In w (numbers es) → In (tree (forest es) w) (way es w)
+  tree_in_way [] edges w i = absurd i
+  tree_in_way (e ∷ es) edges w i =
+      let f = forest es in
+      (elim (w == e.number) as (λ b. (w == e.number) ≡ b → In (cond b (cond (e.parent == 0) e.number (tree f e.parent)) (tree f w)) (crossed (cond b (crossing true (link es e) ∷ up f e.parent) (up f w)))) [
+        | true ↦ λ is. (elim (e.parent == 0) as (λ c. (e.parent == 0) ≡ c → In (cond c e.number (tree f e.parent)) (e.number ∷ way es e.parent)) [
+          | true ↦ λ none. inl refl
+          | false ↦ λ some. elim edges.0.placed as (λ _. In (tree f e.parent) (e.number ∷ way es e.parent)) [
+            | inl z ↦
+                let clash : true ≡ false = sym (eq-eqb e.parent 0 z) ∙ some in
+                cc
+            | inr j ↦ inr (tree_in_way es edges.1 e.parent j)
+          ]
+        ]) refl
+        | false ↦ λ other. elim i as (λ _. In (tree f w) (way es w)) [
+          | inl same ↦
+              let clash : true ≡ false = sym (eq-eqb w e.number same) ∙ other in
+              cc
+          | inr j ↦ tree_in_way es edges.1 w j
+        ]
+      ]) refl
+
+  -- A TREE IS WHAT HANGS TOGETHER BY WAYS UP
+  pub hangs_together : (es : List (Placed O)) → AreEdges es → (v w : ℕ) → In v (numbers es) → In w (numbers es) → tree (forest es) v ≡ tree (forest es) w → HangTogether es v w
+  hangs_together es edges v w i j same =
+      (tree (forest es) v, tree_in_way es edges v i, subst (λ (n : ℕ). In n (way es w)) (sym same) (tree_in_way es edges w j))
+
+  pub together_in_tree : (es : List (Placed O)) → AreEdges es → (v w : ℕ) → HangTogether es v w → tree (forest es) v ≡ tree (forest es) w
+  together_in_tree es edges v w h = sym (up_in_tree es edges v h.0 h.1) ∙ up_in_tree es edges w h.0 h.2
 
   -- A WALK CROSSES ITS OWN TREE AND NO OTHER
   pub walk_in_tree : (es : List (Placed O)) → AreEdges es → (w n : ℕ) → In n (crossed (walk (forest es) w)) → tree (forest es) n ≡ tree (forest es) w

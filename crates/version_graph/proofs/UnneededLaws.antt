@@ -1,18 +1,19 @@
 -- What evolutions and drops leave is finished; and what a drop takes.
-use Rattle.std.proofs.Common.{◌≡◌, ℕ, suc, ◌+◌, ◌≤◌, List, [], ◌∷◌, ◌++◌, Bool, true, false, cond, refl, sym, ◌∙◌, subst, length, arith, inl, inr}
+use Rattle.std.proofs.Common.{◌≡◌, ℕ, suc, ◌+◌, ◌≤◌, List, [], ◌∷◌, ◌++◌, Bool, true, false, cond, refl, sym, ap, ◌∙◌, subst, length, arith, inl, inr}
 use Rattle.std.specs.Prelude.{◌==◌, ◌⊎◌}
-use Rattle.std.proofs.lemmas.Bool.{eqb-true}
+use Rattle.std.proofs.lemmas.Bool.{cond-false, eq-eqb, eqb-true, ne_eqb}
 use Rattle.std.proofs.lemmas.List.{map-append}
 use Rattle.version_graph.specs.Sets.{In, Each}
-use Rattle.version_graph.specs.Edges.{AreEdges, Drawn, IsGraph, is_in, numbers, version_sets}
+use Rattle.version_graph.specs.Tables.{TableVersion}
+use Rattle.version_graph.specs.Edges.{AreEdges, Drawn, IsGraph, is_in, numbers, set_after, version_sets, working}
 use Rattle.version_graph.specs.Evolve.{evolved, grown, placed_next}
 use Rattle.version_graph.specs.Dropped.{doomed, dropped, other_versions, staying}
 use Rattle.version_graph.specs.Finished.{HasBelow, IsFinished, way}
 use Rattle.version_graph.specs.declared.parts.Edge.{Edge}
 use Rattle.version_graph.specs.declared.parts.Placed.{Placed}
 use Rattle.version_graph.proofs.SetLaws.{each_at, each_more, each_of, in_left, in_of_test, in_right, is_in_true}
-use Rattle.version_graph.proofs.StayLaws.{edges_stay, fewer_numbers}
-use Rattle.version_graph.proofs.FinishLemmas.{from_parent, more_below, newest_below, newest_way, not_older, older_way, way_from}
+use Rattle.version_graph.proofs.StayLaws.{edges_stay, fewer_numbers, working_stays}
+use Rattle.version_graph.proofs.FinishLemmas.{from_parent, more_below, newest_below, newest_way, not_older, older_way, way_from, way_step}
 
 -- ---- evolutions
 
@@ -112,7 +113,27 @@ module _ {O : Type 0} where
               | true ↦ inr (below_stays es (e.parent ∷ sets) n (w, inr h.1, i))
               | false ↦ below_stays es sets n (w, h.1, i)
             ]
-      ]) refl h.2
+      ]) refl (subst (λ (l : List ℕ). In n l) (way_step e es w) h.2)
+
+  -- EACH WORKING SET THAT STAYS IS AS IT WAS
+  pub sets_stay : (es : List (Placed O)) (sets : List ℕ) → AreEdges es → (w : ℕ) → In w (numbers (staying sets es)) → working (staying sets es) w ≡ working es w
+  sets_stay [] sets edges w i = refl
+  sets_stay (e ∷ es) sets edges w i =
+      let kept = staying (e.parent ∷ sets) es in
+      (elim (is_in e.number sets) as (λ c. In w (numbers (cond c (e ∷ kept) (staying sets es))) → working (cond c (e ∷ kept) (staying sets es)) w ≡ cond (w == e.number) (set_after (working es e.parent) e) (working es w)) [
+        | true ↦ λ j. (elim (w == e.number) as (λ b. (w == e.number) ≡ b → cond b (set_after (working kept e.parent) e) (working kept w) ≡ cond b (set_after (working es e.parent) e) (working es w)) [
+          | true ↦ λ is. ap (λ (s : List TableVersion). set_after s e) (working_stays es e.parent (e.parent ∷ sets) (inl refl))
+          | false ↦ λ other. elim j as (λ _. working kept w ≡ working es w) [
+            | inl same ↦
+                let clash : true ≡ false = sym (eq-eqb w e.number same) ∙ other in
+                cc
+            | inr k ↦ sets_stay es (e.parent ∷ sets) edges.1 w k
+          ]
+        ]) refl
+        | false ↦ λ j.
+            let other = ne_eqb w e.number (λ same. not_older e es edges (subst (λ (k : ℕ). In k (numbers es)) same (fewer_numbers es sets w j))) in
+            sets_stay es sets edges.1 w j ∙ sym (cond-false (w == e.number) (set_after (working es e.parent) e) (working es w) other)
+      ]) i
 
   -- ---- what is taken is what doesn't stay
 

@@ -32,12 +32,12 @@ in_at (x ∷ xs) Rattle.std.proofs.Common.zero d h = inl refl
 in_at (x ∷ xs) (suc i) d h = inr (in_at xs i d (omega arith))
 
 module _ {O : Type 0} where
-  node_number : (ns : List (Node O)) (k : Node O) → In k ns → In k.placed.number (numbers (placed_in ns))
+  pub node_number : (ns : List (Node O)) (k : Node O) → In k ns → In k.placed.number (numbers (placed_in ns))
   node_number [] k i = absurd i
   node_number (m ∷ ns) k (inl e) = inl (ap (λ (x : Node O). x.placed.number) e)
   node_number (m ∷ ns) k (inr i) = inr (node_number ns k i)
 
-  nodes_once : (ns : List (Node O)) → AreEdges (placed_in ns) → Distinct (map (λ (k : Node O). k.placed.number) ns)
+  pub nodes_once : (ns : List (Node O)) → AreEdges (placed_in ns) → Distinct (map (λ (k : Node O). k.placed.number) ns)
   nodes_once [] edges = tt
   nodes_once (k ∷ ns) edges = (
     (λ i.

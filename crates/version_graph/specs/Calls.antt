@@ -1,12 +1,12 @@
 -- What inner calls ensure.
-use Rattle.std.specs.Prelude.{◌≡◌, ℕ, ◌+◌, ◌<◌, ◌≤◌, ◌^◌, List, [], ◌∷◌, ◌++◌, length, Option, Some, None, Result, Ok, Err, ⊤}
+use Rattle.std.specs.Prelude.{◌≡◌, ℕ, ◌+◌, ◌<◌, ◌≤◌, ◌^◌, slice_index_or, List, [], ◌∷◌, ◌++◌, length, Option, Some, None, Result, Ok, Err, ⊤}
 use Rattle.par_base.specs.declared.fault.Fault.{Fault}
 use Rattle.par_base.specs.declared.fault.Fault.TheVariants.{Refused, Memory}
 use Rattle.par_base.specs.declared.refusal.Refusal.{Refusal}
 use Rattle.par_base.specs.declared.refusal.Refusal.TheVariants.{VersionExists}
 use Rattle.version_graph.specs.Sets.{In, Each}
 use Rattle.version_graph.specs.Tables.{table_numbers, headings_of, FitInOrder}
-use Rattle.version_graph.specs.Edges.{Drawn, AreEdges, numbers, working, made, set_named}
+use Rattle.version_graph.specs.Edges.{Drawn, AreEdges, numbers, working, made, operator_limit, set_named}
 use Rattle.version_graph.specs.Kept.{IsRight, edges_of}
 use Rattle.version_graph.specs.Evolve.{start_of, refused_start, refused_limit, limit_at, limit_passed, targets_in}
 use Rattle.version_graph.specs.Placing.{CanPlace, last_of}
@@ -19,6 +19,12 @@ use Rattle.version_graph.specs.declared.node.Last.{Last}
 -- one node more, of an edge on the others
 abbrev pub AddsNode : {O : Type 0} → List (Node O) → Placed O → List (Node O) → Type 0
 AddsNode {O} nodes e new = (n : Node O) × (new ≡ nodes ++ n ∷ []) × (n.placed ≡ e) × IsRight (edges_of nodes) n
+
+-- the nodes before the place have lesser numbers, and those from it on have not
+pub record IsPlaceFor {O : Type 0} (nodes : List (Node O)) (number place : ℕ) : Type 0 where
+  pub within : place ≤ length nodes
+  pub older : (i : ℕ) (k : Node O) → i < place → (slice_index_or nodes i k).placed.number < number
+  pub others : (i : ℕ) (k : Node O) → place ≤ i → i < length nodes → number ≤ (slice_index_or nodes i k).placed.number
 
 -- edges may be added on a working set after these numbers
 pub record CanGrow {O : Type 0} (es : List (Placed O)) (parent operator table : ℕ) (more : List (Edge O)) : Type 0 where
@@ -46,7 +52,7 @@ IsUnused versions name (Err (Memory memory)) = ⊥
 
 abbrev pub FindsRoom : {O : Type 0} → ℕ → Last → List (Edge O) → Result Last (Fault Refusal) → Type 0
 FindsRoom live last edges (Ok after) =
-    (limit_passed live last.operator last.table edges ≡ None) × (after.operator ≡ last.operator + length edges) × (after.table ≡ last.table + targets_in edges) × (live + length edges ≤ 1024) × (after.operator < 2 ^ 32) × (after.table < 2 ^ 32)
+    (limit_passed live last.operator last.table edges ≡ None) × (after.operator ≡ last.operator + length edges) × (after.table ≡ last.table + targets_in edges) × (live + length edges ≤ operator_limit) × (after.operator < 2 ^ 32) × (after.table < 2 ^ 32)
 FindsRoom live last edges (Err (Refused r)) = refused_limit (limit_passed live last.operator last.table edges) ≡ Some r
 FindsRoom live last edges (Err (Memory memory)) = ⊥
 
@@ -57,6 +63,6 @@ FindsPlace g e (Err (Refused r)) = CanPlace g e → ⊥
 FindsPlace g e (Err (Memory memory)) = ⊥
 
 abbrev pub FindsRoomAt : ℕ → Last → ℕ → Result Last (Fault Refusal) → Type 0
-FindsRoomAt live last targets (Ok after) = (limit_at live last.operator last.table targets ≡ None) × (after.operator ≡ last.operator + 1) × (after.table ≡ last.table + targets) × (live < 1024) × (after.operator < 2 ^ 32) × (after.table < 2 ^ 32)
+FindsRoomAt live last targets (Ok after) = (limit_at live last.operator last.table targets ≡ None) × (after.operator ≡ last.operator + 1) × (after.table ≡ last.table + targets) × (live < operator_limit) × (after.operator < 2 ^ 32) × (after.table < 2 ^ 32)
 FindsRoomAt live last targets (Err (Refused r)) = refused_limit (limit_at live last.operator last.table targets) ≡ Some r
 FindsRoomAt live last targets (Err (Memory memory)) = ⊥

@@ -7,7 +7,8 @@ use Rattle.par_base.specs.declared.fault.Fault.{Fault}
 use Rattle.par_base.specs.declared.fault.Fault.TheVariants.{Refused, Memory}
 use Rattle.par_base.specs.declared.refusal.Refusal.{Refusal}
 use Rattle.par_base.specs.declared.refusal.Refusal.TheVariants.{UnknownVersion}
-use Rattle.version_graph.specs.Edges.{Drawn, is_in, set_named, version_sets}
+use Rattle.version_graph.specs.Sets.{In}
+use Rattle.version_graph.specs.Edges.{Drawn, is_in, numbers, set_named, version_sets, working}
 use Rattle.version_graph.specs.declared.parts.Placed.{Placed}
 
 -- Parents are older. So in one pass, the newest edge first, an edge stays where its working set is needed: it has a name, or an edge that stays begins there.
@@ -34,6 +35,10 @@ dropped g name = record {
   last_operator = g.last_operator;
   last_table = g.last_table;
 }
+
+-- each working set that stays is as it was
+abbrev pub LeavesSets : {O : Type 0} → Drawn O → Drawn O → Type 0
+LeavesSets old new = (w : ℕ) → In w (numbers new.edges) → working new.edges w ≡ working old.edges w
 
 -- what is told of a drop
 abbrev pub Dooms : {O : Type 0} → Drawn O → List ℕ → Result (List ℕ) (Fault Refusal) → Type 0

@@ -1,6 +1,7 @@
 -- A graph of versions: its edges, THE NEWEST FIRST, its named working sets and the last numbers given.
-use Rattle.std.specs.Prelude.{◌≡◌, ℕ, ◌<◌, ◌≤◌, Bool, cond, ◌==◌, List, [], ◌∷◌, ◌++◌, map, length, Option, Some, None, option_map}
+use Rattle.std.specs.Prelude.{◌≡◌, ℕ, ◌<◌, ◌≤◌, Bool, false, cond, ◌==◌, List, [], ◌∷◌, ◌++◌, map, length, Option, Some, None, option_map}
 use Rattle.std.specs.List.{find, list_any}
+use Rattle.std.specs.Option.{option_map_or}
 use Rattle.std.specs.Str.{bytes_eq}
 use Rattle.std.specs.Map.{lookup}
 use Rattle.version_graph.specs.Sets.{In, Distinct, Each}
@@ -57,6 +58,14 @@ tables_at es w = cond (w == 0) (Some []) (option_map (λ e. table_numbers (worki
 
 abbrev pub heading_of : {O : Type 0} → List (Placed O) → ℕ → Option Heading
 heading_of es t = option_map (λ (v : TableVersion). v.heading) (find (λ (v : TableVersion). t == v.number) (made es))
+
+-- whether a table lives and has this name
+abbrev pub has_name : {O : Type 0} → List (Placed O) → List ℕ → ℕ → Bool
+has_name es name t = option_map_or (λ (h : Heading). bytes_eq h.name name) (heading_of es t) false
+
+-- the first of these tables that has this name
+abbrev pub number_named : {O : Type 0} → List (Placed O) → List ℕ → List ℕ → Option ℕ
+number_named es ts name = find (has_name es name) ts
 
 abbrev pub is_in : ℕ → List ℕ → Bool
 is_in n ns = list_any (λ k. n == k) ns

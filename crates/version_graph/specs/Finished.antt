@@ -1,13 +1,13 @@
 -- A finished graph: each operator has a named version at or below it.
-use Rattle.std.specs.Prelude.{ℕ, Bool, true, cond, ◌==◌, ◌&&◌, List, [], ◌∷◌}
+use Rattle.std.specs.Prelude.{ℕ, Bool, true, ◌&&◌, List, [], ◌∷◌}
 use Rattle.version_graph.specs.Sets.{In, Each}
 use Rattle.version_graph.specs.Edges.{Drawn, numbers, is_in, version_sets}
+use Rattle.version_graph.specs.Forest.{crossed, forest, up}
 use Rattle.version_graph.specs.declared.parts.Placed.{Placed}
 
 -- the operators from a working set up to the root
 abbrev pub way : {O : Type 0} → List (Placed O) → ℕ → List ℕ
-way [] w = []
-way (e ∷ es) w = cond (w == e.number) (e.number ∷ way es e.parent) (way es w)
+way es w = crossed (up (forest es) w)
 
 -- one of these working sets is at or below the operator
 abbrev pub HasBelow : {O : Type 0} → List (Placed O) → List ℕ → ℕ → Type 0

@@ -1,5 +1,5 @@
 -- The same edges over numbers of tables alone, and the walk of a write.
-use Rattle.std.specs.Prelude.{ℕ, Bool, true, false, cond, ◌==◌, not, List, [], ◌∷◌, ◌++◌, filter}
+use Rattle.std.specs.Prelude.{ℕ, Bool, true, false, cond, ◌==◌, not, List, [], ◌∷◌, ◌++◌, filter, map}
 use Rattle.version_graph.specs.Tables.{table_numbers}
 use Rattle.version_graph.specs.Edges.{sources_of, is_in}
 use Rattle.version_graph.specs.declared.parts.Placed.{Placed}
@@ -52,6 +52,10 @@ tables_in (e ∷ es) w = cond (w == e.number) (minus (tables_in es e.parent) e.s
 abbrev pub up : {O : Type 0} → List (Link O) → ℕ → List (Crossing O)
 up [] w = []
 up (e ∷ es) w = cond (w == e.number) (crossing true e ∷ up es e.parent) (up es w)
+
+-- the operators that crossings go over
+abbrev pub crossed : {O : Type 0} → List (Crossing O) → List ℕ
+crossed {O} ps = map (λ (p : Crossing O). p.number) ps
 
 -- the tree of a working set: the number of its oldest edge
 abbrev pub tree : {O : Type 0} → List (Link O) → ℕ → ℕ

@@ -1,11 +1,9 @@
 -- What a graph keeps of its edges.
-use Rattle.std.specs.Prelude.{Bool, false, filter_map, ◌≡◌, ℕ, cond, ◌==◌, List, [], ◌∷◌, ◌++◌, map, Option, option_map}
+use Rattle.std.specs.Prelude.{filter_map, ◌≡◌, ℕ, cond, ◌==◌, List, [], ◌∷◌, ◌++◌, map, Option, option_map}
 use Rattle.std.specs.List.{find}
-use Rattle.std.specs.Str.{bytes_eq}
-use Rattle.std.specs.Option.{option_map_or}
 use mathlib.Core.List.{reverse}
 use Rattle.version_graph.specs.Tables.{TableVersion, table_numbers}
-use Rattle.version_graph.specs.Edges.{heading_of, Drawn, is_in, made_by_edge, sources_of, working, set_after, IsGraph}
+use Rattle.version_graph.specs.Edges.{Drawn, is_in, made_by_edge, number_named, sources_of, working, set_after, IsGraph}
 use Rattle.version_graph.specs.Forest.{forest, tree}
 use Rattle.version_graph.specs.declared.parts.Placed.{Placed}
 use Rattle.version_graph.specs.declared.node.Node.{Node}
@@ -44,14 +42,6 @@ node_making {O} nodes t = find (λ (k : Node O). is_in t k.placed.tables) (rever
 
 abbrev pub heading_in : {O : Type 0} → Placed O → ℕ → Option Heading
 heading_in e t = option_map (λ (v : TableVersion). v.heading) (find (λ (v : TableVersion). t == v.number) (made_by_edge e))
-
--- whether a table has this name
-abbrev pub has_name : {O : Type 0} → List (Placed O) → List ℕ → ℕ → Bool
-has_name es name t = option_map_or (λ (h : Heading). bytes_eq h.name name) (heading_of es t) false
-
--- the first of these tables with this name
-abbrev pub number_named : {O : Type 0} → List (Placed O) → List ℕ → List ℕ → Option ℕ
-number_named es ts name = find (has_name es name) ts
 
 -- those of these tables that have the names, in order of the names
 abbrev pub numbers_named : {O : Type 0} → List (Placed O) → List ℕ → List (List ℕ) → List ℕ

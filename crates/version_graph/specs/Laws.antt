@@ -1,11 +1,11 @@
 -- Laws of walks and of drops.
-use Rattle.std.specs.Prelude.{◌≡◌, ◌↔◌, ℕ, List, [], ◌∷◌, map}
+use Rattle.std.specs.Prelude.{◌≡◌, ◌↔◌, ℕ, not, List, [], ◌∷◌, filter}
 use Rattle.version_graph.specs.Sets.{In, Apart, Distinct, Each}
 use Rattle.version_graph.specs.Tables.{table_numbers}
-use Rattle.version_graph.specs.Edges.{AreEdges, Drawn, IsGraph, numbers, version_sets, working}
+use Rattle.version_graph.specs.Edges.{AreEdges, Drawn, IsGraph, Rises, numbers, version_sets, working}
 use Rattle.version_graph.specs.Dropped.{doomed, dropped, other_versions}
-use Rattle.version_graph.specs.Finished.{HasBelow}
-use Rattle.version_graph.specs.Forest.{Crossing, forest, tree, walk}
+use Rattle.version_graph.specs.Finished.{HasBelow, way}
+use Rattle.version_graph.specs.Forest.{Crossing, crossed, forest, tree, walk}
 use Rattle.version_graph.specs.declared.parts.Placed.{Placed}
 
 -- the crossing q changes nothing of p, and is another edge's
@@ -27,13 +27,25 @@ WalkInOrder O = (es : List (Placed O)) → AreEdges es → (w : ℕ) → Ordered
 abbrev pub WalkLeavesSet : Type 0 → Type 0
 WalkLeavesSet O = (es : List (Placed O)) → AreEdges es → (w : ℕ) → Each (λ p. Apart p.far (table_numbers (working es w))) (walk (forest es) w)
 
--- the operators that a walk crosses
-abbrev pub crossed : {O : Type 0} → List (Crossing O) → List ℕ
-crossed {O} ps = map (λ (p : Crossing O). p.number) ps
+-- the crossings that go forward
+abbrev pub forward_part : {O : Type 0} → List (Crossing O) → List (Crossing O)
+forward_part {O} ps = filter (λ (p : Crossing O). not p.backward) ps
+
+-- the forward part of a walk ascends
+abbrev pub WalkAscends : Type 0 → Type 0
+WalkAscends O = (es : List (Placed O)) → AreEdges es → (w : ℕ) → Rises 0 (crossed (forward_part (walk (forest es) w)))
 
 -- a walk crosses the operators of its own tree and no others
 abbrev pub WalkCoversTree : Type 0 → Type 0
 WalkCoversTree O = (es : List (Placed O)) → AreEdges es → (w n : ℕ) → In n (numbers es) → In n (crossed (walk (forest es) w)) ↔ (tree (forest es) n ≡ tree (forest es) w)
+
+-- the ways up from two working sets have an operator in common
+abbrev pub HangTogether : {O : Type 0} → List (Placed O) → ℕ → ℕ → Type 0
+HangTogether es v w = (n : ℕ) × In n (way es v) × In n (way es w)
+
+-- a tree is what hangs together by ways up
+abbrev pub TreeHangsTogether : Type 0 → Type 0
+TreeHangsTogether O = (es : List (Placed O)) → AreEdges es → (v w : ℕ) → In v (numbers es) → In w (numbers es) → (tree (forest es) v ≡ tree (forest es) w) ↔ HangTogether es v w
 
 -- the working sets that other versions name
 abbrev pub other_sets : {O : Type 0} → Drawn O → List ℕ → List ℕ

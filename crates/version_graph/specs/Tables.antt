@@ -32,6 +32,10 @@ passing set names = filter (λ (t : TableVersion). not (is_among names t.heading
 abbrev pub table_named : List TableVersion → List ℕ → Option TableVersion
 table_named set name = find (λ (t : TableVersion). bytes_eq t.heading.name name) set
 
+-- the heading of these with this name
+abbrev pub heading_named : List Heading → List ℕ → Option Heading
+heading_named hs name = find (λ (h : Heading). bytes_eq h.name name) hs
+
 -- the tables of a set with these names, in order of the names
 abbrev pub taken : List TableVersion → List (List ℕ) → List TableVersion
 taken set [] = []

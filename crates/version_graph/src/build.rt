@@ -1,25 +1,19 @@
 //! A node over ascending ones.
 ghost use Rattle.std.specs.Prelude.{◌≡◌, ◌++◌, ◌∷◌, map, length, IfOk, OnOk, option_to_list};
-ghost use Rattle.std.specs.Str.{bytes_eq};
 ghost use mathlib.Core.List.{reverse};
 ghost use Rattle.version_graph.specs.Sets.{In};
 ghost use Rattle.version_graph.specs.Tables.{FitsSet, headings_of, table_numbers};
-ghost use Rattle.version_graph.specs.Edges.{AreEdges, numbers, working};
+ghost use Rattle.version_graph.specs.Edges.{AreEdges, has_name as has_name_lem, number_named as number_named_lem, numbers, working};
 ghost use Rattle.version_graph.specs.Forest.{minus};
-ghost use Rattle.version_graph.specs.Kept.{AreRight, IsRight, edges_of, has_name as has_name_lem, number_named as number_named_lem, numbers_named as numbers_named_lem, tree_on as tree_on_lem};
+ghost use Rattle.version_graph.specs.Kept.{AreRight, IsRight, edges_of, numbers_named as numbers_named_lem, tree_on as tree_on_lem};
 
+use crate::Placed;
 use crate::look::{heading_of, node_of, tables_of_set};
+use crate::names::is_named;
 use crate::node::Node;
-use crate::{Heading, Placed};
 use par_base::{List, Memory, Name};
 use std::alloc::Global;
 use std::iter::Iterator;
-
-fn is_named(heading: &Heading, name: &Name) -> bool
-    ensures { result ≡ bytes_eq heading.now.name name.now }
-{
-    heading.name.as_str().as_bytes() == name.as_str().as_bytes()
-}
 
 fn has_name<O>(nodes: &[Node<O>], table: u32, name: &Name) -> bool
     requires { AreEdges (edges_of nodes.now) }
@@ -31,7 +25,8 @@ fn has_name<O>(nodes: &[Node<O>], table: u32, name: &Name) -> bool
     }
 }
 
-fn number_named<O>(nodes: &[Node<O>], tables: &[u32], name: &Name) -> Option<u32>
+/// The first of these tables that has this name.
+pub fn number_named<O>(nodes: &[Node<O>], tables: &[u32], name: &Name) -> Option<u32>
     requires { AreEdges (edges_of nodes.now) }
     ensures { result ≡ number_named_lem (edges_of nodes.now) tables.now name.now }
 {
@@ -93,6 +88,7 @@ fn set_after(
 
 fn tree_on<O>(nodes: &[Node<O>], placed: &Placed<O>) -> u32
     requires right { AreRight (reverse nodes.now) }
+    requires edges { AreEdges (edges_of nodes.now) }
     requires live { In placed.now.parent (0 ∷ numbers (edges_of nodes.now)) }
     ensures { result ≡ tree_on_lem (edges_of nodes.now) placed.now }
 {

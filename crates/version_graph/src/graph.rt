@@ -3,19 +3,20 @@ ghost use Rattle.std.specs.Prelude.{◌≡◌, ◌<◌, ◌==◌, ◌||◌, [], 
 ghost use Rattle.std.specs.Option.{option_copied, option_map};
 ghost use mathlib.Core.List.{reverse};
 ghost use Rattle.version_graph.specs.Tables.{table_numbers, headings_of};
-ghost use Rattle.version_graph.specs.Edges.{Drawn, IsGraph, edge_of as edge_of_lem, sources_at as sources_at_lem, tables_at as tables_at_lem, heading_of as heading_of_lem, maker_of as maker_of_lem, set_named as set_named_lem, working};
+ghost use Rattle.version_graph.specs.Edges.{Drawn, IsGraph, edge_of as edge_of_lem, sources_at as sources_at_lem, tables_at as tables_at_lem, heading_of as heading_of_lem, maker_of as maker_of_lem, number_named as number_named_lem, set_named as set_named_lem, working};
 ghost use Rattle.version_graph.specs.Evolve.{MayEvolve, EvolvesGraph, IsEvolvedFrom};
 ghost use Rattle.version_graph.specs.Sets.{In};
 ghost use Rattle.std.specs.Option.{IsSome};
-ghost use Rattle.version_graph.specs.Dropped.{Dooms, dropped};
+ghost use Rattle.version_graph.specs.Dropped.{Dooms, LeavesSets, dropped};
 ghost use Rattle.version_graph.specs.Finished.{IsFinished};
 ghost use Rattle.version_graph.specs.Placing.{EndsPlacing, FitsParent, PlacesEdge, PlacesVersion};
 ghost use Rattle.version_graph.specs.Edges.{numbers};
 ghost use Rattle.version_graph.specs.Forest.{forest, step_told, walk as walk_lem};
 
+use crate::build::number_named;
 use crate::grow::{evolve, take_back};
 use crate::look::{
-    edge_at, edge_of, heading_of, headings, maker_of, set_named, sources_at, tables_at,
+    edge_at, edge_of, heading_of, headings, maker_of, number_at, set_named, sources_at, tables_at,
     version_tables,
 };
 use crate::node::{Last, Parts};
@@ -83,15 +84,15 @@ impl<O> Graph<O> {
         (self.parts.last.operator, self.parts.last.table)
     }
 
-    /// The live edge of a number. It takes time in the number of live operators.
+    /// The live edge of a number. It takes time in the logarithm of the number of live operators.
     pub fn edge(&self, operator: u32) -> Option<&Placed<O>>
         ensures { option_copied result ≡ edge_of_lem self.now.edges operator }
     {
         edge_of(self.parts.nodes.as_slice(), operator)
     }
 
-    /// The numbers of the source tables of a live operator. It takes time in the number of live
-    /// operators.
+    /// The numbers of the source tables of a live operator. It takes time in the logarithm of the
+    /// number of live operators.
     pub fn source_tables(&self, operator: u32) -> Option<&[u32]>
         ensures { option_map (λ tables. tables.now) result
             ≡ sources_at_lem self.now.edges operator }
@@ -99,7 +100,8 @@ impl<O> Graph<O> {
         sources_at(self.parts.nodes.as_slice(), operator)
     }
 
-    /// The tables of a live working set, or of 0. It takes time in the number of live operators.
+    /// The tables of a live working set, or of 0. It takes time in the logarithm of the number of
+    /// live operators.
     pub fn tables_in(&self, set: u32) -> Option<&[u32]>
         ensures { option_map (λ tables. tables.now) result ≡ tables_at_lem self.now.edges set }
     {
@@ -118,6 +120,21 @@ impl<O> Graph<O> {
         ensures { result ≡ maker_of_lem self.now.edges table }
     {
         maker_of(self.parts.nodes.as_slice(), table)
+    }
+
+    /// The first of these tables that lives and has this name. It takes time in the number of live
+    /// tables, for each of these.
+    pub fn number_named(&self, tables: &[u32], name: &Name) -> Option<u32>
+        ensures { result ≡ number_named_lem self.now.edges tables.now name.now }
+    {
+        number_named(self.parts.nodes.as_slice(), tables, name)
+    }
+
+    /// The live operator at a place, by ascending number.
+    pub fn number_at(&self, place: usize) -> Option<u32>
+        ensures { result ≡ slice_get (reverse (numbers self.now.edges)) place }
+    {
+        number_at(self.parts.nodes.as_slice(), place)
     }
 
     /// The live edge at a place, by ascending number.
@@ -145,11 +162,11 @@ impl<O> Graph<O> {
         set_named(&self.parts.versions, name)
     }
 
-    /// The tables of a version. It takes time in the number of live operators.
+    /// The tables of a version. It takes time in the logarithm of the number of live operators.
     pub fn tables_of(&self, name: &Name) -> Option<&[u32]>
         ensures { option_map (λ tables. tables.now) result
             ≡ option_map (λ set. table_numbers (working self.now.edges set))
-                (set_named_lem self.now.versions name.now) }
+            (set_named_lem self.now.versions name.now) }
     {
         version_tables(self.parts.nodes.as_slice(), &self.parts.versions, name)
     }
@@ -223,6 +240,7 @@ impl<O: Drop> Graph<O> {
         requires { IsSome (set_named_lem self.old.versions name.now) }
         ensures dropped { self.new ≡ dropped self.old name.now }
         ensures finished { IsFinished self.new }
+        ensures sets { LeavesSets self.old self.new }
     {
         drop_version(&mut self.parts, name);
     }

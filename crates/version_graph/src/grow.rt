@@ -3,22 +3,20 @@ ghost use Rattle.std.specs.Prelude.{◌≡◌, ◌+◌, ◌<◌, ◌^◌, ◌≤
 ghost use mathlib.Core.List.{reverse};
 ghost use Rattle.std.specs.Option.{option_copied};
 ghost use Rattle.version_graph.specs.Sets.{In};
-ghost use Rattle.version_graph.specs.Edges.{AreEdges, Drawn, numbers, set_named as set_named_lem};
+ghost use Rattle.version_graph.specs.Edges.{AreEdges, Drawn, numbers, operator_limit, set_named as set_named_lem};
 ghost use Rattle.version_graph.specs.Evolve.{numbers_after, placed_next, grown, MayEvolve, EvolvesGraph, IsEvolvedFrom};
 ghost use Rattle.version_graph.specs.Finished.{IsFinished};
 ghost use Rattle.version_graph.specs.Kept.{AreRight, IsKept, drawn, edges_of};
 ghost use Rattle.version_graph.specs.Calls.{AddsNode, CanGrow, CanAdd, FindsStart, IsUnused, FindsRoom, FindsRoomAt};
 
 use crate::build::node_on;
+use crate::limits::passed_limit;
 use crate::look::set_named;
 use crate::node::{Last, Node, Parts};
 use crate::{Edge, Heading, Placed};
 use indexmap::IndexMap;
 use par_base::{Fault, List, Memory, Name, Refusal};
 use std::alloc::Global;
-
-/// The most operators that live at once.
-pub const MOST_OPERATORS: usize = 1024;
 
 /// The working set from which an evolution starts.
 pub fn start_of(
@@ -59,21 +57,18 @@ fn too_many(limit: u64) -> Fault<Refusal>
 fn room_at(live: usize, last: Last, targets: usize) -> Result<Last, Fault<Refusal>>
     ensures { FindsRoomAt live last targets result }
 {
-    if live >= MOST_OPERATORS {
-        return Err(too_many(1024));
+    match passed_limit(live, last.operator, last.table, targets) {
+        Some(limit) => Err(too_many(limit)),
+        None => Ok(Last {
+            operator: last.operator + 1,
+            table: last.table + targets as u32,
+        }),
     }
-    if last.operator == u32::MAX || targets as u64 > (u32::MAX - last.table) as u64 {
-        return Err(too_many(4294967295));
-    }
-    Ok(Last {
-        operator: last.operator + 1,
-        table: last.table + targets as u32,
-    })
 }
 
 /// The last numbers after all edges.
 pub fn room_for<O>(live: usize, last: Last, edges: &[Edge<O>]) -> Result<Last, Fault<Refusal>>
-    requires { live ≤ 1024 }
+    requires { live ≤ operator_limit }
     ensures { FindsRoom live last edges.now result }
 {
     let mut after = last;

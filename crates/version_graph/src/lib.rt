@@ -21,7 +21,9 @@ mod build;
 mod graph;
 mod grow;
 mod laws;
+mod limits;
 mod look;
+mod names;
 mod node;
 mod parts;
 mod place;
@@ -30,4 +32,6 @@ mod walk;
 
 pub use graph::Graph;
 pub use laws::{drops_take_unneeded, walks_are_in_order, walks_cover_trees};
+pub use limits::passed_limit;
+pub use names::heading_named;
 pub use parts::{Edge, Heading, NotGraph, Placed, Step};

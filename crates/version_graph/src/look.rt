@@ -4,6 +4,7 @@ ghost use mathlib.Core.List.{reverse};
 ghost use Rattle.std.specs.Option.{option_copied, option_map};
 ghost use Rattle.version_graph.specs.Edges.{AreEdges, edge_of as edge_of_lem, sources_at as sources_at_lem, tables_at as tables_at_lem, heading_of as heading_of_lem, maker_of as maker_of_lem};
 ghost use Rattle.version_graph.specs.Kept.{AreRight, edges_of, node_of as node_of_lem, node_making as node_making_lem, heading_in as heading_in_lem};
+ghost use Rattle.version_graph.specs.Calls.{IsPlaceFor};
 ghost use Rattle.version_graph.specs.Sets.{In, Each};
 ghost use Rattle.version_graph.specs.Tables.{headings_of, table_numbers};
 ghost use Rattle.version_graph.specs.Edges.{numbers, version_sets, working, set_named as set_named_lem};
@@ -14,17 +15,36 @@ use indexmap::IndexMap;
 use par_base::{List, Memory, Name};
 use std::alloc::Global;
 
-/// The node of an operator.
-pub fn node_of<O>(nodes: &[Node<O>], number: u32) -> Option<&Node<O>>
-    ensures { option_copied result ≡ node_of_lem nodes.now number }
-{
-    nodes.iter().rev().find(|node| number == node.placed.number)
-}
-
 fn node_at<O>(nodes: &[Node<O>], place: usize) -> Option<&Node<O>>
     ensures { option_copied result ≡ slice_get nodes.now place }
 {
     nodes.get(place)
+}
+
+// The place where the node of an operator stands, if one does.
+fn place_of<O>(nodes: &[Node<O>], number: u32) -> usize
+    requires { AreEdges (edges_of nodes.now) }
+    ensures { IsPlaceFor nodes.now number result }
+{
+    nodes.partition_point(|node| node.placed.number < number)
+}
+
+/// The node of an operator, found by halving.
+pub fn node_of<O>(nodes: &[Node<O>], number: u32) -> Option<&Node<O>>
+    requires { AreEdges (edges_of nodes.now) }
+    ensures { option_copied result ≡ node_of_lem nodes.now number }
+{
+    let place = place_of(nodes, number);
+    match node_at(nodes, place) {
+        Some(node) => {
+            if node.placed.number == number {
+                Some(node)
+            } else {
+                None
+            }
+        }
+        None => None,
+    }
 }
 
 fn node_making<O>(nodes: &[Node<O>], table: u32) -> Option<&Node<O>>
@@ -50,6 +70,7 @@ fn heading_in<O>(placed: &Placed<O>, table: u32) -> Option<&Heading>
 
 /// The edge of an operator.
 pub fn edge_of<O>(nodes: &[Node<O>], operator: u32) -> Option<&Placed<O>>
+    requires { AreEdges (edges_of nodes.now) }
     ensures { option_copied result ≡ edge_of_lem (edges_of nodes.now) operator }
 {
     match node_of(nodes, operator) {
@@ -60,7 +81,8 @@ pub fn edge_of<O>(nodes: &[Node<O>], operator: u32) -> Option<&Placed<O>>
 
 /// The source tables of an operator.
 pub fn sources_at<O>(nodes: &[Node<O>], operator: u32) -> Option<&[u32]>
-    requires { AreRight (reverse nodes.now) }
+    requires right { AreRight (reverse nodes.now) }
+    requires edges { AreEdges (edges_of nodes.now) }
     ensures { option_map (λ tables. tables.now) result ≡ sources_at_lem
         (edges_of nodes.now) operator }
 {
@@ -72,7 +94,8 @@ pub fn sources_at<O>(nodes: &[Node<O>], operator: u32) -> Option<&[u32]>
 
 /// The tables of a working set.
 pub fn tables_at<O>(nodes: &[Node<O>], set: u32) -> Option<&[u32]>
-    requires { AreRight (reverse nodes.now) }
+    requires right { AreRight (reverse nodes.now) }
+    requires edges { AreEdges (edges_of nodes.now) }
     ensures { option_map (λ tables. tables.now) result ≡ tables_at_lem (edges_of nodes.now) set }
 {
     if set == 0 {
@@ -111,6 +134,16 @@ pub fn edge_at<O>(nodes: &[Node<O>], place: usize) -> Option<&Placed<O>>
 {
     match node_at(nodes, place) {
         Some(node) => Some(&node.placed),
+        None => None,
+    }
+}
+
+/// The number of the operator at a place.
+pub fn number_at<O>(nodes: &[Node<O>], place: usize) -> Option<u32>
+    ensures { result ≡ slice_get (reverse (numbers (edges_of nodes.now))) place }
+{
+    match edge_at(nodes, place) {
+        Some(placed) => Some(placed.number),
         None => None,
     }
 }

@@ -1,12 +1,13 @@
 //! Placing: a graph built again with its numbers, edge by edge and name by name.
 ghost use Rattle.std.specs.Prelude.{◌≡◌, OnOk};
-ghost use Rattle.version_graph.specs.Edges.{is_in, numbers, version_sets};
+ghost use Rattle.version_graph.specs.Edges.{AreEdges, is_in, numbers, version_sets};
 ghost use Rattle.version_graph.specs.Kept.{IsKept, drawn, edges_of};
 ghost use Rattle.version_graph.specs.Finished.{IsFinished, are_needed as are_needed_lem};
 ghost use Rattle.version_graph.specs.Placing.{EndsPlacing, FitsParent, PlacesEdge, PlacesVersion, top_of as top_of_lem};
 ghost use Rattle.version_graph.specs.Calls.{FindsPlace};
 
-use crate::grow::{MOST_OPERATORS, add_placed, count, name_set};
+use crate::grow::{add_placed, count, name_set};
+use crate::limits::MOST_OPERATORS;
 use crate::look::{edge_of, set_named};
 use crate::node::{Last, Node, Parts};
 use crate::shed::{has_set, is_last_needed};
@@ -16,6 +17,7 @@ use par_base::{Fault, Name};
 use std::alloc::Global;
 
 fn is_live<O>(nodes: &[Node<O>], set: u32) -> bool
+    requires { AreEdges (edges_of nodes.now) }
     ensures { result ≡ is_in set (numbers (edges_of nodes.now)) }
 {
     edge_of(nodes, set).is_some()
@@ -37,6 +39,7 @@ fn top_of(number: u32, tables: &[u32]) -> Option<u32>
 
 // The last numbers after an edge, where it may be placed.
 fn after_edge<O>(parts: &Parts<O>, placed: &Placed<O>) -> Result<Last, Fault<NotGraph>>
+    requires { AreEdges (drawn parts.now).edges }
     ensures { FindsPlace (drawn parts.now) placed.now result }
 {
     let nodes = parts.nodes.as_slice();

@@ -2,7 +2,7 @@
 ghost use Rattle.std.specs.Prelude.{◌≡◌, ◌==◌, ◌||◌, ◌++◌, ◌∷◌, drop, length, map, slice_get, IfOk, OnOk, ◌<◌};
 ghost use mathlib.Core.List.{reverse};
 ghost use Rattle.version_graph.specs.Edges.{is_in, version_sets, set_named as set_named_lem};
-ghost use Rattle.version_graph.specs.Dropped.{Dooms, doomed as doomed_lem, dropped, other_versions};
+ghost use Rattle.version_graph.specs.Dropped.{Dooms, LeavesSets, doomed as doomed_lem, dropped, other_versions};
 ghost use Rattle.version_graph.specs.Finished.{IsFinished};
 ghost use Rattle.std.specs.List.{list_any};
 ghost use Rattle.std.specs.Prelude.{slice_index_or, ◌-◌, ◌≤◌};
@@ -98,7 +98,7 @@ pub fn is_last_needed<O>(nodes: &[Node<O>], count: usize, versions: &IndexMap<Na
     requires within { count ≤ length nodes.now }
     ensures { (k : ANode O) → k ≡ slice_index_or nodes.now (count - 1) k
         → result ≡ is_in k.placed.number (needed_by (drop count nodes.now)
-            (version_sets versions.now.entries)) }
+        (version_sets versions.now.entries)) }
 {
     let node = &nodes[count - 1];
     is_needed(&nodes[count..], versions, node.placed.number)
@@ -125,6 +125,7 @@ pub fn drop_version<O: Drop>(parts: &mut Parts<O>, name: &Name)
     ensures dropped { drawn parts.new ≡ dropped (drawn parts.old) name.now }
     ensures kept { IsKept parts.new }
     ensures finished { IsFinished (drawn parts.new) }
+    ensures sets { LeavesSets (drawn parts.old) (drawn parts.new) }
 {
     parts.versions.shift_remove(name);
     shed(&mut parts.nodes, &parts.versions);

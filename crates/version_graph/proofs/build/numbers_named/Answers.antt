@@ -1,6 +1,7 @@
 use Rattle.std.proofs.Common.{ℕ, List, ◌++◌, ap, sym, ◌∙◌}
 use Rattle.std.specs.Prelude.{option_to_list}
-use Rattle.version_graph.specs.Kept.{edges_of, number_named}
+use Rattle.version_graph.specs.Edges.{number_named}
+use Rattle.version_graph.specs.Kept.{edges_of}
 use Rattle.version_graph.proofs.TakenLaws.{numbers_named_more}
 use Rattle.version_graph.proofs.build.numbers_named.Goals as goal
 
