@@ -1,3 +1,6 @@
+pub mod CellLemmas
 pub mod Passes
 pub mod Tabulated
-pub mod CellLemmas
+pub mod RowwiseAt
+pub mod RowwiseLaws
+pub mod RowwiseLocal
