@@ -47,3 +47,7 @@ Admits m near aux memory None = (hs ht : List Heading) (far : Tables) → Belong
 -- where the operator treats each identifier by itself, a call takes at most so many steps for each identifier of these tables
 abbrev pub StepsWithin : Meaning → ℕ → Tables → Tables → ℕ → ℕ → Type 0
 StepsWithin m most near other old new = m.is_local ≡ true → new ≤ old + most * length (ids_over near (ids_over other []))
+
+-- likewise a mapping: six steps for each identifier of the new near side and the old pair
+abbrev pub MapsWithin : Meaning → Tables → PairState → ℕ → ℕ → Type 0
+MapsWithin m near pair old new = m.is_local ≡ true → new ≤ old + 6 * length (ids_over near (ids_over pair.source (ids_over pair.target [])))

@@ -1,17 +1,18 @@
--- The laws at one identifier give the laws of tables.
+-- What the operator on tables has at each identifier.
 use Rattle.std.proofs.Common.{◌≡◌, ℕ, ◌≤◌, ◌⊎◌, List, [], true, false, length, refl, ap, sym, ◌∙◌, subst, arith}
 use Rattle.std.proofs.lemmas.Bool.{false≢true}
 use mathlib.Core.Logic.{inl, inr}
-use Rattle.id_memory.specs.Pairs.{Pairs}
 use Rattle.op_law.specs.Tables.{Tables, Heading, AreTablesOf}
 use Rattle.op_law.specs.Sound.{HasRow}
 use Rattle.op_law.specs.Identifiers.{ids_over}
-use Rattle.op_law.specs.Meaning.{PairState, flip}
+use Rattle.op_law.specs.Meaning.{PairState}
 use Rattle.op_law.specs.Premises.{IsPair, MayMap}
-use Rattle.op_law.specs.Laws.{HalfLaws, Laws, InPair}
+use Rattle.op_law.specs.Laws.{InPair}
+use Rattle.op_law.proofs.IdentifierLaws.{has_over}
 use Rattle.op_rows.specs.Cells.{Cells, cells_at, nones, AreCellsOf}
 use Rattle.op_rows.specs.RowMeaning.{RowMeaning, flip_row, rowwise, RowPair, MayRow, RowHalf, RowLaws}
-use Rattle.op_rows.specs.inner.CellLemmas.{ext_all, rise_ids, below_ids, none_at, has_over, has_id, IdsRise, AllRise}
+use Rattle.op_rows.specs.AtEach.{HalfGivesAtEach, GivesAtEach}
+use Rattle.op_rows.specs.inner.CellLemmas.{ext_all, rise_ids, below_ids, none_at, has_id, IdsRise, AllRise}
 use Rattle.op_rows.specs.inner.Tabulated.{at_from, all_rise_from, well_from, all_below_from, all_rise, tables_long, cells_well, cells_below, cells_long, nones_well, nones_long, empty_at, has_from}
 
 module _ (r : RowMeaning) (h : RowHalf r) where
@@ -62,7 +63,7 @@ module _ (r : RowMeaning) (h : RowHalf r) where
   far_cells : Tables → PairState → ℕ → Cells
   far_cells near old id = r.forward (cells_at near id) (cells_at old.source id) (cells_at old.target id)
 
-  far_well : (hs ht : List Heading) (near : Tables) (old : PairState) → IsPair (rowwise r) hs ht old → AreTablesOf hs near → (id : ℕ) → AreCellsOf ht (r.forward (cells_at near id) (cells_at old.source id) (cells_at old.target id))
+  pub far_well : (hs ht : List Heading) (near : Tables) (old : PairState) → IsPair (rowwise r) hs ht old → AreTablesOf hs near → (id : ℕ) → AreCellsOf ht (r.forward (cells_at near id) (cells_at old.source id) (cells_at old.target id))
   far_well hs ht near old pair well id = h.wide hs ht _ _ _ (pair_at hs ht old pair id) (cells_well hs near id well)
 
   -- what the new far side has at an identifier
@@ -95,25 +96,27 @@ module _ (r : RowMeaning) (h : RowHalf r) where
   pub aux_rise : (hs ht : List Heading) (p : PairState) → IsPair (rowwise r) hs ht p → AllRise ((rowwise r).aux_at_source p)
   aux_rise hs ht p pair = all_rise_from r.source_aux _ _ (rise_ids p.source _ (all_rise hs p.source pair.source_of) (rise_ids p.target _ (all_rise ht p.target pair.target_of) tt))
 
-  -- what is read back has at an identifier
-  pub read_at : (hs ht : List Heading) (p : PairState) → r.reads_target ≡ true → IsPair (rowwise r) hs ht p → (id : ℕ) → cells_at ((rowwise r).read_target p.source ((rowwise r).aux_at_source p) p.memory) id ≡ cells_at p.target id
-  read_at hs ht p reads pair id =
+  -- the target at an identifier, from the source and the auxiliary rows there
+  target_at : (hs ht : List Heading) (p : PairState) → r.reads_target ≡ true → IsPair (rowwise r) hs ht p → (id : ℕ) → r.read_target (cells_at p.source id) (cells_at ((rowwise r).aux_at_source p) id) ≡ cells_at p.target id
+  target_at hs ht p reads pair id = ap (λ (a : Cells). r.read_target (cells_at p.source id) a) (aux_at hs ht p pair id) ∙ h.recovered hs ht _ _ reads (pair_at hs ht p pair id)
+
+  -- what is read back has at an identifier what is read back there
+  pub back_at : (hs ht : List Heading) (p : PairState) → r.reads_target ≡ true → IsPair (rowwise r) hs ht p → (id : ℕ) → cells_at ((rowwise r).read_target p.source ((rowwise r).aux_at_source p) p.memory) id ≡ r.read_target (cells_at p.source id) (cells_at ((rowwise r).aux_at_source p) id)
+  back_at hs ht p reads pair id =
       let aux = (rowwise r).aux_at_source p in
       let long = h.fits_long hs ht pair.fits in
-      let same : r.read_target (cells_at p.source id) (cells_at aux id) ≡ cells_at p.target id =
-      ap (λ (a : Cells). r.read_target (cells_at p.source id) a) (aux_at hs ht p pair id) ∙ h.recovered hs ht _ _ reads (pair_at hs ht p pair id) in
-      let here = at_from r.targets (ids_over p.source (ids_over aux [])) (λ id. r.read_target (cells_at p.source id) (cells_at aux id)) id
+      let same = target_at hs ht p reads pair id in
+      at_from r.targets (ids_over p.source (ids_over aux [])) (λ id. r.read_target (cells_at p.source id) (cells_at aux id)) id
       (ap length same ∙ cells_long ht _ (cells_well ht p.target id pair.target_of) ∙ long.1)
       (λ out.
       let b = none_here hs r.sources p.source _ id long.0 pair.source_of out in
       let c = (none_at aux [] id b.1).0 in
       let k : length aux ≡ r.source_aux = sym (nones_long (length aux)) ∙ sym (ap length c) ∙ ap length (aux_at hs ht p pair id) ∙ h.aux_long hs ht _ _ (pair_at hs ht p pair id) in
       let d : cells_at aux id ≡ nones r.source_aux = c ∙ ap nones k in
-      rw (b.0, d) (none_get hs ht reads pair.fits)) in
-      here ∙ same
+      rw (b.0, d) (none_get hs ht reads pair.fits))
 
   -- a row that the mapping gives is at an identifier that the near side or the old pair has
-  drawn_none : (near : Tables) (old : PairState) (n : ℕ) → (id : ℕ) → HasRow id ((rowwise r).forward near old n).far → HasRow id near ⊎ (InPair id old ⊎ (n ≤ id))
+  pub drawn_none : (near : Tables) (old : PairState) (n : ℕ) → (id : ℕ) → HasRow id ((rowwise r).forward near old n).far → HasRow id near ⊎ (InPair id old ⊎ (n ≤ id))
   drawn_none near old n id has =
       let listed = has_from r.targets (ids_over near (ids_over old.source (ids_over old.target []))) (λ id. r.forward (cells_at near id) (cells_at old.source id) (cells_at old.target id)) id has in
       elim (has_over near (ids_over old.source (ids_over old.target [])) id listed) [
@@ -124,46 +127,15 @@ module _ (r : RowMeaning) (h : RowHalf r) where
         ]
       ]
 
-  pub half : HalfLaws (rowwise r)
-  half = record {
-    kept = λ hs ht near old n may.
-        let pair = may.sound.pair in
-        record {
-          fits = pair.fits;
-          related = (refl, λ id. subst (λ (c : Cells). r.Related (cells_at near id) c) (sym (far_at hs ht near old n pair may.near_of id)) (h.related hs ht _ _ _ (pair_at hs ht old pair id) (cells_well hs near id may.near_of)));
-          source_of = may.near_of;
-          target_of = well_from r.targets ht _ _ (h.fits_long hs ht pair.fits).1 (far_rise hs ht near old pair may.near_of) (far_well hs ht near old pair may.near_of);
-        };
-    still = λ hs ht old n may.
-        let pair = may.sound.pair in
-        let far : ((rowwise r).forward old.source old n).far ≡ old.target =
-        ext_all _ old.target (all_rise_from r.targets _ _ (far_rise hs ht old.source old pair pair.source_of)) (all_rise ht old.target pair.target_of)
-        (λ id. far_at hs ht old.source old n pair pair.source_of id ∙ h.still hs ht _ _ (pair_at hs ht old pair id)) in
-        ap (λ (ts : Tables). record { far = ts; memory = []; next = n }) far ∙ ap (λ (m : Pairs). record { far = old.target; memory = m; next = n }) (sym pair.related.0);
-    below = λ hs ht near old n may. record {
-      rises = omega arith;
-      far = all_below_from n r.targets _ _ (below_ids n near _ may.near_sound (below_ids n old.source _ may.sound.source (below_ids n old.target [] may.sound.target tt)))
-          (λ id. h.below hs ht _ _ _ n (may_at hs ht near old n may id));
-      memory = tt;
-      drawn = drawn_none near old n;
-    };
-    recovered = λ hs ht p reads pair.
-        ext_all _ p.target (all_rise_from r.targets _ _ (rise_ids p.source _ (all_rise hs p.source pair.source_of) (rise_ids ((rowwise r).aux_at_source p) [] (aux_rise hs ht p pair) tt)))
-        (all_rise ht p.target pair.target_of) (read_at hs ht p reads pair);
-    readable = h.readable;
-    closed_more = h.closed_more;
-    empty = λ hs ht fits.
-        let long = h.fits_long hs ht fits in
-        (refl, λ id. let a = empty_at hs id ∙ ap nones long.0 in let b = empty_at ht id ∙ ap nones long.1 in rw (a, b) h.empty);
-  }
+  -- what is read back is the target
+  pub recovers : (hs ht : List Heading) (p : PairState) → r.reads_target ≡ true → IsPair (rowwise r) hs ht p → (rowwise r).read_target p.source ((rowwise r).aux_at_source p) p.memory ≡ p.target
+  recovers hs ht p reads pair =
+      ext_all _ p.target (all_rise_from r.targets _ _ (rise_ids p.source _ (all_rise hs p.source pair.source_of) (rise_ids ((rowwise r).aux_at_source p) [] (aux_rise hs ht p pair) tt)))
+      (all_rise ht p.target pair.target_of) (λ id. back_at hs ht p reads pair id ∙ target_at hs ht p reads pair id)
 
--- the operator with its sides exchanged is the same at each identifier
-pub flips : (r : RowMeaning) → rowwise (flip_row r) ≡ flip (rowwise r)
-flips r = refl
+  -- at each identifier it gives what the row operator gives there
+  pub half_at_each : HalfGivesAtEach r
+  half_at_each = record { far = far_at; aux = aux_at; back = back_at }
 
-pub rowwise_laws : (r : RowMeaning) → RowLaws r → Laws (rowwise r)
-rowwise_laws r laws = (half r laws.0, half (flip_row r) laws.1)
-
--- the laws at one identifier hold of a flip as well
-pub flip_row_laws : (r : RowMeaning) → RowLaws r → RowLaws (flip_row r)
-flip_row_laws r laws = (laws.1, laws.0)
+pub at_each : (r : RowMeaning) → RowLaws r → GivesAtEach r
+at_each r laws = (half_at_each r laws.0, half_at_each (flip_row r) laws.1)

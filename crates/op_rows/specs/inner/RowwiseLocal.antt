@@ -1,15 +1,15 @@
 -- Restricting all that is given to some identifiers restricts the results.
 use Rattle.std.proofs.Common.{◌≡◌, ℕ, zero, suc, ◌+◌, ◌≤◌, ◌==◌, List, [], ◌∷◌, Bool, true, false, cond, length, Some, None, refl, ap, sym, ◌∙◌, arith}
 use Rattle.row_store.specs.Rows.{Rows, RiseFrom, row_of}
-use Rattle.op_law.specs.Tables.{Tables, Heading, RowsWide, AreTablesOf}
+use Rattle.op_law.specs.Tables.{Tables, Heading, RowsWide, AllRise, AreTablesOf}
 use Rattle.op_law.specs.Meaning.{PairState}
 use Rattle.op_law.specs.Premises.{IsPair}
 use Rattle.op_law.specs.Local.{rows_only, only, pair_only, HalfLocal, IsLocal}
 use Rattle.op_rows.specs.Cells.{Cells, cells_at, nones, tables_from}
-use Rattle.op_rows.specs.inner.CellLemmas.{ext_all, is_same, AllRise}
+use Rattle.op_rows.specs.inner.CellLemmas.{ext_all, is_same}
 use Rattle.op_rows.specs.inner.Tabulated.{all_rise_from, tables_long}
 use Rattle.op_rows.specs.RowMeaning.{RowMeaning, flip_row, rowwise, RowHalf, RowLaws}
-use Rattle.op_rows.specs.RowwiseLaws.{none_fwd, far_at, far_rise, aux_at, aux_rise, half}
+use Rattle.op_rows.specs.inner.RowwiseAt.{none_fwd, far_at, far_rise, aux_at, aux_rise, recovers}
 
 row_in : (P : ℕ → Bool) (rows : Rows) (id : ℕ) → P id ≡ true → row_of (rows_only P rows) id ≡ row_of rows id
 row_in P [] id h = refl
@@ -142,11 +142,11 @@ module _ (r : RowMeaning) (h : RowHalf r) (P : ℕ → Bool) where
   pub read_only : (hs ht : List Heading) (p : PairState) → r.reads_target ≡ true → IsPair (rowwise r) hs ht p → (rowwise r).read_target (only P p.source) (only P ((rowwise r).aux_at_source p)) p.memory ≡ only P ((rowwise r).read_target p.source ((rowwise r).aux_at_source p) p.memory)
   read_only hs ht p reads pair =
       ap (λ (aux : Tables). (rowwise r).read_target (only P p.source) aux p.memory) (sym (aux_only hs ht p pair))
-      ∙ (half r h).recovered hs ht (pair_only P p) reads (pair_stays hs ht p pair)
-      ∙ ap (only P) (sym ((half r h).recovered hs ht p reads pair))
+      ∙ recovers r h hs ht (pair_only P p) reads (pair_stays hs ht p pair)
+      ∙ ap (only P) (sym (recovers r h hs ht p reads pair))
 
 -- the law of one direction
-half_local : (r : RowMeaning) → RowHalf r → HalfLocal (rowwise r)
+pub half_local : (r : RowMeaning) → RowHalf r → HalfLocal (rowwise r)
 half_local r h = record {
   no_memory = λ hs ht p pair. pair.related.0;
   related = λ test hs ht p pair. pair_stays r h test hs ht p pair;
