@@ -16,7 +16,7 @@ use crate::find::find_in;
 use crate::page::{HALF, Page};
 use crate::place::row_in;
 use expr_lang::Steps;
-use par_base::{Memory, Row};
+use par_base::{Memory, Row, add_counts};
 use std::alloc::Global;
 use std::marker::Model;
 use std::sync::ledger::Ledger;
@@ -174,13 +174,9 @@ fn counted(count: usize, adds: bool, has: bool) -> usize
 fn pages_for(count: usize, more: usize) -> Result<usize, Memory>
     ensures { IfOk result (λ need. (count + more ≤ 32 * need) × (32 * need < 2 ^ 64)) }
 {
-    let Some(all) = count.checked_add(more) else {
-        return Err(Memory);
-    };
-    let Some(wanted) = all.checked_add(HALF - 1) else {
-        return Err(Memory);
-    };
-    Ok(wanted / HALF)
+    let all = add_counts(count as u64, more as u64)?;
+    let wanted = add_counts(all, HALF as u64 - 1)?;
+    Ok(wanted as usize / HALF)
 }
 
 /// Adds a spare page, and room for it in both lists.
