@@ -24,7 +24,7 @@ fn make_step<O: Operator, L: Ledger>(
     requires { MayStep O.meaning graph.now.edges before made.old step }
     ensures { (p : Crossing O) → IsCrossing graph.now.edges p → step_told p ≡ step
         → Crosses O.meaning before.entry p (pair_in (before_state before.entry) p) made.old made.new
-            result }
+        result }
 {
     let Some(over) = way_of(graph, step) else {
         unreachable!()

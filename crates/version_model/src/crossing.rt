@@ -27,7 +27,7 @@ pub struct Way<'a, O> {
 fn way_over<'a, O>(placed: &'a Placed<O>, sources: &'a [u32], step: Step) -> Way<'a, O>
     ensures { crossing_of result
         ≡ record (crossing_over step.backward placed.entry.now sources.entry.now)
-            { number = step.operator } }
+        { number = step.operator } }
 {
     let targets = placed.tables.as_slice();
     let operator = &placed.edge.operator;

@@ -22,8 +22,7 @@ fn is_live_operator<O>(graph: &Graph<O>, number: u32) -> bool
 /// the number of live tables, for each value.
 pub fn keep_live_tables<O, T: Drop>(graph: &Graph<O>, values: &mut Vec<Numbered<T>>)
     ensures { values.new.items
-        ≡ filter (λ item. is_in item.number (table_numbers (made graph.now.edges))) values.old.items
-            }
+        ≡ filter (λ item. is_in item.number (table_numbers (made graph.now.edges))) values.old.items }
 {
     values.retain(|item| is_live_table(graph, item.number));
 }

@@ -112,7 +112,7 @@ pub fn put_memory(
 ) -> Result<(), Memory>
     ensures { OnOk result ((kept : List (ANumbered MemoryState))
         → pairs_now kept made.new ≡ put (pairs_now kept made.old) (number ∷ [])
-            (value.entries ∷ [])) }
+        (value.entries ∷ [])) }
 {
     made.push(Numbered { number, value })
 }

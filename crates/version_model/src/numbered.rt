@@ -56,7 +56,7 @@ fn place_of<T>(items: &[Numbered<T>], number: u32) -> Option<usize>
 pub fn replace<T: Drop>(items: &mut Vec<Numbered<T>>, item: Numbered<T>)
     ensures values { (n : ℕ) → value_of_lem items.new.items n
         ≡ renewed (value_of_lem items.old.items n) (if n == item.number then Some item.value else
-            None) }
+        None) }
     ensures numbers { map (λ item. item.number) items.new.items
         ≡ map (λ item. item.number) items.old.items }
 {

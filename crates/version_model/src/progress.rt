@@ -70,7 +70,7 @@ pub fn cross<O: Operator, L: Ledger>(
         ≡ length over.now.far.now }
     requires may { SomeMap (directed over.now.backward (O.meaning over.now.operator.now))
         (map (made_state before made.old).tables over.now.near.now)
-            (seen_from over.now.backward (seen old.now)) made.old.ids.next }
+        (seen_from over.now.backward (seen old.now)) made.old.ids.next }
     ensures crosses { Crosses O.meaning before.entry (crossing_of over.now)
         (seen_from over.now.backward (seen old.now))
         made.old made.new result }
