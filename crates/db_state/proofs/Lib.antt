@@ -1,7 +1,7 @@
 pub mod FieldLaws
 mod EmptyLemmas
 mod AuxLemmas
-mod OnceLemmas
+pub mod OnceLaws
 mod PassLemmas
 mod WayLemmas
 mod CrossLemmas

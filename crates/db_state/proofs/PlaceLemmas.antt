@@ -14,7 +14,6 @@ use Rattle.version_graph.proofs.WalkLaws.{is_forest}
 use Rattle.layout_rules.specs.declared.layout.Layout.{Layout}
 use Rattle.layout_rules.proofs.DownLaws.{Beside, below, below_all, below_next, below_past, beside, link_listed}
 use Rattle.layout_rules.proofs.LookupLaws.{not_off, not_on}
-
 use Rattle.op_law.specs.Meaning.{Meaning}
 use Rattle.row_store.specs.States.{TableState}
 use Rattle.version_model.specs.Kept.{rows_now}

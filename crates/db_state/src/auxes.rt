@@ -76,7 +76,7 @@ fn aux_over<O: Operator, L: Ledger>(
         (seen_from backward (seen pair.now)) }
     ensures { IfOk result (λ aux. tables_of aux
         ≡ (directed backward (O.meaning operator.now)).aux_at_source
-            (seen_from backward (seen pair.now))) }
+        (seen_from backward (seen pair.now))) }
 {
     if backward {
         operator.aux_at_target(alloc, pair, steps)

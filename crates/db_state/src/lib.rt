@@ -7,7 +7,7 @@
 //! `take_parts` and `put_parts` alone, so each of them proves that it leaves canonical storage. The
 //! crate knows operators by their laws alone, and nothing of names in statements.
 //!
-//! Lemmas that crates above may use stand in proofs/: `FieldLaws`.
+//! Lemmas that crates above may use stand in proofs/: `FieldLaws` and `OnceLaws`.
 #![tactic(auto)]
 
 mod auxes;

@@ -80,8 +80,7 @@ fn cross<O: Operator, L: Ledger>(
 }
 
 fn is_passed(layout: &[u32], pass: Pass<'_>, number: u32) -> bool
-    ensures { result ≡ is_passed_lem layout.now pass.entry.operators.now pass.entry.backward number
-        }
+    ensures { result ≡ is_passed_lem layout.now pass.entry.operators.now pass.entry.backward number }
 {
     let is_stored = if pass.backward {
         holds(layout, number)
@@ -144,8 +143,7 @@ fn pass_up<O: Operator, L: Ledger>(
     made: &mut List<Numbered<Table>>,
     steps: &mut Steps<L>,
 ) -> Result<(), Memory>
-    requires covers { CoversItself (forest db.now.graph.edges) db.now.layout.operators operators.now
-        }
+    requires covers { CoversItself (forest db.now.graph.edges) db.now.layout.operators operators.now }
     requires down { IsDown O.meaning db.now operators.now made.old }
     ensures { OnOk result (AreRead O.meaning db.now operators.now made.new) }
 {

@@ -8,3 +8,4 @@ mod AdoptLemmas
 mod LeaveLemmas
 mod CutLemmas
 mod CloseLemmas
+mod CountLemmas

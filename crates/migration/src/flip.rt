@@ -3,6 +3,7 @@ ghost use Rattle.std.specs.Prelude.{◌≡◌, IfOk};
 ghost use Rattle.version_graph.specs.Forest.{forest};
 ghost use Rattle.layout_rules.specs.Layouts.{IsValid};
 ghost use Rattle.db_state.specs.Fields.{database_for};
+ghost use Rattle.db_state.specs.Laws.{IsRestored};
 ghost use Rattle.migration.specs.Sides.{flipped_layout};
 ghost use Rattle.migration.specs.Moved.{Adopts, Leads};
 
@@ -57,6 +58,7 @@ pub fn adopt_flip<O: Operator + Drop>(alloc: Global, db: &mut Db<O>, moved: Move
     ensures adopts { Adopts db.old moved db.new }
     ensures state { database_for O.meaning db.new ≡ database_for O.meaning db.old }
     ensures layout { db.new.layout ≡ moved.layout }
+    ensures restores { IsRestored O.meaning db.new }
 {
     adopt(alloc, db, moved);
 }

@@ -4,13 +4,15 @@
 //! what takes memory or may be refused is done first and leaves the database as it is, and what is
 //! done then can't fail. After a flip or a move the database has the new layout and stands for the
 //! same state (`specs/Moved.antt`); after a drop it is the model's database without the version
-//! (`specs/MoveAnswers.antt`). `adopt_move` tells how many operators changed sides (`specs/Sides.antt`).
+//! (`specs/MoveAnswers.antt`). `adopt_move` tells how many operators changed sides (`specs/Sides.antt`),
+//! which are the flips of a move that goes operator by operator (`specs/Laws.antt`).
 //! The crate knows operators by their laws alone, and nothing of names in statements, of sessions or
 //! of replies.
 #![tactic(auto)]
 
 mod dropping;
 mod flip;
+mod laws;
 mod moved;
 mod moves;
 mod named_move;
@@ -19,5 +21,6 @@ mod storing;
 
 pub use dropping::drop_db;
 pub use flip::{adopt_flip, flipped, prepare_flip};
+pub use laws::moves_are_counted;
 pub use moved::Moved;
 pub use named_move::{adopt_move, prepare_move};

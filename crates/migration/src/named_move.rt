@@ -1,6 +1,7 @@
 //! Moves to the layout that stores named tables.
 ghost use Rattle.std.specs.Prelude.{◌≡◌};
 ghost use Rattle.db_state.specs.Fields.{database_for};
+ghost use Rattle.db_state.specs.Laws.{IsRestored};
 ghost use Rattle.migration.specs.Moved.{Adopts, Leads};
 ghost use Rattle.migration.specs.MoveAnswers.{ComputesMove, PreparesMove};
 
@@ -36,6 +37,7 @@ pub fn adopt_move<O: Operator + Drop>(alloc: Global, db: &mut Db<O>, moved: Move
     ensures adopts { Adopts db.old moved db.new }
     ensures state { database_for O.meaning db.new ≡ database_for O.meaning db.old }
     ensures layout { db.new.layout ≡ moved.layout }
+    ensures restores { IsRestored O.meaning db.new }
     ensures flips { result ≡ moved.flips }
 {
     let flips = moved.flips;

@@ -1,5 +1,5 @@
 //! Which operators' data go to their other side.
-ghost use Rattle.std.specs.Prelude.{◌≡◌, ◌++◌, filter, option_to_list, slice_get, IfOk, OnOk};
+ghost use Rattle.std.specs.Prelude.{◌≡◌, ◌++◌, filter, option_to_list, IfOk, OnOk};
 ghost use Rattle.layout_rules.specs.Lookups.{numbers_up};
 ghost use Rattle.migration.specs.Sides.{changes_side as changes_side_lem, changing as changing_lem, keeps_side as keeps_side_lem, leaving_layout as leaving_layout_lem};
 
@@ -15,15 +15,6 @@ fn changes_side(layout: &[u32], goal: &[u32], operator: u32) -> bool
         !holds(goal, operator)
     } else {
         holds(goal, operator)
-    }
-}
-
-fn number_at<O>(graph: &Graph<O>, place: usize) -> Option<u32>
-    ensures { result ≡ slice_get (numbers_up graph.now.edges) place }
-{
-    match graph.edge_at(place) {
-        Some(placed) => Some(placed.number),
-        None => None,
     }
 }
 
@@ -57,7 +48,7 @@ pub fn changing<O>(
 {
     let mut made = List::new(alloc);
     for place in 0..graph.live_operators() {
-        push_changing(layout, goal, number_at(graph, place), &mut made)?;
+        push_changing(layout, goal, graph.number_at(place), &mut made)?;
     }
     Ok(made)
 }

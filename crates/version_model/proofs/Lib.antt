@@ -14,5 +14,6 @@ pub mod CarryLaws
 pub mod AscendingLaws
 pub mod MakingLaws
 mod DatabaseLemmas
+mod StillLemmas
 pub mod EvolvedLaws
 pub mod LiveLaws

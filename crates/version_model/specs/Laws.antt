@@ -55,3 +55,7 @@ DropsKeep {O} meaning = (es : List (Placed O)) (needed : List ℕ) (s : State) �
 -- the state of no operators is sound
 abbrev pub EmptyIsSound : {O : Type 0} → (O → Meaning) → Type 0
 EmptyIsSound {O} meaning = (n : ℕ) → 1 ≤ n → IsSound meaning [] (empty_at n)
+
+-- a write that gives a table its own rows and draws nothing leaves the state
+abbrev pub WritesOfTheSameAreStill : {O : Type 0} → (O → Meaning) → Type 0
+WritesOfTheSameAreStill {O} meaning = (es : List (Placed O)) (s : State) (w t : ℕ) → IsSound meaning es s → write meaning es s w t (s.tables t) s.next ≡ s

@@ -1,5 +1,5 @@
 //! Laws of states. The functions do nothing: their contracts are the laws.
-ghost use Rattle.version_model.specs.Laws.{WritesAreOrdinary, EvolutionsKeep, DropsKeep, EmptyIsSound};
+ghost use Rattle.version_model.specs.Laws.{WritesAreOrdinary, WritesOfTheSameAreStill, EvolutionsKeep, DropsKeep, EmptyIsSound};
 
 use op_law::Operator;
 
@@ -18,4 +18,9 @@ pub fn evolutions_keep_the_state<O: Operator>()
 pub fn drops_keep_the_state<O: Operator>()
     ensures drop { DropsKeep O.meaning }
     ensures empty { EmptyIsSound O.meaning }
+{}
+
+/// A write that gives a table its own rows and draws nothing leaves the state.
+pub fn writes_of_the_same_are_still<O: Operator>()
+    ensures { WritesOfTheSameAreStill O.meaning }
 {}

@@ -32,7 +32,10 @@ mod write;
 pub use crossing::{Way, way_of};
 pub use database::PlainDatabase;
 pub use evolve::{as_refusal, make_newer};
-pub use laws::{drops_keep_the_state, evolutions_keep_the_state, writes_keep_the_state};
+pub use laws::{
+    drops_keep_the_state, evolutions_keep_the_state, writes_keep_the_state,
+    writes_of_the_same_are_still,
+};
 pub use live::{keep_live_operators, keep_live_tables};
 pub use now::{copy_now, memory_at, memory_now, put_side, side_now};
 pub use numbered::{Numbered, latest_of, replace_all, value_of};

@@ -4,11 +4,10 @@ use Rattle.std.proofs.Common.{◌≡◌, ℕ, ◌+◌, ◌<◌, List, [], ◌∷
 use Rattle.version_graph.specs.Sets.{In, Each, Within}
 use Rattle.version_graph.specs.Tables.{table_numbers}
 use Rattle.version_graph.specs.Edges.{AreEdges, edge_of, working}
-use Rattle.version_graph.specs.Forest.{Crossing, Link, crossing, forest, step_told, tree as root_in, walk}
+use Rattle.version_graph.specs.Forest.{Crossing, Link, crossed, crossing, forest, step_told, tree as root_in, walk}
 use Rattle.version_graph.specs.declared.parts.Step.{Step}
 use Rattle.version_graph.proofs.TakenLaws.{map_map}
 use Rattle.std.proofs.lemmas.List.{append_assoc, append-nil, take_more}
-use Rattle.version_graph.specs.Laws.{crossed}
 use Rattle.version_graph.specs.declared.parts.Placed.{Placed}
 use Rattle.version_graph.proofs.SetLaws.{each_at, each_of, in_append, in_left, in_map, in_right, origin}
 use Rattle.version_graph.proofs.TreeLaws.{tree_in_walk, walk_in_tree}

@@ -4,8 +4,7 @@ use Rattle.std.specs.Option.{option_map_or}
 use Rattle.version_graph.specs.Sets.{In}
 use Rattle.version_graph.specs.Tables.{table_numbers}
 use Rattle.version_graph.specs.Edges.{edge_of, is_in, made}
-use Rattle.version_graph.specs.Forest.{Link, forest, walk}
-use Rattle.version_graph.specs.Laws.{crossed}
+use Rattle.version_graph.specs.Forest.{Link, crossed, forest, walk}
 use Rattle.version_graph.specs.declared.parts.Placed.{Placed}
 use Rattle.version_model.specs.States.{State}
 use Rattle.write_propagation.specs.declared.tree.Tree.{Tree}

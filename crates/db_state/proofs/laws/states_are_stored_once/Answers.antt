@@ -1,4 +1,4 @@
-use Rattle.db_state.proofs.OnceLemmas.{stored_once}
+use Rattle.db_state.proofs.OnceLaws.{stored_once}
 use Rattle.db_state.proofs.laws.states_are_stored_once.Goals as goal
 
 pub returns : goal.returns
