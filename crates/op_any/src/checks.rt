@@ -63,7 +63,7 @@ pub(crate) fn check_second_table(
 ) -> Result<(), Fault<Refusal>>
     ensures { Gives (λ x. x) result
         (new_table name.now (bytes_eq name.now first.now || is_passing_name set.now sources.now
-            name.now)) }
+        name.now)) }
 {
     if has_name(name, first) || is_passing(set, sources, name) {
         return Err(Fault::Refused(Refusal::TableExists {

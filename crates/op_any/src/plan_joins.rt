@@ -130,8 +130,7 @@ fn join_on_pk(
     names: &JoinNames,
 ) -> Result<Edge<BuiltOp>, Fault<Refusal>>
     ensures { Gives edge_view result
-        (joining_on_pk set.now outer names.now.first.now names.now.second.now names.now.target.now)
-            }
+        (joining_on_pk set.now outer names.now.first.now names.now.second.now names.now.target.now) }
 {
     let sources = find_sources(alloc, set, names)?;
     let first = sources.first.columns.as_slice();
