@@ -66,8 +66,8 @@ found_sound j a b k (e ∷ es) [] one other sound found = absurd found
 found_sound j a b k (e ∷ es) (x ∷ xs) one other sound found = (
   (
     subst (λ (i : ℕ). IsBelow k i) (sym found.0.0) sound.0.0,
-    (sound_at k a e.1 (part j.first x.1) one found.0.1).0,
-    (sound_at k b e.2 (part j.second x.1) other found.0.2).0,
+    (sound_at k a e.1 (part j.first x.1) one found.0.1).0.1,
+    (sound_at k b e.2 (part j.second x.1) other found.0.2).0.1,
   ),
   found_sound j a b k es xs one other sound.1 found.1,
 )

@@ -1,6 +1,6 @@
 -- Look-ups: tables are what they have at each identifier.
 use Rattle.std.specs.Prelude.{nat_lt}
-use Rattle.std.proofs.Common.{◌≡◌, if◌then◌else◌, ℕ, ◌+◌, ◌≤◌, ◌==◌, ◌⊎◌, List, [], ◌∷◌, Bool, true, false, cond, length, Option, Some, None, IsSome, refl, ap, sym, ◌∙◌, arith}
+use Rattle.std.proofs.Common.{◌≡◌, ℕ, ◌+◌, ◌==◌, List, [], ◌∷◌, Bool, true, false, cond, length, Option, None, refl, ap, sym, ◌∙◌, arith}
 use Rattle.std.proofs.lemmas.Bool.Decides.{nat_tests}
 use Rattle.std.proofs.lemmas.Bool.{cases_order}
 use mathlib.Core.Logic.{inl, inr}
@@ -9,7 +9,7 @@ use Rattle.row_store.specs.Rows.{Rows, RiseFrom, row_of}
 use Rattle.row_store.proofs.UndoLaws.{ext}
 use Rattle.op_law.specs.Tables.{Tables}
 pub use Rattle.op_law.specs.Tables.{AllRise}
-use Rattle.op_law.specs.Sound.{IsBelow, RowsSound, TablesSound, HasRow}
+use Rattle.op_law.specs.Sound.{IsBelow, RowsSound, TablesSound}
 use Rattle.op_law.specs.Identifiers.{put_id, ids_in, ids_over}
 pub use Rattle.op_law.specs.Identifiers.{has_id, IdsRise}
 pub use Rattle.op_law.proofs.IdentifierLaws.{has_put, rise_put}

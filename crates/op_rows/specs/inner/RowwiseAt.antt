@@ -1,5 +1,5 @@
 -- What the operator on tables has at each identifier.
-use Rattle.std.proofs.Common.{◌≡◌, ℕ, ◌≤◌, ◌⊎◌, List, [], true, false, length, refl, ap, sym, ◌∙◌, subst, arith}
+use Rattle.std.proofs.Common.{◌≡◌, ℕ, ◌≤◌, ◌⊎◌, List, [], true, false, length, ap, sym, ◌∙◌}
 use Rattle.std.proofs.lemmas.Bool.{false≢true}
 use mathlib.Core.Logic.{inl, inr}
 use Rattle.op_law.specs.Tables.{Tables, Heading, AreTablesOf}
@@ -12,8 +12,8 @@ use Rattle.op_law.proofs.IdentifierLaws.{has_over}
 use Rattle.op_rows.specs.Cells.{Cells, cells_at, nones, AreCellsOf}
 use Rattle.op_rows.specs.RowMeaning.{RowMeaning, flip_row, rowwise, RowPair, MayRow, RowHalf, RowLaws}
 use Rattle.op_rows.specs.AtEach.{HalfGivesAtEach, GivesAtEach}
-use Rattle.op_rows.specs.inner.CellLemmas.{ext_all, rise_ids, below_ids, none_at, has_id, IdsRise, AllRise}
-use Rattle.op_rows.specs.inner.Tabulated.{at_from, all_rise_from, well_from, all_below_from, all_rise, tables_long, cells_well, cells_below, cells_long, nones_well, nones_long, empty_at, has_from}
+use Rattle.op_rows.specs.inner.CellLemmas.{ext_all, rise_ids, none_at, has_id, IdsRise, AllRise}
+use Rattle.op_rows.specs.inner.Tabulated.{at_from, all_rise_from, all_rise, tables_long, cells_well, cells_below, cells_long, nones_well, nones_long, has_from}
 
 module _ (r : RowMeaning) (h : RowHalf r) where
   -- the pair at one identifier
