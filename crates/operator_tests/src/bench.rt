@@ -75,7 +75,7 @@ impl<O: Operator> Bench<'_, O> {
             IsBuiltFor m self.now.source.now self.now.target.now }
         ensures worked { let m = O.meaning self.now.operator.now in
             IfOk result (λ pair. IsWorked m self.now.source.now self.now.target.now 100
-                (seen pair)) }
+            (seen pair)) }
         ensures memory { IfOk result (λ pair. pair.memory.entries ≡ memory.entries) }
     {
         let admitted = self.admitted_target(alloc, &source, kept, &memory, steps)?;

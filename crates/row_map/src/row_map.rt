@@ -28,8 +28,11 @@ impl Model for RowMap {
 
     ghost Value = { RowNumbers };
 
-    ghost view = { λ map. record { texts = text_numbers map.texts; steps = map.steps.entries;
-        numbers = map.numbers } };
+    ghost view = { λ map. record {
+      texts = text_numbers map.texts;
+      steps = map.steps.entries;
+      numbers = map.numbers;
+    } };
 
     ghost invariant = { λ map. AreWell map.texts map.steps
         × AreAtNodes (length map.steps.entries) map.numbers };
