@@ -34,7 +34,7 @@ fn known_tables<O>(
 fn push_tree<O>(graph: &Graph<O>, target: &Target, made: &mut Vec<u32>) -> Result<(), Memory>
     ensures { OnOk result (made.new.items ≡ made.old.items ++ option_to_list
         (option_map (tree (forest graph.now.edges)) (set_named graph.now.versions
-            target.now.version))) }
+        target.now.version))) }
 {
     if let Some(set) = graph.set_of(&target.version) {
         made.push(tree_of(graph, set))?;

@@ -9,7 +9,7 @@ ghost use Rattle.layout_rules.specs.Lookups.{climbed as climbed_lem, in_trees as
 ghost use Rattle.layout_rules.specs.Choices.{is_chosen};
 
 use crate::storing::{holds, sources_of};
-use crate::validity::{meet, number_at};
+use crate::validity::meet;
 use par_base::{List, Memory};
 use std::alloc::Global;
 use version_graph::{Graph, Placed};
@@ -67,7 +67,7 @@ fn add_needed<O>(
         ≡ tables_with graph.now.edges trees.now tables.old.items (option_copied placed.entry)) }
     ensures made { OnOk result (made.new.items
         ≡ needed_with graph.now.edges trees.now tables.old.items made.old.items
-            (option_copied placed.entry)) }
+        (option_copied placed.entry)) }
 {
     let Some(edge) = placed else {
         return Ok(());
@@ -89,7 +89,7 @@ pub fn needed<O>(
 ) -> Result<Vec<u32>, Memory>
     ensures value { IfOk result (λ made. made.items
         ≡ needed_lem (in_trees_lem graph.now.edges trees.now)
-            (forest graph.now.edges) named.items) }
+        (forest graph.now.edges) named.items) }
     ensures edges { AreEdges graph.now.edges }
 {
     let mut left = graph.live_operators();
@@ -146,7 +146,7 @@ pub fn chosen<O>(alloc: Global, graph: &Graph<O>, choice: Choice<'_>) -> Result<
 {
     let mut made = List::new(alloc);
     for place in 0..graph.live_operators() {
-        push_staying(graph, choice, number_at(graph, place), &mut made)?;
+        push_staying(graph, choice, graph.number_at(place), &mut made)?;
     }
     Ok(made)
 }
