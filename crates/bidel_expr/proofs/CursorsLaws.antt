@@ -15,7 +15,7 @@ ahead_length cursor = length-map cursor.tokens.now (lexeme cursor.bytes.now)
 -- a fault of a part is the fault of the whole
 pub fails_through : {X Y : Type 0} (e : ReadError) (part : Read Lexeme X) (whole : Read Lexeme Y) → Fails e part
     → ((rest : List Lexeme) → part ≡ Err rest → whole ≡ Err rest) → Fails e whole
-fails_through Memory part whole h f = tt
+fails_through (Memory memory) part whole h f = tt
 fails_through (Left left) part whole h f = (h.0, f h.0 h.1, h.2)
 
 -- what is read at one place is what is read at another, where both read the same

@@ -13,9 +13,14 @@ use Rattle.bidel_expr.specs.declared.read_error.ReadError.TheVariants.{Memory, L
 abbrev pub ahead : Cursor → List Lexeme
 ahead cursor = lexemes cursor.bytes.now cursor.tokens.now
 
+-- the reader stopped because memory ran out
+abbrev pub ran_out : ReadError → Type 0
+ran_out (Memory memory) = ⊤
+ran_out (Left left) = ⊥
+
 -- the fault stands where so many tokens are left, and is none where memory ran out
 abbrev pub Fails : {Y : Type 0} → ReadError → Read Lexeme Y → Type 0
-Fails Memory read = ⊤
+Fails (Memory memory) read = ⊤
 Fails (Left left) read = (rest : List Lexeme) × (read ≡ Err rest) × (left ≡ length rest)
 
 -- a value, seen in this way, and the place behind it: what is read from here
@@ -45,8 +50,8 @@ IsThere f cursor (Some rest) = one_at f (ahead cursor) ≡ Ok (tt, ahead rest)
 
 -- this value, where memory is found
 abbrev pub Finds : {X : Type 0} → X → Result X ReadError → Type 0
-Finds value result = MatchResult result (λ found. found ≡ value) (λ e. e ≡ Memory)
+Finds value result = MatchResult result (λ found. found ≡ value) ran_out
 
 -- an expression with this tree, where memory is found
 abbrev pub Makes : Term (List ℕ) → Result ExprText ReadError → Type 0
-Makes tree result = MatchResult result (λ made. text_term made ≡ tree) (λ e. e ≡ Memory)
+Makes tree result = MatchResult result (λ made. text_term made ≡ tree) ran_out

@@ -3,7 +3,7 @@ ghost use Rattle.std.specs.Prelude.{◌≡◌, MatchResult};
 ghost use Rattle.phrases.specs.Reading.{starts, one_at};
 ghost use Rattle.bidel_expr.specs.Lexemes.{lexeme_of, between, text_of, unsigned_of, negative_of};
 ghost use Rattle.bidel_expr.specs.Literals.{literal_at, begins_literal};
-ghost use Rattle.bidel_expr.specs.ReadAnswers.{ahead, IsNext, Finds, ReadsAs};
+ghost use Rattle.bidel_expr.specs.ReadAnswers.{ahead, IsNext, Finds, ReadsAs, ran_out};
 
 use crate::cursor::{Cursor, Next};
 use crate::numbers::number_value;
@@ -75,7 +75,7 @@ pub fn next_unsigned<'a>(
     alloc: Global,
     cursor: Cursor<'a>,
 ) -> Result<Option<(Value, Cursor<'a>)>, ReadError>
-    ensures { MatchResult result (IsNext unsigned_of cursor.entry) (λ e. e ≡ ReadError.Memory) }
+    ensures { MatchResult result (IsNext unsigned_of cursor.entry) ran_out }
 {
     let Some(next) = next_token(cursor) else {
         return Ok(None);
@@ -88,7 +88,7 @@ pub fn next_unsigned<'a>(
 
 // A text and what comes after it, where one comes next.
 fn next_text<'a>(alloc: Global, cursor: Cursor<'a>) -> Result<Option<(Text, Cursor<'a>)>, ReadError>
-    ensures { MatchResult result (IsNext text_of cursor.entry) (λ e. e ≡ ReadError.Memory) }
+    ensures { MatchResult result (IsNext text_of cursor.entry) ran_out }
 {
     let Some(next) = next_token(cursor) else {
         return Ok(None);

@@ -3,7 +3,7 @@ ghost use Rattle.std.specs.Prelude.{◌≡◌, ◌∷◌, [], map, false, bytes_
 ghost use Rattle.par_base.specs.Names.{folded};
 ghost use Rattle.phrases.specs.Reading.{one_at, starts, is};
 ghost use Rattle.bidel_expr.specs.Lexemes.{lexeme_of, keyword, starts_both, sign, name_of, number_of, negative_of};
-ghost use Rattle.bidel_expr.specs.ReadAnswers.{ahead, IsFirst, IsNext, IsThere, ReadsAs, Passes};
+ghost use Rattle.bidel_expr.specs.ReadAnswers.{ahead, IsFirst, IsNext, IsThere, ReadsAs, Passes, ran_out};
 
 use crate::cursor::{Cursor, Next};
 use crate::numbers::{GREATEST_NUMBER, negated, number_value};
@@ -86,7 +86,7 @@ pub fn next_name<'a>(
     alloc: Global,
     cursor: Cursor<'a>,
 ) -> Result<Option<(Name, Cursor<'a>)>, ReadError>
-    ensures { MatchResult result (IsNext name_of cursor.entry) (λ e. e ≡ ReadError.Memory) }
+    ensures { MatchResult result (IsNext name_of cursor.entry) ran_out }
 {
     let Some(next) = next_token(cursor) else {
         return Ok(None);

@@ -9,7 +9,8 @@ use Rattle.phrases.proofs.ListsLaws.{made-reads}
 use Rattle.phrases.proofs.LookaheadLaws.{GoesOn}
 use Rattle.bidel_expr.specs.Lexemes.{Lexeme, word, keyword}
 use Rattle.bidel_expr.proofs.WordLaws.{is_keyword}
-use Rattle.bidel_parser.specs.Words.{choice_of, Flag, flag_at}
+use Rattle.bidel_parser.specs.Words.{choice_of, Flag}
+use Rattle.bidel_parser.specs.inner.WordReaders.{flag_at}
 
 -- ---- words and what they stand for
 

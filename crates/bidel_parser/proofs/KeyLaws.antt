@@ -15,7 +15,8 @@ use Rattle.bidel_parser.specs.declared.first_words.KeyWord.{KeyWord}
 use Rattle.bidel_parser.specs.declared.first_words.KeyWord.TheVariants as by
 use Rattle.bidel_parser.specs.Words.{choice_of, Choice}
 use Rattle.statements.specs.Views.{Primary, Foreign, Condition}
-use Rattle.bidel_parser.specs.Operators.{key_words, KeyRest, Key, key_rest_at, key_at}
+use Rattle.bidel_parser.specs.Operators.{key_words, KeyRest, Key}
+use Rattle.bidel_parser.specs.inner.OperatorReaders.{key_rest_at, key_at}
 use Rattle.bidel_parser.proofs.ChoiceLaws.{◌&◌, by_choice, chosen_of}
 use Rattle.bidel_parser.proofs.WordLaws.{then_keyword, then_name}
 

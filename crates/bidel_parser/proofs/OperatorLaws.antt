@@ -15,9 +15,11 @@ use Rattle.bidel_parser.specs.declared.first_words.OperatorWord.{OperatorWord}
 use Rattle.bidel_parser.specs.declared.first_words.OperatorWord.TheVariants as first
 use Rattle.bidel_parser.specs.declared.first_words.Kind.{Kind}
 use Rattle.bidel_parser.specs.declared.first_words.Kind.TheVariants as kind
-use Rattle.bidel_parser.specs.Words.{Sign, Name, choice_of, sign_at}
+use Rattle.bidel_parser.specs.Words.{Sign, Name, choice_of}
+use Rattle.bidel_parser.specs.inner.WordReaders.{sign_at}
 use Rattle.statements.specs.Views.{OpView, CreateTable, DropTable, RenameTable, RenameColumn, AddColumn, DropColumn, Join, Split, Merge}
-use Rattle.bidel_parser.specs.Operators.{operator_words, kinds, Key, key_at, CreateRest, DropRest, RenameRest, AddRest, decomposed, part_of, SecondPart, DecomposeRest, JoinRest, branch_of, SplitBranch, SplitRest, MergeBranch, MergeRest, OperatorRest, Operator, ClosedOperator, create_rest_at, drop_rest_at, rename_rest_at, add_rest_at, second_part_at, optional_part_at, decompose_rest_at, join_rest_at, split_branch_at, second_branch_at, split_rest_at, merge_branch_at, merge_rest_at, operator_rest_at, operator_at, closed_operator_at}
+use Rattle.bidel_parser.specs.Operators.{operator_words, kinds, Key, CreateRest, DropRest, RenameRest, AddRest, decomposed, part_of, SecondPart, DecomposeRest, JoinRest, branch_of, SplitBranch, SplitRest, MergeBranch, MergeRest, OperatorRest, Operator, ClosedOperator}
+use Rattle.bidel_parser.specs.inner.OperatorReaders.{key_at, create_rest_at, drop_rest_at, rename_rest_at, add_rest_at, second_part_at, optional_part_at, decompose_rest_at, join_rest_at, split_branch_at, second_branch_at, split_rest_at, merge_branch_at, merge_rest_at, operator_rest_at, operator_at, closed_operator_at}
 use Rattle.bidel_parser.proofs.WordLaws.{then_keyword, then_sign, then_name, keyword_begins, sign_begins}
 use Rattle.bidel_parser.proofs.ChoiceLaws.{maybe_begins}
 use Rattle.bidel_parser.proofs.KeyLaws.{key-reads}

@@ -13,7 +13,8 @@ use Rattle.bidel_parser.specs.declared.first_words.OperatorWord.{OperatorWord}
 use Rattle.bidel_parser.specs.declared.first_words.OperatorWord.TheVariants as first
 use Rattle.bidel_parser.specs.Words.{choice_of, is_word}
 use Rattle.statements.specs.Views.{OpView}
-use Rattle.bidel_parser.specs.Operators.{operator_words, kinds, lone_words, shared_words, goes_on_with, DropRest, OperatorRest, Operator, ClosedOperator, ListedOperators, begins_operator, closed_operator_at, operators_at, listed_operators_at}
+use Rattle.bidel_parser.specs.Operators.{operator_words, kinds, lone_words, shared_words, goes_on_with, DropRest, OperatorRest, Operator, ClosedOperator, ListedOperators, begins_operator}
+use Rattle.bidel_parser.specs.inner.OperatorReaders.{closed_operator_at, operators_at, listed_operators_at}
 use Rattle.bidel_parser.proofs.ChoiceLaws.{◌&◌, by_choice, chosen_of, begins_then, begins_behind, goes_first, goes_second}
 use Rattle.bidel_parser.proofs.OperatorLaws.{create-table-reads, drop-rest-reads, operator-rest-reads, semicolon-reads, closed-operator-reads}
 

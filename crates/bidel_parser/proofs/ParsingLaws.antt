@@ -8,7 +8,8 @@ use Rattle.bidel_expr.specs.declared.cursor.Cursor.{Cursor}
 use Rattle.bidel_expr.specs.declared.read_error.ReadError.TheVariants.{Left}
 use Rattle.bidel_expr.specs.Lexemes.{Lexeme, lexeme, lexemes}
 use Rattle.statements.specs.Views.{StatementView}
-use Rattle.bidel_parser.specs.Statements.{IsStatement, Script, stays_open, statement_at}
+use Rattle.bidel_parser.specs.Statements.{IsStatement, Script, stays_open}
+use Rattle.bidel_parser.specs.inner.StatementReaders.{statement_at}
 use Rattle.bidel_parser.specs.Parsing.{IsFront, NoFront, FirstFault, start_of, IsFault}
 use Rattle.bidel_expr.specs.ReadAnswers.{ahead, Fails}
 use Rattle.bidel_expr.proofs.CursorsLaws.{ahead_length}

@@ -10,7 +10,8 @@ use Rattle.bidel_expr.specs.declared.read_error.ReadError.TheVariants.{Memory, L
 use Rattle.bidel_expr.specs.ReadAnswers.{ahead, ReadsAs}
 use Rattle.bidel_parser.specs.declared.first_words.OperatorWord.{OperatorWord}
 use Rattle.bidel_parser.specs.Words.{choice_of}
-use Rattle.bidel_parser.specs.Operators.{shared_words, goes_on_with, shows_operator, begins_operator, closed_operator_at, operators_at, listed_operators_at, further_operators_at}
+use Rattle.bidel_parser.specs.Operators.{shared_words, goes_on_with, shows_operator, begins_operator}
+use Rattle.bidel_parser.specs.inner.OperatorReaders.{closed_operator_at, operators_at, listed_operators_at, further_operators_at}
 use Rattle.statements.specs.Views.{OpView}
 use Rattle.bidel_parser.proofs.OperatorListLaws.{lone, shared}
 
@@ -18,7 +19,7 @@ use Rattle.bidel_parser.proofs.OperatorListLaws.{lone, shared}
 pub gives_same : {X Y : Type 0} (view : X → Y) (p q : List Lexeme → Read Lexeme Y) (c d : Cursor) (result : Result (X × Cursor) ReadError)
     → p (ahead c) ≡ q (ahead d) → ReadsAs view q d result → ReadsAs view p c result
 gives_same view p q c d (Ok x) e h = e ∙ h
-gives_same view p q c d (Err Memory) e h = tt
+gives_same view p q c d (Err (Memory memory)) e h = tt
 gives_same view p q c d (Err (Left n)) e h = (h.0, e ∙ h.1, h.2)
 
 -- behind what is read, the rest is read

@@ -12,7 +12,8 @@ use Rattle.bidel_parser.specs.declared.first_words.StatementWord.TheVariants as 
 use Rattle.bidel_parser.specs.Words.{choice_of}
 use Rattle.statements.specs.Views.{StatementView, CreateVersion, DropVersion, Insert, Import, Update, Delete, Select, Materialize, Step, ShowLayout, Use, Session, Advise}
 use Rattle.bidel_parser.specs.Operators.{shared_words, begins_operator}
-use Rattle.bidel_parser.specs.Statements.{statement_words, StatementRest, IsStatement, Script, stays_open, statement_at}
+use Rattle.bidel_parser.specs.Statements.{statement_words, StatementRest, IsStatement, Script, stays_open}
+use Rattle.bidel_parser.specs.inner.StatementReaders.{statement_at}
 use Rattle.bidel_parser.specs.Laws.{OneFront, FrontStays, FrontLeads, FrontPrecedes, NoScript, EmptyScript, FaultStays, FaultFollows}
 use Rattle.bidel_parser.proofs.ChoiceLaws.{◌&◌, by_choice, chosen_of, begins_behind}
 use Rattle.bidel_parser.proofs.OperatorListLaws.{lone, shared, both}

@@ -14,10 +14,13 @@ use Rattle.bidel_expr.specs.Literals.{comma_of, Tuple, tuple_at}
 use Rattle.bidel_expr.proofs.WordLaws.{keyword_is}
 use Rattle.bidel_parser.specs.declared.first_words.StatementWord.{StatementWord}
 use Rattle.bidel_parser.specs.declared.first_words.StatementWord.TheVariants as first
-use Rattle.bidel_parser.specs.Words.{Word, Sign, Name, Flag, choice_of, session_of, sign_at}
+use Rattle.bidel_parser.specs.Words.{Word, Sign, Name, Flag, choice_of, session_of}
+use Rattle.bidel_parser.specs.inner.WordReaders.{sign_at}
 use Rattle.statements.specs.Views.{StatementView, CreateVersion, DropVersion, Insert, Import, Update, Delete, Select, Materialize, Step, ShowLayout, Use, Session, Advise}
-use Rattle.bidel_parser.specs.Operators.{ListedOperators, begins_operator, listed_operators_at}
-use Rattle.bidel_parser.specs.Statements.{statement_words, TableOf, TargetOf, AssignmentOf, Filter, Items, CreateVersionRest, DropVersionRest, InsertRest, ImportRest, UpdateRest, DeleteRest, SelectRest, MaterializeRest, SessionRest, StatementRest, IsStatement, stays_open, table_at, target_at, assignment_at, filter_at, items_at, origin_at, csv_at, in_steps_at, create_version_rest_at, drop_version_rest_at, insert_rest_at, import_rest_at, update_rest_at, delete_rest_at, select_rest_at, materialize_rest_at, session_rest_at, statement_rest_at, statement_at}
+use Rattle.bidel_parser.specs.Operators.{ListedOperators, begins_operator}
+use Rattle.bidel_parser.specs.inner.OperatorReaders.{listed_operators_at}
+use Rattle.bidel_parser.specs.Statements.{statement_words, TableOf, TargetOf, AssignmentOf, Filter, Items, CreateVersionRest, DropVersionRest, InsertRest, ImportRest, UpdateRest, DeleteRest, SelectRest, MaterializeRest, SessionRest, StatementRest, IsStatement, stays_open}
+use Rattle.bidel_parser.specs.inner.StatementReaders.{table_at, target_at, assignment_at, filter_at, items_at, origin_at, csv_at, in_steps_at, create_version_rest_at, drop_version_rest_at, insert_rest_at, import_rest_at, update_rest_at, delete_rest_at, select_rest_at, materialize_rest_at, session_rest_at, statement_rest_at, statement_at}
 use Rattle.bidel_parser.proofs.WordLaws.{then_keyword, then_sign, then_name, keyword_last, name_last, keyword_begins, sign_begins}
 use Rattle.bidel_parser.proofs.ChoiceLaws.{◌&◌, by_choice, maybe_begins}
 use Rattle.bidel_parser.proofs.TableLaws.{table_goes, names_go, targets_go, assignments_go, filter_goes, origin_goes, csv_goes, in_steps_goes, table-reads, rows-reads, targets-reads, assignments-reads, items-reads, filter-reads, origin-reads, csv-reads, in-steps-reads}

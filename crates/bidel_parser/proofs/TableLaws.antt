@@ -13,7 +13,8 @@ use Rattle.bidel_expr.proofs.WordLaws.{is_sign, name_is}
 use Rattle.bidel_expr.proofs.LiteralLaws.{name-reads, tuple-reads}
 use Rattle.bidel_expr.proofs.ExpressionLaws.{expression-reads}
 use Rattle.bidel_parser.specs.Words.{Word, Sign, Name, Flag, is_word}
-use Rattle.bidel_parser.specs.Statements.{table_named, TableOf, target_named, TargetOf, assigned, AssignmentOf, Filter, Items, second_name_at, table_at, target_at, assignment_at, filter_at, items_at, origin_at, csv_at, in_steps_at}
+use Rattle.bidel_parser.specs.Statements.{table_named, TableOf, target_named, TargetOf, assigned, AssignmentOf, Filter, Items}
+use Rattle.bidel_parser.specs.inner.StatementReaders.{second_name_at, table_at, target_at, assignment_at, filter_at, items_at, origin_at, csv_at, in_steps_at}
 use Rattle.bidel_parser.proofs.WordLaws.{then_keyword, then_sign, then_name, keyword_reads, keyword_begins, sign_begins}
 use Rattle.bidel_parser.proofs.ChoiceLaws.{flag-reads}
 

@@ -12,7 +12,8 @@ use Rattle.bidel_expr.specs.Lexemes.{Lexeme, word, symbol, keyword, sign, name_o
 use Rattle.bidel_expr.specs.Literals.{name_at}
 use Rattle.bidel_expr.proofs.WordLaws.{by_keyword, by_sign}
 use Rattle.bidel_expr.proofs.LiteralLaws.{name_x}
-use Rattle.bidel_parser.specs.Words.{Word, Sign, Name, word_at, sign_at}
+use Rattle.bidel_parser.specs.Words.{Word, Sign, Name}
+use Rattle.bidel_parser.specs.inner.WordReaders.{word_at, sign_at}
 
 -- a word is itself
 keyword_known : (w : List ℕ) → keyword w (word w) ≡ Some tt

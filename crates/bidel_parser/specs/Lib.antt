@@ -4,3 +4,4 @@ pub mod Statements
 pub mod Parsing
 pub mod Texts
 pub mod Laws
+pub mod inner

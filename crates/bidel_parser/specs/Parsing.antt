@@ -42,4 +42,4 @@ Parses bytes tokens ended (Ok (Whole statement used)) = IsFront ended (lexemes b
 Parses bytes tokens ended (Ok More) = (ended ≡ false) × NoFront ended (lexemes bytes tokens) × Begins Script (lexemes bytes tokens)
 Parses bytes tokens ended (Ok Nothing) = (ended ≡ true) × (tokens ≡ [])
 Parses bytes tokens ended (Err (Refused syntax)) = NoFront ended (lexemes bytes tokens) × IsFault bytes tokens ended syntax.at
-Parses bytes tokens ended (Err Memory) = ⊤
+Parses bytes tokens ended (Err (Memory memory)) = ⊤

@@ -44,22 +44,6 @@ session_of _ = None
 
 -- ---- reading
 
--- this reserved word
-abbrev pub word_at : String → List Lexeme → Read Lexeme (Unit {0})
-word_at w = one_at (keyword (codes w))
-
--- this sign
-abbrev pub sign_at : String → List Lexeme → Read Lexeme (Unit {0})
-sign_at s = one_at (sign (codes s))
-
 -- whether a token is this reserved word
 abbrev pub is_word : String → Lexeme → Bool
 is_word w = is (keyword (codes w))
-
--- one of these reserved words, and what p reads behind it
-abbrev pub choice_at : {K A : Type 0} → List (List ℕ × K) → (K → List Lexeme → Read Lexeme A) → List Lexeme → Read Lexeme A
-choice_at cs p = and_then (one_at (choice_of cs)) p
-
--- whether a token of g comes, where p is then read
-abbrev pub flag_at : {A : Type 0} → (Lexeme → Bool) → (List Lexeme → Read Lexeme A) → List Lexeme → Read Lexeme Bool
-flag_at g p = either g (and_then p λ _. done true) (done false)

@@ -2,7 +2,8 @@
 ghost use Rattle.std.specs.Prelude.{◌≡◌, ◌∷◌, [], map};
 ghost use Rattle.phrases.specs.Reading.{with_front};
 ghost use Rattle.statements.specs.Views.{op_view};
-ghost use Rattle.bidel_parser.specs.Operators.{further_operators_at, closed_operator_at, operators_at, listed_operators_at, begins_operator, shows_operator};
+ghost use Rattle.bidel_parser.specs.Operators.{begins_operator, shows_operator};
+ghost use Rattle.bidel_parser.specs.inner.OperatorReaders.{further_operators_at, closed_operator_at, operators_at, listed_operators_at};
 ghost use Rattle.bidel_expr.specs.ReadAnswers.{ahead, ReadsAs};
 
 use crate::choices::{is_kind_next, is_lone_word_next, is_shared_word_next, next_shared_word};

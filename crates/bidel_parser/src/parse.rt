@@ -38,7 +38,7 @@ pub fn parse_statement(
             statement,
             used: tokens.len() - rest.tokens.len(),
         }),
-        Err(ReadError::Memory) => Err(Fault::Memory),
+        Err(ReadError::Memory(memory)) => Err(Fault::Memory(memory)),
         Err(ReadError::Left(left)) => {
             if left == 0 && !ended {
                 Ok(Parsed::More)

@@ -13,7 +13,8 @@ use Rattle.bidel_lex.specs.Tokens.{HasTokens, is_token}
 use Rattle.bidel_lex.proofs.WithinLaws.{within_along}
 use Rattle.bidel_expr.specs.Lexemes.{Lexeme, lexeme, lexemes}
 use Rattle.statements.specs.Views.{StatementView}
-use Rattle.bidel_parser.specs.Statements.{IsStatement, Script, stays_open, statement_at}
+use Rattle.bidel_parser.specs.Statements.{IsStatement, Script, stays_open}
+use Rattle.bidel_parser.specs.inner.StatementReaders.{statement_at}
 use Rattle.bidel_parser.specs.Parsing.{IsFront, NoFront, FirstFault, start_of}
 use Rattle.bidel_parser.proofs.StatementLaws.{statement-last, script_over}
 use Rattle.bidel_script.specs.declared.tokens.Tail.{Tail}

@@ -13,7 +13,8 @@ use Rattle.bidel_lex.proofs.WithinLaws.{within_along}
 use Rattle.bidel_expr.specs.Lexemes.{Lexeme, lexeme, lexemes}
 use Rattle.statements.specs.Views.{StatementView, statement_view}
 use Rattle.statements.specs.declared.statement.Statement.{Statement}
-use Rattle.bidel_parser.specs.Statements.{IsStatement, stays_open, statement_at}
+use Rattle.bidel_parser.specs.Statements.{IsStatement, stays_open}
+use Rattle.bidel_parser.specs.inner.StatementReaders.{statement_at}
 use Rattle.bidel_parser.specs.Parsing.{IsFront, NoFront, FirstFault, IsFault, start_of}
 use Rattle.bidel_parser.proofs.StatementLaws.{statement-last, script_over, statement_long}
 use Rattle.bidel_script.specs.declared.tokens.Tail.{Tail}

@@ -7,3 +7,7 @@ mod LengthLemmas
 mod PlaceLemmas
 pub mod ComesLaws
 pub mod TextLimitsLaws
+mod CutTokens
+mod CutBlanks
+mod CutLengths
+mod CutLaws

@@ -1,5 +1,5 @@
 -- Which statements the bytes of a script spell, and where they stop being one.
-use Rattle.std.specs.Prelude.{◌≡◌, ◌≤◌, ◌<◌, ◌⊎◌, ◌+◌, ℕ, Bool, true, false, List, [], ◌∷◌, drop, length}
+use Rattle.std.specs.Prelude.{◌≡◌, ◌≤◌, ◌<◌, ◌⊎◌, ◌+◌, ℕ, Bool, true, false, List, [], ◌∷◌, ◌++◌, drop, length}
 use Rattle.phrases.specs.Phrases.{Begins}
 use Rattle.bidel_lex.specs.declared.tokens.Token.{Token}
 use Rattle.bidel_lex.specs.declared.tokens.Lexed.TheVariants.{More, End, BadToken}
@@ -82,3 +82,12 @@ FaultIsNoScript = (bytes : List ℕ) (before statements : List StatementView) (a
 abbrev pub OneComes : Type 0
 OneComes = (bytes : List ℕ) (ended : Bool) → (statements : List StatementView) × (outcome : Outcome) × Comes bytes ended statements outcome
     × ((others : List StatementView) (other : Outcome) → Comes bytes ended others other → (others ≡ statements) × (other ≡ outcome))
+
+-- the statements that some first bytes fix, which may go on, are the first of those that all bytes fix
+abbrev pub FrontsComeFirst : Type 0
+FrontsComeFirst = (front more : List ℕ) (ended : Bool) (before all : List StatementView) (one other : Outcome) → Comes front false before one
+    → Comes (front ++ more) ended all other → (rest : List StatementView) × (all ≡ before ++ rest)
+
+-- a fault of some first bytes, which may go on, is the fault of all
+abbrev pub FaultsStay : Type 0
+FaultsStay = (front more : List ℕ) (ended : Bool) (before : List StatementView) (at : ℕ) → Comes front false before (Fault at) → Comes (front ++ more) ended before (Fault at)

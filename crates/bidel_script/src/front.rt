@@ -129,6 +129,6 @@ pub fn find_front(
         Ok(Parsed::Nothing) => Ok(Found::Stops(stop_behind(bytes, tail, tokens))),
         Ok(Parsed::More) => Ok(Found::Stops(stop_open(alloc, bytes, tail, tokens)?)),
         Err(Fault::Refused(Syntax { at })) => Ok(Found::Stops(stop_at(bytes, tail, tokens, at))),
-        Err(Fault::Memory) => Err(Memory),
+        Err(Fault::Memory(memory)) => Err(memory),
     }
 }

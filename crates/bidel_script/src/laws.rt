@@ -1,5 +1,5 @@
 //! Laws of scripts, each the contract of a function that does nothing.
-ghost use Rattle.bidel_script.specs.Script.{FaultIsNoScript, OneComes, OneScript, OverIsScript};
+ghost use Rattle.bidel_script.specs.Script.{FaultIsNoScript, FaultsStay, FrontsComeFirst, OneComes, OneScript, OverIsScript};
 ghost use Rattle.bidel_script.specs.Tails.{TokensAreKnown};
 
 /// Bytes are the script of at most one list of statements.
@@ -25,4 +25,14 @@ pub fn run_is_one()
 /// Exactly so many first bytes show a token as it is said to be known by.
 pub fn tokens_are_known()
     ensures { TokensAreKnown }
+{}
+
+/// Bytes that are cut off fix the first of the statements that all of them fix.
+pub fn fronts_come_first()
+    ensures { FrontsComeFirst }
+{}
+
+/// A fault in bytes that are cut off is that of all of them.
+pub fn faults_stay()
+    ensures { FaultsStay }
 {}

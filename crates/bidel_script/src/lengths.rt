@@ -183,6 +183,6 @@ pub fn is_long_open(
         // No tokens come after these.
         Ok(Parsed::More) => Ok(false),
         Err(Fault::Refused(Syntax { at })) => Ok(is_long_fault(bytes, tail, tokens, at)),
-        Err(Fault::Memory) => Err(Memory),
+        Err(Fault::Memory(memory)) => Err(memory),
     }
 }

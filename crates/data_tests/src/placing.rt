@@ -27,7 +27,7 @@ fn place(alloc: Global, graph: &mut Graph<u32>, case: Case<'_>) -> Result<&'stat
         Ok(Made::Done(())) => Ok("placed"),
         Ok(Made::Unfit) => Ok("unfit"),
         Err(Fault::Refused(NotGraph)) => Ok("no graph"),
-        Err(Fault::Memory) => Ok("memory"),
+        Err(Fault::Memory(_)) => Ok("memory"),
     }
 }
 
@@ -40,7 +40,7 @@ fn place_name(
     match graph.place_version(named(alloc, name)?, set) {
         Ok(()) => Ok("placed"),
         Err(Fault::Refused(NotGraph)) => Ok("no graph"),
-        Err(Fault::Memory) => Ok("memory"),
+        Err(Fault::Memory(_)) => Ok("memory"),
     }
 }
 

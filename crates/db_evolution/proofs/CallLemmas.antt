@@ -72,4 +72,4 @@ still_database {O} meaning p kept back same = subst (λ (x : Drawn O). IsDatabas
 -- a refused evolution leaves the graph
 pub graph_left : {O : Type 0} (g : Drawn O) (name : List ℕ) (from : Option (List ℕ)) (edges : List (Edge O)) (fault : Fault Refusal) (new : Drawn O) → EvolvesGraph g name from edges (Err fault) new → new ≡ g
 graph_left g name from edges (Refused reason) new h = h.1
-graph_left g name from edges OutOfMemory new h = h
+graph_left g name from edges (OutOfMemory memory) new h = h

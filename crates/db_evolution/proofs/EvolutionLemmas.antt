@@ -377,7 +377,7 @@ module _ {O : Type 0} (meaning : O → Meaning) (laws : (o : O) → Laws (meanin
 
     -- AN EVOLUTION THAT WOULD DRAW TOO MANY IDENTIFIERS
     pub evolution_refused : (fault : Fault IdsSpent) → Fills meaning grown_parts (length es) read (Err fault) → (q : Parts O) → q ≡ p → Evolves meaning d name from edges (Err (refusal_for fault)) (database_for meaning q)
-    evolution_refused OutOfMemory h q same = ap (λ (x : Parts O). database_for meaning x) same
+    evolution_refused (OutOfMemory memory) h q same = ap (λ (x : Parts O). database_for meaning x) same
     evolution_refused (Refused spent) h q same =
         let next_is = ap (λ (x : State). x.next) filled_is ∙ agree_after.next in
         let over = subst (λ (n : ℕ). first_refused p.ids < n) next_is h.0 in (

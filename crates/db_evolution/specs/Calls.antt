@@ -58,7 +58,7 @@ pub record IsFilled {O : Type 0} (meaning : O → Meaning) (p : Parts O) (first 
 abbrev pub Fills : {O : Type 0} → (O → Meaning) → Parts O → ℕ → List (Numbered TableState) → Result Contents (Fault IdsSpent) → Type 0
 Fills meaning p first sources (Ok new) = IsFilled meaning p first (filled_state meaning p first sources) new
 Fills meaning p first sources (Err (Refused spent)) = IsSpent (filled_state meaning p first sources).next p.ids p.ids spent
-Fills meaning p first sources (Err OutOfMemory) = ⊤
+Fills meaning p first sources (Err (OutOfMemory memory)) = ⊤
 
 -- what is kept is the new contents, with the older values in their places
 pub record Installs {O : Type 0} (old : Parts O) (contents : Contents) (new : Parts O) : Type 0 where

@@ -6,7 +6,7 @@ use Rattle.par_base.specs.declared.fault.Fault.TheVariants.{Refused, Memory}
 use Rattle.par_base.specs.declared.limits.Target.{Target}
 use Rattle.par_base.specs.declared.refusal.Refusal.{Refusal}
 use Rattle.version_graph.specs.Edges.{Drawn}
-use Rattle.op_any.specs.Checks.{Checked, ◌then◌}
+use Rattle.par_base.specs.Checked.{Checked, ◌then◌}
 use Rattle.op_kinds.specs.Operators.{AnyView, Built, CreateTable, DropTable, Rename, AddColumn, DropColumn, Split, Merge, DecomposeSingle, DecomposePk, OuterJoinPk, JoinPk, DecomposeFk, OuterJoinFk, JoinFk, JoinOn, DecomposeOn, any_meaning, meaning_of}
 use Rattle.layout_rules.specs.Changes.{layout_after}
 use Rattle.version_model.specs.Databases.{empty_database}
@@ -62,7 +62,7 @@ pub answers_beside : (old new : Parts AnyView) (m : Checked (Reply × AnyDatabas
 answers_beside old new m (Ok reply) answers follows =
     ap (λ (x : Checked (Reply × AnyDatabase)). x then λ answer. Ok (with_data (state_of old) answer)) answers ∙ ap (λ (s : Laid). Ok (reply, s)) (laid_is old new follows)
 answers_beside old new m (Err (Refused r)) answers follows = ap (λ (x : Checked (Reply × AnyDatabase)). x then λ answer. Ok (with_data (state_of old) answer)) answers
-answers_beside old new m (Err Memory) answers follows = tt
+answers_beside old new m (Err (Memory memory)) answers follows = tt
 
 -- ---- moves
 
@@ -71,7 +71,7 @@ replied m = m then λ a. Ok (Moved a.0, a.1)
 
 pub move_refused : (old new : Laid) (named : List Target) (fault : Fault Refusal) → Materializes old named (Err fault) new → Answers (replied (materialized old named)) (Err fault) new × (new ≡ old)
 move_refused old new named (Refused r) moves = (ap replied moves.0, moves.1)
-move_refused old new named Memory moves = (tt, moves)
+move_refused old new named (Memory memory) moves = (tt, moves)
 
 pub move_answers : (old new : Laid) (named : List Target) (count : ℕ) → Materializes old named (Ok count) new → Answers (replied (materialized old named)) (Ok (Moved count)) new
 move_answers old new named count moves = ap replied moves

@@ -12,7 +12,7 @@ use Rattle.layout_rules.specs.Changes.{layout_after}
 use Rattle.layout_rules.specs.declared.layout.Layout.{Layout}
 use Rattle.layout_rules.proofs.AfterLaws.{same_layout}
 use Rattle.op_law.specs.Calls.{first_refused}
-use Rattle.op_any.specs.Checks.{◌then◌}
+use Rattle.par_base.specs.Checked.{◌then◌}
 use Rattle.op_kinds.specs.Operators.{AnyView, any_laws, any_meaning}
 use Rattle.db_state.specs.Fields.{IsDatabase, database_for, state_for}
 use Rattle.db_state.specs.declared.parts.Parts.{Parts}
@@ -80,10 +80,10 @@ plan_fits k plan w t rows next plans n puts = (plans.1 n puts).0
 
 pub plan_refused : (k : Parts AnyView) (w t : ℕ) (rows : Rows) (next : ℕ) (fault : Fault Spent) → Plans any_meaning k w t rows next (Err fault) → Writes any_meaning (database_for any_meaning k) w t rows next (Err fault) (database_for any_meaning k)
 plan_refused k w t rows next (Refused spent) plans = (plans, refl)
-plan_refused k w t rows next Memory plans = refl
+plan_refused k w t rows next (Memory memory) plans = refl
 
 -- after a write, or an error
 pub write_follows : (k n : Parts AnyView) (w t : ℕ) (rows : Rows) (next : ℕ) (r : Result (Unit {0}) (Fault Spent)) → IsDatabase any_meaning k → Writes any_meaning (database_for any_meaning k) w t rows next r (database_for any_meaning n) → n.layout ≡ k.layout → Follows k n
 write_follows k n w t rows next (Ok done) is writes layout = both_stay k n is (ap (λ (d : AnyDatabase). d.graph) writes.1) layout
 write_follows k n w t rows next (Err (Refused spent)) is writes layout = both_stay k n is (ap (λ (d : AnyDatabase). d.graph) writes.1) layout
-write_follows k n w t rows next (Err Memory) is writes layout = both_stay k n is (ap (λ (d : AnyDatabase). d.graph) writes) layout
+write_follows k n w t rows next (Err (Memory memory)) is writes layout = both_stay k n is (ap (λ (d : AnyDatabase). d.graph) writes) layout

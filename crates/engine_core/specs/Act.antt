@@ -7,7 +7,7 @@ use Rattle.version_graph.specs.Sets.{In}
 use Rattle.version_graph.specs.Tables.{table_numbers}
 use Rattle.version_graph.specs.Edges.{working}
 use Rattle.layout_rules.specs.Changes.{layout_after}
-use Rattle.op_any.specs.Checks.{Checked, ◌then◌}
+use Rattle.par_base.specs.Checked.{Checked, ◌then◌}
 use Rattle.op_any.specs.Build.{is_built as is_built_operator}
 use Rattle.engine_state.specs.AnyDatabase.{AnyDatabase}
 use Rattle.engine_state.specs.declared.reply.Reply.{Reply}

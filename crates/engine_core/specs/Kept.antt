@@ -1,7 +1,7 @@
 -- The state that the engine stands for, and what its calls answer.
-use Rattle.std.specs.Prelude.{◌≡◌, ℕ, [], Result, Ok, Err, ⊤}
+use Rattle.std.specs.Prelude.{◌≡◌, ℕ, [], Result}
 use Rattle.par_base.specs.declared.fault.Fault.{Fault}
-use Rattle.par_base.specs.declared.fault.Fault.TheVariants.{Refused, Memory}
+use Rattle.par_base.specs.Checked.{Checked, Gives}
 use Rattle.par_base.specs.declared.refusal.Refusal.{Refusal}
 use Rattle.op_kinds.specs.Operators.{AnyView, any_meaning}
 use Rattle.version_model.specs.Databases.{empty_database}
@@ -25,10 +25,8 @@ abbrev pub empty_state : ℕ → Laid
 empty_state limit = record { database = empty_database limit; layout = [] }
 
 -- the call answers and leaves what the model does: the reply and the next state, or the refusal, unless memory ran out
-abbrev pub Answers : {S : Type 0} → Result (Reply × S) Refusal → Result Reply (Fault Refusal) → S → Type 0
-Answers model (Ok reply) next = model ≡ Ok (reply, next)
-Answers model (Err (Refused r)) next = model ≡ Err r
-Answers model (Err Memory) next = ⊤
+abbrev pub Answers : {S : Type 0} → Checked (Reply × S) → Result Reply (Fault Refusal) → S → Type 0
+Answers model result next = Gives (λ reply. (reply, next)) result model
 
 -- the layout follows the graph
 abbrev pub Follows : Parts AnyView → Parts AnyView → Type 0

@@ -5,7 +5,7 @@ ghost use Rattle.expr_lang.specs.Operations.{text_limit};
 ghost use Rattle.statements.specs.Views.{op_view, statement_view};
 ghost use Rattle.statements.specs.Texts.{OpTexts, TextsWithin};
 ghost use Rattle.version_graph.specs.Edges.{IsGraph};
-ghost use Rattle.op_any.specs.Checks.{◌then◌, Gives};
+ghost use Rattle.par_base.specs.Checked.{◌then◌, Gives};
 ghost use Rattle.op_kinds.specs.Operators.{any_meaning};
 ghost use Rattle.version_model.specs.Sound.{IsSound};
 ghost use Rattle.storage_law.specs.Canonical.{SameStored};
@@ -329,7 +329,7 @@ impl Engine {
         match write_through(alloc, &mut self.database, written, steps) {
             Ok(()) => Ok(reply),
             Err(Fault::Refused(spent)) => Err(spent.refused()),
-            Err(Fault::Memory) => Err(Fault::Memory),
+            Err(Fault::Memory(memory)) => Err(Fault::Memory(memory)),
         }
     }
 }

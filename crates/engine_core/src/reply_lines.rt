@@ -116,7 +116,7 @@ fn push_row(alloc: Global, text: &mut String, row: &[Value]) -> Result<(), Memor
 fn push_more_values(alloc: Global, text: &mut String, values: &[Value]) -> Result<(), Memory>
     ensures { OnOk result (string_bytes text.new
         ≡ string_bytes text.old ++ line (flat_map (λ value.
-            codes "|" ++ literal_of value) values.now)) }
+        codes "|" ++ literal_of value) values.now)) }
 {
     for value in values {
         text.push('|')?;
@@ -174,7 +174,7 @@ fn push_table(text: &mut String, table: &StoredTable) -> Result<(), Memory>
 fn push_operators(text: &mut String, operators: &[StoredOperator]) -> Result<(), Memory>
     ensures { OnOk result (string_bytes text.new
         ≡ string_bytes text.old ++ flat_map (λ operator.
-            line (operator_text operator)) operators.now) }
+        line (operator_text operator)) operators.now) }
 {
     for operator in operators {
         push_operator(text, operator)?;

@@ -6,7 +6,7 @@ use Rattle.par_base.specs.declared.fault.Fault.TheVariants.{Refused, Memory}
 use Rattle.par_base.specs.declared.limits.Target.{Target}
 use Rattle.par_base.specs.declared.refusal.Refusal.{Refusal}
 use Rattle.layout_rules.specs.declared.layout.Layout.{Layout}
-use Rattle.op_any.specs.Checks.{◌then◌}
+use Rattle.par_base.specs.Checked.{◌then◌}
 use Rattle.op_kinds.specs.Operators.{AnyView, any_meaning}
 use Rattle.db_state.specs.Fields.{database_for}
 use Rattle.db_state.specs.declared.parts.Parts.{Parts}
@@ -22,7 +22,7 @@ then_laid s closed = closed then λ new. Ok (moved_count s new, record s { layou
 
 pub move_refused : (p : Parts AnyView) (named : List Target) (fault : Fault Refusal) → ComputesMove p named (Err fault) → Materializes (laid_of p) named (Err fault) (laid_of p)
 move_refused p named (Refused r) computes = (ap (then_laid (laid_of p)) computes, refl)
-move_refused p named Memory computes = refl
+move_refused p named (Memory memory) computes = refl
 
 pub move_made : (p n : Parts AnyView) (named : List Target) (moved : Moved) (count : ℕ) → ComputesMove p named (Ok moved) → moved.flips ≡ flip_count p.graph.edges p.layout.operators moved.layout.operators
     → database_for any_meaning n ≡ database_for any_meaning p → n.layout ≡ moved.layout → count ≡ moved.flips → Materializes (laid_of p) named (Ok count) (laid_of n)

@@ -5,7 +5,7 @@ use Rattle.par_base.specs.declared.fault.Fault.TheVariants.{Refused, Memory}
 use Rattle.par_base.specs.declared.limits.Target.{Target}
 use Rattle.par_base.specs.declared.refusal.Refusal.{Refusal}
 use Rattle.layout_rules.specs.Closed.{closing}
-use Rattle.op_any.specs.Checks.{Checked, ◌then◌}
+use Rattle.par_base.specs.Checked.{Checked, ◌then◌}
 use Rattle.op_kinds.specs.Operators.{AnyView, any_meaning}
 use Rattle.db_state.specs.Fields.{database_for}
 use Rattle.db_state.specs.declared.parts.Parts.{Parts}
@@ -34,4 +34,4 @@ materialized s named =
 abbrev pub Materializes : Laid → List Target → Result ℕ (Fault Refusal) → Laid → Type 0
 Materializes s named (Ok count) new = materialized s named ≡ Ok (count, new)
 Materializes s named (Err (Refused r)) new = (materialized s named ≡ Err r) × (new ≡ s)
-Materializes s named (Err Memory) new = new ≡ s
+Materializes s named (Err (Memory memory)) new = new ≡ s

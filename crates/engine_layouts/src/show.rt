@@ -14,7 +14,7 @@ use db_state::{Db, Numbered};
 use engine_state::{Reply, StoredOperator, StoredTable};
 use op_any::AnyOp;
 use op_law::Aux;
-use par_base::{List, Memory, Name};
+use par_base::{List, Memory, Name, add_counts};
 use row_store::Table;
 use std::alloc::Global;
 use version_graph::{Graph, Placed};
@@ -54,10 +54,7 @@ fn show_tables(
 fn add(total: usize, more: usize) -> Result<usize, Memory>
     ensures { IfOk result (λ sum. sum ≡ total + more) }
 {
-    match total.checked_add(more) {
-        Some(sum) => Ok(sum),
-        None => Err(Memory),
-    }
+    Ok(add_counts(total as u64, more as u64)? as usize)
 }
 
 fn row_count(tables: &[Table]) -> Result<usize, Memory>

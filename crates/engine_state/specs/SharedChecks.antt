@@ -2,7 +2,7 @@
 use Rattle.std.specs.Prelude.{ℕ, nat_lt, List, Option, Some, None, Ok, Err, if◌then◌else◌}
 use Rattle.par_base.specs.declared.refusal.Refusal.TheVariants.{UnknownVersion, IdsSpent}
 use Rattle.op_law.specs.Calls.{first_refused}
-use Rattle.op_any.specs.Checks.{Checked}
+use Rattle.par_base.specs.Checked.{Checked}
 use Rattle.version_model.specs.Databases.{counter_of}
 use Rattle.engine_state.specs.AnyDatabase.{AnyDatabase}
 

@@ -1,6 +1,6 @@
 //! The version that a statement names.
 ghost use Rattle.version_graph.specs.Edges.{set_named};
-ghost use Rattle.op_any.specs.Checks.{Gives};
+ghost use Rattle.par_base.specs.Checked.{Gives};
 ghost use Rattle.engine_state.specs.SharedChecks.{known_version};
 
 use op_any::AnyOp;

@@ -6,7 +6,7 @@ use Rattle.std.proofs.lemmas.List.{map-append, take_more, length-take-le}
 use Rattle.par_base.specs.declared.value.Value.{Value}
 use Rattle.par_base.specs.declared.refusal.Refusal.TheVariants.{WrongCount}
 use Rattle.row_store.specs.Rows.{Rows}
-use Rattle.op_any.specs.Checks.{Checked}
+use Rattle.par_base.specs.Checked.{Checked}
 use Rattle.ordinary_table.specs.Written.{numbered}
 use Rattle.ordinary_table.specs.Laws.{IsNewRow}
 use Rattle.ordinary_table.proofs.KeptLaws.{all_behind}

@@ -2,7 +2,7 @@
 use Rattle.std.proofs.Common.{◌≡◌, ℕ, suc, ◌+◌, ◌<◌, ◌≤◌, List, [], ◌∷◌, Option, Some, None, Ok, Err, length, refl, sym, ◌∙◌, ap, subst, arith}
 use Rattle.std.specs.List.{All}
 use Rattle.expr_lang.specs.Resolved.{place_of}
-use Rattle.op_any.specs.Checks.{Checked, ◌then◌}
+use Rattle.par_base.specs.Checked.{Checked, ◌then◌}
 use Rattle.op_any.specs.NameChecks.{known_column}
 use Rattle.engine_statements.specs.Found.{shown_names}
 use Rattle.engine_statements.specs.Statements.{places_from, known_items, listed_names, listed_places}

@@ -10,7 +10,7 @@ use Rattle.version_graph.specs.declared.parts.Heading.{Heading}
 use Rattle.version_graph.proofs.SetLaws.{each_at}
 use Rattle.version_graph.proofs.NodeLaws.{set_listed}
 use Rattle.op_law.specs.Tables.{RowsWide}
-use Rattle.op_any.specs.Checks.{Gives}
+use Rattle.par_base.specs.Checked.{Gives}
 use Rattle.op_kinds.specs.Operators.{AnyView, any_meaning}
 use Rattle.ordinary_table.specs.Laws.{IsTable}
 use Rattle.version_model.specs.States.{as_seen, headings}

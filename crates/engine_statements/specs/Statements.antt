@@ -6,7 +6,7 @@ use Rattle.expr_lang.specs.Resolved.{place_of}
 use Rattle.row_store.specs.Rows.{Rows}
 use Rattle.statements.specs.Views.{Tree, AssignmentView}
 use Rattle.statements.specs.declared.statement.TableName.{TableName}
-use Rattle.op_any.specs.Checks.{Checked, ◌then◌}
+use Rattle.par_base.specs.Checked.{Checked, ◌then◌}
 use Rattle.op_kinds.specs.Operators.{any_meaning}
 use Rattle.op_any.specs.NameChecks.{known_column, repeated, unrepeated, known_id}
 use Rattle.ordinary_table.specs.Written.{SetTerm, numbered, inserted, updated, deleted, chosen_count}

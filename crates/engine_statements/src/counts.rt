@@ -1,5 +1,5 @@
 //! The number of values of each row of an INSERT.
-ghost use Rattle.op_any.specs.Checks.{Gives};
+ghost use Rattle.par_base.specs.Checked.{Gives};
 ghost use Rattle.engine_statements.specs.Statements.{right_counts};
 
 use par_base::{Fault, Refusal, Row};

@@ -5,7 +5,7 @@ ghost use Rattle.std.specs.List.{list_any};
 ghost use Rattle.std.specs.Str.{bytes_eq};
 ghost use Rattle.statements.specs.Views.{assignment_view, filter_view};
 ghost use Rattle.version_graph.specs.Tables.{row_name};
-ghost use Rattle.op_any.specs.Checks.{Gives};
+ghost use Rattle.par_base.specs.Checked.{Gives};
 ghost use Rattle.op_any.specs.NameChecks.{repeated, unrepeated};
 ghost use Rattle.ordinary_table.specs.Written.{set_term, sets_of};
 ghost use Rattle.engine_statements.specs.Found.{shown_names as shown_names_lem, known_condition};

@@ -1,7 +1,7 @@
 //! References to identifiers that no row may have: 0, and those that aren't drawn yet.
 ghost use Rattle.std.specs.Prelude.{◌≡◌, ◌++◌, map};
 ghost use Rattle.statements.specs.Views.{assignment_view, filter_view};
-ghost use Rattle.op_any.specs.Checks.{Gives};
+ghost use Rattle.par_base.specs.Checked.{Gives};
 ghost use Rattle.op_any.specs.NameChecks.{known_id};
 ghost use Rattle.engine_statements.specs.Found.{unknown_value, unknown_in_row, unknown_in_rows, unknown_in, condition_list, known_references};
 ghost use Rattle.engine_statements.specs.Statements.{set_values};

@@ -1,7 +1,7 @@
 //! INSERT.
 ghost use Rattle.std.specs.Prelude.{◌≡◌, ◌+◌, ◌≤◌, ◌^◌, IfOk, length};
 ghost use Rattle.std.specs.List.{All};
-ghost use Rattle.op_any.specs.Checks.{Gives};
+ghost use Rattle.par_base.specs.Checked.{Gives};
 ghost use Rattle.op_kinds.specs.Operators.{any_meaning};
 ghost use Rattle.db_state.specs.Fields.{database_for};
 ghost use Rattle.ordinary_table.specs.Written.{numbered};
@@ -17,7 +17,7 @@ use engine_state::Reply;
 use expr_lang::Steps;
 use op_any::AnyOp;
 use ordinary_table::insert_rows;
-use par_base::{Fault, List, Memory, Refusal, Row};
+use par_base::{Fault, List, Memory, Refusal, Row, add_counts};
 use statements::TableName;
 use std::alloc::Global;
 use std::sync::ledger::Ledger;
@@ -27,10 +27,7 @@ use std::sync::ledger::Ledger;
 fn next_after(next: u64, rows: &[Row]) -> Result<u64, Memory>
     ensures { IfOk result (λ end. end ≡ next + length rows.now) }
 {
-    match next.checked_add(rows.len() as u64) {
-        Some(end) => Ok(end),
-        None => Err(Memory),
-    }
+    add_counts(next, rows.len() as u64)
 }
 
 /// The identifiers of the rows, from the next one on.

@@ -1,7 +1,7 @@
 //! SELECT.
 ghost use Rattle.std.specs.Prelude.{◌≡◌, IfOk};
 ghost use Rattle.statements.specs.Views.{filter_view};
-ghost use Rattle.op_any.specs.Checks.{Gives};
+ghost use Rattle.par_base.specs.Checked.{Gives};
 ghost use Rattle.op_kinds.specs.Operators.{any_meaning};
 ghost use Rattle.db_state.specs.Fields.{database_for};
 ghost use Rattle.engine_state.specs.Replies.{IsReply};

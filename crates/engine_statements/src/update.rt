@@ -2,7 +2,7 @@
 ghost use Rattle.std.specs.Prelude.{◌≡◌, IfOk, map};
 ghost use Rattle.std.specs.List.{All};
 ghost use Rattle.statements.specs.Views.{assignment_view, filter_view};
-ghost use Rattle.op_any.specs.Checks.{Gives};
+ghost use Rattle.par_base.specs.Checked.{Gives};
 ghost use Rattle.op_kinds.specs.Operators.{any_meaning};
 ghost use Rattle.db_state.specs.Fields.{database_for};
 ghost use Rattle.engine_statements.specs.Statements.{planned_update};

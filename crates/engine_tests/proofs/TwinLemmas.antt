@@ -8,7 +8,7 @@ use Rattle.statements.specs.Views.{OpView}
 use Rattle.row_store.specs.Rows.{Rows}
 use Rattle.id_memory.specs.States.{CounterState}
 use Rattle.version_graph.specs.Edges.{Drawn}
-use Rattle.op_any.specs.Checks.{Checked, Gives}
+use Rattle.par_base.specs.Checked.{Checked, Gives}
 use Rattle.op_kinds.specs.Operators.{AnyView, any_meaning}
 use Rattle.version_model.specs.Databases.{Writes}
 use Rattle.version_model.specs.Kept.{Kept, database_of}
@@ -29,19 +29,19 @@ use Rattle.engine_tests.specs.declared.kept.Twin.{Twin}
 pub stays_created : (c : Checked AnyDatabase) (old new : Twin) (r : Result (Unit {0}) (Fault Refusal)) → c ≡ Ok (moved_state new) → Gives (λ _. database_of new.plain) r c → Stays r old new
 stays_created c old new (Ok done) made gives = ok_is (database_of new.plain) (moved_state new) (sym gives ∙ made)
 stays_created c old new (Err (Refused r)) made gives = let clash : Ok (moved_state new) ≡ Err r = sym made ∙ gives in absurd (let no : ⊥ = cc in no)
-stays_created c old new (Err Memory) made gives = tt
+stays_created c old new (Err (Memory memory)) made gives = tt
 
 -- it is what the model creates
 pub gives_created : (c : Checked AnyDatabase) (new : Twin) (r : Result (Unit {0}) (Fault Refusal)) → c ≡ Ok (moved_state new) → Gives (λ _. database_of new.plain) r c → Gives (λ _. moved_state new) r c
 gives_created c new (Ok done) made gives = made
 gives_created c new (Err (Refused r)) made gives = gives
-gives_created c new (Err Memory) made gives = tt
+gives_created c new (Err (Memory memory)) made gives = tt
 
 -- where no edges are planned on one state, the model refuses on the other
 pub plan_fails : (g : Drawn AnyView) (next : ℕ) (name : List ℕ) (from : Option (List ℕ)) (texts : List OpView) (f : Fault Refusal) (d e new : AnyDatabase) → PlansEdges g next name from texts (Err f) → d ≡ e → d.graph ≡ g → d.state.next ≡ next
     → Gives {X = Unit {0}} (λ _. new) (Err f) (created e name from texts)
 plan_fails g next name from texts (Refused r) d e new plans same graph counter = subst (λ (s : AnyDatabase). created s name from texts ≡ Err r) same (plans d graph counter)
-plan_fails g next name from texts Memory d e new plans same graph counter = tt
+plan_fails g next name from texts (Memory memory) d e new plans same graph counter = tt
 
 -- ---- a write
 

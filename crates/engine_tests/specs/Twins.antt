@@ -30,7 +30,7 @@ IsTwin t = database_of t.plain ≡ moved_state t
 abbrev pub Stays : {X E : Type 0} → Result X (Fault E) → Twin → Twin → Type 0
 Stays (Ok x) old new = IsTwin new
 Stays (Err (Refused r)) old new = IsTwin new × (moved_state new ≡ moved_state old)
-Stays (Err Memory) old new = ⊤
+Stays (Err (Memory memory)) old new = ⊤
 
 -- two databases take the write, each in its own copy
 pub record IsTakenTwice (t : Twin) (first second : Written) : Type 0 where

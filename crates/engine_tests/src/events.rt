@@ -23,7 +23,7 @@ fn lines_of(alloc: Global, answer: &Result<Reply, Fault<Refusal>>) -> Result<Tex
     match answer {
         Ok(reply) => reply_text(alloc, reply),
         Err(Fault::Refused(refusal)) => refusal_text(alloc, refusal),
-        Err(Fault::Memory) => Err(Memory),
+        Err(Fault::Memory(memory)) => Err(*memory),
     }
 }
 

@@ -3,7 +3,7 @@ ghost use Rattle.std.specs.Prelude.{◌≡◌, ◌<◌, length, map, OnErr};
 ghost use Rattle.std.specs.Option.{option_copied};
 ghost use Rattle.statements.specs.Views.{op_view};
 ghost use Rattle.version_graph.specs.Sets.{Each};
-ghost use Rattle.op_any.specs.Checks.{Gives};
+ghost use Rattle.par_base.specs.Checked.{Gives};
 ghost use Rattle.op_any.specs.Texts.{TextsFit};
 ghost use Rattle.version_model.specs.Databases.{empty_database};
 ghost use Rattle.engine_versions.specs.Evolve.{created, dropped_version};
@@ -57,7 +57,7 @@ impl Twin {
         ensures twin { Stays result self.old self.new }
         ensures gives { Gives (λ _. moved_state self.new) result
             (created (moved_state self.old) name.now (option_copied from.entry)
-                (map op_view texts.now)) }
+            (map op_view texts.now)) }
     {
         let next = self.plain.ids().next();
         let edges = plan_edges(alloc, self.plain.graph(), next, name, from, texts)?;

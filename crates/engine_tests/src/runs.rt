@@ -29,7 +29,7 @@ fn told(answer: Result<(), Fault<Refusal>>) -> Result<bool, Fail>
     match answer {
         Ok(()) => Ok(true),
         Err(Fault::Refused(_)) => Ok(false),
-        Err(Fault::Memory) => Err("no memory")?,
+        Err(Fault::Memory(_)) => Err("no memory")?,
     }
 }
 

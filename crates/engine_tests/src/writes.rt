@@ -88,7 +88,7 @@ impl Twin {
         match self.write_both(alloc, first, second, steps) {
             Ok(()) => Ok(reply),
             Err(Fault::Refused(spent)) => Err(spent.refused()),
-            Err(Fault::Memory) => Err(Fault::Memory),
+            Err(Fault::Memory(memory)) => Err(Fault::Memory(memory)),
         }
     }
 }

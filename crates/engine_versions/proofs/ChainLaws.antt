@@ -1,7 +1,7 @@
 -- A check and then another give something where both do.
 use Rattle.std.proofs.Common.{◌≡◌, Ok, Err, refl, ap}
 use Rattle.par_base.specs.declared.refusal.Refusal.{Refusal}
-use Rattle.op_any.specs.Checks.{Checked, ◌then◌}
+use Rattle.par_base.specs.Checked.{Checked, ◌then◌}
 
 pub both_give : {A B : Type 0} (c : Checked A) (f : A → Checked B) (y : B) → (c then f) ≡ Ok y → (x : A) × (c ≡ Ok x) × (f x ≡ Ok y)
 both_give (Ok x) f y e = (x, refl, e)

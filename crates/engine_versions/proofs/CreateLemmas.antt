@@ -15,7 +15,7 @@ use Rattle.version_graph.specs.Calls.{CanGrow}
 use Rattle.version_graph.specs.declared.parts.Edge.{Edge}
 use Rattle.version_graph.proofs.EvolveLaws.{can_evolve, no_refusal}
 use Rattle.op_law.specs.Calls.{first_refused}
-use Rattle.op_any.specs.Checks.{◌then◌, Gives}
+use Rattle.par_base.specs.Checked.{◌then◌, Gives}
 use Rattle.op_kinds.specs.Operators.{AnyView, any_meaning}
 use Rattle.op_any.specs.Texts.{TextsFit}
 use Rattle.version_model.specs.Evolving.{AreBuilt, grown_state}
@@ -134,7 +134,7 @@ module _ (d : AnyDatabase) (name : List ℕ) (from : Option (List ℕ)) (texts :
     gives_then : (result : Result (Unit {0}) (Fault Refusal)) (new : AnyDatabase) → Evolves any_meaning d name from edges result new → Gives (λ _. new) result (created d name from texts)
     gives_then (Ok done) new e = created_then new e
     gives_then (Err (Refused told)) new e = spent_then told new e
-    gives_then (Err Memory) new e = tt
+    gives_then (Err (Memory memory)) new e = tt
 
     planned : IsPlanned d name from texts edges
     planned = record { some = some_built; may = may; gives = gives_then }
@@ -164,9 +164,9 @@ module _ (g : Drawn AnyView) (next : ℕ) (name : List ℕ) (from : Option (List
       → (r : Result (List (Edge AnyView)) (Fault Refusal)) → Gives (λ edges. edges) r (edges_on (headings_of (working g.edges set)) (counts_of g) next texts) → PlansEdges g next name from texts r
   plans_built is some fit set start free (Ok edges) gives = planned_edges is some fit set edges (record { start = start; free = free; built = gives })
   plans_built is some fit set start free (Err (Refused r)) gives = refused_edges set r start free gives
-  plans_built is some fit set start free (Err Memory) gives = tt
+  plans_built is some fit set start free (Err (Memory memory)) gives = tt
 
   -- an error is the model's, whatever is there then
   pub edges_fail : (f : Fault Refusal) → PlansEdges g next name from texts (Err f) → (d new : AnyDatabase) → d.graph ≡ g → d.state.next ≡ next → Gives {X = Unit {0}} (λ _. new) (Err f) (created d name from texts)
   edges_fail (Refused r) plans d new graph counter = plans d graph counter
-  edges_fail Memory plans d new graph counter = tt
+  edges_fail (Memory memory) plans d new graph counter = tt

@@ -12,7 +12,7 @@ use Rattle.version_graph.specs.declared.parts.Edge.{Edge}
 use Rattle.layout_rules.specs.Changes.{evolved_layout, layout_after}
 use Rattle.layout_rules.specs.declared.layout.Layout.{Layout}
 use Rattle.layout_rules.proofs.AfterLaws.{layout_dropped, layout_evolved, same_layout}
-use Rattle.op_any.specs.Checks.{◌then◌, Gives}
+use Rattle.par_base.specs.Checked.{◌then◌, Gives}
 use Rattle.op_kinds.specs.Operators.{AnyView, any_meaning}
 use Rattle.version_model.specs.Databases.{Evolves, dropped_database, start_in}
 use Rattle.db_state.specs.Fields.{IsDatabase, database_for}
@@ -41,7 +41,7 @@ module _ (p : Parts AnyView) (is : IsDatabase any_meaning p) where
       ok ∙ sym (layout_evolved p.graph is.graph p.layout.operators name (start_in (database_for any_meaning p) from) edges is.valid)
       ∙ ap (λ (g : Drawn AnyView). layout_after p.layout.operators p.graph g) (sym graph)
   layout_grown n name from edges (Err (Refused told)) evolves ok err = both_stay n err (ap (λ (d : AnyDatabase). d.graph) evolves.1)
-  layout_grown n name from edges (Err Memory) evolves ok err = both_stay n err (ap (λ (d : AnyDatabase). d.graph) evolves)
+  layout_grown n name from edges (Err (Memory memory)) evolves ok err = both_stay n err (ap (λ (d : AnyDatabase). d.graph) evolves)
 
   -- after a drop, or an error
   pub layout_cut : (n : Parts AnyView) (name : List ℕ) (r : Result (Unit {0}) (Fault Refusal)) → Drops any_meaning p name r n → Follows n
@@ -50,7 +50,7 @@ module _ (p : Parts AnyView) (is : IsDatabase any_meaning p) where
       drops.2 ∙ sym (layout_dropped p.graph is.graph p.layout.operators name)
       ∙ ap (λ (g : Drawn AnyView). layout_after p.layout.operators p.graph g) (sym graph)
   layout_cut n name (Err (Refused told)) drops = subst (λ (x : Parts AnyView). Follows x) (sym drops.2) layout_stays
-  layout_cut n name (Err Memory) drops = subst (λ (x : Parts AnyView). Follows x) (sym drops) layout_stays
+  layout_cut n name (Err (Memory memory)) drops = subst (λ (x : Parts AnyView). Follows x) (sym drops) layout_stays
 
 -- ---- a drop
 
@@ -67,9 +67,9 @@ drop_gives p n name (Ok done) drops =
     known_some name (set_named p.graph.versions name) (dropped_database (database_for any_meaning p) name) drops.0 ∙ ap (λ (s : AnyDatabase). Ok s) (sym drops.1)
 drop_gives p n name (Err (Refused told)) drops =
     known_none name (set_named p.graph.versions name) (dropped_database (database_for any_meaning p) name) drops.0 ∙ ap (λ (r : Refusal). Err r) (sym drops.1)
-drop_gives p n name (Err Memory) drops = tt
+drop_gives p n name (Err (Memory memory)) drops = tt
 
 pub drop_same : (p n : Parts AnyView) (name : List ℕ) (r : Result (Unit {0}) (Fault Refusal)) → Drops any_meaning p name r n → OnErr r (database_for any_meaning n ≡ database_for any_meaning p)
 drop_same p n name (Ok done) drops = tt
 drop_same p n name (Err (Refused told)) drops = ap (λ (x : Parts AnyView). database_for any_meaning x) drops.2
-drop_same p n name (Err Memory) drops = ap (λ (x : Parts AnyView). database_for any_meaning x) drops
+drop_same p n name (Err (Memory memory)) drops = ap (λ (x : Parts AnyView). database_for any_meaning x) drops

@@ -6,7 +6,7 @@ use Rattle.par_base.specs.declared.refusal.Refusal.{Refusal}
 use Rattle.statements.specs.Views.{OpView}
 use Rattle.version_graph.specs.Edges.{Drawn}
 use Rattle.version_graph.specs.declared.parts.Edge.{Edge}
-use Rattle.op_any.specs.Checks.{Gives}
+use Rattle.par_base.specs.Checked.{Gives}
 use Rattle.op_kinds.specs.Operators.{AnyView, any_meaning}
 use Rattle.version_model.specs.Databases.{Evolves, MayEvolveTo}
 use Rattle.engine_state.specs.AnyDatabase.{AnyDatabase}
@@ -26,4 +26,4 @@ OnEach g next P = (d : AnyDatabase) → d.graph ≡ g → d.state.next ≡ next 
 abbrev pub PlansEdges : Drawn AnyView → ℕ → List ℕ → Option (List ℕ) → List OpView → Result (List (Edge AnyView)) (Fault Refusal) → Type 0
 PlansEdges g next name from texts (Ok edges) = OnEach g next (λ d. IsPlanned d name from texts edges)
 PlansEdges g next name from texts (Err (Refused r)) = OnEach g next (λ d. created d name from texts ≡ Err r)
-PlansEdges g next name from texts (Err Memory) = ⊤
+PlansEdges g next name from texts (Err (Memory memory)) = ⊤

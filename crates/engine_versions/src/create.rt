@@ -4,7 +4,7 @@ ghost use Rattle.std.specs.Option.{option_copied};
 ghost use Rattle.statements.specs.Views.{op_view};
 ghost use Rattle.version_graph.specs.Sets.{Each};
 ghost use Rattle.version_graph.specs.Edges.{set_named};
-ghost use Rattle.op_any.specs.Checks.{Gives};
+ghost use Rattle.par_base.specs.Checked.{Gives};
 ghost use Rattle.op_any.specs.Texts.{TextsFit};
 ghost use Rattle.op_kinds.specs.Operators.{any_meaning};
 ghost use Rattle.layout_rules.specs.Changes.{layout_after};

@@ -1,6 +1,6 @@
 //! DROP SCHEMA VERSION.
 ghost use Rattle.std.specs.Prelude.{◌≡◌, OnErr};
-ghost use Rattle.op_any.specs.Checks.{Gives};
+ghost use Rattle.par_base.specs.Checked.{Gives};
 ghost use Rattle.op_kinds.specs.Operators.{any_meaning};
 ghost use Rattle.layout_rules.specs.Changes.{layout_after};
 ghost use Rattle.db_state.specs.Fields.{database_for};

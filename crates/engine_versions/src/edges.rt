@@ -5,7 +5,7 @@ ghost use Rattle.std.specs.Str.{bytes_eq};
 ghost use Rattle.statements.specs.Views.{op_view};
 ghost use Rattle.version_graph.specs.Tables.{headings_after, headings_of, headings_passing, is_among as is_among_lem};
 ghost use Rattle.version_graph.specs.Edges.{working};
-ghost use Rattle.op_any.specs.Checks.{Gives};
+ghost use Rattle.par_base.specs.Checked.{Gives};
 ghost use Rattle.engine_versions.specs.Evolve.{counts_of, edges_on, room_for, target_count as target_count_lem, with_one as with_one_lem};
 
 use op_any::{AnyOp, build_op};

@@ -44,7 +44,7 @@ resolved columns (Binary op t u) = binary_at op (resolved columns t) (resolved c
 abbrev pub Resolves : List (List ℕ) → Term (List ℕ) → Result Expr (Fault (List ℕ)) → Type 0
 Resolves columns t (Ok e) = resolved columns t ≡ Ok (expr_term e)
 Resolves columns t (Err (Refused name)) = resolved columns t ≡ Err name
-Resolves columns t (Err Memory) = ⊤
+Resolves columns t (Err (Memory memory)) = ⊤
 
 -- the name is none of the columns'
 abbrev pub is_missing : List (List ℕ) → List ℕ → Bool

@@ -9,7 +9,8 @@ use Rattle.row_store.specs.Rows.{Rows, AreBelow}
 use Rattle.row_parts.specs.RowCells.{by_test}
 use Rattle.foreign_keys.specs.DrawnIds.{Values, add_once, has, place, numbered, place_if, ArePlaced}
 use Rattle.foreign_keys.specs.inner.DrawnLemmas.{place_under}
-use Rattle.par_base.specs.SameRows.{same_row, row_equal}
+use Rattle.par_base.specs.SameRows.{same_row}
+use Rattle.par_base.specs.inner.SameLaws.{row_equal}
 use Rattle.row_map.specs.RowNumbers.{RowNumbers, IsWithRow}
 
 -- a value that isn't there goes to the end

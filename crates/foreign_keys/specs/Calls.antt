@@ -17,7 +17,7 @@ use Rattle.foreign_keys.specs.DrawnIds.{numbered}
 abbrev pub IsNumbered : List (List Value) → CounterState → CounterState → Result TableState (Fault IdsSpent) → Type 0
 IsNumbered values old new (Ok table) = (table.rows ≡ numbered old.next values) × (new ≡ record old { next = old.next + length values }) × (old.next + length values ≤ first_refused old)
 IsNumbered values old new (Err (Refused spent)) = IsSpent (old.next + length values) old new spent
-IsNumbered values old new (Err OutOfMemory) = new ≡ old
+IsNumbered values old new (Err (OutOfMemory memory)) = new ≡ old
 
 -- the goal, where there is one, leads to this row, and each other to what it did
 abbrev pub IsWithGoal : IdNumbers → Option ℕ → ℕ → IdNumbers → Type 0

@@ -106,7 +106,7 @@ pub fn draw_values<P: RowParts, D: Draws>(
         IfOk result (λ values. values ≡ all) }
 {
     let mut values = Drawn::new(alloc);
-    for row in near.as_slice() {
+    for row in near.iter() {
         if each.draws(alloc, row.0, &row.1)? {
             values = values.with(parts.second(alloc, &row.1)?)?;
         }

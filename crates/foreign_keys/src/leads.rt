@@ -32,12 +32,9 @@ fn add_goal(ids: &mut IdSet, goal: Option<u64>) -> Result<(), Memory>
 pub fn goals_of<L: Leads>(alloc: Global, each: &L, table: &Table) -> Result<IdSet, Memory>
     ensures { IfOk result (λ ids. ids ≡ goals_in (L.goal each.now) table.now.rows) }
 {
-    let rows = table.as_slice();
     let mut ids = IdSet::new(alloc);
-    let mut at = rows.len();
-    while at > 0 {
-        at -= 1;
-        add_goal(&mut ids, each.lead(rows[at].0, &rows[at].1))?;
+    for row in table.iter().rev() {
+        add_goal(&mut ids, each.lead(row.0, &row.1))?;
     }
     Ok(ids)
 }
@@ -56,12 +53,9 @@ fn add_lead(leads: &mut IdMap, goal: Option<u64>, id: u64) -> Result<(), Memory>
 pub fn leads_to<L: Leads>(alloc: Global, each: &L, table: &Table) -> Result<IdMap, Memory>
     ensures { IfOk result (AreFirstLed (L.goal each.now) table.now.rows) }
 {
-    let rows = table.as_slice();
     let mut leads = IdMap::new(alloc);
-    let mut at = rows.len();
-    while at > 0 {
-        at -= 1;
-        add_lead(&mut leads, each.lead(rows[at].0, &rows[at].1), rows[at].0)?;
+    for row in table.iter().rev() {
+        add_lead(&mut leads, each.lead(row.0, &row.1), row.0)?;
     }
     Ok(leads)
 }

@@ -32,13 +32,10 @@ fn add_least(least: &mut RowMap, is_meant: bool, row: &Row, id: u64) -> Result<(
 pub fn least_rows<C: Chooses>(alloc: Global, each: &C, table: &Table) -> Result<RowMap, Memory>
     ensures { IfOk result (AreLeast (C.meant each.now) table.now.rows) }
 {
-    let rows = table.as_slice();
     let mut least = RowMap::new(alloc);
-    let mut at = rows.len();
-    while at > 0 {
-        at -= 1;
-        let is_meant = each.chooses(rows[at].0, &rows[at].1);
-        add_least(&mut least, is_meant, &rows[at].1, rows[at].0)?;
+    for row in table.iter().rev() {
+        let is_meant = each.chooses(row.0, &row.1);
+        add_least(&mut least, is_meant, &row.1, row.0)?;
     }
     Ok(least)
 }

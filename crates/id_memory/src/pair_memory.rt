@@ -31,7 +31,7 @@ impl Model for PairMemory {
       entries = memory.entries.items;
       room = min (vec_capacity memory.entries - vec_len memory.entries)
           (min (vec_capacity memory.by_first - vec_len memory.by_first)
-              (vec_capacity memory.by_second - vec_len memory.by_second));
+          (vec_capacity memory.by_second - vec_len memory.by_second));
     } };
 
     ghost invariant = { λ memory. IsIndexed memory.entries.items memory.by_first.items

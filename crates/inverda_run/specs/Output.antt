@@ -2,7 +2,7 @@
 use Rattle.std.specs.Prelude.{◌-◌, ◌^◌, ℕ, List, [], ◌∷◌, flat_map, Ok, Err}
 use Rattle.statements.specs.Views.{StatementView}
 use Rattle.engine_layouts.specs.Laid.{Laid}
-use Rattle.op_any.specs.Checks.{Checked}
+use Rattle.par_base.specs.Checked.{Checked}
 use Rattle.engine_core.specs.Act.{act}
 use Rattle.engine_core.specs.Kept.{empty_state}
 use Rattle.engine_core.specs.Texts.{reply_bytes, refusal_bytes}

@@ -39,7 +39,7 @@ pub fn run_script<K: Sink, L: Ledger>(
             out,
             &mut steps,
         ),
-        Err(Memory) => Ran::Memory,
+        Err(_) => Ran::Memory,
     }
 }
 
@@ -67,7 +67,7 @@ fn put_last<K: Sink>(alloc: Global, bytes: &[u8], stopped: &[u8], stop: Stop, ou
         Stop::Over => Ran::Stops(stop),
         Stop::Fault { at } => match syntax_line(alloc, bytes, at) {
             Ok(text) => put_line(stop, text.as_str().as_bytes(), out),
-            Err(Memory) => Ran::Memory,
+            Err(_) => Ran::Memory,
         },
         Stop::Long => put_line(stop, b"too long\n", out),
         Stop::Open => put_line(stop, stopped, out),

@@ -80,7 +80,7 @@ fn end_of(ran: Ran, stopped: End) -> End
 fn run<S: Source, K: Sink>(alloc: Global, words: &[String], script: &mut S, out: &mut K) -> End
     ensures ends { Ends words.now (S.left script.old) (S.left script.new) (S.faults script.old)
         (S.faults script.new) (K.held out.old) (K.held out.new) (K.faults out.old)
-            (K.faults out.new)
+        (K.faults out.new)
         result }
     ensures untouched { words.now ≢ [] → (S.left script.new ≡ S.left script.old)
         × (S.faults script.new ≡ S.faults script.old) }
@@ -95,7 +95,7 @@ fn run<S: Source, K: Sink>(alloc: Global, words: &[String], script: &mut S, out:
     }
     let read = match read_all(alloc, script, LIMIT) {
         Ok(read) => read,
-        Err(Memory) => return End::Memory,
+        Err(_) => return End::Memory,
     };
     let taken = what_counts(&read);
     let ran = end_script::<K, Brand>(

@@ -52,7 +52,7 @@ fn answer<L: Ledger>(
     match engine.event(alloc, SESSION, statement, steps) {
         Ok(reply) => reply_text(alloc, &reply),
         Err(Fault::Refused(refusal)) => refusal_text(alloc, &refusal),
-        Err(Fault::Memory) => Err(Memory),
+        Err(Fault::Memory(memory)) => Err(memory),
     }
 }
 
@@ -80,9 +80,9 @@ pub fn take_turn<K: Sink, L: Ledger>(
                 Ok(()) => Turn::Ran { used },
                 Err(Failed) => Turn::Unwritten,
             },
-            Err(Memory) => Turn::Memory,
+            Err(_) => Turn::Memory,
         },
         Ok(Found::Stops(stop)) => Turn::Stops(stop),
-        Err(Memory) => Turn::Memory,
+        Err(_) => Turn::Memory,
     }
 }

@@ -29,7 +29,7 @@ pub fn answer_of(alloc: Global, bytes: &[u8], ended: bool) -> Result<String, Fai
         Ok(Parsed::More) => Ok(String::from_str(alloc, "more")?),
         Ok(Parsed::Nothing) => Ok(String::from_str(alloc, "nothing")?),
         Err(Fault::Refused(Syntax { at })) => Ok(format!(in alloc; "fault {at}")?),
-        Err(Fault::Memory) => Err(Memory)?,
+        Err(Fault::Memory(memory)) => Err(memory)?,
     }
 }
 

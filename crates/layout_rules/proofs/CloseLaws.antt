@@ -81,11 +81,11 @@ module _ {O : Type 0} (g : Drawn O) where
 
     pub add_refused : (old new : List ℕ) (fault : Fault Refusal) → first_unknown g (take i named) ≡ None → AddsTables g target old new (Err fault) → KnowsTables g named (Err fault)
     add_refused old new (Refused r) none adds = (target, first_found named i target within is (is_unknown g) none (ap (λ (o : Option (List ℕ)). is_none o) adds.0), adds.1)
-    add_refused old new Memory none adds = tt
+    add_refused old new (Memory memory) none adds = tt
 
     pub unstored_here : (layout : List ℕ) (fault : Fault Refusal) → list_all (stores_found g layout) (take i named) ≡ true → stores_found g layout target ≡ false → TellsTarget target fault → StoresAll g layout named (Err fault)
     unstored_here layout (Refused r) done fails tells = (take i named, target, drop (i + 1) named, item_split named i target within is, done, fails, tells)
-    unstored_here layout Memory done fails tells = tt
+    unstored_here layout (Memory memory) done fails tells = tt
 
 -- ---- the first shared table
 
@@ -231,14 +231,14 @@ module _ {O : Type 0} where
 module _ {O : Type 0} (g : Drawn O) (layout : List ℕ) (named : List Target) where
   pub close_unknown : (fault : Fault Refusal) → KnowsTables g named (Err fault) → Closes g layout named (Err fault)
   close_unknown (Refused r) knows = inl knows
-  close_unknown Memory knows = tt
+  close_unknown (Memory memory) knows = tt
 
   module _ (edges : AreEdges g.edges) (known : first_unknown g named ≡ None) (wanted : List ℕ) (is : wanted ≡ needed (in_trees g.edges (named_trees g named)) (forest g.edges) (named_tables g named)) where
     pub close_shared : (fault : Fault Refusal) → SharesNone g wanted (Err fault) → Closes g layout named (Err fault)
     close_shared (Refused r) shares =
         let l = least_shared g.edges edges (named_trees g named) (named_tables g named) layout wanted is shares.0 shares.1 in
         inr (inl (known, (shares.0, shares.2.0, l.0, l.1, shares.2.1, shares.2.2)))
-    close_shared Memory shares = tt
+    close_shared (Memory memory) shares = tt
 
     module _ (alone : find (is_shared g.edges wanted) (tables_up g.edges) ≡ None) (new : List ℕ) (made : new ≡ filter (stays g.edges (named_trees g named) wanted layout) (numbers_up g.edges)) where
       closed : IsClosed (forest g.edges) (named_trees g named) (named_tables g named) layout new
@@ -263,7 +263,7 @@ module _ {O : Type 0} (g : Drawn O) (layout : List ℕ) (named : List Target) wh
       pub close_unstored : (fault : Fault Refusal) → StoresAll g new named (Err fault) → Closes g layout named (Err fault)
       close_unstored (Refused r) stores =
           inr (inr (known, none, (new, stores.1, closed, (stores.0, stores.2, stores.3, all_so stores.0 stores.4, (λ s. false≢true (sym stores.5 ∙ stored_back stores.1 s))), stores.6)))
-      close_unstored Memory stores = tt
+      close_unstored (Memory memory) stores = tt
 
       pub close_done : (told : Layout) → told.operators ≡ new → list_all (stores_found g new) named ≡ true → Closes g layout named (Ok told)
       close_done told same stores = (

@@ -40,7 +40,7 @@ module _ {O : Type 0} (g : Drawn O) (layout : List ℕ) (named : List Target) wh
   pub computed_unknown : (fault : Fault Refusal) → KnowsTables g named (Err fault) → GivesLayout (closing g layout named) (Err fault)
   computed_unknown (Refused r) knows =
       refused_by r (ap (λ (o : Option Target). or_else (option_map tells_target o) (or_else (option_and_then (tells_table g) (first_shared g named)) (option_map tells_target (first_unstored g layout named)))) knows.1 ∙ ap (λ (x : Refusal). Some x) (sym knows.2))
-  computed_unknown Memory knows = tt
+  computed_unknown (Memory memory) knows = tt
 
   module _ (known : first_unknown g named ≡ None) (w : List ℕ) (is : w ≡ wanted g named) where
     past_unknown : closing_refusal g layout named ≡ or_else (option_and_then (tells_table g) (first_shared g named)) (option_map tells_target (first_unstored g layout named))
@@ -51,7 +51,7 @@ module _ {O : Type 0} (g : Drawn O) (layout : List ℕ) (named : List Target) wh
         let found : first_shared g named ≡ Some shares.0 = subst (λ (l : List ℕ). find (is_shared g.edges l) (tables_up g.edges) ≡ Some shares.0) is shares.1 in
         let told : tells_table g shares.0 ≡ Some r = ap (λ (o : Option Heading). option_map (λ (h : Heading). InvalidLayout h.name) o) shares.2.1 ∙ ap (λ (x : Refusal). Some x) (sym shares.2.2) in
         refused_by r (past_unknown ∙ ap (λ (o : Option ℕ). or_else (option_and_then (tells_table g) o) (option_map tells_target (first_unstored g layout named))) found ∙ ap (λ (o : Option Refusal). or_else o (option_map tells_target (first_unstored g layout named))) told)
-    computed_shared Memory shares = tt
+    computed_shared (Memory memory) shares = tt
 
     module _ (alone : find (is_shared g.edges w) (tables_up g.edges) ≡ None) (new : List ℕ) (made : new ≡ filter (stays g.edges (named_trees g named) w layout) (numbers_up g.edges)) where
       new_closed : new ≡ closed_layout g layout named
@@ -69,7 +69,7 @@ module _ {O : Type 0} (g : Drawn O) (layout : List ℕ) (named : List Target) wh
       computed_unstored (Refused r) stores =
           let found = ap (find (λ target. not (stores_found g new target))) stores.3 ∙ first_fails (stores_found g new) stores.0 stores.2 stores.1 stores.4 stores.5 in
           refused_by r (past_shared ∙ ap (option_map tells_target) (unstored_is (Some stores.1) found) ∙ ap (λ (x : Refusal). Some x) (sym stores.6))
-      computed_unstored Memory stores = tt
+      computed_unstored (Memory memory) stores = tt
 
       pub computed_done : (told : Layout) → told.operators ≡ new → list_all (stores_found g new) named ≡ true → GivesLayout (closing g layout named) (Ok told)
       computed_done told same stores =

@@ -1,8 +1,9 @@
 -- The layout that closing gives, or its refusal, as a pass finds them.
-use Rattle.std.specs.Prelude.{◌≡◌, ℕ, not, List, filter, Option, Some, None, option_map, option_and_then, Result, Ok, Err, ⊤}
+use Rattle.std.specs.Prelude.{◌≡◌, ℕ, not, List, filter, Option, Some, None, option_map, option_and_then, Result, Ok, Err}
 use Rattle.std.specs.List.{find}
 use Rattle.par_base.specs.declared.fault.Fault.{Fault}
-use Rattle.par_base.specs.declared.fault.Fault.TheVariants.{Refused, Memory}
+use Rattle.par_base.specs.declared.fault.Fault.TheVariants.{Refused}
+use Rattle.par_base.specs.Checked.{Checked, Gives}
 use Rattle.par_base.specs.declared.limits.Target.{Target}
 use Rattle.par_base.specs.declared.refusal.Refusal.{Refusal}
 use Rattle.par_base.specs.declared.refusal.Refusal.TheVariants.{InvalidLayout}
@@ -56,10 +57,8 @@ abbrev pub closing : {O : Type 0} → Drawn O → List ℕ → List Target → R
 closing g layout named = unless (closing_refusal g layout named) (closed_layout g layout named)
 
 -- a call gives it, or wants memory
-abbrev pub GivesLayout : Result (List ℕ) Refusal → Result Layout (Fault Refusal) → Type 0
-GivesLayout model (Ok new) = model ≡ Ok new.operators
-GivesLayout model (Err (Refused r)) = model ≡ Err r
-GivesLayout model (Err Memory) = ⊤
+abbrev pub GivesLayout : Checked (List ℕ) → Result Layout (Fault Refusal) → Type 0
+GivesLayout model result = Gives (λ (new : Layout). new.operators) result model
 
 -- it is what is told by sets
 abbrev pub IsClosing : {O : Type 0} → Drawn O → List ℕ → List Target → Result (List ℕ) Refusal → Type 0

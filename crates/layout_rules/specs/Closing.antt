@@ -120,4 +120,4 @@ Closes g layout named (Err (Refused r)) =
     RefusesUnknown g named r
     ⊎ (((first_unknown g named ≡ None) × RefusesShared g trees tables r)
     ⊎ ((first_unknown g named ≡ None) × NoneIsShared (forest g.edges) trees tables × RefusesUnstored g layout named r))
-Closes g layout named (Err Memory) = ⊤
+Closes g layout named (Err (Memory memory)) = ⊤

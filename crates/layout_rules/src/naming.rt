@@ -72,7 +72,7 @@ pub fn refused(alloc: Global, target: &Target) -> Fault<Refusal>
 {
     match target_text(alloc, target) {
         Ok(table) => Fault::Refused(Refusal::InvalidLayout { table }),
-        Err(Memory) => Fault::Memory,
+        Err(memory) => Fault::Memory(memory),
     }
 }
 

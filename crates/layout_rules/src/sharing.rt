@@ -85,7 +85,7 @@ fn told<O>(alloc: Global, graph: &Graph<O>, table: u32) -> Fault<Refusal>
     };
     match Text::from_str(alloc, heading.name.as_str()) {
         Ok(table) => Fault::Refused(Refusal::InvalidLayout { table }),
-        Err(Memory) => Fault::Memory,
+        Err(memory) => Fault::Memory(memory),
     }
 }
 

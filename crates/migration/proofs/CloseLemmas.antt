@@ -22,11 +22,11 @@ closes_into g layout named l k same closes = subst (λ (x : Layout). Closes g la
 -- a refused closing refuses the move
 pub move_refused : {O : Type 0} (meaning : O → Meaning) (old : Parts O) (named : List Target) (fault : Fault Refusal) → Closes old.graph old.layout.operators named (Err fault) → PreparesMove meaning old named (Err fault)
 move_refused meaning old named (Refused r) closes = closes
-move_refused meaning old named Memory closes = tt
+move_refused meaning old named (Memory memory) closes = tt
 
 pub gives_there : {O : Type 0} (g h : Drawn O) (l k : Layout) (named : List Target) (r : Result Layout (Fault Refusal)) → g ≡ h → l ≡ k → GivesLayout (closing g l.operators named) r → GivesLayout (closing h k.operators named) r
 gives_there {O} g h l k named r same sides gives = subst (λ (x : Layout). GivesLayout (closing h x.operators named) r) sides (subst (λ (d : Drawn O). GivesLayout (closing d l.operators named) r) same gives)
 
 pub computed_refused : {O : Type 0} (old : Parts O) (named : List Target) (fault : Fault Refusal) → GivesLayout (closing old.graph old.layout.operators named) (Err fault) → ComputesMove old named (Err fault)
 computed_refused old named (Refused r) gives = gives
-computed_refused old named Memory gives = tt
+computed_refused old named (Memory memory) gives = tt

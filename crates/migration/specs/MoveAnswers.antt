@@ -25,13 +25,13 @@ abbrev pub PreparesMove : {O : Type 0} → (O → Meaning) → Parts O → List 
 PreparesMove meaning old named (Ok moved) =
     Closes old.graph old.layout.operators named (Ok moved.layout) × Leads meaning old moved × (moved.flips ≡ flip_count old.graph.edges old.layout.operators moved.layout.operators)
 PreparesMove meaning old named (Err (Refused r)) = Closes old.graph old.layout.operators named (Err (Refused r))
-PreparesMove meaning old named (Err Memory) = ⊤
+PreparesMove meaning old named (Err (Memory memory)) = ⊤
 
 -- the layout, or the refusal, is the one that is computed
 abbrev pub ComputesMove : {O : Type 0} → Parts O → List Target → Result Moved (Fault Refusal) → Type 0
 ComputesMove old named (Ok moved) = closing old.graph old.layout.operators named ≡ Ok moved.layout.operators
 ComputesMove old named (Err (Refused r)) = closing old.graph old.layout.operators named ≡ Err r
-ComputesMove old named (Err Memory) = ⊤
+ComputesMove old named (Err (Memory memory)) = ⊤
 
 -- a move that brings the operators that go to their source sides, and leaves those that stay; or there is no such version
 abbrev pub PreparesDrop : {O : Type 0} → (O → Meaning) → Parts O → List ℕ → Result Moved (Fault Refusal) → Type 0
@@ -39,11 +39,11 @@ PreparesDrop meaning old name (Ok moved) =
     IsSome (set_named old.graph.versions name) × Leads meaning old moved × GoFromSources old.graph.edges (dropped old.graph name).edges moved.layout.operators
     × (dropped_layout old.graph name moved.layout.operators ≡ dropped_layout old.graph name old.layout.operators)
 PreparesDrop meaning old name (Err (Refused r)) = (set_named old.graph.versions name ≡ None) × (r ≡ UnknownVersion name)
-PreparesDrop meaning old name (Err Memory) = ⊤
+PreparesDrop meaning old name (Err (Memory memory)) = ⊤
 
 -- the version was dropped, or there is none of this name; then nothing changes
 abbrev pub Drops : {O : Type 0} → (O → Meaning) → Parts O → List ℕ → Result (Unit {0}) (Fault Refusal) → Parts O → Type 0
 Drops meaning old name (Ok done) new =
     IsSome (set_named old.graph.versions name) × (database_for meaning new ≡ dropped_database (database_for meaning old) name) × (new.layout.operators ≡ dropped_layout old.graph name old.layout.operators)
 Drops meaning old name (Err (Refused r)) new = (set_named old.graph.versions name ≡ None) × (r ≡ UnknownVersion name) × (new ≡ old)
-Drops meaning old name (Err Memory) new = new ≡ old
+Drops meaning old name (Err (Memory memory)) new = new ≡ old

@@ -12,7 +12,7 @@ use Rattle.statements.specs.Views.{Tree, KeyView, BranchView, OpView}
 use Rattle.statements.specs.Views as «text»
 use Rattle.version_graph.specs.Tables.{column_limit}
 use Rattle.version_graph.specs.declared.parts.Heading.{Heading}
-use Rattle.op_any.specs.Checks.{Checked, ◌then◌}
+use Rattle.par_base.specs.Checked.{Checked, ◌then◌}
 use Rattle.op_any.specs.NameChecks.{heading_named, is_passing, known_table, other_table, new_table, known_column, known_columns, unrepeated, new_columns, same_columns, few_columns, known_id, known_ids}
 use Rattle.op_any.proofs.Decides.{Decides, then_decides, table_decides, new_table_decides, other_table_decides, column_decides, expression_decides, once_decides, same_decides, few_decides, ids_decide}
 use Rattle.op_any.proofs.JoinForms.{decomposing_decides, decomposing_table_decides, joining_decides}

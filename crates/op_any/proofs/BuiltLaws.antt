@@ -17,7 +17,7 @@ use Rattle.op_any.specs.NameChecks.{heading_named, is_passing, known_table, new_
 use Rattle.op_any.specs.Build.{creating_table, dropping_table, renaming_table, renaming_column, adding_column, dropping_column, planned_edge, with_text, built}
 use Rattle.op_any.specs.BuildJoins.{decomposing_table, joining_tables}
 use Rattle.op_any.specs.Texts.{TextsFit}
-use Rattle.op_any.specs.Laws.{as_seen, headings_taken, is_create_table}
+use Rattle.op_any.specs.Laws.{as_seen, headings_taken, is_create_table, is_local_form}
 use Rattle.op_any.proofs.NameLists.{distinct_insert, distinct_remove, distinct_front, insert-remove}
 use Rattle.op_any.proofs.TableListsLaws.{found_stands, stands_named, none_passing, source_gone}
 use Rattle.op_any.proofs.Suits.{Suits, if_then, at_ok, table_is, is_new, column_is, expression_is, are_few, ids_known, new_once, place_within, heading_at, without_column, reads_columns, is_closed, one_fits, one_taken}
@@ -44,6 +44,7 @@ module _ (set : List Heading) (next : ℕ) where
         closed = λ _. tt;
         few = (omega arith, omega arith);
         sources = (λ _. refl, λ _. refl);
+        local = refl;
       })))
 
   dropping_suits : (table : List ℕ) → IfOk (dropping_table set table) (Suits set next («text».DropTable table))
@@ -63,6 +64,7 @@ module _ (set : List Heading) (next : ℕ) where
         closed = λ _. tt;
         few = (omega arith, omega arith);
         sources = (λ e. absurd (cc), λ e. absurd (false≢true e));
+        local = refl;
       })
 
   renaming_table_suits : (table new : List ℕ) → IfOk (renaming_table set table new) (Suits set next («text».RenameTable table new))
@@ -79,6 +81,7 @@ module _ (set : List Heading) (next : ℕ) where
         closed = λ _. tt;
         few = (omega arith, omega arith);
         sources = (λ e. absurd (cc), λ e. absurd (false≢true e));
+        local = refl;
       }))
 
   renaming_column_suits : (column table new : List ℕ) → IfOk (renaming_column set column table new) (Suits set next («text».RenameColumn column table new))
@@ -102,6 +105,7 @@ module _ (set : List Heading) (next : ℕ) where
         closed = λ _. tt;
         few = (omega arith, omega arith);
         sources = (λ e. absurd (cc), λ e. absurd (false≢true e));
+        local = refl;
       })))
 
   adding_suits : (column : List ℕ) (value : Tree) (table : List ℕ) → IfOk (adding_column set next column value table) (Suits set next («text».AddColumn column value table))
@@ -132,6 +136,7 @@ module _ (set : List Heading) (next : ℕ) where
         closed = λ fits. is_closed next e h.columns value read (ids_known next _ w ids) fits.0;
         few = (omega arith, omega arith);
         sources = (λ e. absurd (cc), λ e. absurd (false≢true e));
+        local = refl;
       })))))
 
   dropping_column_suits : (column table : List ℕ) (value : Tree) → IfOk (dropping_column set next column table value) (Suits set next («text».DropColumn column table value))
@@ -162,6 +167,7 @@ module _ (set : List Heading) (next : ℕ) where
         closed = λ fits. is_closed next e (remove h.columns place) value read (ids_known next _ u ids) fits.0;
         few = (omega arith, omega arith);
         sources = (λ e. absurd (cc), λ e. absurd (false≢true e));
+        local = refl;
       }))))
 
   planned_suits : (text : OpView) → IfOk (planned_edge set next text) (Suits set next text)
@@ -194,6 +200,7 @@ pub record SuitsText (set : List Heading) (next : ℕ) (text : OpView) (e : Edge
   pub few : (length e.sources ≤ 2) × (length e.targets ≤ 2)
   pub sources : (e.sources ≡ []) ↔ (is_create_table text ≡ true)
   pub keeps : e.operator.text ≡ text
+  pub local : (any_meaning e.operator).is_local ≡ is_local_form text
 
 with_text_suits : (set : List Heading) (next : ℕ) (text : OpView) (e : Edge Built) → Suits set next text e → SuitsText set next text (with_text text e)
 with_text_suits set next text e suits = record {
@@ -203,6 +210,7 @@ with_text_suits set next text e suits = record {
   few = suits.few;
   sources = suits.sources;
   keeps = refl;
+  local = suits.local;
 }
 
 pub built_suits : (set : List Heading) (next : ℕ) (text : OpView) (e : Edge AnyView) → built set next text ≡ Ok e → SuitsText set next text e

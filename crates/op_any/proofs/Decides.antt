@@ -5,7 +5,7 @@ use Rattle.expr_lang.specs.Terms.{Term}
 use Rattle.expr_lang.specs.Resolved.{place_of}
 use Rattle.version_graph.specs.Tables.{column_limit}
 use Rattle.version_graph.specs.declared.parts.Heading.{Heading}
-use Rattle.op_any.specs.Checks.{Checked, ◌then◌}
+use Rattle.par_base.specs.Checked.{Checked, ◌then◌}
 use Rattle.op_any.specs.NameChecks.{known_table, other_table, new_table, known_column, known_places, known_columns, well_divided, unrepeated, known_id}
 
 -- the check gives something, or refuses for another cause

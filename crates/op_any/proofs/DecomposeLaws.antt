@@ -1,26 +1,24 @@
 -- What DECOMPOSE builds suits the working set.
-use Rattle.std.proofs.Common.{◌≡◌, ℕ, ◌+◌, ◌≤◌, List, [], ◌∷◌, ◌++◌, length, map, true, false, Some, None, Ok, IfOk, refl, sym, ◌∙◌, ap, subst, arith}
+use Rattle.std.proofs.Common.{◌≡◌, ℕ, List, [], ◌∷◌, ◌++◌, length, true, false, Some, Ok, IfOk, refl, sym, ◌∙◌, ap, subst, arith}
 use Rattle.std.specs.Prelude.{◌||◌}
 use Rattle.std.specs.List.{insert}
 use Rattle.std.specs.Str.{bytes_eq}
 use Rattle.std.proofs.lemmas.Bool.{false≢true}
-use Rattle.std.proofs.lemmas.List.{length-append}
 use Rattle.std.proofs.lemmas.List.Edits.{insert_end}
-use Rattle.expr_lang.specs.Terms.{Term}
 use Rattle.expr_lang.specs.Val.{fits_row}
 use Rattle.expr_lang.specs.Resolved.{resolved}
 use Rattle.statements.specs.Views.{Tree, OpView}
 use Rattle.statements.specs.Views as «text»
-use Rattle.version_graph.specs.Sets.{Each, Distinct}
-use Rattle.version_graph.specs.Tables.{IsHeading, row_name}
+use Rattle.version_graph.specs.Sets.{Each}
+use Rattle.version_graph.specs.Tables.{IsHeading}
 use Rattle.version_graph.specs.declared.parts.Heading.{Heading}
 use Rattle.row_parts.specs.Partition.{Divides}
 use Rattle.op_kinds.specs.Operators.{Built, meaning_of}
 use Rattle.op_kinds.specs.Operators as «any»
 use Rattle.op_any.specs.Edges.{one_to_both}
-use Rattle.op_any.specs.NameChecks.{heading_named, is_passing, repeated, misdivided, known_table, new_table, known_places, known_columns, well_divided, new_columns, few_columns, known_ids}
+use Rattle.op_any.specs.NameChecks.{heading_named, is_passing, repeated, known_table, new_table, known_places, known_columns, well_divided, new_columns, few_columns, known_ids}
 use Rattle.op_any.specs.BuildJoins.{Parting, parting, divided, with_column, decomposing_in_one, decomposing_on_pk, decomposing_on_fk, decomposing_on}
-use Rattle.op_any.specs.Laws.{as_seen, headings_taken, is_create_table}
+use Rattle.op_any.specs.Laws.{as_seen, headings_taken, is_create_table, is_local_form}
 use Rattle.op_any.specs.Texts.{TextsFit}
 use Rattle.op_any.proofs.NameLists.{either}
 use Rattle.op_any.proofs.TableListsLaws.{found_stands, stands_named, none_passing}
@@ -57,6 +55,7 @@ module _ (set : List Heading) (next : ℕ) where
         closed = λ _. tt;
         few = (omega arith, omega arith);
         sources = (λ e. absurd (cc), λ e. absurd (false≢true e));
+        local = refl;
       }))))
 
 -- ---- two targets
@@ -118,11 +117,11 @@ module _ (set : List Heading) (table : List ℕ) (s u : Heading) (parts : Partin
   taken_is = one_taken set table source facts.found
 
   -- an edge to two targets under these names suits, where its operator is built for them
-  parts_suit : (next : ℕ) (text : OpView) (operator : Built) (first : Heading) → first.name ≡ s.name → is_create_table text ≡ false
+  parts_suit : (next : ℕ) (text : OpView) (operator : Built) (first : Heading) → first.name ≡ s.name → is_create_table text ≡ false → (meaning_of operator).is_local ≡ is_local_form text
       → (Each IsHeading set → IsHeading first × IsHeading u)
       → (Each IsHeading set → (meaning_of operator).Fits (as_seen source ∷ []) (as_seen first ∷ as_seen u ∷ []))
       → (TextsFit text → (meaning_of operator).Closed next) → Suits set next text (one_to_both operator table first u)
-  parts_suit next text operator first same other headings fits closed = record {
+  parts_suit next text operator first same other local headings fits closed = record {
     set_fits = λ tables.
         let are = headings tables in
         two_targets_fit set operator table first u (stands_named set table source (found_stands set table source facts.found))
@@ -133,6 +132,7 @@ module _ (set : List Heading) (table : List ℕ) (s u : Heading) (parts : Partin
     closed = closed;
     few = (omega arith, omega arith);
     sources = (λ e. absurd (cc), λ e. absurd (false≢true (sym other ∙ e)));
+    local = local;
   }
 
 module _ (set : List Heading) (next : ℕ) where
@@ -142,7 +142,7 @@ module _ (set : List Heading) (next : ℕ) where
       if_then _ (divided parts.source s u) _ (λ v once.
       let divides : Each IsHeading set → AreDivided s u parts = λ tables. parts_divide set table s u parts are v once (source_is set table s u parts are tables) in
       let placed = facts set table s u parts are in
-      parts_suit set table s u parts are next («text».Decompose table s.name s.columns u.name u.columns «text».Primary) («any».DecomposePk parts.first parts.second) s refl refl
+      parts_suit set table s u parts are next («text».Decompose table s.name s.columns u.name u.columns «text».Primary) («any».DecomposePk parts.first parts.second) s refl refl refl
       (λ tables. ((divides tables).first, (divides tables).second))
       (λ tables. record {
         source = as_seen parts.source;
@@ -166,7 +166,7 @@ module _ (set : List Heading) (next : ℕ) where
       let divides : Each IsHeading set → AreDivided s u parts = λ tables. parts_divide set table s u parts are v once (source_is set table s u parts are tables) in
       let placed = facts set table s u parts are in
       let many = many_placed parts.source.columns s.columns parts.first placed.first in
-      parts_suit set table s u parts are next («text».Decompose table s.name s.columns u.name u.columns («text».Foreign key)) («any».DecomposeFk parts.first parts.second (length s.columns)) (with_column s key) refl refl
+      parts_suit set table s u parts are next («text».Decompose table s.name s.columns u.name u.columns («text».Foreign key)) («any».DecomposeFk parts.first parts.second (length s.columns)) (with_column s key) refl refl refl
       (λ tables. (
         record { once = new_once s.columns (key ∷ []) w new (divides tables).first.once; few = are_few s.name (s.columns ++ key ∷ []) x few },
         (divides tables).second,
@@ -197,7 +197,7 @@ module _ (set : List Heading) (next : ℕ) where
       let many = many_placed parts.source.columns s.columns parts.first placed.first in
       let other_many = many_placed parts.source.columns u.columns parts.second placed.second in
       let read : resolved parts.source.columns condition ≡ Ok c = expression_is _ c reads in
-      parts_suit set table s u parts are next («text».Decompose table s.name s.columns u.name u.columns («text».Condition condition)) («any».DecomposeOn parts.first parts.second c) s refl refl
+      parts_suit set table s u parts are next («text».Decompose table s.name s.columns u.name u.columns («text».Condition condition)) («any».DecomposeOn parts.first parts.second c) s refl refl refl
       (λ tables. ((divides tables).first, (divides tables).second))
       (λ tables.
       let wide = (divides tables).divides.wide in

@@ -1,11 +1,10 @@
 -- What JOIN and OUTER JOIN build suits the working set.
-use Rattle.std.proofs.Common.{◌≡◌, ℕ, suc, ◌+◌, ◌<◌, ◌≤◌, List, [], ◌∷◌, ◌++◌, length, Bool, true, false, Some, None, Ok, IfOk, get_or, refl, sym, ◌∙◌, ap, subst, arith}
+use Rattle.std.proofs.Common.{◌≡◌, ℕ, suc, ◌+◌, ◌<◌, ◌≤◌, List, [], ◌∷◌, ◌++◌, length, Bool, true, false, Some, Ok, IfOk, get_or, refl, sym, ◌∙◌, ap, subst, arith}
 use Rattle.std.specs.List.{insert, remove}
 use Rattle.std.specs.Str.{bytes_eq}
 use Rattle.std.proofs.lemmas.Bool.{false≢true}
 use Rattle.std.proofs.lemmas.List.{length-append}
 use Rattle.std.proofs.lemmas.List.Edits.{length-remove}
-use Rattle.expr_lang.specs.Terms.{Term}
 use Rattle.expr_lang.specs.Val.{fits_row}
 use Rattle.expr_lang.specs.Resolved.{place_of, resolved}
 use Rattle.statements.specs.Views.{Tree, OpView}
@@ -16,11 +15,10 @@ use Rattle.version_graph.specs.declared.parts.Heading.{Heading}
 use Rattle.row_parts.specs.Places.{names_at}
 use Rattle.row_parts.specs.Partition.{Divides}
 use Rattle.op_kinds.specs.Operators.{Built, meaning_of}
-use Rattle.op_kinds.specs.Operators as «any»
 use Rattle.op_any.specs.Edges.{two_to_one}
 use Rattle.op_any.specs.NameChecks.{heading_named, is_passing, known_table, other_table, new_table, known_column, known_columns, new_columns, few_columns, known_ids}
 use Rattle.op_any.specs.BuildJoins.{Sources, places_from, meeting, columns_of_both, on_pk, on_fk, on_condition, joining_on_pk, joining_on_fk, joining_on}
-use Rattle.op_any.specs.Laws.{as_seen, headings_taken, is_create_table}
+use Rattle.op_any.specs.Laws.{as_seen, is_create_table, is_local_form}
 use Rattle.op_any.specs.Texts.{TextsFit}
 use Rattle.op_any.proofs.NameLists.{distinct_remove, insert-remove}
 use Rattle.op_any.proofs.TableListsLaws.{found_stands, stands_named, none_passing}
@@ -69,11 +67,11 @@ module _ (set : List Heading) (first second target : List ℕ) (t : Sources) (ar
   first_is tables = heading_at set first t.first tables facts.found
 
   -- an edge to a target under this name suits, where its operator is built for it
-  join_suits : (next : ℕ) (text : OpView) (operator : Built) (columns : List (List ℕ)) → is_create_table text ≡ false
+  join_suits : (next : ℕ) (text : OpView) (operator : Built) (columns : List (List ℕ)) → is_create_table text ≡ false → (meaning_of operator).is_local ≡ is_local_form text
       → (Each IsHeading set → IsHeading (record { name = target; columns = columns }))
       → (meaning_of operator).Fits (as_seen t.first ∷ as_seen t.second ∷ []) (record { name = target; columns = columns } ∷ [])
       → (TextsFit text → (meaning_of operator).Closed next) → Suits set next text (two_to_one operator first second target columns)
-  join_suits next text operator columns other heading fits closed = record {
+  join_suits next text operator columns other local heading fits closed = record {
     set_fits = λ tables.
         two_sources_fit set operator first second (record { name = target; columns = columns })
         (stands_named set first t.first (found_stands set first t.first facts.found))
@@ -83,6 +81,7 @@ module _ (set : List Heading) (first second target : List ℕ) (t : Sources) (ar
     closed = closed;
     few = (omega arith, omega arith);
     sources = (λ e. absurd (cc), λ e. absurd (false≢true (sym other ∙ e)));
+    local = local;
   }
 
 -- the first columns are at the first places, and the second at the second
@@ -134,6 +133,10 @@ on_pk_closed : (outer : Bool) (first second next : ℕ) → (meaning_of (on_pk o
 on_pk_closed false first second next = tt
 on_pk_closed true first second next = tt
 
+on_pk_local : (outer : Bool) (first second : ℕ) → (meaning_of (on_pk outer first second)).is_local ≡ true
+on_pk_local false first second = refl
+on_pk_local true first second = refl
+
 -- ---- on a foreign key
 
 on_fk_fits : (outer : Bool) (s u : Heading) (place : ℕ) → place < length s.columns → (target : List ℕ) (columns : List (List ℕ)) → columns ≡ remove s.columns place ++ u.columns
@@ -173,6 +176,10 @@ on_fk_closed : (outer : Bool) (first rest second place next : ℕ) → (meaning_
 on_fk_closed false first rest second place next = tt
 on_fk_closed true first rest second place next = tt
 
+on_fk_local : (outer : Bool) (first rest second place : ℕ) → (meaning_of (on_fk outer first rest second place)).is_local ≡ false
+on_fk_local false first rest second place = refl
+on_fk_local true first rest second place = refl
+
 -- ---- the joins
 
 module _ (set : List Heading) (next : ℕ) where
@@ -181,7 +188,7 @@ module _ (set : List Heading) (next : ℕ) where
       if_then _ (meeting set first second target) _ (λ t are.
       if_then _ (columns_of_both target t.first.columns t.second.columns) _ (λ columns both.
       let has = at_ok (HasBoth t.first.columns t.second.columns) (columns_of_both target t.first.columns t.second.columns) columns both (has_both target t.first.columns t.second.columns) in
-      join_suits set first second target t are next («text».Join outer first second target «text».Primary) (on_pk outer (length t.first.columns) (length t.second.columns)) columns refl
+      join_suits set first second target t are next («text».Join outer first second target «text».Primary) (on_pk outer (length t.first.columns) (length t.second.columns)) columns refl (on_pk_local outer (length t.first.columns) (length t.second.columns))
       (λ tables. record { once = has.once (first_is set first second target t are tables).once; few = has.few })
       (on_pk_fits outer t.first t.second target columns has.are)
       (λ _. on_pk_closed outer (length t.first.columns) (length t.second.columns) next)))
@@ -194,7 +201,7 @@ module _ (set : List Heading) (next : ℕ) where
       let rest = remove t.first.columns place in
       let has = at_ok (HasBoth rest t.second.columns) (columns_of_both target rest t.second.columns) columns both (has_both target rest t.second.columns) in
       let within = place_within t.first.columns key place (column_is key _ place there) in
-      join_suits set first second target t are next («text».Join outer first second target («text».Foreign key)) (on_fk outer (length t.first.columns) (length rest) (length t.second.columns) place) columns refl
+      join_suits set first second target t are next («text».Join outer first second target («text».Foreign key)) (on_fk outer (length t.first.columns) (length rest) (length t.second.columns) place) columns refl (on_fk_local outer (length t.first.columns) (length rest) (length t.second.columns) place)
       (λ tables. record { once = has.once (distinct_remove (row_name ∷ t.first.columns) (suc place) (first_is set first second target t are tables).once); few = has.few })
       (on_fk_fits outer t.first t.second place within target columns has.are)
       (λ _. on_fk_closed outer (length t.first.columns) (length rest) (length t.second.columns) place next))))
@@ -211,7 +218,7 @@ module _ (set : List Heading) (next : ℕ) where
       let long = length-range 0 (length t.first.columns) in
       let other_long = length-range (length t.first.columns) (length t.second.columns) in
       let wide = ap (λ (l : List (List ℕ)). length l) (sym has.are) ∙ parts.divides.wide in
-      join_suits set first second target t are next («text».Join false first second target («text».Condition condition)) (on_condition (length t.first.columns) (length t.second.columns) c) columns refl
+      join_suits set first second target t are next («text».Join false first second target («text».Condition condition)) (on_condition (length t.first.columns) (length t.second.columns) c) columns refl refl
       (λ tables. record { once = has.once (first_is set first second target t are tables).once; few = has.few })
       (record {
         source = rw (long, other_long) refl;

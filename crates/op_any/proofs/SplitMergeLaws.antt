@@ -37,6 +37,7 @@ module _ (set : List Heading) (next : ℕ) where
         closed = λ fits. (is_closed next c h.columns r.condition read (ids_known next _ v ids) fits.0, tt);
         few = (omega arith, omega arith);
         sources = (λ e. absurd (cc), λ e. absurd (false≢true e));
+        local = refl;
       }))))
 
   splitting_in_two_suits : (table : List ℕ) (r s : BranchView) → IfOk (splitting_in_two set next table r s) (Suits set next («text».Split table r (Some s)))
@@ -65,6 +66,7 @@ module _ (set : List Heading) (next : ℕ) where
         );
         few = (omega arith, omega arith);
         sources = (λ e. absurd (cc), λ e. absurd (false≢true e));
+        local = refl;
       })))))))
 
   pub splitting_suits : (table : List ℕ) (r : BranchView) (o : Option BranchView) → IfOk (splitting_table set next table r o) (Suits set next («text».Split table r o))
@@ -106,4 +108,5 @@ module _ (set : List Heading) (next : ℕ) where
         );
         few = (omega arith, omega arith);
         sources = (λ e. absurd (cc), λ e. absurd (false≢true e));
+        local = refl;
       })))))))))

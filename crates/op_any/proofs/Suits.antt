@@ -20,11 +20,11 @@ use Rattle.version_graph.specs.declared.parts.Edge.{Edge}
 use Rattle.version_graph.proofs.SetLaws.{each_at}
 use Rattle.version_graph.proofs.NameLaws.{name_is}
 use Rattle.op_law.specs.SoundTerms.{TermSound}
-use Rattle.op_any.specs.Checks.{Checked, ◌then◌}
+use Rattle.par_base.specs.Checked.{Checked, ◌then◌}
 use Rattle.op_kinds.specs.Operators.{Built, meaning_of}
 use Rattle.op_any.specs.NameChecks.{heading_named, known_table, other_table, new_table, known_column, known_columns, unrepeated, new_columns, same_columns, few_columns, known_id}
 use Rattle.op_any.specs.Texts.{TermFits, TextsFit}
-use Rattle.op_any.specs.Laws.{as_seen, headings_taken, is_create_table}
+use Rattle.op_any.specs.Laws.{as_seen, headings_taken, is_create_table, is_local_form}
 use Rattle.op_any.proofs.NameLists.{distinct_remove, unrepeated_distinct}
 use Rattle.op_any.proofs.TableListsLaws.{found_stands}
 use Rattle.op_any.proofs.SoundTextsLaws.{resolved_sound}
@@ -127,6 +127,7 @@ pub record Suits (set : List Heading) (next : ℕ) (text : OpView) (e : Edge Bui
   pub closed : TextsFit text → (meaning_of e.operator).Closed next
   pub few : (length e.sources ≤ 2) × (length e.targets ≤ 2)
   pub sources : (e.sources ≡ []) ↔ (is_create_table text ≡ true)
+  pub local : (meaning_of e.operator).is_local ≡ is_local_form text
 
 -- an edge from one table to another name
 pub one_fits : (set : List Heading) (operator : Built) (source : List ℕ) (target : Heading) → In source (heading_names set) → (In target.name (heading_names (headings_passing set (source ∷ []))) → ⊥) → IsHeading target

@@ -1,7 +1,7 @@
 -- What is true of every edge that is built on the working set of a graph.
 use Rattle.std.specs.Prelude.{◌≡◌, ◌↔◌, ◌⊎◌, ℕ, ◌≤◌, Bool, true, false, List, [], ◌∷◌, ◌++◌, length, map, option_to_list, MatchOption, Ok, Err}
 use Rattle.par_base.specs.declared.refusal.Refusal.TheVariants.{NotBuilt}
-use Rattle.statements.specs.Views.{OpView, CreateTable}
+use Rattle.statements.specs.Views.{KeyView, Primary, Foreign, Condition, OpView, CreateTable, Decompose, Join}
 use Rattle.version_graph.specs.Sets.{In, Distinct, Within, Each}
 use Rattle.version_graph.specs.Tables.{TableVersion, headings_of, taken, IsHeading, FitsSet}
 use Rattle.version_graph.specs.declared.parts.Heading.{Heading as TableHeading}
@@ -30,6 +30,18 @@ HeadingsOfTaken =
 abbrev pub is_create_table : OpView → Bool
 is_create_table (CreateTable table columns) = true
 is_create_table _ = false
+
+-- tables that belong together by the primary key have the same identifiers
+abbrev pub is_local_by : KeyView → Bool
+is_local_by Primary = true
+is_local_by (Foreign column) = false
+is_local_by (Condition condition) = false
+
+-- which forms of operator treat each identifier by itself: all but those on a foreign key or a condition
+abbrev pub is_local_form : OpView → Bool
+is_local_form (Decompose table first first_columns second second_columns key) = is_local_by key
+is_local_form (Join outer first second target key) = is_local_by key
+is_local_form _ = true
 
 -- an edge that is built on a working set of headings fits it
 abbrev pub BuiltEdgesFit : Type 0
@@ -106,3 +118,9 @@ abbrev pub BuiltKeepsItsText : Type 0
 BuiltKeepsItsText =
     (set : List TableHeading) (next : ℕ) (text : OpView) (e : Edge AnyView) → built set next text ≡ Ok e
     → e.operator.text ≡ text
+
+-- which operators treat each identifier by itself
+abbrev pub BuiltIsLocalByForm : Type 0
+BuiltIsLocalByForm =
+    (set : List TableHeading) (next : ℕ) (text : OpView) (e : Edge AnyView) → built set next text ≡ Ok e
+    → (any_meaning e.operator).is_local ≡ is_local_form text

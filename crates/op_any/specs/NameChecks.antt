@@ -10,7 +10,7 @@ use Rattle.expr_lang.specs.Resolved.{place_of, first_unknown_id}
 use Rattle.statements.specs.Views.{Tree}
 use Rattle.version_graph.specs.Tables.{row_name, column_limit, headings_passing}
 use Rattle.version_graph.specs.declared.parts.Heading.{Heading}
-use Rattle.op_any.specs.Checks.{Checked, ◌then◌}
+use Rattle.par_base.specs.Checked.{Checked, ◌then◌}
 
 -- ---- look-ups by name
 

@@ -1,7 +1,7 @@
 //! Building operators from their texts.
 ghost use Rattle.std.specs.Prelude.{◌≡◌};
 ghost use Rattle.statements.specs.Views.{key_view, op_view};
-ghost use Rattle.op_any.specs.Checks.{Gives};
+ghost use Rattle.par_base.specs.Checked.{Gives};
 ghost use Rattle.op_any.specs.Build.{built, is_built as is_built_form, is_built_join as is_built_join_form};
 
 use crate::plan::plan;

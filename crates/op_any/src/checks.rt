@@ -4,7 +4,7 @@ ghost use Rattle.std.specs.Option.{option_map};
 ghost use Rattle.std.specs.Str.{bytes_eq};
 ghost use Rattle.expr_lang.specs.Terms.{text_term, expr_term};
 ghost use Rattle.expr_lang.specs.Resolved.{place_of, resolved};
-ghost use Rattle.op_any.specs.Checks.{Gives};
+ghost use Rattle.par_base.specs.Checked.{Gives};
 ghost use Rattle.op_any.specs.NameChecks.{heading_named, is_passing as is_passing_name, known_table, other_table, new_table, known_column, known_places, known_columns, repeated, misdivided, well_divided, new_columns, same_columns, few_columns, known_ids};
 
 use crate::lookup::{
@@ -63,7 +63,7 @@ pub(crate) fn check_second_table(
 ) -> Result<(), Fault<Refusal>>
     ensures { Gives (λ x. x) result
         (new_table name.now (bytes_eq name.now first.now || is_passing_name set.now sources.now
-            name.now)) }
+        name.now)) }
 {
     if has_name(name, first) || is_passing(set, sources, name) {
         return Err(Fault::Refused(Refusal::TableExists {
@@ -214,7 +214,7 @@ pub fn resolve_value(
     match resolve(alloc, value, columns) {
         Ok(expr) => Ok(expr),
         Err(Fault::Refused(column)) => Err(Fault::Refused(Refusal::UnknownColumn { column })),
-        Err(Fault::Memory) => Err(Fault::Memory),
+        Err(Fault::Memory(memory)) => Err(Fault::Memory(memory)),
     }
 }
 

@@ -63,8 +63,12 @@ pub(crate) struct Tables {
 /// The edge of an operator between these tables.
 pub(crate) fn edge_of(operator: BuiltOp, tables: Tables) -> Edge<BuiltOp>
     ensures { edge_view result
-        ≡ record { operator = built_view operator; sources = tables.sources; targets =
-            tables.targets } }
+        ≡ record {
+          operator = built_view operator;
+          sources = tables.sources;
+          targets =
+              tables.targets;
+        } }
 {
     Edge {
         operator,
@@ -75,8 +79,11 @@ pub(crate) fn edge_of(operator: BuiltOp, tables: Tables) -> Edge<BuiltOp>
 
 /// From one table to this one.
 pub(crate) fn from_one_to(alloc: Global, source: &Name, target: Heading) -> Result<Tables, Memory>
-    ensures { IfOk result (λ made. made ≡ record { sources = source.now ∷ []; targets = target
-        ∷ [] }) }
+    ensures { IfOk result (λ made. made ≡ record {
+      sources = source.now ∷ [];
+      targets = target
+          ∷ [];
+    }) }
 {
     let mut targets = List::new(alloc);
     targets.push(target)?;
@@ -94,8 +101,11 @@ pub(crate) fn from_one_to_one(
     columns: List<Name>,
 ) -> Result<Tables, Memory>
     ensures { IfOk result (λ made. made
-        ≡ record { sources = source.now ∷ []; targets = record
-            { name = target.now; columns = columns } ∷ [] }) }
+        ≡ record {
+          sources = source.now ∷ [];
+          targets = record
+              { name = target.now; columns = columns } ∷ [];
+        }) }
 {
     Ok(Tables {
         sources: one_name(alloc, source)?,

@@ -1,5 +1,5 @@
 //! Laws of built operators. The functions do nothing: their contracts are the laws.
-ghost use Rattle.op_any.specs.Laws.{BuiltEdgesFit, BuiltForItsTables, BuiltIsClosed, BuiltHasFewTables, OnlyCreateTableIsWithoutSource, BuiltKeepsItsText, NotBuiltIsTheForm, HeadingsOfTaken, FirstRepeatedIsRefused, FirstMisdividedIsRefused};
+ghost use Rattle.op_any.specs.Laws.{BuiltEdgesFit, BuiltForItsTables, BuiltIsClosed, BuiltHasFewTables, OnlyCreateTableIsWithoutSource, BuiltIsLocalByForm, BuiltKeepsItsText, NotBuiltIsTheForm, HeadingsOfTaken, FirstRepeatedIsRefused, FirstMisdividedIsRefused};
 
 /// An edge that was built on the working set of a graph fits it, and its operator is built for its
 /// tables: for its targets, and for the tables of the set that it takes.
@@ -14,11 +14,13 @@ pub fn built_operators_are_closed()
     ensures { BuiltIsClosed }
 {}
 
-/// How many tables a built edge has, and which text its operator keeps.
+/// How many tables a built edge has, which text its operator keeps, and whether it treats each
+/// identifier by itself.
 pub fn built_edges_keep_their_form()
     ensures few { BuiltHasFewTables }
     ensures sources { OnlyCreateTableIsWithoutSource }
     ensures text { BuiltKeepsItsText }
+    ensures local { BuiltIsLocalByForm }
 {}
 
 /// Which forms are built: all but one. An operator of one of these may be refused, but never as not

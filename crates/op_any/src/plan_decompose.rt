@@ -2,7 +2,7 @@
 ghost use Rattle.std.specs.Prelude.{◌≡◌, IfOk};
 ghost use Rattle.expr_lang.specs.Terms.{text_term};
 ghost use Rattle.statements.specs.Views.{key_view};
-ghost use Rattle.op_any.specs.Checks.{Gives};
+ghost use Rattle.par_base.specs.Checked.{Gives};
 ghost use Rattle.op_any.specs.Edges.{edge_view};
 ghost use Rattle.op_any.specs.BuildJoins.{parting, divided, decomposing_in_one, decomposing_on_pk, decomposing_on_fk, decomposing_on, decomposing_table, with_column as with_column_of};
 ghost use Rattle.op_any.specs.inner.Found.{parts_view};

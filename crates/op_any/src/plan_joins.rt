@@ -5,7 +5,7 @@ ghost use Rattle.expr_lang.specs.Terms.{text_term, expr_term};
 ghost use Rattle.expr_lang.specs.Resolved.{resolved};
 ghost use Rattle.statements.specs.Views.{key_view};
 ghost use Rattle.op_kinds.specs.Views.{built_view};
-ghost use Rattle.op_any.specs.Checks.{Gives};
+ghost use Rattle.par_base.specs.Checked.{Gives};
 ghost use Rattle.op_any.specs.NameChecks.{known_columns};
 ghost use Rattle.op_any.specs.Edges.{edge_view};
 ghost use Rattle.op_any.specs.BuildJoins.{places_from, meeting, columns_of_both, on_pk, on_fk, on_condition, joining_on_pk, joining_on_fk, joining_on, joining_tables};
@@ -130,8 +130,7 @@ fn join_on_pk(
     names: &JoinNames,
 ) -> Result<Edge<BuiltOp>, Fault<Refusal>>
     ensures { Gives edge_view result
-        (joining_on_pk set.now outer names.now.first.now names.now.second.now names.now.target.now)
-            }
+        (joining_on_pk set.now outer names.now.first.now names.now.second.now names.now.target.now) }
 {
     let sources = find_sources(alloc, set, names)?;
     let first = sources.first.columns.as_slice();

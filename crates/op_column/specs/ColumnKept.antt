@@ -1,5 +1,5 @@
 -- What becomes of the values of an added or a dropped column.
-use Rattle.std.specs.Prelude.{◌≡◌, ℕ, List, Option, None, IsSome}
+use Rattle.std.specs.Prelude.{◌≡◌, ℕ, List, [], ◌∷◌, ◌++◌, length, Option, Some, None, IsSome}
 use Rattle.std.specs.Option.{option_map}
 use Rattle.par_base.specs.declared.value.Value.{Value}
 use Rattle.expr_lang.specs.Terms.{Term}
@@ -34,3 +34,16 @@ DroppedColumnKept =
     (place : ℕ) (e : Term ℕ) (hs ht : List Heading) (near s t : Cells)
     → RowPair (flip_row (add_column place e)) hs ht s t → AreCellsOf ht near → IsSome (first_cell near) → IsSome (first_cell s)
     → column_value place ((flip_row (add_column place e)).backward near s t) ≡ column_value place s
+
+-- a row that the old source had not gets the value of the default
+abbrev pub DroppedColumnFilled : Type 0
+DroppedColumnFilled =
+    (place : ℕ) (e : Term ℕ) (hs ht : List Heading) (near s t : Cells)
+    → RowPair (flip_row (add_column place e)) hs ht s t → AreCellsOf ht near → first_cell s ≡ None
+    → column_value place ((flip_row (add_column place e)).backward near s t) ≡ option_map (val e) (first_cell near)
+
+-- the target has each row of the source with that value left out, and its other values in their order
+abbrev pub DroppedColumnLeftOut : Type 0
+DroppedColumnLeftOut =
+    (e : Term ℕ) (before behind : List Value) (value : Value) (s t : Cells)
+    → (flip_row (add_column (length before) e)).forward (Some (before ++ value ∷ behind) ∷ []) s t ≡ Some (before ++ behind) ∷ []

@@ -171,4 +171,4 @@ refused_later next last old before (Refused spent) limit rises within h drawn =
     let needed = drawn.1 in
     let most = drawn.2 in
     (omega (arith, limit, rises, within, h, low), omega (arith, limit, rises, within, needed), most ∙ limit)
-refused_later next last old before OutOfMemory limit rises within h drawn = tt
+refused_later next last old before (OutOfMemory memory) limit rises within h drawn = tt

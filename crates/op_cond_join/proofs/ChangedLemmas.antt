@@ -6,7 +6,7 @@ use Rattle.par_base.specs.declared.value.Value.{Value}
 use Rattle.row_store.specs.Rows.{Rows, RiseFrom, row_of}
 use Rattle.id_memory.specs.Pairs.{Pairs}
 use Rattle.row_parts.specs.RowCells.{Cell, by_test}
-use Rattle.par_base.specs.SameRows.{row_equal}
+use Rattle.par_base.specs.inner.SameLaws.{row_equal}
 use Rattle.pair_rows.specs.inner.Numbers.{is_own}
 use Rattle.pair_rows.specs.inner.Lookups.{apart}
 use Rattle.op_cond_join.specs.Shown.{Joining, join_cells, row_at, holds_in, matches, has, is_shown, pairs_with}

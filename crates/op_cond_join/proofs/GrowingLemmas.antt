@@ -4,7 +4,8 @@ use Rattle.std.proofs.lemmas.List.{drop_more}
 use Rattle.par_base.specs.declared.value.Value.{Value}
 use Rattle.row_store.specs.Rows.{Rows}
 use Rattle.row_parts.specs.RowCells.{by_test}
-use Rattle.par_base.specs.SameRows.{same_row, row_equal}
+use Rattle.par_base.specs.SameRows.{same_row}
+use Rattle.par_base.specs.inner.SameLaws.{row_equal}
 use Rattle.row_map.specs.RowNumbers.{RowNumbers, number_of_row, IsWithRow}
 use Rattle.op_cond_join.specs.Assigned.{least, or_id}
 use Rattle.op_cond_join.specs.inner.Assignings.{HasLeast, AddsNumber}

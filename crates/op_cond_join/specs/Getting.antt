@@ -9,7 +9,8 @@ use Rattle.op_law.proofs.SoundLaws.{rows_more, values_more}
 use Rattle.row_parts.specs.Places.{pick as part}
 use Rattle.row_parts.specs.RowCells.{Cell, by_test}
 use Rattle.pair_rows.specs.inner.Numbers.{same_number, is_own}
-use Rattle.par_base.specs.SameRows.{same_row, row_equal}
+use Rattle.par_base.specs.SameRows.{same_row}
+use Rattle.par_base.specs.inner.SameLaws.{row_equal}
 use Rattle.pair_rows.specs.inner.Lookups.{found_later, rises_behind, found_before, found_behind, behind_or, wide_behind, sound_behind, below_behind}
 use Rattle.op_cond_join.specs.Assigned.{Got, got, least, own, or_id, side_got}
 

@@ -57,7 +57,7 @@ pub(crate) fn admit_target(
     requires { SomeNear (join_on (joining join.now)) source.now }
     ensures { IfOk result (λ target.
         Admits (join_on (joining join.now)) source.now (tables_of aux.now) memory.now.entries
-            target) }
+        target) }
 {
     if aux.tables.len() != 0 {
         return Ok(None);
@@ -91,7 +91,7 @@ fn is_source(alloc: Global, join: &JoinOn, it: &Candidate<'_>) -> Result<bool, M
     ensures answer { IfOk result (λ yes. IsTrue yes ↔
         IsSource (joining join.now) it.now.target.now.rows it.now.memory.now.entries
         it.now.first_alone.now.rows it.now.second_alone.now.rows it.now.s.now.rows
-            it.now.t.now.rows) }
+        it.now.t.now.rows) }
 {
     let s = it.s.as_slice();
     let t = it.t.as_slice();
@@ -128,7 +128,7 @@ pub(crate) fn admit_source(
     requires { SomeNear (flip (join_on (joining join.now))) target.now }
     ensures { IfOk result (λ source.
         Admits (flip (join_on (joining join.now))) target.now
-            (tables_of aux.now) memory.now.entries source) }
+        (tables_of aux.now) memory.now.entries source) }
 {
     let kept = aux.tables.as_slice();
     if kept.len() != 2 {

@@ -58,7 +58,7 @@ pub(crate) fn read_source(
 ) -> Result<Side, Memory>
     ensures { IfOk result (λ side. side ≡
         (join_on (joining join.now)).read_source target.now
-            (tables_of aux.now) memory.now.entries) }
+        (tables_of aux.now) memory.now.entries) }
 {
     let none = Table::new(alloc);
     let r = table_in(target, 0, &none);

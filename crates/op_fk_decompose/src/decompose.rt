@@ -110,5 +110,9 @@ impl Operator for DecomposeFk {
         Ok(source)
     }
 
+    fn is_local(&self) -> bool {
+        false
+    }
+
     ghost laws = { λ it. decompose_keeps it.first it.second it.place };
 }

@@ -110,5 +110,9 @@ impl Operator for JoinFk {
         Ok(source)
     }
 
+    fn is_local(&self) -> bool {
+        false
+    }
+
     ghost laws = { λ it. join_keeps it.first it.second it.place };
 }

@@ -5,7 +5,7 @@ use Rattle.statements.specs.Views.{OpView}
 use Rattle.op_law.specs.Meaning.{Meaning, flip}
 use Rattle.op_law.specs.Laws.{Laws, flip_laws}
 use Rattle.op_rows.specs.RowMeaning.{rowwise, flip_row}
-use Rattle.op_rows.specs.RowwiseLaws.{rowwise_laws, flip_row_laws}
+use Rattle.op_rows.specs.inner.RowwiseLaws.{rowwise_laws, flip_row_laws}
 use Rattle.op_column.specs.CreateTable.{create_table, create_table_laws}
 use Rattle.op_column.specs.DropTable.{drop_table, drop_table_laws}
 use Rattle.op_column.specs.Rename.{rename, rename_laws}

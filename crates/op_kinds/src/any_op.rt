@@ -172,5 +172,9 @@ impl Operator for AnyOp {
             .admit_source(alloc, target, aux, memory, steps)
     }
 
+    fn is_local(&self) -> bool {
+        self.operator.is_local()
+    }
+
     ghost laws = { any_laws };
 }

@@ -115,8 +115,7 @@ fn copy_decompose_single(
     target: &Name,
     columns: &List<Name>,
 ) -> Result<OpText, Memory>
-    ensures { IfOk result (λ made. op_view made ≡ DecomposeSingle table.now target.now columns.now)
-        }
+    ensures { IfOk result (λ made. op_view made ≡ DecomposeSingle table.now target.now columns.now) }
 {
     Ok(OpText::DecomposeSingle {
         table: table.copy(alloc)?,
@@ -136,7 +135,7 @@ fn copy_decompose(
 ) -> Result<OpText, Memory>
     ensures { IfOk result (λ made. op_view made
         ≡ Decompose table.now first.now first_columns.now second.now second_columns.now
-            (key_view key.now)) }
+        (key_view key.now)) }
 {
     Ok(OpText::Decompose {
         table: table.copy(alloc)?,

@@ -106,7 +106,7 @@ chain_laws a b la lb = record {
 -- what refuses the first of two mappings refuses both
 pub refused_first : (to f g : Mapped) (next : ℕ) (old new : CounterState) (fault : Fault IdsSpent) → to.next ≤ next → IsMapped to old new (Err fault) → AreMapped f g next old old (Err fault)
 refused_first to f g next old new (Refused spent) h is = let far = is.0 in (omega arith, is.1, is.2, refl)
-refused_first to f g next old new OutOfMemory h is = refl
+refused_first to f g next old new (OutOfMemory memory) h is = refl
 
 -- what refuses the second of two mappings refuses both, with the same first identifier above the limit
 pub refused_second : (to f g : Mapped) (next : ℕ) (old new : CounterState) (fault : Fault IdsSpent) → old.next ≤ next → next ≤ first_refused old → IsMapped to (record old { next = next }) new (Err fault) → AreMapped f g to.next old old (Err fault)
@@ -114,7 +114,7 @@ refused_second to f g next old new (Refused spent) low high is =
     let same : first_refused (record old { next = next }) ≡ first_refused old = omega arith in
     let far = is.0 in
     (omega arith, is.1 ∙ same, is.2, refl)
-refused_second to f g next old new OutOfMemory low high is = refl
+refused_second to f g next old new (OutOfMemory memory) low high is = refl
 
 -- what belongs to a pair gives back its target
 pub read_back : (m : Meaning) → HalfLaws m → (hs ht : List Heading) (aux : Tables) (p : PairState) → m.reads_target ≡ true → Belongs m hs ht aux p → m.read_target p.source aux p.memory ≡ p.target

@@ -1,3 +1,4 @@
+pub mod IdentifierLaws
 pub mod SoundLaws
 pub mod SoundTermLaws
 mod ChainLemmas

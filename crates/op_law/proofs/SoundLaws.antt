@@ -30,4 +30,4 @@ tables_more n k h (t ∷ ts) b = (rows_more n k h t b.0, tables_more n k h ts b.
 
 pub pairs_more : (n k : ℕ) → n ≤ k → (es : Pairs) → PairsSound n es → PairsSound k es
 pairs_more n k h [] b = tt
-pairs_more n k h (e ∷ es) b = ((below_more n k h e.0 b.0.0, below_more n k h e.1 b.0.1, below_more n k h e.2 b.0.2), pairs_more n k h es b.1)
+pairs_more n k h (e ∷ es) b = ((below_more n k h e.0 b.0.0, omega arith, omega arith), pairs_more n k h es b.1)

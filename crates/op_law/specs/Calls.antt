@@ -37,7 +37,7 @@ IsSpent next old new spent = (first_refused old < next) × (spent.needed ≡ fir
 abbrev pub IsMapped : Mapped → CounterState → CounterState → Result Far (Fault IdsSpent) → Type 0
 IsMapped to old new (Ok far) = (to.next ≤ first_refused old) × IsFar to far × (new ≡ record old { next = to.next })
 IsMapped to old new (Err (Refused spent)) = IsSpent to.next old new spent
-IsMapped to old new (Err OutOfMemory) = new ≡ old
+IsMapped to old new (Err (OutOfMemory memory)) = new ≡ old
 
 -- the target of a related pair to which the source, the auxiliary tables and the memory belong, or none exactly where they belong to none
 abbrev pub Admits : Meaning → Tables → Tables → Pairs → Option Tables → Type 0
@@ -47,3 +47,7 @@ Admits m near aux memory None = (hs ht : List Heading) (far : Tables) → Belong
 -- where the operator treats each identifier by itself, a call takes at most so many steps for each identifier of these tables
 abbrev pub StepsWithin : Meaning → ℕ → Tables → Tables → ℕ → ℕ → Type 0
 StepsWithin m most near other old new = m.is_local ≡ true → new ≤ old + most * length (ids_over near (ids_over other []))
+
+-- likewise a mapping: six steps for each identifier of the new near side and the old pair
+abbrev pub MapsWithin : Meaning → Tables → PairState → ℕ → ℕ → Type 0
+MapsWithin m near pair old new = m.is_local ≡ true → new ≤ old + 6 * length (ids_over near (ids_over pair.source (ids_over pair.target [])))

@@ -29,7 +29,7 @@ chain_forward a b near first second n = let middle = a.forward near first n in (
 abbrev pub AreMapped : Mapped → Mapped → ℕ → CounterState → CounterState → Result (Far × Far) (Fault IdsSpent) → Type 0
 AreMapped first second next old new (Ok (f, g)) = (next ≤ first_refused old) × IsFar first f × IsFar second g × (new ≡ record old { next = next })
 AreMapped first second next old new (Err (Refused spent)) = IsSpent next old new spent
-AreMapped first second next old new (Err OutOfMemory) = new ≡ old
+AreMapped first second next old new (Err (OutOfMemory memory)) = new ≡ old
 
 -- the auxiliary tables are those of these related pairs, which share the middle side and its headings
 pub record ChainBelongs (a b : Meaning) (hs hm ht : List Heading) (first_aux second_aux : Tables) (first second : PairState) : Type 0 where

@@ -1,9 +1,10 @@
 -- The laws of an operator, for one direction and both.
 use Rattle.std.specs.Prelude.{◌≡◌, ℕ, ◌≤◌, ◌⊎◌, List, [], true}
-use Rattle.op_law.specs.Tables.{Tables, Heading, empty_tables}
+use Rattle.op_law.specs.Tables.{Tables, Heading, AllRise, empty_tables}
 use Rattle.op_law.specs.Sound.{TablesSound, PairsSound, HasRow}
 use Rattle.op_law.specs.Meaning.{Meaning, PairState, Mapped, flip}
 use Rattle.op_law.specs.Premises.{IsPair, MayMap, pair_after}
+use Rattle.op_law.specs.Local.{HalfLocal}
 
 -- a row of the identifier stands on either side
 abbrev pub InPair : ℕ → PairState → Type 0
@@ -32,6 +33,10 @@ pub record HalfLaws (m : Meaning) : Type 0 where
   pub empty : (hs ht : List Heading) → m.Fits hs ht → m.Related (empty_tables hs) (empty_tables ht) []
   -- expressions that are closed stay so while identifiers are drawn
   pub closed_more : (n k : ℕ) → n ≤ k → m.Closed n → m.Closed k
+  -- auxiliary tables ascend
+  pub aux_rises : (hs ht : List Heading) (p : PairState) → IsPair m hs ht p → AllRise (m.aux_at_source p)
+  -- local: one that says that it treats each identifier by itself does
+  pub local : m.is_local ≡ true → HalfLocal m
 
 -- the laws both ways
 abbrev pub Laws : Meaning → Type 0

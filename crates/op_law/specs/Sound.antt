@@ -31,10 +31,10 @@ abbrev pub TablesSound : ℕ → Tables → Type 0
 TablesSound n [] = Unit {0}
 TablesSound n (t ∷ ts) = RowsSound n t × TablesSound n ts
 
--- every identifier of a memory is below n
+-- every identifier of a memory is at least 1 and below n, and both halves of its pair are below n
 abbrev pub PairsSound : ℕ → Pairs → Type 0
 PairsSound n [] = Unit {0}
-PairsSound n (e ∷ es) = (IsBelow n e.0 × IsBelow n e.1 × IsBelow n e.2) × PairsSound n es
+PairsSound n (e ∷ es) = (IsBelow n e.0 × (e.1 < n) × (e.2 < n)) × PairsSound n es
 
 -- some of the tables has a row of the identifier
 abbrev pub HasRow : ℕ → Tables → Type 0

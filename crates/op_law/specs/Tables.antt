@@ -21,6 +21,11 @@ abbrev pub RowsWide : ℕ → Rows → Type 0
 RowsWide width [] = Unit {0}
 RowsWide width (r ∷ rs) = (length r.1 ≡ width) × RowsWide width rs
 
+-- the identifiers of each table rise
+abbrev pub AllRise : Tables → Type 0
+AllRise [] = Unit {0}
+AllRise (t ∷ ts) = RiseFrom 0 t × AllRise ts
+
 -- a table for each heading: its identifiers rise, and each row has one value for each column
 abbrev pub AreTablesOf : List Heading → Tables → Type 0
 AreTablesOf [] [] = Unit {0}

@@ -106,5 +106,9 @@ impl<O: Operator> Operator for Flip<O> {
         self.inner.admit_target(alloc, target, aux, memory, steps)
     }
 
+    fn is_local(&self) -> bool {
+        self.inner.is_local()
+    }
+
     ghost laws = { λ it. flip_laws (O.meaning it.inner) (O.laws it.inner) };
 }

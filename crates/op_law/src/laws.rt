@@ -3,6 +3,7 @@ ghost use Rattle.std.specs.Prelude.{ℕ, ◌≤◌};
 ghost use Rattle.id_memory.specs.Pairs.{Pairs};
 ghost use Rattle.op_law.specs.Tables.{Tables};
 ghost use Rattle.op_law.specs.Sound.{TablesSound, PairsSound};
+ghost use Rattle.op_law.specs.Identifiers.{NoneStandsTwice, AllWithRows};
 ghost use Rattle.op_law.specs.SoundTerms.{SoundTermsGiveSoundValues, SoundTermsStaySound};
 ghost use Rattle.op_law.specs.Meaning.{flip};
 ghost use Rattle.op_law.specs.ChainLaws.{ChainLaws};
@@ -14,6 +15,12 @@ pub fn sound_stays_sound()
     ensures tables { (n k : ℕ) (tables : Tables) → n ≤ k → TablesSound n tables
         → TablesSound k tables }
     ensures memory { (n k : ℕ) (pairs : Pairs) → n ≤ k → PairsSound n pairs → PairsSound k pairs }
+{}
+
+/// The list of identifiers by which steps are bounded has each identifier that has a row, once.
+pub fn each_identifier_is_listed_once()
+    ensures once { NoneStandsTwice }
+    ensures all { AllWithRows }
 {}
 
 /// Expressions whose literals may stand have values that may stand, and stay so themselves.

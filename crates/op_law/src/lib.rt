@@ -5,7 +5,8 @@
 //! other. The crates above rest on these laws alone. It knows no single operator, and nothing of
 //! versions or of where tables are stored.
 //!
-//! Lemmas that crates above may use stand in proofs/: `SoundLaws` and `SoundTermLaws`.
+//! Lemmas that crates above may use stand in proofs/: `IdentifierLaws`, `SoundLaws` and
+//! `SoundTermLaws`.
 #![tactic(auto)]
 
 mod chain;
@@ -17,7 +18,10 @@ mod side;
 
 pub use chain::Chain;
 pub use flip::Flip;
-pub use laws::{chains_keep_the_laws, sound_stays_sound, sound_terms_have_sound_values};
+pub use laws::{
+    chains_keep_the_laws, each_identifier_is_listed_once, sound_stays_sound,
+    sound_terms_have_sound_values,
+};
 pub use operator::Operator;
 pub use pair::{Far, Pair};
 pub use side::{Aux, Side};

@@ -3,7 +3,7 @@ ghost use Rattle.std.specs.Prelude.{◌≡◌, IfOk};
 ghost use Rattle.op_law.specs.Meaning.{Meaning, flip, exchanged};
 ghost use Rattle.op_law.specs.Premises.{SomePair, SomeMap, SomeStored, SomeNear};
 ghost use Rattle.op_law.specs.Laws.{Laws};
-ghost use Rattle.op_law.specs.Calls.{seen, tables_of, IsMapped, Admits, StepsWithin};
+ghost use Rattle.op_law.specs.Calls.{seen, tables_of, IsMapped, Admits, MapsWithin, StepsWithin};
 
 use crate::{Aux, Far, Pair, Side};
 use expr_lang::Steps;
@@ -30,8 +30,9 @@ pub trait Operator {
         steps: &mut Steps<L>,
     ) -> Result<Far, Fault<IdsSpent>>
         requires { SomeMap (meaning self.now) near.now (seen old.now) ids.old.next }
-        ensures { IsMapped ((meaning self.now).forward near.now
-            (seen old.now) ids.old.next) ids.old ids.new result };
+        ensures answer { IsMapped ((meaning self.now).forward near.now
+            (seen old.now) ids.old.next) ids.old ids.new result }
+        ensures steps { MapsWithin (meaning self.now) near.now (seen old.now) steps.old steps.new };
 
     /// The source and memory from a new target and the old pair, likewise.
     fn backward<L: Ledger>(
@@ -44,8 +45,10 @@ pub trait Operator {
     ) -> Result<Far, Fault<IdsSpent>>
         requires { SomeMap (flip (meaning self.now)) near.now
             (exchanged (seen old.now)) ids.old.next }
-        ensures { IsMapped ((meaning self.now).backward near.now
-            (seen old.now) ids.old.next) ids.old ids.new result };
+        ensures answer { IsMapped ((meaning self.now).backward near.now
+            (seen old.now) ids.old.next) ids.old ids.new result }
+        ensures steps { MapsWithin (flip (meaning self.now)) near.now
+            (exchanged (seen old.now)) steps.old steps.new };
 
     /// The target of the pair to which a source, its auxiliary tables and the memory belong.
     fn read_target<L: Ledger>(
@@ -131,6 +134,10 @@ pub trait Operator {
         requires { SomeNear (flip (meaning self.now)) target.now }
         ensures { IfOk result (λ source. Admits (flip (meaning self.now)) target.now
             (tables_of aux.now) memory.now.entries source) };
+
+    /// Whether it treats each identifier by itself. It takes no memory.
+    fn is_local(&self) -> bool
+        ensures { result ≡ (meaning self.now).is_local };
 
     ghost laws: { (operator : Self) → Laws (meaning operator) };
 }

@@ -15,7 +15,7 @@ use Rattle.op_rows.specs.inner.CellLemmas.{has_id, AllRise, ext_all, rise_ids, n
 use Rattle.op_rows.specs.inner.Tabulated.{row_from, at_from, all_rise_from, tables_long, cells_well, cells_long}
 use Rattle.op_rows.specs.RowMeaning.{RowMeaning, RowHalf, rowwise}
 use Rattle.op_rows.specs.RowCalls.{RowBelongs, AdmitsRows}
-use Rattle.op_rows.specs.RowwiseLaws.{none_pair, aux_at, aux_rise}
+use Rattle.op_rows.specs.inner.RowwiseAt.{none_pair, aux_at, aux_rise}
 use Rattle.op_rows.specs.inner.Passes.{read_at, AdmitsEach}
 use Rattle.op_rows.proofs.PassLemmas.{made_long}
 use Rattle.op_rows.proofs.PremiseLemmas.{belongs_at, contents_long}

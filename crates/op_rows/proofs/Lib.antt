@@ -1,5 +1,4 @@
 mod AdmissionLemmas
-mod LocalLemmas
 mod MergeLemmas
 mod PassLemmas
 mod PremiseLemmas

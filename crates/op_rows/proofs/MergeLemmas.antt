@@ -1,11 +1,12 @@
--- Going over two ascending lists in order.
+-- Going over an ascending list and the rows of a table in order.
 use Rattle.std.specs.Prelude.{nat_lt}
-use Rattle.std.proofs.Common.{◌≡◌, ℕ, zero, suc, ◌+◌, ◌<◌, ◌≤◌, ◌==◌, List, [], ◌∷◌, length, drop, get_or, drop-cons, add-one, true, false, ap, sym, ◌∙◌, subst, refl, arith}
+use Rattle.std.proofs.Common.{◌≡◌, ℕ, zero, suc, ◌+◌, ◌<◌, ◌≤◌, ◌==◌, List, [], ◌∷◌, ◌++◌, length, drop, get_or, drop-cons, add-one, true, false, ap, sym, ◌∙◌, subst, refl, arith}
 use Rattle.std.proofs.lemmas.Bool.Decides.{nat_tests}
 use Rattle.par_base.specs.declared.value.Value.{Value}
 use Rattle.row_store.specs.Rows.{Rows, RiseFrom}
 use Rattle.op_law.specs.Identifiers.{put_id, ids_in}
 use Rattle.op_rows.specs.inner.CellLemmas.{IdsRise, rise_put}
+use Rattle.op_rows.specs.inner.Merging.{AddsBelow, AddsRow, IsBehind}
 
 put_low : (x : ℕ) (xs : List ℕ) → IdsRise (x + 1) xs → put_id x xs ≡ x ∷ xs
 put_low x [] h = refl
@@ -34,21 +35,6 @@ step_id x k xs [] e h = refl
 step_id x k xs (r ∷ rs) e h =
     ap (λ (ids : List ℕ). put_id r.0 ids) (step_id x (r.0 + 1) xs rs (omega (arith, h.0)) h.1) ∙ put_over r.0 x (ids_in rs xs) (omega (arith, h.0))
 
--- that of the rows is
-step_row : (r : ℕ × List Value) (rs : Rows) (xs : List ℕ) → RiseFrom (r.0 + 1) rs → IdsRise (r.0 + 1) xs → ids_in (r ∷ rs) xs ≡ r.0 ∷ ids_in rs xs
-step_row r rs xs h k = put_low r.0 (ids_in rs xs) (rise_both (r.0 + 1) (r.0 + 1) rs xs (omega arith) h k)
-
--- they are the same
-step_both : (r : ℕ × List Value) (rs : Rows) (x : ℕ) (xs : List ℕ) → RiseFrom (r.0 + 1) rs → r.0 ≡ x → ids_in (r ∷ rs) (x ∷ xs) ≡ r.0 ∷ ids_in rs xs
-step_both r rs x xs h e =
-    ap (λ (ids : List ℕ). put_id r.0 ids) (step_id x (r.0 + 1) xs rs (omega (arith, e)) h) ∙ put_same r.0 x (ids_in rs xs) e ∙ ap (λ (k : ℕ). k ∷ ids_in rs xs) (sym e)
-
-rise_drop : (n i : ℕ) (rows : Rows) → RiseFrom n rows → RiseFrom 0 (drop i rows)
-rise_drop n zero [] h = tt
-rise_drop n (suc i) [] h = tt
-rise_drop n zero (r ∷ rs) h = (omega arith, h.1)
-rise_drop n (suc i) (r ∷ rs) h = rise_drop (r.0 + 1) i rs h.1
-
 ids_drop : (n i : ℕ) (ids : List ℕ) → IdsRise n ids → IdsRise 0 (drop i ids)
 ids_drop n zero [] h = tt
 ids_drop n (suc i) [] h = tt
@@ -64,29 +50,70 @@ none_left n (suc i) (x ∷ xs) h = none_left n i xs (omega arith)
 split_at : {A : Type 0} (xs : List A) (i : ℕ) (x : A) → i < length xs → drop i xs ≡ get_or xs i x ∷ drop (i + 1) xs
 split_at xs i x h = rw (add-one, drop-cons xs i x)
 
--- what is left at these places
-module _ (ids : List ℕ) (rows : Rows) (i j : ℕ) (r : ℕ × List Value) (rise : IdsRise 0 ids) (rows_rise : RiseFrom 0 rows) where
-  rows_tail : j < length rows → RiseFrom 0 (get_or rows j r ∷ drop (j + 1) rows)
-  rows_tail h = subst (λ (t : Rows). RiseFrom 0 t) (split_at rows j r h) (rise_drop 0 j rows rows_rise)
+append_one : (all rest : List ℕ) (x : ℕ) → all ++ x ∷ rest ≡ (all ++ x ∷ []) ++ rest
+append_one [] rest x = refl
+append_one (y ∷ all) rest x = ap (λ (ids : List ℕ). y ∷ ids) (append_one all rest x)
 
-  ids_tail : i < length ids → IdsRise 0 (get_or ids i 0 ∷ drop (i + 1) ids)
-  ids_tail h = subst (λ (t : List ℕ). IdsRise 0 t) (split_at ids i 0 h) (ids_drop 0 i ids rise)
+-- ---- what the list has below an identifier
 
-  next_row : j < length rows → IdsRise ((get_or rows j r).0 + 1) (drop i ids) → ids_in (drop j rows) (drop i ids) ≡ (get_or rows j r).0 ∷ ids_in (drop (j + 1) rows) (drop i ids)
-  next_row h above = ap (λ (t : Rows). ids_in t (drop i ids)) (split_at rows j r h) ∙ step_row (get_or rows j r) (drop (j + 1) rows) (drop i ids) (rows_tail h).1 above
+pub not_less : (x id : ℕ) → nat_lt x id ≡ false → id ≤ x
+not_less x id above = grind (arith, nat_tests)
 
-  pub next_end : j < length rows → i ≡ length ids → ids_in (drop j rows) (drop i ids) ≡ (get_or rows j r).0 ∷ ids_in (drop (j + 1) rows) (drop i ids)
-  next_end h e = next_row h (none_left _ i ids (omega arith))
+pub some_above : (ids : List ℕ) (at id : ℕ) → IdsRise 0 ids → at < length ids → id ≤ get_or ids at 0 → IdsRise id (drop at ids)
+some_above ids at id rise h above =
+    let tail : IdsRise 0 (get_or ids at 0 ∷ drop (at + 1) ids) = subst (λ (t : List ℕ). IdsRise 0 t) (split_at ids at 0 h) (ids_drop 0 at ids rise) in
+    subst (λ (t : List ℕ). IdsRise id t) (sym (split_at ids at 0 h)) (above, tail.1)
 
-  pub next_less : j < length rows → i < length ids → (get_or rows j r).0 < get_or ids i 0 → ids_in (drop j rows) (drop i ids) ≡ (get_or rows j r).0 ∷ ids_in (drop (j + 1) rows) (drop i ids)
-  next_less h k less = next_row h (subst (λ (t : List ℕ). IdsRise ((get_or rows j r).0 + 1) t) (sym (split_at ids i 0 k)) (omega (arith, less), (ids_tail k).1))
+pub below_more : (ids first all now : List ℕ) (from to id : ℕ) → to < length ids → get_or ids to 0 < id → now ≡ all ++ get_or ids to 0 ∷ []
+    → ((rows : Rows) → RiseFrom id rows → first ++ ids_in rows (drop from ids) ≡ all ++ ids_in rows (drop to ids))
+    → (rows : Rows) → RiseFrom id rows → first ++ ids_in rows (drop from ids) ≡ now ++ ids_in rows (drop (to + 1) ids)
+below_more ids first all now from to id h below is so_far = λ rows rise.
+    so_far rows rise
+    ∙ ap (λ (t : List ℕ). all ++ ids_in rows t) (split_at ids to 0 h)
+    ∙ ap (λ (t : List ℕ). all ++ t) (step_id (get_or ids to 0) id (drop (to + 1) ids) rows below rise)
+    ∙ append_one all (ids_in rows (drop (to + 1) ids)) (get_or ids to 0)
+    ∙ ap (λ (t : List ℕ). t ++ ids_in rows (drop (to + 1) ids)) (sym is)
 
-  pub next_same : j < length rows → i < length ids → (get_or rows j r).0 ≡ get_or ids i 0 → ids_in (drop j rows) (drop i ids) ≡ (get_or rows j r).0 ∷ ids_in (drop (j + 1) rows) (drop (i + 1) ids)
-  next_same h k e =
-      ap (λ (t : Rows). ids_in t (drop i ids)) (split_at rows j r h) ∙ ap (λ (t : List ℕ). ids_in (get_or rows j r ∷ drop (j + 1) rows) t) (split_at ids i 0 k)
-      ∙ step_both (get_or rows j r) (drop (j + 1) rows) (get_or ids i 0) (drop (i + 1) ids) (rows_tail h).1 e
+-- ---- the list behind an identifier
 
-  pub next_more : j < length rows → i < length ids → get_or ids i 0 < (get_or rows j r).0 → ids_in (drop j rows) (drop i ids) ≡ get_or ids i 0 ∷ ids_in (drop j rows) (drop (i + 1) ids)
-  next_more h k more =
-      ap (λ (t : List ℕ). ids_in (drop j rows) t) (split_at ids i 0 k)
-      ∙ step_id (get_or ids i 0) (get_or ids i 0 + 1) (drop (i + 1) ids) (drop j rows) (omega arith) (subst (λ (t : Rows). RiseFrom (get_or ids i 0 + 1) t) (sym (split_at rows j r h)) (omega (arith, more), (rows_tail h).1))
+put_first : (id : ℕ) (ids : List ℕ) (rows : Rows) → IdsRise (id + 1) ids → RiseFrom (id + 1) rows → put_id id (ids_in rows ids) ≡ id ∷ ids_in rows ids
+put_first id ids rows rise above = put_low id (ids_in rows ids) (rise_both (id + 1) (id + 1) rows ids (omega arith) above rise)
+
+pub none_behind : (ids : List ℕ) (at id : ℕ) → at ≡ length ids → IsBehind id (drop at ids) (drop at ids)
+none_behind ids at id h = λ rows above. put_first id (drop at ids) rows (none_left (id + 1) at ids (omega arith)) above
+
+pub same_behind : (ids : List ℕ) (at id : ℕ) → at < length ids → get_or ids at 0 ≡ id → IsBehind id (drop at ids) (drop (at + 1) ids)
+same_behind ids at id h same = λ rows above.
+    let rest = drop (at + 1) ids in
+    let first : drop at ids ≡ id ∷ rest = split_at ids at 0 h ∙ ap (λ (x : ℕ). x ∷ rest) same in
+    ap (λ (t : List ℕ). put_id id (ids_in rows t)) first
+    ∙ ap (λ (t : List ℕ). put_id id t) (step_id id (id + 1) rest rows (omega arith) above)
+    ∙ put_same id id (ids_in rows rest) refl
+
+pub other_behind : (ids : List ℕ) (at id : ℕ) → IdsRise id (drop at ids) → at < length ids → (get_or ids at 0 ≡ id → ⊥) → IsBehind id (drop at ids) (drop at ids)
+other_behind ids at id rise h other = λ rows above.
+    let own : IdsRise id (get_or ids at 0 ∷ drop (at + 1) ids) = subst (λ (t : List ℕ). IdsRise id t) (split_at ids at 0 h) rise in
+    let more : IdsRise (id + 1) (get_or ids at 0 ∷ drop (at + 1) ids) = (omega (arith, own.0, other), own.1) in
+    put_first id (drop at ids) rows (subst (λ (t : List ℕ). IdsRise (id + 1) t) (sym (split_at ids at 0 h)) more) above
+
+-- ---- a row of the table
+
+pub row_more : (ids first all now : List ℕ) (from at to id : ℕ) → AddsBelow first ids from id at all → now ≡ all ++ id ∷ [] → IsBehind id (drop at ids) (drop to ids) → to ≤ length ids → AddsRow first ids from id to now
+row_more ids first all now from at to id adds is next within = (
+  within,
+  λ rows above.
+      let both : RiseFrom id ((id, []) ∷ rows) = (omega arith, above) in
+      adds.2 ((id, []) ∷ rows) both
+      ∙ ap (λ (t : List ℕ). all ++ t) (next rows above)
+      ∙ append_one all (ids_in rows (drop to ids)) id
+      ∙ ap (λ (t : List ℕ). t ++ ids_in rows (drop to ids)) (sym is),
+)
+
+pub rise_rest : (row : ℕ × List Value) (left : Rows) → RiseFrom 0 (row ∷ left) → RiseFrom 0 left
+rise_rest row [] rise = tt
+rise_rest row (r ∷ rs) rise = (omega arith, rise.1.1)
+
+pub merge_more : (ids all now : List ℕ) (before rows left : Rows) (row : ℕ × List Value) (from to : ℕ) → before ≡ row ∷ left → RiseFrom 0 before → AddsRow all ids from row.0 to now → ids_in rows ids ≡ all ++ ids_in before (drop from ids) → ids_in rows ids ≡ now ++ ids_in left (drop to ids)
+merge_more ids all now before rows left row from to step rise adds so_far =
+    let rest : RiseFrom 0 (row ∷ left) = subst (λ (t : Rows). RiseFrom 0 t) step rise in
+    so_far ∙ ap (λ (t : Rows). all ++ ids_in t (drop from ids)) step ∙ adds.1 left rest.1

@@ -9,7 +9,7 @@ use Rattle.op_rows.specs.Cells.{Cells, cells_at, tables_from}
 use Rattle.op_rows.specs.RowMeaning.{RowMeaning, RowHalf, rowwise}
 use Rattle.op_rows.specs.RowCalls.{SomeRows, MayRows, RowBelongs, StoredRows, NearRows}
 use Rattle.op_rows.specs.inner.Tabulated.{cells_well}
-use Rattle.op_rows.specs.RowwiseLaws.{pair_at, aux_at}
+use Rattle.op_rows.specs.inner.RowwiseAt.{pair_at, aux_at}
 use Rattle.op_rows.proofs.PassLemmas.{made_long}
 
 module _ (r : RowMeaning) (h : RowHalf r) where

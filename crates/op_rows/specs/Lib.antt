@@ -2,5 +2,5 @@ pub mod Cells
 pub mod RowMeaning
 pub mod NearSides
 pub mod RowCalls
-pub mod RowwiseLaws
+pub mod AtEach
 pub mod inner

@@ -1,3 +1,7 @@
+pub mod CellLemmas
+pub mod Merging
 pub mod Passes
 pub mod Tabulated
-pub mod CellLemmas
+pub mod RowwiseAt
+pub mod RowwiseLaws
+pub mod RowwiseLocal

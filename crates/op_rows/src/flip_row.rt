@@ -1,6 +1,6 @@
 //! An operator at one identifier, with its sides exchanged.
 ghost use Rattle.op_rows.specs.RowMeaning.{flip_row};
-ghost use Rattle.op_rows.specs.RowwiseLaws.{flip_row_laws};
+ghost use Rattle.op_rows.specs.inner.RowwiseLaws.{flip_row_laws};
 
 use crate::{Cells, NearSide, OldRows, RowOperator};
 use expr_lang::Steps;

@@ -2,91 +2,95 @@
 //!
 //! The tables are merged one after another into the list, so each takes time in its own length and
 //! that of the list.
-ghost use Rattle.std.specs.Prelude.{◌≡◌, ◌+◌, ◌<◌, ◌≤◌, [], ◌∷◌, length, IfOk};
+ghost use Rattle.std.specs.Prelude.{◌≡◌, ◌≤◌, false, [], ◌++◌, drop, length, IfOk, IsTrue};
 ghost use Rattle.row_store.specs.Rows.{RiseFrom};
 ghost use Rattle.op_law.specs.Tables.{contents};
 ghost use Rattle.op_law.specs.Identifiers.{ids_in, ids_over};
 ghost use Rattle.op_rows.specs.inner.CellLemmas.{IdsRise, AllRise};
-ghost use Rattle.op_rows.specs.inner.Passes.{ids_left};
+ghost use Rattle.op_rows.specs.inner.Merging.{IsBelowAt, AddsBelow, IsBehind, AddsRow};
 
-use par_base::{List, Memory, Row};
+use par_base::{List, Memory};
 use row_store::Table;
 use std::alloc::Global;
 
-/// The least identifier that is left of a list and of rows, and the places from which they are left
-/// after it.
-#[derive(Clone, Copy)]
-struct Next {
-    id: u64,
-    in_ids: usize,
-    in_rows: usize,
+/// Whether the list has an identifier below this one at the place.
+fn is_below(ids: &[u64], at: usize, id: u64) -> bool
+    requires within { at ≤ length ids.now }
+    requires rise { IdsRise 0 ids.now }
+    ensures below { IsTrue result → IsBelowAt ids.now at id }
+    ensures above { result ≡ false → IdsRise id (drop at ids.now) }
+{
+    if at == ids.len() {
+        return false;
+    }
+    ids[at] < id
 }
 
-/// The least identifier from these places on.
-fn next_id(ids: &[u64], in_ids: usize, rows: &[(u64, Row)], in_rows: usize) -> Next
-    requires ids_rise { IdsRise 0 ids.now }
-    requires rows_rise { RiseFrom 0 rows.now }
-    requires in_ids { in_ids ≤ length ids.now }
-    requires in_rows { in_rows ≤ length rows.now }
-    requires more { in_ids + in_rows < length ids.now + length rows.now }
-    ensures in_ids { result.in_ids ≤ length ids.now }
-    ensures in_rows { result.in_rows ≤ length rows.now }
-    ensures further { in_ids + in_rows < result.in_ids + result.in_rows }
-    ensures next { ids_left ids.now in_ids rows.now in_rows
-        ≡ result.id ∷ ids_left ids.now result.in_ids rows.now result.in_rows }
+/// Adds what the list has from the place on, as far as it is below the identifier, and answers the
+/// place behind that.
+fn add_below(ids: &[u64], all: &mut List<u64>, from: usize, id: u64) -> Result<usize, Memory>
+    requires within { from ≤ length ids.now }
+    requires rise { IdsRise 0 ids.now }
+    ensures { IfOk result (λ to. AddsBelow all.old ids.now from id to all.new) }
 {
-    if in_rows == rows.len() {
-        return Next {
-            id: ids[in_ids],
-            in_ids: in_ids + 1,
-            in_rows,
-        };
+    let mut to = from;
+    while is_below(ids, to, id) {
+        all.push(ids[to])?;
+        to += 1;
     }
-    let id = rows[in_rows].0;
-    if in_ids == ids.len() {
-        return Next {
-            id,
-            in_ids,
-            in_rows: in_rows + 1,
-        };
+    Ok(to)
+}
+
+/// The place behind the identifier, where the list has it at this place, and else the place itself.
+fn behind(ids: &[u64], at: usize, id: u64) -> usize
+    requires within { at ≤ length ids.now }
+    requires rise { IdsRise id (drop at ids.now) }
+    ensures within { result ≤ length ids.now }
+    ensures next { IsBehind id (drop at ids.now) (drop result ids.now) }
+{
+    if at == ids.len() {
+        return at;
     }
-    let other = ids[in_ids];
-    if id < other {
-        return Next {
-            id,
-            in_ids,
-            in_rows: in_rows + 1,
-        };
+    if ids[at] == id {
+        return at + 1;
     }
-    if id == other {
-        return Next {
-            id,
-            in_ids: in_ids + 1,
-            in_rows: in_rows + 1,
-        };
+    at
+}
+
+/// Adds what the list has below the identifier, and the identifier, and answers the place from which
+/// the list is left.
+fn add_row(ids: &[u64], all: &mut List<u64>, from: usize, id: u64) -> Result<usize, Memory>
+    requires within { from ≤ length ids.now }
+    requires rise { IdsRise 0 ids.now }
+    ensures { IfOk result (λ to. AddsRow all.old ids.now from id to all.new) }
+{
+    let at = add_below(ids, all, from, id)?;
+    all.push(id)?;
+    Ok(behind(ids, at, id))
+}
+
+/// Adds these identifiers behind the others.
+fn add_rest(all: &mut List<u64>, rest: &[u64]) -> Result<(), Memory>
+    ensures { IfOk result (λ _. all.new ≡ all.old ++ rest.now) }
+{
+    for id in rest {
+        all.push(*id)?;
     }
-    Next {
-        id: other,
-        in_ids: in_ids + 1,
-        in_rows,
-    }
+    Ok(())
 }
 
 /// The identifiers of the list and of the rows. It takes time in the number of both.
-pub fn merge_ids(alloc: Global, ids: &[u64], rows: &[(u64, Row)]) -> Result<List<u64>, Memory>
-    requires ids { IdsRise 0 ids.now }
-    requires rows { RiseFrom 0 rows.now }
-    ensures { IfOk result (λ all. all ≡ ids_in rows.now ids.now) }
+pub fn merge_ids(alloc: Global, ids: &[u64], table: &Table) -> Result<List<u64>, Memory>
+    requires { IdsRise 0 ids.now }
+    ensures value { IfOk result (λ all. all ≡ ids_in table.now.rows ids.now) }
+    ensures rise { IfOk result (λ _. RiseFrom 0 table.now.rows) }
 {
     let mut all = List::new(alloc);
-    let mut in_ids = 0;
-    let mut in_rows = 0;
-    while in_ids < ids.len() || in_rows < rows.len() {
-        let next = next_id(ids, in_ids, rows, in_rows);
-        all.push(next.id)?;
-        in_ids = next.in_ids;
-        in_rows = next.in_rows;
+    let mut from = 0;
+    for row in table.iter() {
+        from = add_row(ids, &mut all, from, row.0)?;
     }
+    add_rest(&mut all, &ids[from..])?;
     Ok(all)
 }
 
@@ -99,7 +103,7 @@ fn add_ids(alloc: Global, ids: List<u64>, tables: &[Table]) -> Result<List<u64>,
 {
     let mut all = ids;
     for table in tables {
-        all = merge_ids(alloc, all.as_slice(), table.as_slice())?;
+        all = merge_ids(alloc, all.as_slice(), table)?;
     }
     Ok(all)
 }

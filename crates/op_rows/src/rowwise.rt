@@ -3,7 +3,7 @@
 //! A call makes one pass over the ascending identifiers of the tables that it reads, and holds the
 //! rows of one identifier at a time.
 ghost use Rattle.op_rows.specs.RowMeaning.{rowwise};
-ghost use Rattle.op_rows.specs.RowwiseLaws.{rowwise_laws};
+ghost use Rattle.op_rows.specs.inner.RowwiseLaws.{rowwise_laws};
 
 use crate::mapping::{Keeping, Mapping, Reading};
 use crate::tables::{admit_tables, keep_tables, map_tables, read_tables};
@@ -157,6 +157,10 @@ impl<R: RowOperator> Operator for Rowwise<R> {
             aux,
         };
         admit_tables(alloc, &each, memory, steps)
+    }
+
+    fn is_local(&self) -> bool {
+        true
     }
 
     ghost laws = { λ it. rowwise_laws (R.row_meaning it.inner) (R.row_laws it.inner) };

@@ -29,11 +29,16 @@ pub(crate) fn map_tables<R: RowOperator, L: Ledger>(
 ) -> Result<Far, Memory>
     requires { (id : ℕ) → MayRows (seen_from each.now.side (R.row_meaning each.now.operator.now))
         (cells_at each.now.near.now id) (cells_at each.now.old_near.now id)
-            (cells_at each.now.old_far.now id) }
-    ensures { IfOk result (IsFar ((rowwise (seen_from each.now.side
+        (cells_at each.now.old_far.now id) }
+    ensures answer { IfOk result (IsFar ((rowwise (seen_from each.now.side
         (R.row_meaning each.now.operator.now))).forward
-        each.now.near.now (record { source = each.now.old_near.now; target = each.now.old_far.now;
-            memory = [] }) 0)) }
+        each.now.near.now (record {
+          source = each.now.old_near.now;
+          target = each.now.old_far.now;
+          memory = [];
+        }) 0)) }
+    ensures steps { steps.new ≤ steps.old + 6 * length (ids_over each.now.near.now
+        (ids_over each.now.old_near.now (ids_over each.now.old_far.now []))) }
 {
     let ids = ids_of_three(
         alloc,

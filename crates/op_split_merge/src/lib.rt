@@ -19,5 +19,5 @@ mod reading;
 mod split;
 mod twins;
 
-pub use laws::shown_rows;
+pub use laws::{merged_rows, shown_rows, shown_rows_of_one_target};
 pub use split::Split;

@@ -80,11 +80,11 @@ pub(crate) fn targets_to<L: Ledger>(
         (option_map expr_term split.now.second) (option_copied second) }
     ensures ok { IfOk result (λ far. far ≡ targets_of (option_map expr_term split.now.second)
         (first_to (holds_at (expr_term split.now.first))
-            (test_of (option_map expr_term split.now.second)) (option_copied new.entry)
-            (option_copied first.entry) (option_copied second.entry))
+        (test_of (option_map expr_term split.now.second)) (option_copied new.entry)
+        (option_copied first.entry) (option_copied second.entry))
         (second_to (holds_at (expr_term split.now.first))
-            (test_of (option_map expr_term split.now.second)) (option_copied new.entry)
-            (option_copied first.entry) (option_copied second.entry))) }
+        (test_of (option_map expr_term split.now.second)) (option_copied new.entry)
+        (option_copied first.entry) (option_copied second.entry))) }
     ensures steps { steps.new ≤ steps.old + 6 }
 {
     let condition = split.second.as_ref();

@@ -9,6 +9,6 @@ mod comparing;
 mod pass;
 mod side_tables;
 
-pub use comparing::{is_same_rows, is_same_tables, is_wide, is_wide_side};
+pub use comparing::{is_same_tables, is_wide, is_wide_side};
 pub use pass::{MakesRow, table_over, with_ids};
 pub use side_tables::{first_of, second_of, third_of};

@@ -31,7 +31,7 @@ pub fn with_ids(alloc: Global, ids: &List<u64>, table: &Table) -> Result<List<u6
     ensures value { IfOk result (λ all. all ≡ ids_in table.now.rows ids.now) }
     ensures rise { IfOk result (λ all. IdsRise 0 all) }
 {
-    let all = merge_ids(alloc, ids.as_slice(), table.as_slice())?;
+    let all = merge_ids(alloc, ids.as_slice(), table)?;
     Ok(all)
 }
 

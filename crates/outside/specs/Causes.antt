@@ -5,9 +5,10 @@ use Rattle.std.specs.Prelude.{◌≡◌, ℕ, ◌+◌, ◌-◌, ◌≤◌, ◌^�
 abbrev pub Rose : ℕ → ℕ → Type 0
 Rose before now = min (before + 1) (2 ^ 64 - 1) ≤ now
 
--- the count never falls, and a failure comes only where it rose
+-- the count never falls; it stays in a call that answers, and a failure comes only where it rose
 pub record HasCause {T E : Type 0} (before now : ℕ) (result : Result T E) : Type 0 where
   pub later : before ≤ now
+  pub stays : OnOk result (now ≡ before)
   pub failed : OnErr result (Rose before now)
 
 -- the count never falls, and it rises only at a failure and under the condition

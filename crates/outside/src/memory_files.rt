@@ -27,8 +27,12 @@ impl Model for MemoryFiles {
 
     ghost Value = { FilesState };
 
-    ghost view = { λ files. record { files = files.files.items; faults = files.failures.faults;
-        missing = files.missing } };
+    ghost view = { λ files. record {
+      files = files.files.items;
+      most = files.most;
+      faults = files.failures.faults;
+      missing = files.missing;
+    } };
 
     ghost invariant = { λ files. 0 < files.most };
 }
@@ -38,6 +42,7 @@ impl MemoryFiles {
     pub fn new(alloc: Global, most: usize, failing: Vec<u64>) -> MemoryFiles
         requires { 0 < most }
         ensures files { result.files ≡ [] }
+        ensures most { result.most ≡ most }
         ensures faults { result.faults ≡ 0 }
         ensures missing { result.missing ≡ 0 }
     {

@@ -17,12 +17,17 @@ pub struct MemorySink {
 }
 
 impl Model for MemorySink {
-    ghost use Rattle.std.specs.Prelude.{◌<◌};
+    ghost use Rattle.std.specs.Prelude.{◌<◌, vec_capacity};
     ghost use Rattle.outside.specs.InMemory.{SinkState};
 
     ghost Value = { SinkState };
 
-    ghost view = { λ sink. record { held = sink.bytes.items; faults = sink.failures.faults } };
+    ghost view = { λ sink. record {
+      held = sink.bytes.items;
+      room = vec_capacity sink.bytes;
+      most = sink.most;
+      faults = sink.failures.faults;
+    } };
 
     ghost invariant = { λ sink. 0 < sink.most };
 }
@@ -37,6 +42,8 @@ impl MemorySink {
     ) -> Result<MemorySink, Memory>
         requires { 0 < most }
         ensures held { IfOk result (λ sink. sink.held ≡ []) }
+        ensures room { IfOk result (λ sink. room ≤ sink.room) }
+        ensures most { IfOk result (λ sink. sink.most ≡ most) }
         ensures faults { IfOk result (λ sink. sink.faults ≡ 0) }
     {
         let bytes = Vec::with_capacity(alloc, room)?;

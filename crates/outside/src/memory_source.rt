@@ -22,8 +22,11 @@ impl Model for MemorySource {
 
     ghost Value = { SourceState };
 
-    ghost view = { λ source. record { left = drop source.at source.bytes.items; faults =
-        source.failures.faults } };
+    ghost view = { λ source. record {
+      left = drop source.at source.bytes.items;
+      most = source.most;
+      faults = source.failures.faults;
+    } };
 
     ghost invariant = { λ source. (source.at ≤ vec_len source.bytes) × (0 < source.most) };
 }
@@ -33,6 +36,7 @@ impl MemorySource {
     pub fn new(bytes: Vec<u8>, most: usize, failing: Vec<u64>) -> MemorySource
         requires { 0 < most }
         ensures left { result.left ≡ bytes.items }
+        ensures most { result.most ≡ most }
         ensures faults { result.faults ≡ 0 }
     {
         MemorySource {

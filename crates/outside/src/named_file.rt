@@ -21,8 +21,11 @@ impl Model for NamedFile {
 
     ghost Value = { FileState };
 
-    ghost view = { λ file. record { name = string_bytes file.name; bytes = if file.is_told then Some
-        file.bytes.items else None } };
+    ghost view = { λ file. record {
+      name = string_bytes file.name;
+      bytes = if file.is_told then Some
+          file.bytes.items else None;
+    } };
 }
 
 impl NamedFile {

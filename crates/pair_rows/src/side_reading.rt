@@ -40,13 +40,11 @@ fn put_id(ids: &mut IdSet, id: u64) -> Result<(), Memory>
 }
 
 /// Puts the identifiers of a table.
-fn put_rows(ids: &mut IdSet, rows: &[(u64, Row)]) -> Result<(), Memory>
-    ensures { OnOk result (ids.new ≡ ids_in rows.now ids.old) }
+fn put_rows(ids: &mut IdSet, table: &Table) -> Result<(), Memory>
+    ensures { OnOk result (ids.new ≡ ids_in table.now.rows ids.old) }
 {
-    let mut left = rows.len();
-    while left > 0 {
-        left -= 1;
-        put_id(ids, rows[left].0)?;
+    for row in table.iter().rev() {
+        put_id(ids, row.0)?;
     }
     Ok(())
 }
@@ -75,7 +73,7 @@ fn all_ids(
     ensures rise { IfOk result (λ ids. IdsRise 0 ids) }
 {
     let mut ids = IdSet::new(alloc);
-    put_rows(&mut ids, aux.as_slice())?;
+    put_rows(&mut ids, aux)?;
     put_paired(&mut ids, half, entries)?;
     ids.list(alloc)
 }

@@ -53,7 +53,7 @@ pub fn staying(
         staying (pick_of half) old.now.entries new.now.entries rows.now.rows) }
 {
     let mut made = Table::new(alloc);
-    for row in rows.as_slice() {
+    for row in rows.iter() {
         push_if_stays(alloc, half, old, new, row, &mut made)?;
     }
     Ok(made)

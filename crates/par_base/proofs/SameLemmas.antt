@@ -2,7 +2,8 @@
 use Rattle.std.proofs.Common.{◌≡◌, IsTrue, ◌↔◌, List, Bool, true, false, refl, sym, ◌∙◌, ap}
 use Rattle.std.proofs.lemmas.Bool.{false≢true}
 use Rattle.par_base.specs.declared.value.Value.{Value}
-use Rattle.par_base.specs.SameRows.{same_row, row_equal, row_same}
+use Rattle.par_base.specs.SameRows.{same_row}
+use Rattle.par_base.specs.inner.SameLaws.{row_equal, row_same}
 
 -- a test that tells equal rows is `same_row`
 pub told : (r : Bool) (a b : List Value) → (IsTrue r ↔ (a ≡ b)) → r ≡ same_row a b

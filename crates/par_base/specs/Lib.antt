@@ -1,4 +1,6 @@
+pub mod Checked
 pub mod Lends
 pub mod Literals
 pub mod Names
 pub mod SameRows
+pub mod inner

@@ -1,12 +1,23 @@
 //! The errors of calls: want of memory, and refusals beside it.
 ghost use Rattle.std.specs.Prelude.{◌≡◌};
 ghost use Rattle.par_base.specs.declared.fault.Fault.TheVariants.{Memory as OutOfMemory};
+ghost use Rattle.par_base.specs.Checked.{ran_out};
 
 use std::alloc::{AllocError, AllocFailed};
 
-/// Memory ran out. The error of a call that refuses nothing.
+/// Memory ran out. The error of a call that refuses nothing. Only what allocates makes one: its
+/// field is private, and no public call makes one from nothing.
 #[derive(Clone, Copy, Debug, PartialEq, Eq, Drop)]
-pub struct Memory;
+pub struct Memory {
+    passed: (),
+}
+
+impl Memory {
+    /// Memory has run out, or would, as with more things than can be in memory.
+    pub(crate) fn passed() -> Memory {
+        Memory { passed: () }
+    }
+}
 
 /// The error of a call that may refuse: a refusal with its cause, or want of memory.
 #[derive(Clone, Copy, Debug, PartialEq, Eq, Drop)]
@@ -14,41 +25,41 @@ pub enum Fault<X> {
     /// The call is refused, for the cause that its contract names.
     Refused(X),
     /// Memory ran out. It says nothing of the arguments.
-    Memory,
+    Memory(Memory),
 }
 
 impl From<AllocError> for Memory {
     fn from(_error: AllocError) -> Memory {
-        Memory
+        Memory::passed()
     }
 }
 
 impl<T: Drop> From<AllocFailed<T>> for Memory {
     fn from(_error: AllocFailed<T>) -> Memory {
-        Memory
+        Memory::passed()
     }
 }
 
 impl<X> From<AllocError> for Fault<X> {
-    ghost from_gives = { λ _ fault. fault ≡ OutOfMemory };
+    ghost from_gives = { λ _ fault. ran_out fault };
 
-    fn from(_error: AllocError) -> Fault<X> {
-        Fault::Memory
+    fn from(error: AllocError) -> Fault<X> {
+        Fault::Memory(Memory::from(error))
     }
 }
 
 impl<X, T: Drop> From<AllocFailed<T>> for Fault<X> {
-    ghost from_gives = { λ _ fault. fault ≡ OutOfMemory };
+    ghost from_gives = { λ _ fault. ran_out fault };
 
-    fn from(_error: AllocFailed<T>) -> Fault<X> {
-        Fault::Memory
+    fn from(error: AllocFailed<T>) -> Fault<X> {
+        Fault::Memory(Memory::from(error))
     }
 }
 
 impl<X> From<Memory> for Fault<X> {
-    ghost from_gives = { λ _ fault. fault ≡ OutOfMemory };
+    ghost from_gives = { λ memory fault. fault ≡ OutOfMemory memory };
 
-    fn from(_error: Memory) -> Fault<X> {
-        Fault::Memory
+    fn from(memory: Memory) -> Fault<X> {
+        Fault::Memory(memory)
     }
 }

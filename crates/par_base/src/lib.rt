@@ -8,6 +8,7 @@
 //! Lemmas that crates above may use stand in proofs/: `LiteralLaws`.
 #![tactic(auto)]
 
+mod counts;
 mod fault;
 mod limits;
 mod list;
@@ -18,6 +19,7 @@ mod same;
 mod text;
 mod value;
 
+pub use counts::add_counts;
 pub use fault::{Fault, Memory};
 pub use limits::{Limits, Target};
 pub use list::List;

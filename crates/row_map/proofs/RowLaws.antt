@@ -13,7 +13,8 @@ use Rattle.par_base.specs.declared.value.Value.{Value}
 use Rattle.row_map.specs.IdNumbers.{IdNumbers, number_of_id, IsWithId}
 use Rattle.row_map.specs.Paths.{Texts, Steps, text_numbers, next_in, node_of, node_in, number_at, AreWell, AreAtNodes, NodesGrow}
 use Rattle.row_map.specs.RowNumbers.{RowNumbers, number_of_row, IsWithRow, HasSameNumbers}
-use Rattle.par_base.specs.SameRows.{same_row, row_equal, row_same}
+use Rattle.par_base.specs.SameRows.{same_row}
+use Rattle.par_base.specs.inner.SameLaws.{row_equal, row_same}
 use Rattle.row_map.proofs.PathLaws.{node_one, node_within}
 
 -- a text is found among bytes as among strings

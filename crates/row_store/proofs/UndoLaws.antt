@@ -1,6 +1,6 @@
 -- Changes that were applied, and the two passes that undo them.
 use Rattle.std.specs.Prelude.{IsSome, is_none}
-use Rattle.std.proofs.Common.{◌≡◌, ℕ, zero, suc, ◌+◌, ◌<◌, ◌≤◌, ◌==◌, List, [], ◌∷◌, Bool, true, false, length, get_or, Option, Some, None, if◌then◌else◌, refl, sym, ap, ◌∙◌, subst, arith}
+use Rattle.std.proofs.Common.{◌≡◌, ℕ, zero, suc, ◌+◌, ◌<◌, ◌≤◌, ◌==◌, List, [], ◌∷◌, ◌++◌, Bool, true, false, length, get_or, Option, Some, None, if◌then◌else◌, refl, sym, ap, ◌∙◌, subst, arith}
 use Rattle.std.proofs.lemmas.Bool.Decides.{nat_tests}
 use Rattle.std.proofs.lemmas.Bool.{cases_order, cases_lt}
 use mathlib.Core.Logic.{inl, inr}
@@ -8,49 +8,13 @@ use Rattle.par_base.specs.declared.value.Value.{Value}
 use Rattle.row_store.specs.declared.change.Change.{Change}
 use Rattle.row_store.specs.declared.exchange.Which.{Which}
 use Rattle.row_store.specs.declared.exchange.Which.TheVariants.{All, Added, Others}
-use Rattle.row_store.specs.Rows.{Rows, RiseFrom, row_of}
+use Rattle.row_store.specs.Rows.{Rows, RiseFrom, AreBelow, row_of}
 use Rattle.row_store.specs.Changes.{ChangesRise, AreOld, after, back_to, reverse_of, WasApplied}
-use Rattle.row_store.specs.inner.Passes.{is_in, after_in, exchanged, exchanged_one, HasRoom}
-use Rattle.row_store.proofs.PlaceLemmas.{eq_self, apart_below, apart_above, none_under}
+use Rattle.row_store.specs.inner.Passes.{is_in, after_in, exchanged, exchanged_one, HasRoom, PutsAt}
+use Rattle.row_store.specs.inner.SameTables.{apart_above, apart_below, eq_self}
+pub use Rattle.row_store.specs.inner.SameTables.{ext}
+use Rattle.row_store.proofs.PlaceLemmas.{swap_tests, rises_push}
 use Rattle.row_store.proofs.PassLemmas.{and_false, same_number}
-
--- two tables that ascend and have the same rows are equal
-pub ext : (n : ℕ) (s t : Rows) → RiseFrom n s → RiseFrom n t → ((id : ℕ) → row_of s id ≡ row_of t id) → s ≡ t
-ext n [] [] rise_s rise_t same = refl
-ext n [] (r ∷ rs) rise_s rise_t same =
-    let own = eq_self r.0 in
-    let e : None ≡ Some r.1 = rw own at (same r.0) in
-    cc
-ext n (r ∷ rs) [] rise_s rise_t same =
-    let own = eq_self r.0 in
-    let e : Some r.1 ≡ None = rw own at (same r.0) in
-    cc
-ext n (a ∷ xs) (b ∷ ys) rise_s rise_t same =
-    let apart : (p q : ℕ × List Value) (ps qs : Rows) → p.0 < q.0 → RiseFrom (q.0 + 1) qs → row_of (p ∷ ps) p.0 ≡ row_of (q ∷ qs) p.0 → ⊥ =
-    λ p q ps qs h rise e.
-    let own = eq_self p.0 in
-    let some : Some p.1 ≡ row_of (q ∷ qs) p.0 = rw own at e in
-    let none = none_under q.0 (q ∷ qs) p.0 (omega arith, rise) h in
-    cc in
-    elim (cases_order a.0 b.0) [
-      | inl e ↦
-          let own_a = eq_self a.0 in
-          let own_b : (b.0 == a.0) ≡ true = grind (arith, nat_tests) in
-          let some : Some a.1 ≡ Some b.1 = rw (own_a, own_b) at (same a.0) in
-          let tail : xs ≡ ys = ext (a.0 + 1) xs ys rise_s.1 (subst (λ (k : ℕ). RiseFrom (k + 1) ys) (sym e) rise_t.1)
-          (λ id. elim (cases_lt a.0 id) [
-            | inl h ↦
-                let not_a = apart_below a.0 id h in
-                let not_b = apart_below b.0 id (omega arith) in
-                rw (not_a, not_b) at (same id)
-            | inr h ↦ none_under (a.0 + 1) xs id rise_s.1 (omega arith) ∙ sym (none_under (b.0 + 1) ys id rise_t.1 (omega arith))
-          ]) in
-          let row : a.1 ≡ b.1 = cc in
-          let head : ◌≡◌ {A = ℕ × List Value} (a.0, a.1) (b.0, b.1) = ap (λ (k : ℕ). (k, a.1)) e ∙ ap (λ (v : List Value). (b.0, v)) row in
-          cc
-      | inr (inl h) ↦ absurd (apart a b xs ys h rise_t.1 (same a.0))
-      | inr (inr h) ↦ absurd (apart b a ys xs h rise_s.1 (sym (same b.0)))
-    ]
 
 -- a pass over all changes is all that they say
 pub after_all : (cs : List Change) (id : ℕ) (row : Option (List Value)) → after_in All cs id row ≡ after cs id row
@@ -214,3 +178,13 @@ undone last rows now before cs left kept_left last_left was rise passed is rise_
       is_last ∙ ap (exchanged Others rows) all
           ∙ renewed before now rows 0 cs rise_cs (λ id h. was.changed.rows id) (λ id h. passed id ∙ ap (λ (changes : List Change). after_in Added changes id (row_of now id)) was.reversed),
     )
+
+-- a row of a greater identifier is behind the others
+row_of_push : (rows : Rows) (id : ℕ) (row : List Value) (q : ℕ) → AreBelow rows id → row_of (rows ++ (id, row) ∷ []) q ≡ (if id == q then Some row else row_of rows q)
+row_of_push [] id row q below = refl
+row_of_push (r ∷ rs) id row q below =
+    rw (row_of_push rs id row q below.1) (swap_tests (r.0 == q) (id == q) (Some r.1) (Some row) (row_of rs q) (λ e. let same = same_number r.0 q e in apart_above id q (omega (arith, same, below.0))))
+
+pub pushed : (rows now : Rows) (id : ℕ) (row : List Value) → RiseFrom 0 rows → AreBelow rows id → RiseFrom 0 now → PutsAt id (Some row) rows now → now ≡ rows ++ (id, row) ∷ []
+pushed rows now id row rise below rise_now puts =
+    ext 0 now (rows ++ (id, row) ∷ []) rise_now (rises_push 0 rows id row (omega arith) rise below) (λ q. puts q ∙ sym (row_of_push rows id row q below))

@@ -1,5 +1,6 @@
 pub mod Changes
 pub mod Laws
+pub mod LookUps
 pub mod Rows
 pub mod States
 pub mod Undo

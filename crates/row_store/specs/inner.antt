@@ -1,1 +1,4 @@
+pub mod Pages
 pub mod Passes
+pub mod RowsLeft
+pub mod SameTables

@@ -1,10 +1,11 @@
 //! Changes of a table's rows.
-ghost use Rattle.std.specs.Prelude.{◌≡◌, [], ◌∷◌, ◌++◌, length, vec_capacity, OnOk, OnErr};
+ghost use Rattle.std.specs.Prelude.{◌≡◌, [], ◌∷◌, ◌++◌, length, OnOk, OnErr};
 ghost use Rattle.row_store.specs.Rows.{RiseFrom};
 ghost use Rattle.row_store.specs.Changes.{ChangesRise, IsAbove};
 ghost use Rattle.row_store.specs.inner.Passes.{exchanged, HasRoom, ExchangesRows};
 
 use crate::exchange::{Which, exchange_all};
+use crate::pages::Pages;
 use par_base::{Memory, Row};
 use std::alloc::Global;
 use std::marker::Model;
@@ -71,14 +72,14 @@ impl Changes {
     }
 
     /// Exchanges the new rows of the changes that the pass takes with the rows of a table.
-    pub(crate) fn exchange(&mut self, rows: &mut Vec<(u64, Row)>, which: Which)
-        requires rises { RiseFrom 0 rows.old.items }
-        requires room { HasRoom which rows.old.items self.old (vec_capacity rows.old) }
-        ensures rises { RiseFrom 0 rows.new.items }
-        ensures rows { ExchangesRows which self.old rows.old.items rows.new.items }
-        ensures changes { self.new ≡ exchanged which rows.old.items self.old }
+    pub(crate) fn exchange(&mut self, rows: &mut Pages, which: Which)
+        requires rises { RiseFrom 0 rows.old.rows }
+        requires room { HasRoom which rows.old.rows self.old rows.old.capacity }
+        ensures rises { RiseFrom 0 rows.new.rows }
+        ensures rows { ExchangesRows which self.old rows.old.rows rows.new.rows }
+        ensures changes { self.new ≡ exchanged which rows.old.rows self.old }
         ensures order { ChangesRise 0 self.old }
-        ensures capacity { vec_capacity rows.new ≡ vec_capacity rows.old }
+        ensures capacity { rows.new.capacity ≡ rows.old.capacity }
     {
         exchange_all(rows, self.items.as_mut_slice(), which);
     }

@@ -1,20 +1,28 @@
-//! Tables of rows, and lists of changes to them.
+//! Tables of rows in pages, and lists of changes to them.
 //!
 //! It promises the crates above that a table is the ascending list of its identifiers with their
 //! rows, that changes which fit a table are applied and undone without memory once there is room,
-//! and that room which was made stays. It knows nothing of columns, versions or operators.
+//! that room which was made stays, and that a look-up compares few identifiers. The rows lie in
+//! pages of 32 to 64, so a change moves the rows of one page and never those of the whole table. It
+//! knows nothing of columns, versions or operators.
 //!
 //! Lemmas that crates above may use stand in proofs/: `UndoLaws`.
 #![tactic(auto)]
 
+mod balance;
 mod change;
+mod edit;
 mod exchange;
+mod find;
 mod laws;
+mod page;
+mod pages;
 mod place;
+mod row_items;
+mod same;
 mod table;
-mod table_iter;
 
 pub use change::{Change, Changes};
 pub use laws::{changes_give_one_table, rows_are_the_table};
+pub use row_items::RowItems;
 pub use table::Table;
-pub use table_iter::TableIter;

@@ -1,34 +1,45 @@
-//! A table as one sorted list of its identifiers and rows.
-ghost use Rattle.std.specs.Prelude.{◌≡◌, ◌+◌, ◌≤◌, [], ◌∷◌, ◌++◌, length, IfOk, OnOk, OnErr};
+//! A table: its identifiers and rows in pages.
+ghost use Rattle.std.specs.Prelude.{◌≡◌, ◌+◌, ◌≤◌, ◌↔◌, [], ◌∷◌, ◌++◌, length, IsTrue, IfOk, OnOk, OnErr};
 ghost use Rattle.std.specs.Option.{option_map};
 ghost use Rattle.row_store.specs.Rows.{RiseFrom, AreBelow, row_of};
 ghost use Rattle.row_store.specs.Changes.{AreOld, WasApplied};
+ghost use Rattle.row_store.specs.inner.Pages.{all_rows};
+ghost use Rattle.row_store.specs.LookUps.{WithinDigits};
 ghost use Rattle.row_store.specs.Undo.{IsUndoable, Restores};
 
 use crate::exchange::Which;
-use crate::{Changes, TableIter};
+use crate::page::Page;
+use crate::pages::Pages;
+use crate::same::are_same;
+use crate::{Changes, RowItems};
+use expr_lang::Steps;
 use par_base::{Memory, Row};
 use std::alloc::Global;
 use std::marker::Model;
+use std::sync::ledger::Ledger;
 
 /// Rows by ascending identifier, with room for further ones.
 #[derive(Debug, Drop)]
 pub struct Table {
-    rows: Vec<(u64, Row)>,
+    pages: Pages,
 }
 
 impl Model for Table {
-    ghost use Rattle.std.specs.Prelude.{◌-◌, vec_len, vec_capacity};
+    ghost use Rattle.std.specs.Prelude.{◌-◌, ◌≤◌, length};
     ghost use Rattle.row_store.specs.States.{TableState};
 
     ghost Value = { TableState };
 
     ghost use Rattle.row_store.specs.Rows.{RiseFrom};
 
-    ghost view = { λ table. record { rows = table.rows.items; spare = vec_capacity table.rows -
-        vec_len table.rows } };
+    ghost view = { λ table. record {
+      rows = table.pages.rows;
+      spare = table.pages.capacity - length
+          table.pages.rows;
+    } };
 
-    ghost invariant = { λ table. RiseFrom 0 table.rows.items };
+    ghost invariant = { λ table. RiseFrom 0 table.pages.rows
+        × (length table.pages.rows ≤ table.pages.capacity) };
 }
 
 impl Table {
@@ -37,65 +48,80 @@ impl Table {
         ensures { result.rows ≡ [] }
     {
         Table {
-            rows: Vec::new(alloc),
+            pages: Pages::new(alloc),
         }
     }
 
+    /// How many rows there are. It takes constant time.
     pub fn len(&self) -> usize
         ensures { result ≡ length self.now.rows }
     {
-        self.rows.len()
+        self.pages.len()
     }
 
-    /// The row of an identifier, found by a binary search. It takes no memory.
+    /// The row of an identifier, found by two binary searches. It takes no memory.
     pub fn get(&self, id: u64) -> Option<&Row>
         ensures value { option_map (λ row. row.now) result ≡ row_of self.now.rows id }
         ensures rise { RiseFrom 0 self.now.rows }
     {
-        found(&self.rows, id)
+        self.pages.get(id)
     }
 
-    /// The identifiers with their rows, in order. It takes no memory.
-    pub fn iter(&self) -> TableIter<'_>
+    /// As `get`. Each comparison of identifiers takes a step. It takes no memory.
+    pub fn find<L: Ledger>(&self, id: u64, steps: &mut Steps<L>) -> Option<&Row>
+        ensures value { option_map (λ row. row.now) result ≡ row_of self.now.rows id }
+        ensures steps { WithinDigits (length self.now.rows) 7 steps.old steps.new }
+    {
+        self.pages.find(id, steps)
+    }
+
+    /// The identifiers with their rows, in order, from either end. It takes no memory, and each row
+    /// takes constant time.
+    pub fn iter(&self) -> RowItems<'_>
         ensures all { result ≡ self.now.rows }
         ensures rise { RiseFrom 0 self.now.rows }
     {
-        TableIter::new(&self.rows)
+        self.pages.iter()
     }
 
-    /// The identifiers with their rows, in order. It takes no memory.
-    pub fn as_slice(&self) -> &[(u64, Row)]
-        ensures all { result.now ≡ self.now.rows }
-        ensures rise { RiseFrom 0 self.now.rows }
+    /// Whether both tables have the same rows, found by one pass over both. It takes no memory.
+    pub fn is_same(&self, other: &Table) -> bool
+        ensures { IsTrue result ↔ (self.now.rows ≡ other.now.rows) }
     {
-        self.rows.as_slice()
+        are_same(self.iter(), other.iter())
     }
 
-    /// Adds the row of a greater identifier behind the others.
+    /// Adds the row of a greater identifier behind the others. It costs what a change does, and a
+    /// page where there is no room.
     pub fn push(&mut self, id: u64, row: Row) -> Result<(), Memory>
         requires { AreBelow self.old.rows id }
         ensures ok { OnOk result (self.new.rows ≡ self.old.rows ++ (id, row) ∷ []) }
         ensures err { OnErr result (self.new.rows ≡ self.old.rows) }
         ensures room { self.old.spare ≤ self.new.spare + 1 }
     {
-        self.rows.push((id, row))?;
+        self.pages.reserve(1)?;
+        let _ = self.pages.put(id, Some(row));
+        self.pages.fits();
         Ok(())
     }
 
-    /// Makes room for further rows. The rows stay.
+    /// Makes room for further rows. The rows stay, and none moves: it takes time for the pages that
+    /// are added, and at most once for the list of all pages.
     pub fn reserve(&mut self, more: usize) -> Result<(), Memory>
         ensures ok { OnOk result (more ≤ self.new.spare) }
         ensures same { self.new.rows ≡ self.old.rows }
         ensures room { self.old.spare ≤ self.new.spare }
     {
-        self.rows.reserve(more)?;
+        self.pages.reserve(more)?;
+        self.pages.fits();
         Ok(())
     }
 
     /// Makes each new row the table's row, and leaves the reverse changes. It takes no memory.
     ///
-    /// A change takes a binary search. Where it adds or removes a row, all rows behind it move by
-    /// one place.
+    /// A change takes two binary searches. Where it adds or removes a row, the rows behind it in
+    /// its page move by one place, and once in many changes the page is parted or joined, which
+    /// moves the list of the pages behind it.
     pub fn apply(&mut self, changes: &mut Changes)
         requires fit { AreOld self.old.rows changes.old }
         requires spare { length changes.old ≤ self.old.spare }
@@ -103,7 +129,8 @@ impl Table {
         ensures room { self.new.spare + length self.new.rows
             ≡ self.old.spare + length self.old.rows }
     {
-        changes.exchange(&mut self.rows, Which::All);
+        changes.exchange(&mut self.pages, Which::All);
+        self.pages.fits();
     }
 
     /// Takes back what was applied: restores the rows, and the changes too. It takes no memory,
@@ -115,36 +142,38 @@ impl Table {
             ≡ self.old.spare + length self.old.rows }
     {
         // Rows that were added go first, so that there is room for those that come back.
-        changes.exchange(&mut self.rows, Which::Added);
-        changes.exchange(&mut self.rows, Which::Others);
+        changes.exchange(&mut self.pages, Which::Added);
+        changes.exchange(&mut self.pages, Which::Others);
+        self.pages.fits();
     }
 
-    /// An equal table. It has its own room.
+    /// An equal table, made by one pass over the rows. It has its own room.
     pub fn copy(&self) -> Result<Table, Memory>
         ensures { IfOk result (λ made. made.rows ≡ self.now.rows) }
     {
-        let rows = copy_rows(*self.rows.allocator(), &self.rows)?;
-        Ok(Table { rows })
+        self.pages.fits();
+        copy_pages(self.pages.allocator(), self.pages.as_slice())
     }
 }
 
-fn found(rows: &[(u64, Row)], id: u64) -> Option<&Row>
-    requires { RiseFrom 0 rows.now }
-    ensures { option_map (λ row. row.now) result ≡ row_of rows.now id }
+/// Adds copies of the rows behind the others.
+fn copy_behind(made: &mut Table, alloc: Global, rows: &[(u64, Row)]) -> Result<(), Memory>
+    requires { RiseFrom 0 (made.old.rows ++ rows.now) }
+    ensures { OnOk result (made.new.rows ≡ made.old.rows ++ rows.now) }
 {
-    match crate::place::place_of(rows, id) {
-        Ok(at) => Some(&rows[at].1),
-        Err(_) => None,
-    }
-}
-
-fn copy_rows(alloc: Global, rows: &[(u64, Row)]) -> Result<Vec<(u64, Row)>, Memory>
-    ensures { IfOk result (λ made. made.items ≡ rows.now) }
-{
-    let mut made = Vec::new(alloc);
-    made.reserve(rows.len())?;
     for row in rows {
-        made.push((row.0, row.1.copy(alloc)?))?;
+        made.push(row.0, row.1.copy(alloc)?)?;
+    }
+    Ok(())
+}
+
+fn copy_pages(alloc: Global, pages: &[Page]) -> Result<Table, Memory>
+    requires { RiseFrom 0 (all_rows pages.now) }
+    ensures { IfOk result (λ made. made.rows ≡ all_rows pages.now) }
+{
+    let mut made = Table::new(alloc);
+    for page in pages {
+        copy_behind(&mut made, alloc, page.as_slice())?;
     }
     Ok(made)
 }

@@ -39,7 +39,7 @@ pub fn statement_of(alloc: Global, text: &str) -> Result<Option<Statement>, Memo
     let tokens = tokens_of(alloc, bytes, true)?;
     match parse_statement(alloc, bytes, tokens.as_slice(), true) {
         Ok(Parsed::Whole { statement, .. }) => Ok(Some(statement)),
-        Err(Fault::Memory) => Err(Memory),
+        Err(Fault::Memory(memory)) => Err(memory),
         _ => Ok(None),
     }
 }

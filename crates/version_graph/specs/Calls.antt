@@ -43,26 +43,26 @@ CanAdd {O} es parent operator table e = (more : List (Edge O)) × CanGrow es par
 abbrev pub FindsStart : List (List ℕ × ℕ) → Option (List ℕ) → Result ℕ (Fault Refusal) → Type 0
 FindsStart versions from (Ok w) = start_of versions from ≡ Some w
 FindsStart versions from (Err (Refused r)) = (start_of versions from ≡ None) × (refused_start from None None ≡ Some r)
-FindsStart versions from (Err Memory) = ⊤
+FindsStart versions from (Err (Memory memory)) = ⊤
 
 abbrev pub IsUnused : List (List ℕ × ℕ) → List ℕ → Result (List ℕ) (Fault Refusal) → Type 0
 IsUnused versions name (Ok same) = (same ≡ name) × (set_named versions name ≡ None)
 IsUnused versions name (Err (Refused r)) = (w : ℕ) × (set_named versions name ≡ Some w) × (r ≡ VersionExists name)
-IsUnused versions name (Err Memory) = ⊥
+IsUnused versions name (Err (Memory memory)) = ⊥
 
 abbrev pub FindsRoom : {O : Type 0} → ℕ → Last → List (Edge O) → Result Last (Fault Refusal) → Type 0
 FindsRoom live last edges (Ok after) =
     (limit_passed live last.operator last.table edges ≡ None) × (after.operator ≡ last.operator + length edges) × (after.table ≡ last.table + targets_in edges) × (live + length edges ≤ operator_limit) × (after.operator < 2 ^ 32) × (after.table < 2 ^ 32)
 FindsRoom live last edges (Err (Refused r)) = refused_limit (limit_passed live last.operator last.table edges) ≡ Some r
-FindsRoom live last edges (Err Memory) = ⊥
+FindsRoom live last edges (Err (Memory memory)) = ⊥
 
 -- the last numbers after an edge, where it may be placed
 abbrev pub FindsPlace : {O : Type 0} → Drawn O → Placed O → Result Last (Fault NotGraph) → Type 0
 FindsPlace g e (Ok after) = CanPlace g e × (after.operator ≡ e.number) × (after.table ≡ last_of g.last_table e.tables)
 FindsPlace g e (Err (Refused r)) = CanPlace g e → ⊥
-FindsPlace g e (Err Memory) = ⊥
+FindsPlace g e (Err (Memory memory)) = ⊥
 
 abbrev pub FindsRoomAt : ℕ → Last → ℕ → Result Last (Fault Refusal) → Type 0
 FindsRoomAt live last targets (Ok after) = (limit_at live last.operator last.table targets ≡ None) × (after.operator ≡ last.operator + 1) × (after.table ≡ last.table + targets) × (live < operator_limit) × (after.operator < 2 ^ 32) × (after.table < 2 ^ 32)
 FindsRoomAt live last targets (Err (Refused r)) = refused_limit (limit_at live last.operator last.table targets) ≡ Some r
-FindsRoomAt live last targets (Err Memory) = ⊥
+FindsRoomAt live last targets (Err (Memory memory)) = ⊥

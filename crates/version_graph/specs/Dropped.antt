@@ -44,4 +44,4 @@ LeavesSets old new = (w : ℕ) → In w (numbers new.edges) → working new.edge
 abbrev pub Dooms : {O : Type 0} → Drawn O → List ℕ → Result (List ℕ) (Fault Refusal) → Type 0
 Dooms g name (Ok gone) = IsSome (set_named g.versions name) × (gone ≡ doomed (version_sets (other_versions g.versions name)) g.edges)
 Dooms g name (Err (Refused r)) = (set_named g.versions name ≡ None) × (r ≡ UnknownVersion name)
-Dooms g name (Err Memory) = ⊤
+Dooms g name (Err (Memory memory)) = ⊤

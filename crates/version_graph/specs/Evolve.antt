@@ -97,4 +97,4 @@ abbrev pub EvolvesGraph : {O : Type 0} → Drawn O → List ℕ → Option (List
 EvolvesGraph g name from edges (Ok set) new =
     (refusal_of g name from edges ≡ None) × (new ≡ evolved g name (unwrap_or (start_of g.versions from) 0) edges) × (set ≡ new.last_operator)
 EvolvesGraph g name from edges (Err (Refused r)) new = (refusal_of g name from edges ≡ Some r) × (new ≡ g)
-EvolvesGraph g name from edges (Err Memory) new = new ≡ g
+EvolvesGraph g name from edges (Err (Memory memory)) new = new ≡ g

@@ -36,7 +36,7 @@ with_edge g e = record { edges = e ∷ g.edges; versions = g.versions; last_oper
 abbrev pub PlacesEdge : {O : Type 0} → Drawn O → Placed O → Result (Unit {0}) (Fault NotGraph) → Drawn O → Type 0
 PlacesEdge g e (Ok done) new = CanPlace g e × (new ≡ with_edge g e)
 PlacesEdge g e (Err (Refused r)) new = (CanPlace g e → ⊥) × (new ≡ g)
-PlacesEdge g e (Err Memory) new = new ≡ g
+PlacesEdge g e (Err (Memory memory)) new = new ≡ g
 
 -- ---- a name
 
@@ -53,7 +53,7 @@ with_version g name set = record { edges = g.edges; versions = g.versions ++ (na
 abbrev pub PlacesVersion : {O : Type 0} → Drawn O → List ℕ → ℕ → Result (Unit {0}) (Fault NotGraph) → Drawn O → Type 0
 PlacesVersion g name set (Ok done) new = CanName g name set × (new ≡ with_version g name set)
 PlacesVersion g name set (Err (Refused r)) new = (CanName g name set → ⊥) × (new ≡ g)
-PlacesVersion g name set (Err Memory) new = new ≡ g
+PlacesVersion g name set (Err (Memory memory)) new = new ≡ g
 
 -- ---- the end
 

@@ -170,7 +170,7 @@ module _ {O : Type 0} (meaning : O → Meaning) (laws : (o : O) → Laws (meanin
         c.2 ∙ limit,
         refl,
       )
-  step_refused now new i d OutOfMemory inside so_far within limit c = tt
+  step_refused now new i d (OutOfMemory memory) inside so_far within limit c = tt
 
   -- the whole walk
   pub walk_made : (new : Made) (i : ℕ) → length path ≤ i → made_state b new ≡ carried i → made_state b new ≡ all_carried
@@ -194,4 +194,4 @@ pub write_refused : {O : Type 0} (meaning : O → Meaning) (es : List (Placed O)
 write_refused {O} meaning es b w made new (Refused spent) start ids c =
     let end = subst (λ (s : State). IsSpent (run meaning (before_state b) s (walk (forest es) w.set)).next made.ids made.ids spent) start c in
     subst (λ (k : CounterState). IsSpent (write meaning es (before_state b) w.set w.table w.rows.rows w.ids.next).next k k spent) ids end
-write_refused {O} meaning es b w made new OutOfMemory start ids c = tt
+write_refused {O} meaning es b w made new (OutOfMemory memory) start ids c = tt

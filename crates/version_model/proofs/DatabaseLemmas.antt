@@ -111,7 +111,7 @@ module _ {O : Type 0} (meaning : O → Meaning) (laws : (o : O) → Laws (meanin
   refused b (Refused spent) same h =
       let at = subst (λ (s : State). IsSpent (write meaning k.graph.edges s w.set w.table w.rows.rows w.ids.next).next w.ids w.ids spent) same h in
       ((subst (λ (n : ℕ). n < written_state.next) refuses_same at.0, at.1 ∙ refuses_same, at.2 ∙ limit, refl), refl)
-  refused b OutOfMemory same h = refl
+  refused b (OutOfMemory memory) same h = refl
 
   module _ (b : Before) (made : Made) (tables : List (Numbered TableState)) (memories : List (Numbered MemoryState)) (held : b.tables.now ≡ k.tables) (lent : b.memories.now ≡ k.memories) (first : b.next ≡ k.ids.next) (was : WritesRows meaning k.graph.edges b w (Ok made))
       (renewed_tables : (n : ℕ) → value_of tables n ≡ renewed (value_of k.tables n) (latest_of made.tables n))

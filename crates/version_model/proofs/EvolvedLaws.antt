@@ -185,7 +185,7 @@ module _ {O : Type 0} (meaning : O → Meaning) (laws : (o : O) → Laws (meanin
       subst (λ (x : Kept O). Evolves meaning d name from edges (Err (refusal_for fault)) (database_of x)) (sym (kept_is back held lent drawn)) (refused_if fault keeps)
     where
       refused_if : (fault : Fault IdsSpent) → Keeps meaning (state_of k) k.ids (newer g.edges first) (Err fault) s ids → Evolves meaning d name from edges (Err (refusal_for fault)) d
-      refused_if OutOfMemory h = refl
+      refused_if (OutOfMemory memory) h = refl
       refused_if (Refused spent) h =
           let over = subst (λ (x : State). first_refused k.ids < x.next) (new_ends g first is count) h.0 in (
             subst (λ (o : Option Refusal). RefusesEvolution o end.next (counter_of d) (SpendsIds spent.needed spent.limit)) (sym none)

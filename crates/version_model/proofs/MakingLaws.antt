@@ -186,7 +186,7 @@ module _ {O : Type 0} (meaning : O → Meaning) where
           c.2 ∙ so_far.limit,
           refl,
         )
-    one_refused new OutOfMemory makes = tt
+    one_refused new (OutOfMemory memory) makes = tt
 
   drop_past : {X : Type 0} (xs : List X) (i : ℕ) → length xs ≤ i → drop i xs ≡ []
   drop_past [] zero h = refl

@@ -65,7 +65,7 @@ Crosses meaning b p old made new (Ok done) =
     let to = given meaning (made_state b made) p old in
     (to.next ≤ first_refused made.ids) × (made_state b new ≡ with_far (made_state b made) p to) × (new.ids.limit ≡ made.ids.limit)
 Crosses meaning b p old made new (Err (Refused spent)) = IsSpent (given meaning (made_state b made) p old).next made.ids made.ids spent
-Crosses meaning b p old made new (Err OutOfMemory) = ⊤
+Crosses meaning b p old made new (Err (OutOfMemory memory)) = ⊤
 
 -- ---- a walk
 
@@ -104,7 +104,7 @@ Carries meaning es b set made new (Ok done) =
     let end = run meaning (before_state b) (made_state b made) (walk (forest es) set) in
     (end.next ≤ first_refused made.ids) × (made_state b new ≡ end) × (new.ids.limit ≡ made.ids.limit)
 Carries meaning es b set made new (Err (Refused spent)) = IsSpent (run meaning (before_state b) (made_state b made) (walk (forest es) set)).next made.ids made.ids spent
-Carries meaning es b set made new (Err OutOfMemory) = ⊤
+Carries meaning es b set made new (Err (OutOfMemory memory)) = ⊤
 
 -- ---- a write
 
@@ -122,4 +122,4 @@ WritesRows meaning es b w (Ok made) =
     let end = write meaning es (before_state b) w.set w.table w.rows.rows w.ids.next in
     (end.next ≤ first_refused w.ids) × (made_state b made ≡ end) × (made.ids.limit ≡ w.ids.limit)
 WritesRows meaning es b w (Err (Refused spent)) = IsSpent (write meaning es (before_state b) w.set w.table w.rows.rows w.ids.next).next w.ids w.ids spent
-WritesRows meaning es b w (Err OutOfMemory) = ⊤
+WritesRows meaning es b w (Err (OutOfMemory memory)) = ⊤

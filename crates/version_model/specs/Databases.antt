@@ -32,7 +32,7 @@ Writes meaning d w t rows next (Ok done) new =
     let end = write meaning d.graph.edges d.state w t rows next in
     (end.next ≤ first_refused (counter_of d)) × (new ≡ record d { state = end })
 Writes meaning d w t rows next (Err (Refused spent)) new = IsSpent (write meaning d.graph.edges d.state w t rows next).next (counter_of d) (counter_of d) spent × (new ≡ d)
-Writes meaning d w t rows next (Err Memory) new = new ≡ d
+Writes meaning d w t rows next (Err (Memory memory)) new = new ≡ d
 
 -- ---- evolutions
 
@@ -61,7 +61,7 @@ Evolves meaning d name from edges (Ok done) new =
     let end = evolved_state meaning d from edges in
     (refusal_of d.graph name from edges ≡ None) × (end.next ≤ first_refused (counter_of d)) × (new ≡ record d { graph = evolved d.graph name (start_in d from) edges; state = end })
 Evolves meaning d name from edges (Err (Refused told)) new = RefusesEvolution (refusal_of d.graph name from edges) (evolved_state meaning d from edges).next (counter_of d) told × (new ≡ d)
-Evolves meaning d name from edges (Err Memory) new = new ≡ d
+Evolves meaning d name from edges (Err (Memory memory)) new = new ≡ d
 
 -- ---- drops
 

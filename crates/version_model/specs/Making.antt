@@ -84,7 +84,7 @@ Makes meaning b ids fs (Ok made) =
     let end = with_links meaning (before_state b) fs in
     (end.next ≤ first_refused ids) × (made_state b made ≡ end) × (made.ids.limit ≡ ids.limit) × Each (WasMade made) fs
 Makes meaning b ids fs (Err (Refused spent)) = IsSpent (with_links meaning (before_state b) fs).next ids ids spent
-Makes meaning b ids fs (Err OutOfMemory) = ⊤
+Makes meaning b ids fs (Err (OutOfMemory memory)) = ⊤
 
 -- ---- what is kept of it
 
@@ -106,9 +106,9 @@ Keeps meaning s ids fs (Ok done) new now =
     let end = with_links meaning s fs in
     (end.next ≤ first_refused ids) × (new ≡ end) × (now.limit ≡ ids.limit)
 Keeps meaning s ids fs (Err (Refused spent)) new now = IsSpent (with_links meaning s fs).next ids now spent
-Keeps meaning s ids fs (Err OutOfMemory) new now = ⊤
+Keeps meaning s ids fs (Err (OutOfMemory memory)) new now = ⊤
 
 -- a spent counter as the refusal of a statement
 abbrev pub refusal_for : Fault IdsSpent → Fault Refusal
 refusal_for (Refused spent) = Refused (SpendsIds spent.needed spent.limit)
-refusal_for OutOfMemory = OutOfMemory
+refusal_for (OutOfMemory memory) = (OutOfMemory memory)

@@ -158,6 +158,6 @@ pub fn as_refusal(fault: Fault<IdsSpent>) -> Fault<Refusal>
 {
     match fault {
         Fault::Refused(spent) => spent.refused(),
-        Fault::Memory => Fault::Memory,
+        Fault::Memory(memory) => Fault::Memory(memory),
     }
 }

@@ -118,7 +118,7 @@ module _ {O : Type 0} (meaning : O → Meaning) (laws : (o : O) → Laws (meanin
   refused (Refused spent) h =
       let at = subst (λ (n : ℕ). IsSpent n w.ids w.ids spent) next_is h in
       (subst (λ (n : ℕ). n < end.next) refuses_same at.0, at.1 ∙ refuses_same, at.2 ∙ limit, refl)
-  refused OutOfMemory h = tt
+  refused (OutOfMemory memory) h = tt
 
   module _ (made : Made) (was : WritesRows meaning es b w (Ok made)) where
     made_is : made_state b made ≡ small

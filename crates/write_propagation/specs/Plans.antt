@@ -34,4 +34,4 @@ Plans {O} meaning d w t rows next (Ok plan) =
     let end = write meaning d.graph.edges (state_for meaning d) w t rows next in
     (end.next ≤ first_refused d.ids) × ((new : Parts O) → Puts d plan new → IsDatabase meaning new × (database_for meaning new ≡ record (database_for meaning d) { state = end }))
 Plans meaning d w t rows next (Err (Refused spent)) = IsSpent (write meaning d.graph.edges (state_for meaning d) w t rows next).next d.ids d.ids spent
-Plans meaning d w t rows next (Err Memory) = ⊤
+Plans meaning d w t rows next (Err (Memory memory)) = ⊤

@@ -11,7 +11,8 @@ use Rattle.foreign_keys.specs.KeyParts.{FkParts, FkWell}
 use Rattle.foreign_keys.specs.DrawnIds.{Values, numbered, add_once, has, place, drawn}
 use Rattle.op_tables.specs.Lookups.{eq_above, own_row, later, wide_at}
 use Rattle.op_law.proofs.SoundLaws.{rows_more}
-use Rattle.par_base.specs.SameRows.{same_row, row_equal, row_same}
+use Rattle.par_base.specs.SameRows.{same_row}
+use Rattle.par_base.specs.inner.SameLaws.{row_equal, row_same}
 
 -- each value stands there once
 abbrev pub Distinct : List (List Value) → Type 0

@@ -369,7 +369,7 @@ module _ (j : Joining) (parts : ArePartition j.first j.second) (s t r : Rows) (m
   -- first identifiers of sound pairs are below
   firsts_of : (n : ℕ) (es : Pairs) → PairsSound n es → FirstsBelow n es
   firsts_of n [] sound = tt
-  firsts_of n (e ∷ es) sound = (sound.0.1.1, firsts_of n es sound.1)
+  firsts_of n (e ∷ es) sound = (sound.0.1, firsts_of n es sound.1)
 
   -- at the start
   pub start_ready : (n : ℕ) (near : Rows) → RiseFrom 0 s → RiseFrom 0 t → AreBelow s n → AreBelow t n → PairsSound n m → Ready n (beginning s t r m near n)

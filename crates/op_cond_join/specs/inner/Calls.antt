@@ -16,7 +16,7 @@ use Rattle.op_cond_join.specs.Shown.{has, is_shown, new_pairs, shown_pairs}
 -- an identifier is needed that the counter doesn't give, and the first such one is told; or memory ran out
 abbrev pub WasRefused : ℕ → CounterState → Fault IdsSpent → Type 0
 WasRefused next old (Refused spent) = (first_refused old < next) × (spent.needed ≡ first_refused old) × (spent.limit ≡ old.limit)
-WasRefused next old OutOfMemory = Unit {0}
+WasRefused next old (OutOfMemory memory) = Unit {0}
 
 -- the answer has the property and the next identifier is this one, or it is refused exactly where that would draw more than the counter gives
 abbrev pub Draws : {T : Type 0} → ℕ → CounterState → CounterState → (T → Type 0) → Result T (Fault IdsSpent) → Type 0

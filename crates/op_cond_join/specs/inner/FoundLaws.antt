@@ -11,7 +11,7 @@ use Rattle.row_parts.specs.Places.{pick as part, ArePartition}
 use Rattle.row_parts.specs.RowCells.{Cell, map_cell, by_test, by_option}
 use Rattle.row_parts.specs.inner.PlaceLemmas.{pick_sound, join_parts}
 use Rattle.pair_rows.specs.inner.Numbers.{is_own}
-use Rattle.par_base.specs.SameRows.{row_same}
+use Rattle.par_base.specs.inner.SameLaws.{row_same}
 use Rattle.pair_rows.specs.inner.Lookups.{apart, sound_at, filter_found, filter_all}
 use Rattle.op_cond_join.specs.Shown.{Joining, row_at, joined, AreThere, IsJoined}
 use Rattle.op_cond_join.specs.inner.ShownLaws.{row_for, joined_found, there_cells}
@@ -66,8 +66,8 @@ found_sound j a b k (e ∷ es) [] one other sound found = absurd found
 found_sound j a b k (e ∷ es) (x ∷ xs) one other sound found = (
   (
     subst (λ (i : ℕ). IsBelow k i) (sym found.0.0) sound.0.0,
-    (sound_at k a e.1 (part j.first x.1) one found.0.1).0,
-    (sound_at k b e.2 (part j.second x.1) other found.0.2).0,
+    (sound_at k a e.1 (part j.first x.1) one found.0.1).0.1,
+    (sound_at k b e.2 (part j.second x.1) other found.0.2).0.1,
   ),
   found_sound j a b k es xs one other sound.1 found.1,
 )

@@ -1,9 +1,10 @@
 -- The laws of JOIN ON a condition, both ways.
 use Rattle.std.proofs.Common.{◌≡◌, ℕ, ◌+◌, ◌≤◌, ◌⊎◌, List, [], ◌∷◌, length, refl, ap, sym, ◌∙◌, count_by, Bool, not, ◌||◌, arith}
+use Rattle.std.proofs.lemmas.Bool.{false≢true}
 use mathlib.Core.Logic.{inl, inr}
 use Rattle.row_store.specs.Rows.{Rows}
 use Rattle.id_memory.specs.Pairs.{Pairs, has_pair}
-use Rattle.op_law.specs.Tables.{Tables, Heading, empty_tables}
+use Rattle.op_law.specs.Tables.{Tables, Heading, AllRise, empty_tables}
 use Rattle.op_law.specs.Sound.{RowsSound, PairsSound, HasRow}
 use Rattle.op_law.proofs.SoundLaws.{rows_more}
 use Rattle.op_law.proofs.SoundTermLaws.{term_more}
@@ -92,6 +93,8 @@ module _ (j : Joining) where
     readable = λ hs ht fits. inr refl;
     empty = λ hs ht fits. empty_joined hs ht;
     closed_more = λ n k h closed. term_more n k h j.condition closed;
+    aux_rises = λ hs ht p pair. tt;
+    local = λ local. absurd (false≢true local);
   }
 
   -- from a new target: the old sides, and what is assigned
@@ -260,6 +263,15 @@ module _ (j : Joining) where
       ∙ ap (λ (rows : Rows). s ∷ rows ∷ []) second
       ∙ two.is
 
+  -- what is kept beside the target rises
+  backward_aux_rises : (ht hs : List Heading) (p : PairState) → IsPair (flip (join_on j)) ht hs p → AllRise ((flip (join_on j)).aux_at_source p)
+  backward_aux_rises ht hs p pair =
+      let fits : JoinFits j hs ht = pair.fits in
+      let two = two_tables (length j.first) (length j.second) hs p.target fits.source pair.target_of in (
+        filter_rise (λ id. not (stands first_of p.memory id)) 0 (table_at 0 p.target) two.first_rise,
+        (filter_rise (λ id. not (stands second_of p.memory id)) 0 (table_at 1 p.target) two.second_rise, tt),
+      )
+
   -- from a new target
   pub backward_half : HalfLaws (flip (join_on j))
   backward_half = record {
@@ -275,6 +287,8 @@ module _ (j : Joining) where
     readable = λ ht hs fits. inr refl;
     empty = λ ht hs fits. empty_joined hs ht;
     closed_more = λ n k h closed. term_more n k h j.condition closed;
+    aux_rises = backward_aux_rises;
+    local = λ local. absurd (false≢true local);
   }
 
 -- the laws both ways

@@ -177,10 +177,9 @@ numbered_sound n k (x ∷ xs) h below =
     let rest = numbered_sound n (k + 1) xs (omega (arith, h)) below.1 in
     let low = below.0.0.0 in
     let under = below.0.0.1 in
-    let other_low = below.0.1.0 in
     let other_under = below.0.1.1 in
     let same : (k + 1) + length xs ≡ k + suc (length xs) = omega arith in
-    (((omega (arith, low, under, h), omega arith), (low, omega (arith, under, h)), (other_low, omega (arith, other_under, h))), subst (λ (i : ℕ). PairsSound i (numbered (k + 1) xs)) same rest)
+    (((omega (arith, low, under, h), omega arith), omega (arith, under, h), omega (arith, other_under, h)), subst (λ (i : ℕ). PairsSound i (numbered (k + 1) xs)) same rest)
 
 -- what identifiers they have
 pub append_pair : (es fs : Pairs) (p : ℕ) → IsSome (pair_of (es ++ fs) p) → IsSome (pair_of es p) ⊎ IsSome (pair_of fs p)

@@ -3,7 +3,8 @@ use Rattle.std.proofs.Common.{◌≡◌, ℕ, ◌<◌, ◌≤◌, List, [], ◌�
 use Rattle.par_base.specs.declared.value.Value.{Value}
 use Rattle.id_memory.specs.Pairs.{Pairs, has_pair}
 use Rattle.row_parts.specs.RowCells.{Cell, by_test}
-use Rattle.par_base.specs.SameRows.{same_row, row_equal}
+use Rattle.par_base.specs.SameRows.{same_row}
+use Rattle.par_base.specs.inner.SameLaws.{row_equal}
 use Rattle.pair_rows.specs.inner.Lookups.{apart}
 use Rattle.op_cond_join.specs.Shown.{has}
 use Rattle.op_cond_join.specs.Assigned.{unchanged}

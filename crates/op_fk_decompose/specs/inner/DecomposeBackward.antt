@@ -1,5 +1,6 @@
 -- DECOMPOSE ON FK, backward: its laws.
 use Rattle.std.proofs.Common.{◌≡◌, ℕ, List, [], ◌∷◌, Bool, true, false, length, Option, Some, None, refl, ap, sym, ◌∙◌, subst, arith}
+use Rattle.std.proofs.lemmas.Bool.{false≢true}
 use mathlib.Core.Logic.{inl, inr}
 use Rattle.par_base.specs.declared.value.Value.{Value}
 use Rattle.row_store.specs.Rows.{Rows, RiseFrom, row_of}
@@ -117,4 +118,6 @@ module _ (Fits : List Heading → List Heading → Type 0) (k : FkParts) (w a b 
     readable = λ ht hs fits. inr refl;
     empty = λ ht hs fits. let f = fit hs ht fits in (refl, λ p. rw (f.source_is, f.target_is) refl);
     closed_more = λ n k h c. tt;
+    aux_rises = λ ht hs p pair. tt;
+    local = λ local. absurd (false≢true local);
   }

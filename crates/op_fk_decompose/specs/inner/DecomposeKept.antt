@@ -14,7 +14,8 @@ use Rattle.op_fk_decompose.specs.Decompose.{alone, joined_in, joined, least_in, 
 use Rattle.op_fk_decompose.specs.inner.DecomposeFacts.{from_keep, from_stay, from_need}
 use Rattle.foreign_keys.specs.Shared.{Ready}
 use Rattle.op_fk_decompose.specs.inner.DecomposeForward.{first_at, second_at, ref_is, not_alone}
-use Rattle.par_base.specs.SameRows.{same_row, row_equal}
+use Rattle.par_base.specs.SameRows.{same_row}
+use Rattle.par_base.specs.inner.SameLaws.{row_equal}
 
 -- of the three kinds of row in new T, an alone row
 pub pick_alone : (al : Bool) (x y : Cell) (v : List Value) → al ≡ true → x ≡ Some v → or_else (kept_if al x) y ≡ Some v

@@ -1,10 +1,11 @@
 -- The target is read back from the source and its auxiliary tables; the laws together.
 use Rattle.std.proofs.Common.{◌≡◌, ℕ, List, [], ◌∷◌, Bool, true, false, not, ◌&&◌, length, Option, Some, None, refl, ap, sym, ◌∙◌, subst}
+use Rattle.std.proofs.lemmas.Bool.{false≢true}
 use mathlib.Core.Logic.{inr}
 use Rattle.par_base.specs.declared.value.Value.{Value}
 use Rattle.row_store.specs.Rows.{Rows, RiseFrom, row_of}
 use Rattle.row_store.proofs.UndoLaws.{ext}
-use Rattle.op_law.specs.Tables.{Heading, RowsWide}
+use Rattle.op_law.specs.Tables.{Heading, RowsWide, AllRise}
 use Rattle.op_law.specs.Identifiers.{ids_over}
 use Rattle.op_law.specs.Meaning.{Meaning, PairState}
 use Rattle.op_law.specs.Premises.{IsPair}
@@ -18,7 +19,7 @@ use Rattle.foreign_keys.specs.KeyParts.{FkParts, FkWell}
 use Rattle.foreign_keys.specs.References.{goal_of, is_goal, at_goal, dangles, referred, far_part}
 use Rattle.op_tables.specs.Lookups.{wide_at, one_at, one_rise}
 use Rattle.foreign_keys.specs.inner.ReferenceLemmas.{is_goal_of, goal_is, referred_by, referrer}
-use Rattle.op_fk_decompose.specs.Decompose.{alone, joined_in, joined, refs, dangling, kept_rows, live, get_first, leads, get_at, get_second, decompose_fk}
+use Rattle.op_fk_decompose.specs.Decompose.{alone, joined_in, joined, ref_at, refs, dangling_at, dangling, kept_at, kept_rows, live, get_first, leads, get_at, get_second, decompose_fk}
 use Rattle.foreign_keys.specs.Shared.{head_or_null, second_part_at, FkFits}
 use Rattle.op_fk_decompose.specs.inner.DecomposeLaws.{source_of, target_of, kept, still, below}
 use Rattle.foreign_keys.specs.Seeking.{seek, goals_in}
@@ -188,6 +189,14 @@ module _ (Fits : List Heading → List Heading → Type 0) (k : FkParts) (w a b 
       let second = second_is_back k w a b z f.well s t r two.rise0 two.rise1 two.wide0 two.wide1 pair.related.1 one.rise in
       ap (λ (x : Rows). x ∷ get_second k r x (dangling k s t) (kept_rows k s t) ∷ []) first ∙ ap (λ (x : Rows). s ∷ x ∷ []) second ∙ two.is
 
+  -- what is kept beside the source rises
+  aux_rises : (hs ht : List Heading) (p : PairState) → IsPair m hs ht p → AllRise (m.aux_at_source p)
+  aux_rises hs ht p pair =
+      let two = target_of Fits k w a b z fit hs ht p.target pair.fits pair.target_of in
+      let s = first_table p.target in
+      let t = second_table p.target in
+      (one_rise s (ref_at k s) two.rise0, (one_rise s (dangling_at k s t) two.rise0, (one_rise t (kept_at k s t) two.rise1, tt)))
+
   -- the laws of the mapping forward
   forward : HalfLaws m
   forward = record {
@@ -198,6 +207,8 @@ module _ (Fits : List Heading → List Heading → Type 0) (k : FkParts) (w a b 
     readable = λ hs ht fits. inr refl;
     empty = λ hs ht fits. let f = fit hs ht fits in (refl, λ p. rw (f.source_is, f.target_is) refl);
     closed_more = λ n k h c. tt;
+    aux_rises = aux_rises;
+    local = λ local. absurd (false≢true local);
   }
 
   -- the laws both ways

@@ -14,7 +14,8 @@ use Rattle.op_fk_decompose.specs.Decompose.{alone, joined_in, joined, least_in, 
 use Rattle.foreign_keys.specs.Shared.{Ready}
 use Rattle.op_fk_decompose.specs.inner.DecomposeForward.{alone_parts}
 use Rattle.op_fk_decompose.specs.inner.DecomposeKept.{pick_alone, pick_here, pick_new, alone_none, snd_at, is_made, none_made}
-use Rattle.par_base.specs.SameRows.{same_row, row_same}
+use Rattle.par_base.specs.SameRows.{same_row}
+use Rattle.par_base.specs.inner.SameLaws.{row_same}
 
 -- what isn't alone is used
 here : (b r : Bool) → (not b && not r) ≡ false → (r || b) ≡ true

@@ -11,7 +11,8 @@ use Rattle.foreign_keys.specs.inner.ReferenceLemmas.{goal_below}
 use Rattle.foreign_keys.specs.inner.DrawnLemmas.{Distinct, numbered_at, distinct, has_needed, low_none}
 use Rattle.op_fk_join.specs.Join.{joined_row, stays_at, key_kept, first_with, draws_join, needs_join, join_drawn, ref_join, left_in, join_first_in, join_first, join_second}
 use Rattle.foreign_keys.specs.Shared.{Ready}
-use Rattle.par_base.specs.SameRows.{same_row, row_equal, row_same}
+use Rattle.par_base.specs.SameRows.{same_row}
+use Rattle.par_base.specs.inner.SameLaws.{row_equal, row_same}
 
 -- the least row with a value has the value
 pub first_at_of : (m : ℕ) (rows : Rows) (b : List Value) (q : ℕ) → RiseFrom m rows → first_with rows b ≡ Some q → row_of rows q ≡ Some b

@@ -1,5 +1,6 @@
 -- JOIN ON FK: the laws forward, and kept, still and below backward.
 use Rattle.std.proofs.Common.{◌≡◌, ℕ, ◌+◌, ◌≤◌, ◌⊎◌, List, [], ◌∷◌, length, Option, Some, None, refl, ap, sym, ◌∙◌, arith}
+use Rattle.std.proofs.lemmas.Bool.{false≢true}
 use mathlib.Core.Logic.{inl, inr}
 use Rattle.par_base.specs.declared.value.Value.{Value}
 use Rattle.row_store.specs.Rows.{Rows, RiseFrom, row_of}
@@ -119,6 +120,8 @@ module _ (Fits : List Heading → List Heading → Type 0) (k : FkParts) (w a b 
     readable = λ hs ht fits. inr refl;
     empty = λ hs ht fits. let f = fit hs ht fits in (refl, λ p. rw (f.source_is, f.target_is) refl);
     closed_more = λ n k h c. tt;
+    aux_rises = λ hs ht p pair. tt;
+    local = λ local. absurd (false≢true local);
   }
 
   -- what is used of the old sources and new R

@@ -1,10 +1,11 @@
 -- The sources are read back from the target and its auxiliary tables; the laws together.
 use Rattle.std.proofs.Common.{◌≡◌, ℕ, List, [], ◌∷◌, Bool, true, false, not, Option, Some, None, refl, ap, sym, ◌∙◌, subst}
+use Rattle.std.proofs.lemmas.Bool.{false≢true}
 use mathlib.Core.Logic.{inr}
 use Rattle.par_base.specs.declared.value.Value.{Value}
 use Rattle.row_store.specs.Rows.{Rows, RiseFrom, row_of}
 use Rattle.row_store.proofs.UndoLaws.{ext}
-use Rattle.op_law.specs.Tables.{Heading, RowsWide}
+use Rattle.op_law.specs.Tables.{Heading, RowsWide, AllRise}
 use Rattle.op_law.specs.Identifiers.{ids_over}
 use Rattle.op_law.specs.Meaning.{Meaning, PairState, flip}
 use Rattle.op_law.specs.Premises.{IsPair}
@@ -18,7 +19,7 @@ use Rattle.foreign_keys.specs.KeyParts.{FkParts, FkWell}
 use Rattle.foreign_keys.specs.References.{goal_of, is_goal, at_goal, referred}
 use Rattle.op_tables.specs.Lookups.{wide_at, one_at, two_at, one_rise, two_rise}
 use Rattle.foreign_keys.specs.inner.ReferenceLemmas.{is_goal_of, goal_is, referrer}
-use Rattle.op_fk_join.specs.Join.{joined_row, join_refs, unjoined, unreferred, back_first_at, back_first, back_second_at, back_second, join_fk}
+use Rattle.op_fk_join.specs.Join.{joined_row, key_here, join_refs, unjoined_here, unjoined, unreferred_here, unreferred, back_first_at, back_first, back_second_at, back_second, join_fk}
 use Rattle.foreign_keys.specs.Shared.{FkFits, head_or_null}
 use Rattle.foreign_keys.specs.Seeking.{seek, goals_in}
 use Rattle.foreign_keys.specs.inner.SeekLemmas.{seek_none, seek_some, goals_out, goals_rise}
@@ -197,6 +198,17 @@ module _ (Fits : List Heading → List Heading → Type 0) (k : FkParts) (w a b 
       let second = second_is_back k w a b z f.well s t r two.rise0 two.rise1 one.rise two.wide0 two.wide1 pair.related.1 in
       ap (λ (x : Rows). x ∷ back_second k r (join_refs k s r) (unreferred k s t) ∷ []) first ∙ ap (λ (x : Rows). s ∷ x ∷ []) second ∙ two.is
 
+  -- what is kept beside R rises
+  aux_rises : (ht hs : List Heading) (p : PairState) → IsPair (flip m) ht hs p → AllRise ((flip m).aux_at_source p)
+  aux_rises ht hs p pair =
+      let f = fit hs ht pair.fits in
+      let one = target_one Fits k w a b z fit hs ht p.source pair.fits pair.source_of in
+      let two = source_two Fits k w a b z fit hs ht p.target pair.fits pair.target_of in
+      let s = first_table p.target in
+      let t = second_table p.target in
+      let r = first_table p.source in
+      (one_rise r (key_here k s r) one.rise, (one_rise s (unjoined_here s r) two.rise0, (one_rise t (unreferred_here k s t) two.rise1, tt)))
+
   -- the laws of the mapping from R to S and T
   backward : HalfLaws (flip m)
   backward = record {
@@ -207,6 +219,8 @@ module _ (Fits : List Heading → List Heading → Type 0) (k : FkParts) (w a b 
     readable = λ ht hs fits. inr refl;
     empty = λ ht hs fits. let f = fit hs ht fits in (refl, λ p. rw (f.source_is, f.target_is) refl);
     closed_more = λ n k h c. tt;
+    aux_rises = aux_rises;
+    local = λ local. absurd (false≢true local);
   }
 
   -- the laws both ways

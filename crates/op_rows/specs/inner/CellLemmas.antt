@@ -1,6 +1,6 @@
 -- Look-ups: tables are what they have at each identifier.
 use Rattle.std.specs.Prelude.{nat_lt}
-use Rattle.std.proofs.Common.{◌≡◌, if◌then◌else◌, ℕ, ◌+◌, ◌≤◌, ◌==◌, ◌⊎◌, List, [], ◌∷◌, Bool, true, false, cond, length, Option, Some, None, IsSome, refl, ap, sym, ◌∙◌, arith}
+use Rattle.std.proofs.Common.{◌≡◌, ℕ, ◌+◌, ◌==◌, List, [], ◌∷◌, Bool, true, false, cond, length, Option, None, refl, ap, sym, ◌∙◌, arith}
 use Rattle.std.proofs.lemmas.Bool.Decides.{nat_tests}
 use Rattle.std.proofs.lemmas.Bool.{cases_order}
 use mathlib.Core.Logic.{inl, inr}
@@ -8,27 +8,16 @@ use Rattle.par_base.specs.declared.value.Value.{Value}
 use Rattle.row_store.specs.Rows.{Rows, RiseFrom, row_of}
 use Rattle.row_store.proofs.UndoLaws.{ext}
 use Rattle.op_law.specs.Tables.{Tables}
-use Rattle.op_law.specs.Sound.{IsBelow, RowsSound, TablesSound, HasRow}
+pub use Rattle.op_law.specs.Tables.{AllRise}
+use Rattle.op_law.specs.Sound.{IsBelow, RowsSound, TablesSound}
 use Rattle.op_law.specs.Identifiers.{put_id, ids_in, ids_over}
+pub use Rattle.op_law.specs.Identifiers.{has_id, IdsRise}
+pub use Rattle.op_law.proofs.IdentifierLaws.{has_put, rise_put}
 use Rattle.op_rows.specs.Cells.{Cells, cells_at, nones, first_cell, other_cells}
-
--- whether a list has the identifier
-abbrev pub has_id : List ℕ → ℕ → Bool
-has_id [] id = false
-has_id (x ∷ xs) id = if x == id then true else has_id xs id
-
--- identifiers rise strictly, and begin at n or above
-abbrev pub IdsRise : ℕ → List ℕ → Type 0
-IdsRise n [] = Unit {0}
-IdsRise n (x ∷ xs) = (n ≤ x) × IdsRise (x + 1) xs
 
 abbrev pub IdsBelow : ℕ → List ℕ → Type 0
 IdsBelow n [] = Unit {0}
 IdsBelow n (x ∷ xs) = IsBelow n x × IdsBelow n xs
-
-abbrev pub AllRise : Tables → Type 0
-AllRise [] = Unit {0}
-AllRise (t ∷ ts) = RiseFrom 0 t × AllRise ts
 
 pub is_same : (a b : ℕ) → (a == b) ≡ true → a ≡ b
 is_same a b h = grind (arith, nat_tests)
@@ -42,51 +31,6 @@ ext_all (s ∷ ss) (t ∷ ts) rise_s rise_t same =
     let head : s ≡ t = ext 0 s t rise_s.0 rise_t.0 (λ id. ap first_cell (same id)) in
     let tail : ss ≡ ts = ext_all ss ts rise_s.1 rise_t.1 (λ id. ap other_cells (same id)) in
     cc
-
-cond_swap : (a b c : Bool) → cond a true (cond b true c) ≡ cond b true (cond a true c)
-cond_swap true true c = refl
-cond_swap true false c = refl
-cond_swap false true c = refl
-cond_swap false false c = refl
-
-cond_twice : (a c : Bool) → cond a true c ≡ cond a true (cond a true c)
-cond_twice true c = refl
-cond_twice false c = refl
-
--- what identifiers lists have
-pub has_put : (i : ℕ) (xs : List ℕ) (id : ℕ) → has_id (put_id i xs) id ≡ cond (i == id) true (has_id xs id)
-has_put i [] id = refl
-has_put i (x ∷ xs) id =
-    elim (cases_order i x) [
-      | inl e ↦
-          let no : nat_lt i x ≡ false = grind (arith, nat_tests) in
-          let yes : (i == x) ≡ true = grind (arith, nat_tests) in
-          rw (no, yes, e) (cond_twice (x == id) (has_id xs id))
-      | inr (inl h) ↦
-          let yes : nat_lt i x ≡ true = grind (arith, nat_tests) in
-          rw yes refl
-      | inr (inr h) ↦
-          let no : nat_lt i x ≡ false = grind (arith, nat_tests) in
-          let other : (i == x) ≡ false = grind (arith, nat_tests) in
-          rw (no, other, has_put i xs id) (cond_swap (x == id) (i == id) (has_id xs id))
-    ]
-
-pub rise_put : (n i : ℕ) (xs : List ℕ) → n ≤ i → IdsRise n xs → IdsRise n (put_id i xs)
-rise_put n i [] h rise = (h, tt)
-rise_put n i (x ∷ xs) h rise =
-    elim (cases_order i x) [
-      | inl e ↦
-          let no : nat_lt i x ≡ false = grind (arith, nat_tests) in
-          let yes : (i == x) ≡ true = grind (arith, nat_tests) in
-          rw (no, yes) rise
-      | inr (inl k) ↦
-          let yes : nat_lt i x ≡ true = grind (arith, nat_tests) in
-          rw yes (h, (omega arith, rise.1))
-      | inr (inr k) ↦
-          let no : nat_lt i x ≡ false = grind (arith, nat_tests) in
-          let other : (i == x) ≡ false = grind (arith, nat_tests) in
-          rw (no, other) (rise.0, rise_put (x + 1) i xs (omega arith) rise.1)
-    ]
 
 pub below_put : (n i : ℕ) (xs : List ℕ) → IsBelow n i → IdsBelow n xs → IdsBelow n (put_id i xs)
 below_put n i [] h all = (h, tt)
@@ -140,20 +84,3 @@ none_at (t ∷ ts) ids id h =
     let rest = none_at ts (ids_in t ids) id h in
     let first = none_in t ids id rest.1 in
     (ap (λ (c : Option (List Value)). c ∷ cells_at ts id) first.0 ∙ ap (λ (cs : Cells). None ∷ cs) rest.0, first.1)
-
-has_in_at : (r : ℕ × List Value) (rs : Rows) (ids : List ℕ) (id : ℕ) (b : Bool) → cond b true (has_id (ids_in rs ids) id) ≡ true → (has_id (ids_in rs ids) id ≡ true → IsSome (row_of rs id) ⊎ (has_id ids id ≡ true)) → IsSome (cond b (Some r.1) (row_of rs id)) ⊎ (has_id ids id ≡ true)
-has_in_at r rs ids id true e rest = inl refl
-has_in_at r rs ids id false e rest = rest e
-
-has_in : (rows : Rows) (ids : List ℕ) (id : ℕ) → has_id (ids_in rows ids) id ≡ true → IsSome (row_of rows id) ⊎ (has_id ids id ≡ true)
-has_in [] ids id h = inr h
-has_in (r ∷ rs) ids id h = has_in_at r rs ids id (r.0 == id) (sym (has_put r.0 (ids_in rs ids) id) ∙ h) (has_in rs ids id)
-
--- an identifier that is listed has a row, or was listed before
-pub has_over : (ts : Tables) (ids : List ℕ) (id : ℕ) → has_id (ids_over ts ids) id ≡ true → HasRow id ts ⊎ (has_id ids id ≡ true)
-has_over [] ids id h = inr h
-has_over (t ∷ ts) ids id h =
-    elim (has_over ts (ids_in t ids) id h) [
-      | inl here ↦ inl (inr here)
-      | inr rest ↦ elim (has_in t ids id rest) [ inl own ↦ inl (inl own) | inr old ↦ inr old ]
-    ]

@@ -1,17 +1,12 @@
 -- What a pass over identifiers ensures.
-use Rattle.std.specs.Prelude.{◌≡◌, ℕ, zero, suc, true, List, [], ◌∷◌, ◌++◌, drop, Option, Some, None}
+use Rattle.std.specs.Prelude.{◌≡◌, ℕ, zero, suc, true, List, [], ◌∷◌, ◌++◌, Option, Some, None}
 use Rattle.row_store.specs.Rows.{Rows, AreBelow}
 use Rattle.row_store.specs.States.{TableState}
 use Rattle.op_law.specs.Tables.{Tables, contents}
-use Rattle.op_law.specs.Identifiers.{ids_in}
 use Rattle.op_rows.specs.Cells.{Cells, cells_at, first_cell, other_cells, with_row, tables_from}
 use Rattle.op_rows.specs.inner.CellLemmas.{has_id}
 use Rattle.op_rows.specs.RowMeaning.{RowMeaning}
 use Rattle.op_rows.specs.RowCalls.{AdmitsRows}
-
--- the identifiers from a place in each of two ascending lists on
-abbrev pub ids_left : List ℕ → ℕ → Rows → ℕ → List ℕ
-ids_left ids in_ids rows in_rows = ids_in (drop in_rows rows) (drop in_ids ids)
 
 -- every identifier of the tables is below this one
 abbrev pub AllBelow : Tables → ℕ → Type 0

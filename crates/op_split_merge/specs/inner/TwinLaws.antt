@@ -2,7 +2,7 @@
 use Rattle.std.specs.Prelude.{◌≡◌, List, Bool, true, false, not, ◌&&◌, ◌||◌, if◌then◌else◌, Some, None, refl}
 use Rattle.std.proofs.Common.{sym, arith}
 use Rattle.par_base.specs.declared.value.Value.{Value}
-use Rattle.par_base.specs.SameRows.{row_equal}
+use Rattle.par_base.specs.inner.SameLaws.{row_equal}
 use Rattle.op_split_merge.specs.Twins.{Cell, Test, kept_if, or_else, first_to, second_to, AreTwinsOf, rest_of, source_to}
 use Rattle.op_split_merge.specs.Auxiliary.{lost, against_first, against_second, separated, shown_by, second_by}
 

@@ -3,7 +3,8 @@ use Rattle.bidel_expr.specs.ReadAnswers.{ahead}
 use Rattle.bidel_expr.specs.Expressions.{expression_at}
 use Rattle.bidel_parser.specs.Words.{choice_of}
 use Rattle.statements.specs.Views.{key_view, Condition}
-use Rattle.bidel_parser.specs.Operators.{key_words, key_rest_at, key_at}
+use Rattle.bidel_parser.specs.Operators.{key_words}
+use Rattle.bidel_parser.specs.inner.OperatorReaders.{key_rest_at, key_at}
 use Rattle.bidel_parser.proofs.ReadSteps.{gives_same, choice_behind}
 use Rattle.bidel_parser.proofs.keys.take_key.Goals as goal
 

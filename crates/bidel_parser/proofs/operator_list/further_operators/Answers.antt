@@ -4,7 +4,8 @@ use Rattle.std.proofs.lemmas.List.{map_push}
 use Rattle.phrases.specs.Reading.{with_front, many_at}
 use Rattle.phrases.proofs.StepsLaws.{many_full, many_ends, many_goes, many_stops}
 use Rattle.statements.specs.Views.{OpView, op_view}
-use Rattle.bidel_parser.specs.Operators.{closed_operator_at, begins_operator}
+use Rattle.bidel_parser.specs.Operators.{begins_operator}
+use Rattle.bidel_parser.specs.inner.OperatorReaders.{closed_operator_at}
 use Rattle.bidel_expr.specs.ReadAnswers.{ahead}
 use Rattle.bidel_expr.proofs.CursorsLaws.{ahead_length, fails_through}
 use Rattle.bidel_parser.proofs.operator_list.further_operators.Goals as goal

@@ -1,7 +1,8 @@
 use Rattle.std.proofs.Common.{◌≡◌, ◌∷◌, [], ◌+◌, ◌-◌, length, map}
 use Rattle.phrases.specs.Reading.{many_at, with_front}
 use Rattle.statements.specs.Views.{op_view}
-use Rattle.bidel_parser.specs.Operators.{closed_operator_at, operators_at, begins_operator}
+use Rattle.bidel_parser.specs.Operators.{begins_operator}
+use Rattle.bidel_parser.specs.inner.OperatorReaders.{closed_operator_at, operators_at}
 use Rattle.bidel_expr.specs.ReadAnswers.{ahead}
 use Rattle.bidel_parser.proofs.operator_list.further_operators.Given as goal
 

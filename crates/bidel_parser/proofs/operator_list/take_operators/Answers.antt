@@ -1,7 +1,7 @@
 use Rattle.std.proofs.Common.{map}
 use Rattle.bidel_expr.specs.ReadAnswers.{ahead}
 use Rattle.statements.specs.Views.{op_view}
-use Rattle.bidel_parser.specs.Operators.{listed_operators_at, further_operators_at}
+use Rattle.bidel_parser.specs.inner.OperatorReaders.{listed_operators_at, further_operators_at}
 use Rattle.bidel_parser.proofs.ReadSteps.{gives_same, listed_behind}
 use Rattle.bidel_parser.proofs.operator_list.take_operators.Goals as goal
 

@@ -2,7 +2,8 @@ use Rattle.phrases.specs.Reading.{one_at}
 use Rattle.bidel_expr.specs.ReadAnswers.{ahead}
 use Rattle.bidel_parser.specs.Words.{choice_of}
 use Rattle.statements.specs.Views.{op_view}
-use Rattle.bidel_parser.specs.Operators.{operator_words, operator_rest_at, operator_at}
+use Rattle.bidel_parser.specs.Operators.{operator_words}
+use Rattle.bidel_parser.specs.inner.OperatorReaders.{operator_rest_at, operator_at}
 use Rattle.bidel_parser.proofs.ReadSteps.{gives_same, behind}
 use Rattle.bidel_parser.proofs.operators.take_operator.Goals as goal
 

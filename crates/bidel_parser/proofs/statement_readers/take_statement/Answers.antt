@@ -2,7 +2,8 @@ use Rattle.phrases.specs.Reading.{one_at}
 use Rattle.bidel_expr.specs.ReadAnswers.{ahead}
 use Rattle.bidel_parser.specs.Words.{choice_of}
 use Rattle.statements.specs.Views.{statement_view}
-use Rattle.bidel_parser.specs.Statements.{statement_words, statement_rest_at, statement_at}
+use Rattle.bidel_parser.specs.Statements.{statement_words}
+use Rattle.bidel_parser.specs.inner.StatementReaders.{statement_rest_at, statement_at}
 use Rattle.bidel_parser.proofs.ReadSteps.{gives_same, behind}
 use Rattle.bidel_parser.proofs.statement_readers.take_statement.Goals as goal
 

@@ -1,6 +1,6 @@
 use Rattle.std.proofs.Common.{◌≡◌, ◌++◌, drop, map, Ok}
 use Rattle.statements.specs.Views.{assignment_view}
-use Rattle.op_any.specs.Checks.{◌then◌}
+use Rattle.par_base.specs.Checked.{◌then◌}
 use Rattle.ordinary_table.specs.Written.{sets_of}
 use Rattle.engine_statements.specs.Statements.{known_sets}
 use Rattle.engine_statements.proofs.expressions.find_sets.Given as goal

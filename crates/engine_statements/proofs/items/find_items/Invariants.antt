@@ -1,5 +1,5 @@
 use Rattle.std.proofs.Common.{◌≡◌, ◌++◌, drop, Ok}
-use Rattle.op_any.specs.Checks.{◌then◌}
+use Rattle.par_base.specs.Checked.{◌then◌}
 use Rattle.engine_statements.specs.Statements.{known_items}
 use Rattle.engine_statements.proofs.items.find_items.Given as goal
 

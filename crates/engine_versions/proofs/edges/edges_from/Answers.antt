@@ -1,7 +1,7 @@
 use Rattle.std.proofs.Common.{◌+◌, [], ◌∷◌, ◌++◌, map, drop, Ok, sym, ap, ◌∙◌}
 use Rattle.std.proofs.lemmas.List.{drop_more}
 use Rattle.statements.specs.Views.{op_view}
-use Rattle.op_any.specs.Checks.{◌then◌}
+use Rattle.par_base.specs.Checked.{◌then◌}
 use Rattle.engine_versions.specs.Evolve.{edges_on, target_count, with_one}
 use Rattle.engine_versions.proofs.EdgeLemmas.{edges_step}
 use Rattle.engine_versions.proofs.edges.edges_from.Goals as goal

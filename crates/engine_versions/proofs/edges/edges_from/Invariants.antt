@@ -1,6 +1,6 @@
 use Rattle.std.proofs.Common.{◌≡◌, ◌++◌, drop, map, Ok}
 use Rattle.statements.specs.Views.{op_view}
-use Rattle.op_any.specs.Checks.{◌then◌}
+use Rattle.par_base.specs.Checked.{◌then◌}
 use Rattle.engine_versions.specs.Evolve.{edges_on}
 use Rattle.engine_versions.proofs.edges.edges_from.Given as goal
 

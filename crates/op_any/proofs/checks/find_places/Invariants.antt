@@ -1,5 +1,5 @@
 use Rattle.std.proofs.Common.{◌≡◌, ◌++◌, drop, Ok}
-use Rattle.op_any.specs.Checks.{◌then◌}
+use Rattle.par_base.specs.Checked.{◌then◌}
 use Rattle.op_any.specs.NameChecks.{known_places}
 use Rattle.op_any.proofs.checks.find_places.Given as goal
 

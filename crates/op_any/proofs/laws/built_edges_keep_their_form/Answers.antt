@@ -9,3 +9,6 @@ returns-clause-sources c = λ set next text e is. (built_suits set next text e i
 
 pub returns-clause-text : goal.returns-clause-text
 returns-clause-text c = λ set next text e is. (built_suits set next text e is).keeps
+
+pub returns-clause-local : goal.returns-clause-local
+returns-clause-local c = λ set next text e is. (built_suits set next text e is).local

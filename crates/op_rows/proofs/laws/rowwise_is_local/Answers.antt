@@ -1,4 +1,4 @@
-use Rattle.op_rows.proofs.LocalLemmas.{rowwise_local}
+use Rattle.op_rows.specs.inner.RowwiseLocal.{rowwise_local}
 use Rattle.op_rows.proofs.laws.rowwise_is_local.Goals as goal
 
 pub returns : goal.returns

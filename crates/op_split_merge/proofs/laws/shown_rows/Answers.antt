@@ -1,4 +1,4 @@
-use Rattle.op_split_merge.proofs.ShownLemmas.{new_in_both, new_in_first, new_in_second, new_in_neither, lost_first_stays, lost_second_stays, separated_stay, against_stays}
+use Rattle.op_split_merge.proofs.ShownLemmas.{new_in_both, new_in_first, new_in_second, new_in_neither, lost_first_stays, lost_second_stays, separated_stay, first_comes_in, second_comes_in, deleted_goes, against_stays}
 use Rattle.op_split_merge.proofs.laws.shown_rows.Goals as goal
 
 pub returns-clause-new_in_both : goal.returns-clause-new_in_both
@@ -21,6 +21,15 @@ returns-clause-lost_second c = lost_second_stays
 
 pub returns-clause-separated : goal.returns-clause-separated
 returns-clause-separated c = separated_stay
+
+pub returns-clause-first_comes : goal.returns-clause-first_comes
+returns-clause-first_comes c = first_comes_in
+
+pub returns-clause-second_comes : goal.returns-clause-second_comes
+returns-clause-second_comes c = second_comes_in
+
+pub returns-clause-deleted : goal.returns-clause-deleted
+returns-clause-deleted c = deleted_goes
 
 pub returns-clause-against : goal.returns-clause-against
 returns-clause-against c = against_stays

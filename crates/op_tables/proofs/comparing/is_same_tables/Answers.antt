@@ -5,12 +5,12 @@ use Rattle.op_law.specs.Tables.{Tables}
 use Rattle.op_tables.proofs.PassLemmas.{rows_at}
 use Rattle.op_tables.proofs.comparing.is_same_tables.Goals as goal
 
-pub returns-then-not-is_same_rows : goal.returns-then-not-is_same_rows
-returns-then-not-is_same_rows c = (
+pub returns-then-not-is_same : goal.returns-then-not-is_same
+returns-then-not-is_same c = (
   λ told. absurd (false≢true told),
-  λ same. c.if-not-is_same_rows.ensures.1
-      (c.as_slice.ensures.all ∙ ap (λ (t : TableState). t.rows) c.index-some-at.is ∙ sym (rows_at c.args.some.now c.loop-at.at c.index-some-at.result c.loop-at-test.true)
+  λ same. c.if-not-is_same.ensures.1
+      (ap (λ (t : TableState). t.rows) c.index-some-at.is ∙ sym (rows_at c.args.some.now c.loop-at.at c.index-some-at.result c.loop-at-test.true)
       ∙ ap (λ (ts : Tables). get_or ts c.loop-at.at []) same
       ∙ rows_at c.args.other.now c.loop-at.at c.index-other-at.result (omega (arith, c.loop-at-test.true, c.if-some-other.false))
-      ∙ sym (ap (λ (t : TableState). t.rows) c.index-other-at.is) ∙ sym c.as_slice-in-loop-at.ensures.all),
+      ∙ sym (ap (λ (t : TableState). t.rows) c.index-other-at.is)),
 )

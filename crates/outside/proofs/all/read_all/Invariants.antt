@@ -1,10 +1,10 @@
-use Rattle.std.proofs.Common.{◌≤◌, ◌<◌, ◌+◌, ◌-◌, length}
+use Rattle.std.proofs.Common.{◌≡◌, ◌<◌, ◌+◌, ◌-◌, length}
 use Rattle.std.specs.Io.KnownBytes.{Consumes}
 use Rattle.outside.proofs.all.read_all.Given as goal
 
 abbrev pub invariant-loop-piece : goal.invariant-loop-piece
 invariant-loop-piece g l = record {
-  later : g.S.Source.faults l.fn.source ≤ g.S.Source.faults l.source;
+  stays : g.S.Source.faults l.source ≡ g.S.Source.faults l.fn.source;
   taken : Consumes (g.S.Source.left l.fn.source) (g.S.Source.left l.source) l.bytes.items;
   room : 0 < length l.piece;
 }

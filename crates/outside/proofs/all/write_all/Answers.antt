@@ -14,7 +14,7 @@ loop-at-preserved g c =
     let more : take c.loop-at.at xs ++ take c.in_ok-at.field-0 (take (length xs - c.loop-at.at) (drop c.loop-at.at xs)) ≡ take (c.loop-at.at + c.in_ok-at.field-0) xs =
     ap (λ (r : List ℕ). take c.loop-at.at xs ++ take c.in_ok-at.field-0 r) (rest_is c.loop-at.at xs) ∙ sym (take-add c.loop-at.at c.in_ok-at.field-0 xs) in
     record {
-      later = omega (arith, c.put.ensures.cause.later);
+      stays = omega (arith, c.loop-at.invariant.stays, c.in_ok-at.ensures.cause.stays);
       put = subst (Appends (g.K.Sink.held c.args.sink.now) (g.K.Sink.held c.put.new.self)) more (Appends-trans _ _ _ _ _ c.loop-at.invariant.put c.in_ok-at.ensures.bytes);
       within = omega (arith, c.in_ok-at.ensures.bound);
     }

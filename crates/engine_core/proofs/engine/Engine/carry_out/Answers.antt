@@ -2,7 +2,7 @@ use Rattle.std.proofs.Common.{List, sym, subst}
 use Rattle.par_base.specs.declared.limits.Target.{Target}
 use Rattle.statements.specs.declared.statement.Statement.{Statement}
 use Rattle.statements.specs.Views.{statement_view}
-use Rattle.op_any.specs.Checks.{Checked}
+use Rattle.par_base.specs.Checked.{Checked}
 use Rattle.engine_state.specs.declared.reply.Reply.{Reply}
 use Rattle.engine_layouts.specs.Laid.{Laid, materialized}
 use Rattle.engine_core.specs.Act.{acted, acted_data}

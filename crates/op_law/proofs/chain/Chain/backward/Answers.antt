@@ -12,7 +12,7 @@ backward-requires-2 g c =
     let a = flip (g.B.Operator.meaning c.args.self.now.second) in
     let b = flip (g.A.Operator.meaning c.args.self.now.first) in
     let may = second_may a b (g.met.B.Operator.laws c.args.self.now.second).1 (g.met.A.Operator.laws c.args.self.now.first).1 c.args.near.now (exchanged (seen c.args.second.now)) (exchanged (seen c.args.first.now)) c.args.ids.now.next c.requires in
-    let mapped = c.in_ok-middle.ensures in
+    let mapped = c.in_ok-middle.ensures.answer in
     rw (mapped.1.0, mapped.2, c.copy-drawn.ensures) (record { hs = c.requires.hm; ht = c.requires.ht; may = may })
 
 pub returns-in_err-middle : goal.returns-in_err-middle
@@ -26,7 +26,7 @@ returns-in_err-middle g c =
     let may = second_may a b la lb c.args.near.now (exchanged (seen c.args.second.now)) (exchanged (seen c.args.first.now)) old.next c.requires in
     let far = b.forward to.far (exchanged (seen c.args.first.now)) to.next in
     let rises = (lb.below c.requires.hm c.requires.ht to.far (exchanged (seen c.args.first.now)) to.next may).rises in
-    let is = subst (λ (start : CounterState). IsMapped (a.forward c.args.near.now (exchanged (seen c.args.second.now)) start.next) start c.backward.new.ids (Err c.in_err-middle.field-0.0)) c.copy-drawn.ensures c.in_err-middle.ensures in
+    let is = subst (λ (start : CounterState). IsMapped (a.forward c.args.near.now (exchanged (seen c.args.second.now)) start.next) start c.backward.new.ids (Err c.in_err-middle.field-0.0)) c.copy-drawn.ensures c.in_err-middle.ensures.answer in
     let p = err_from_is_err_and c.from_residual.result c.from_residual.ensures.1 in
     rw (p.1, p.2) (refused_first to far to far.next old _ c.in_err-middle.field-0.0 rises is)
 
@@ -41,8 +41,8 @@ returns-in_err-far g c =
     let to = a.forward c.args.near.now one old.next in
     let far = b.forward to.far two to.next in
     let low = (la.below c.requires.hs c.requires.hm c.args.near.now one old.next c.requires.may).rises in
-    let here = subst (λ (start : CounterState). IsMapped (a.forward c.args.near.now one start.next) start c.backward.new.ids (Ok c.in_ok-middle.middle)) c.copy-drawn.ensures c.in_ok-middle.ensures in
-    let there = subst (λ (side : Tables). IsMapped (b.forward side two c.backward.new.ids.next) c.backward.new.ids c.backward-2.new.ids (Err c.in_err-far.field-0.0)) here.1.0 c.in_err-far.ensures in
+    let here = subst (λ (start : CounterState). IsMapped (a.forward c.args.near.now one start.next) start c.backward.new.ids (Ok c.in_ok-middle.middle)) c.copy-drawn.ensures c.in_ok-middle.ensures.answer in
+    let there = subst (λ (side : Tables). IsMapped (b.forward side two c.backward.new.ids.next) c.backward.new.ids c.backward-2.new.ids (Err c.in_err-far.field-0.0)) here.1.0 c.in_err-far.ensures.answer in
     let is = subst (λ (ids : CounterState). IsMapped (b.forward to.far two ids.next) ids c.backward-2.new.ids (Err c.in_err-far.field-0.0)) here.2 there in
     let p = err_from_is_err_and c.from_residual-in_err-far.result c.from_residual-in_err-far.ensures.1 in
     rw (p.1, p.2) (refused_second far far to to.next old _ c.in_err-far.field-0.0 low here.0 is)

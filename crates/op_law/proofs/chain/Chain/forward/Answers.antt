@@ -10,7 +10,7 @@ forward-requires-2 g c =
     let a = g.A.Operator.meaning c.args.self.now.first in
     let b = g.B.Operator.meaning c.args.self.now.second in
     let may = second_may a b (g.met.A.Operator.laws c.args.self.now.first).0 (g.met.B.Operator.laws c.args.self.now.second).0 c.args.near.now (seen c.args.first.now) (seen c.args.second.now) c.args.ids.now.next c.requires in
-    let mapped = c.in_ok-middle.ensures in
+    let mapped = c.in_ok-middle.ensures.answer in
     rw (mapped.1.0, mapped.2, c.copy-drawn.ensures) (record { hs = c.requires.hm; ht = c.requires.ht; may = may })
 
 pub returns-in_err-middle : goal.returns-in_err-middle
@@ -24,6 +24,6 @@ returns-in_err-middle g c =
     let may = second_may a b la lb c.args.near.now (seen c.args.first.now) (seen c.args.second.now) old.next c.requires in
     let far = b.forward to.far (seen c.args.second.now) to.next in
     let rises = (lb.below c.requires.hm c.requires.ht to.far (seen c.args.second.now) to.next may).rises in
-    let is = subst (λ (start : CounterState). IsMapped (a.forward c.args.near.now (seen c.args.first.now) start.next) start c.forward.new.ids (Err c.in_err-middle.field-0.0)) c.copy-drawn.ensures c.in_err-middle.ensures in
+    let is = subst (λ (start : CounterState). IsMapped (a.forward c.args.near.now (seen c.args.first.now) start.next) start c.forward.new.ids (Err c.in_err-middle.field-0.0)) c.copy-drawn.ensures c.in_err-middle.ensures.answer in
     let p = err_from_is_err_and c.from_residual.result c.from_residual.ensures.1 in
     rw (p.1, p.2) (refused_first to to far far.next old _ c.in_err-middle.field-0.0 rises is)

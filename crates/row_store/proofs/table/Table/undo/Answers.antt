@@ -1,4 +1,4 @@
-use Rattle.std.proofs.Common.{◌≡◌, ◌≤◌, ◌-◌, length, vec_capacity, vec_len, sym, ap, subst, arith, rules}
+use Rattle.std.proofs.Common.{◌≡◌, ◌≤◌, ◌-◌, length, sym, ap, subst, arith}
 use Rattle.row_store.specs.Rows.{Rows}
 use Rattle.row_store.specs.States.{TableState}
 use Rattle.row_store.specs.Changes.{WasApplied}
@@ -8,26 +8,24 @@ use Rattle.row_store.proofs.table.Table.undo.Goals as goal
 pub exchange-requires-clause-room : goal.exchange-requires-clause-room
 exchange-requires-clause-room c =
     let was = c.requires.applied.2 in
-    let fits : length c.self.inside.rows.items ≤ vec_capacity c.self.inside.rows = search rules in
-    room_added c.self.inside.rows.items c.requires.applied.0 c.requires.applied.1 c.args.changes.now (vec_capacity c.self.inside.rows) c.self.invariant fits was.fit was.reversed
+    room_added c.self.inside.pages.rows c.requires.applied.0 c.requires.applied.1 c.args.changes.now c.self.inside.pages.capacity c.self.invariant.0 c.self.invariant.1 was.fit was.reversed
 
 pub exchange-requires-2-clause-room : goal.exchange-requires-2-clause-room
 exchange-requires-2-clause-room c =
     let rows_is = ap (λ (table : TableState). table.rows) c.self.view_is in
-    let spare_is : vec_capacity c.self.inside.rows - vec_len c.self.inside.rows ≡ c.args.self.now.spare = ap (λ (table : TableState). table.spare) c.self.view_is in
-    let long : length c.self.inside.rows.items ≡ length c.args.self.now.rows = ap length rows_is in
-    let len : vec_len c.self.inside.rows ≡ length c.self.inside.rows.items = search rules in
-    let within : length c.self.inside.rows.items ≤ vec_capacity c.self.inside.rows = search rules in
+    let spare_is : c.self.inside.pages.capacity - length c.self.inside.pages.rows ≡ c.args.self.now.spare = ap (λ (table : TableState). table.spare) c.self.view_is in
+    let long : length c.self.inside.pages.rows ≡ length c.args.self.now.rows = ap length rows_is in
+    let within = c.self.invariant.1 in
     let same = c.exchange.ensures.capacity in
     let most = c.requires.applied.3 in
-    let fits : length c.requires.applied.0 ≤ vec_capacity c.exchange.new.rows = omega (arith, spare_is, long, len, within, same, most) in
-    room_others c.exchange.new.rows.items c.self.inside.rows.items c.requires.applied.0 c.requires.applied.1 c.args.changes.now c.exchange.new.self (vec_capacity c.exchange.new.rows)
+    let fits : length c.requires.applied.0 ≤ c.exchange.new.rows.capacity = omega (arith, spare_is, long, within, same, most) in
+    room_others c.exchange.new.rows.rows c.self.inside.pages.rows c.requires.applied.0 c.requires.applied.1 c.args.changes.now c.exchange.new.self c.exchange.new.rows.capacity
     (subst (λ (rows : Rows). WasApplied c.requires.applied.0 c.requires.applied.1 rows c.args.changes.now) (sym rows_is) c.requires.applied.2)
     fits c.exchange.ensures.rows c.exchange.ensures.changes
 
 pub returns-clause-restores : goal.returns-clause-restores
 returns-clause-restores c = λ before applied was.
     let rows_is = ap (λ (table : TableState). table.rows) c.self.view_is in
-    undone c.exchange-2.new.rows.items c.exchange.new.rows.items c.self.inside.rows.items before applied c.args.changes.now c.exchange.new.self c.exchange-2.new.self
+    undone c.exchange-2.new.rows.rows c.exchange.new.rows.rows c.self.inside.pages.rows before applied c.args.changes.now c.exchange.new.self c.exchange-2.new.self
     (subst (λ (rows : Rows). WasApplied before applied rows c.args.changes.now) (sym rows_is) was)
     c.exchange.ensures.order c.exchange.ensures.rows c.exchange.ensures.changes c.exchange-2.ensures.rises c.exchange-2.ensures.rows c.exchange-2.ensures.changes

@@ -1,0 +1,3 @@
+pub mod WordReaders
+pub mod OperatorReaders
+pub mod StatementReaders
