@@ -4,8 +4,7 @@ use Rattle.std.specs.Prelude.{option_map}
 use Rattle.std.specs.Str.{bytes_eq}
 use Rattle.version_graph.specs.Sets.{In}
 use Rattle.version_graph.specs.Tables.{TableVersion, table_numbers, table_named}
-use Rattle.version_graph.specs.Edges.{AreEdges, Drawn, numbers, made, working, tables_at, heading_of}
-use Rattle.version_graph.specs.Kept.{number_named}
+use Rattle.version_graph.specs.Edges.{AreEdges, Drawn, numbers, made, working, tables_at, heading_of, number_named}
 use Rattle.version_graph.specs.declared.parts.Heading.{Heading}
 use Rattle.version_graph.specs.declared.parts.Placed.{Placed}
 use Rattle.version_graph.proofs.SetLaws.{in_map}

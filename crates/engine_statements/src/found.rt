@@ -1,11 +1,9 @@
 //! The table that a statement names: its version by name, and then the table by its name in there.
 ghost use Rattle.std.specs.Prelude.{◌≡◌, IfOk, IfSome};
 ghost use Rattle.std.specs.Option.{option_map};
-ghost use Rattle.std.specs.Str.{bytes_eq};
 ghost use Rattle.version_graph.specs.Sets.{In};
 ghost use Rattle.version_graph.specs.Tables.{table_named};
 ghost use Rattle.version_graph.specs.Edges.{AreEdges, numbers, working};
-ghost use Rattle.version_graph.specs.Kept.{has_name as has_name_lem, number_named};
 ghost use Rattle.par_base.specs.Checked.{Gives};
 ghost use Rattle.op_kinds.specs.Operators.{any_meaning};
 ghost use Rattle.db_state.specs.Fields.{database_for};
@@ -56,30 +54,6 @@ fn find_set(
     }
 }
 
-fn is_named(heading: &Heading, name: &Name) -> bool
-    ensures { result ≡ bytes_eq heading.now.name name.now }
-{
-    heading.name.as_str().as_bytes() == name.as_str().as_bytes()
-}
-
-fn has_name(graph: &Graph<AnyOp>, table: u32, name: &Name) -> bool
-    ensures { result ≡ has_name_lem graph.now.edges name.now table }
-{
-    match graph.heading(table) {
-        Some(heading) => is_named(heading, name),
-        None => false,
-    }
-}
-
-fn find_number(graph: &Graph<AnyOp>, tables: &[u32], name: &Name) -> Option<u32>
-    ensures { result ≡ number_named graph.now.edges tables.now name.now }
-{
-    tables
-        .iter()
-        .copied()
-        .find(|table| has_name(graph, *table, name))
-}
-
 fn number_in(graph: &Graph<AnyOp>, set: u32, name: &Name) -> Option<u32>
     requires edges { AreEdges graph.now.edges }
     requires lives { In set (numbers graph.now.edges) }
@@ -87,7 +61,7 @@ fn number_in(graph: &Graph<AnyOp>, set: u32, name: &Name) -> Option<u32>
         (table_named (working graph.now.edges set) name.now) }
 {
     let tables = graph.tables_in(set)?;
-    find_number(graph, tables, name)
+    graph.number_named(tables, name)
 }
 
 /// The table of a live working set with this name.

@@ -5,7 +5,6 @@ ghost use Rattle.std.specs.Str.{bytes_eq};
 ghost use Rattle.statements.specs.Views.{op_view};
 ghost use Rattle.version_graph.specs.Tables.{headings_after, headings_of, headings_passing, is_among as is_among_lem};
 ghost use Rattle.version_graph.specs.Edges.{working};
-ghost use Rattle.version_graph.specs.Evolve.{limit_at};
 ghost use Rattle.par_base.specs.Checked.{Gives};
 ghost use Rattle.engine_versions.specs.Evolve.{counts_of, edges_on, room_for, target_count as target_count_lem, with_one as with_one_lem};
 
@@ -13,10 +12,7 @@ use op_any::{AnyOp, build_op};
 use par_base::{Fault, List, Memory, Name, Refusal};
 use statements::OpText;
 use std::alloc::Global;
-use version_graph::{Edge, Graph, Heading};
-
-/// The most operators that live at once.
-const OPERATOR_LIMIT: usize = 1024;
+use version_graph::{Edge, Graph, Heading, passed_limit};
 
 /// How many operators live, and the last numbers that an operator and a table were given.
 #[derive(Clone, Copy, Debug)]
@@ -41,19 +37,6 @@ fn target_count(text: &OpText) -> u32
     }
 }
 
-// The limit that one operator more would pass.
-fn passed_limit(counts: Counts, targets: u32) -> Option<u64>
-    ensures { result ≡ limit_at counts.live counts.operator counts.table targets }
-{
-    if counts.live >= OPERATOR_LIMIT {
-        Some(OPERATOR_LIMIT as u64)
-    } else if counts.operator == u32::MAX || counts.table > u32::MAX - targets {
-        Some(u32::MAX as u64)
-    } else {
-        None
-    }
-}
-
 // The counts with one operator more, or the refusal for want of numbers.
 fn with_one(counts: Counts, text: &OpText) -> Result<Counts, Fault<Refusal>>
     ensures gives { Gives (λ _. tt) result (room_for counts (op_view text.now)) }
@@ -61,7 +44,7 @@ fn with_one(counts: Counts, text: &OpText) -> Result<Counts, Fault<Refusal>>
         (λ more. more ≡ with_one_lem counts (target_count_lem (op_view text.now))) }
 {
     let targets = target_count(text);
-    match passed_limit(counts, targets) {
+    match passed_limit(counts.live, counts.operator, counts.table, targets as usize) {
         Some(limit) => Err(Fault::Refused(Refusal::TooManyOperators { limit })),
         None => Ok(Counts {
             live: counts.live + 1,

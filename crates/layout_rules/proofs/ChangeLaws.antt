@@ -102,7 +102,7 @@ module _ {O : Type 0} where
   no_name es e [] is none = ap (λ (l : List (List ℕ)). table_numbers (taken (working es e.parent) l)) is
   no_name es e (name ∷ names) is none = absurd (false≢true none)
 
-  a_name : (es : List (Placed O)) (e : Placed O) (names : List (List ℕ)) → Follows es e → e.edge.sources ≡ names → is_empty names ≡ false → IsCreate (link es e) → ⊥
+  pub a_name : (es : List (Placed O)) (e : Placed O) (names : List (List ℕ)) → Follows es e → e.edge.sources ≡ names → is_empty names ≡ false → IsCreate (link es e) → ⊥
   a_name es e [] follows is some none = false≢true (sym some)
   a_name es e (name ∷ names) follows is some none =
       let known = subst (λ (l : List (List ℕ)). Each (λ n. In n (heading_names (headings_of (working es e.parent)))) l) is follows.fits.known in

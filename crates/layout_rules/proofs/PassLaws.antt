@@ -1,5 +1,5 @@
 -- Passes by place, and ascending lists.
-use Rattle.std.specs.Prelude.{◌<◌, ◌≤◌, ◌&&◌, ◌↔◌, Option, Some, None, option_map, option_to_list, slice_get, Result, Ok, Err, IfOk}
+use Rattle.std.specs.Prelude.{◌<◌, ◌≤◌, ◌&&◌, ◌↔◌, Option, Some, None, option_to_list, slice_get, Result, Ok, Err, IfOk}
 use Rattle.std.specs.List.{list_all}
 use Rattle.std.specs.Option.{option_map_or}
 use Rattle.std.proofs.Common.{◌≡◌, ℕ, zero, suc, ◌+◌, List, [], ◌∷◌, ◌++◌, Bool, true, false, cond, filter, map, length, take, inl, inr, refl, sym, ap, ◌∙◌, subst, arith, add-one}
@@ -7,7 +7,6 @@ use Rattle.std.proofs.lemmas.Bool.{false≢true}
 use Rattle.std.proofs.lemmas.List.{append_assoc, append-nil, length-reverse, map-append, reverse-append, take_all}
 use Rattle.std.proofs.lemmas.List.Elements.{filter-append}
 use Rattle.std.proofs.lemmas.List.Folds.{list_all-append}
-use Rattle.std.proofs.lemmas.Option.{slice_get-map}
 use mathlib.Core.List.{reverse}
 use Rattle.version_graph.specs.Sets.{In}
 use Rattle.version_graph.specs.Tables.{TableVersion, table_numbers}
@@ -83,11 +82,6 @@ module _ {O : Type 0} where
   map_reverse (e ∷ es) =
       reverse_next e.number (numbers es) ∙ ap (λ (l : List ℕ). l ++ e.number ∷ []) (map_reverse es)
       ∙ sym (ap (map (λ (x : Placed O). x.number)) (reverse_next e es) ∙ map-append (λ (x : Placed O). x.number) (reverse es) (e ∷ []))
-
-  -- the number of the edge at a place
-  pub number_place : (es : List (Placed O)) (i : ℕ) (o : Option (Placed O)) → o ≡ slice_get (reverse es) i → option_map (λ (e : Placed O). e.number) o ≡ slice_get (numbers_up es) i
-  number_place es i o is =
-      ap (option_map (λ (e : Placed O). e.number)) is ∙ sym (slice_get-map (λ (e : Placed O). e.number) (reverse es) i) ∙ ap (λ (l : List ℕ). slice_get l i) (sym (map_reverse es))
 
   length_numbers : (es : List (Placed O)) → length (numbers es) ≡ length es
   length_numbers [] = refl

@@ -1,9 +1,12 @@
 -- What evolutions and drops make of a layout.
-use Rattle.std.specs.Prelude.{ℕ, ◌+◌, ◌&&◌, cond, nat_lt, Bool, true, false, List, [], ◌∷◌, ◌++◌, filter}
+use Rattle.std.specs.Prelude.{◌≡◌, ℕ, ◌+◌, ◌<◌, ◌&&◌, cond, nat_lt, Bool, true, false, List, [], ◌∷◌, ◌++◌, filter}
+use Rattle.version_graph.specs.Sets.{In}
 use Rattle.version_graph.specs.Edges.{Drawn, is_in, numbers}
 use Rattle.version_graph.specs.Dropped.{dropped}
+use Rattle.version_graph.specs.Forest.{Link, forest}
 use Rattle.version_graph.specs.declared.parts.Edge.{Edge}
 use Rattle.version_graph.specs.declared.parts.Placed.{Placed}
+use Rattle.layout_rules.specs.Layouts.{IsCreate}
 
 abbrev pub is_empty : {X : Type 0} → List X → Bool
 is_empty [] = true
@@ -32,3 +35,7 @@ creates_above last (e ∷ es) = creates_above last es ++ cond (nat_lt last e.num
 -- whatever a statement makes of the graph: the operators of the layout that live stay in it, and new CREATE TABLE operators come in
 abbrev pub layout_after : {O : Type 0} → List ℕ → Drawn O → Drawn O → List ℕ
 layout_after layout old new = filter (λ n. is_in n (numbers new.edges)) layout ++ creates_above old.last_operator new.edges
+
+-- a CREATE TABLE operator of the second graph, under a number that the first had not given
+abbrev pub IsNewCreate : {O : Type 0} → Drawn O → Drawn O → ℕ → Type 0
+IsNewCreate {O} old new n = (e : Link O) × In e (forest new.edges) × (n ≡ e.number) × IsCreate e × (old.last_operator < n)

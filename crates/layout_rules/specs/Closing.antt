@@ -8,9 +8,8 @@ use Rattle.par_base.specs.declared.refusal.Refusal.{Refusal}
 use Rattle.par_base.specs.declared.refusal.Refusal.TheVariants.{InvalidLayout}
 use Rattle.version_graph.specs.Sets.{In, Each}
 use Rattle.version_graph.specs.Tables.{table_numbers}
-use Rattle.version_graph.specs.Edges.{Drawn, Rises, heading_of, set_named, working}
+use Rattle.version_graph.specs.Edges.{Drawn, Rises, heading_of, number_named, set_named, working}
 use Rattle.version_graph.specs.Forest.{Link, forest, tree}
-use Rattle.version_graph.specs.Kept.{number_named}
 use Rattle.version_graph.specs.declared.parts.Heading.{Heading}
 use Rattle.version_graph.specs.declared.parts.Placed.{Placed}
 use Rattle.layout_rules.specs.Layouts.{IsCreate, IsStored, Lives}

@@ -1,5 +1,5 @@
 //! Laws of the definitions. The functions do nothing: their contracts are the laws.
-ghost use Rattle.layout_rules.specs.Laws.{ClosingIsRight, ClosingStaysValid, DropsStayValid, EvolutionsStayValid, FlipsAreFound, MovesStayValid, NeededIsLeast};
+ghost use Rattle.layout_rules.specs.Laws.{ClosingIsRight, ClosingStaysValid, DropsAreFollowed, DropsStayValid, EvolutionsAreFollowed, EvolutionsStayValid, FlipsAreFound, LayoutFollows, MovesStayValid, NeededIsLeast, StoredIsTold};
 
 /// A move passes through valid layouts alone, and ends at the goal and nowhere else.
 pub fn moves_stay_valid<O>()
@@ -22,4 +22,17 @@ pub fn closing_is_right<O>()
 pub fn closing_stays_valid<O>()
     ensures least { NeededIsLeast O }
     ensures valid { ClosingStaysValid O }
+{}
+
+/// The test of a stored table is what is told of one.
+pub fn stored_is_told<O>()
+    ensures { StoredIsTold O }
+{}
+
+/// From one graph to the next the layout keeps its operators that live, and new CREATE TABLE
+/// operators come in: after an evolution and after a drop it is what is told of these.
+pub fn layout_follows<O>()
+    ensures follows { LayoutFollows O }
+    ensures evolves { EvolutionsAreFollowed O }
+    ensures drops { DropsAreFollowed O }
 {}

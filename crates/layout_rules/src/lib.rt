@@ -8,6 +8,7 @@
 //! (`specs/Closing.antt`); and that `way_to_storage` gives the operators over which a table is read
 //! (`specs/Ways.antt`). By the laws of `specs/Laws.antt` a move passes through valid layouts alone
 //! (`specs/Moves.antt`), and evolutions, drops and closing leave valid ones (`specs/Changes.antt`).
+//! What `is_stored` and `layout_after` compute is told there by sets.
 //! All of this is over numbers of operators and tables. The crate knows nothing of what an operator
 //! does, nor of rows: `O` is any type.
 //!
@@ -26,7 +27,10 @@ mod validity;
 mod way;
 
 pub use closing::close;
-pub use laws::{changes_stay_valid, closing_is_right, closing_stays_valid, moves_stay_valid};
+pub use laws::{
+    changes_stay_valid, closing_is_right, closing_stays_valid, layout_follows, moves_stay_valid,
+    stored_is_told,
+};
 pub use layout::Layout;
 pub use storing::{holds, stored_tables};
 pub use validity::is_valid;

@@ -1,38 +1,11 @@
 //! The tables and the trees that targets name.
 ghost use Rattle.std.specs.Prelude.{◌≡◌, ◌++◌, ℕ, None, string_bytes, option_map, IfOk, OnOk};
-ghost use Rattle.std.specs.Str.{bytes_eq};
-ghost use Rattle.version_graph.specs.Kept.{has_name as has_name_lem, number_named};
 ghost use Rattle.layout_rules.specs.Closing.{chosen, table_text, tables_of as tables_of_lem, target_text as target_text_lem};
 ghost use Rattle.layout_rules.specs.Calls.{AddsTables, TellsTarget};
 
 use par_base::{Fault, Memory, Name, Refusal, Target, Text};
 use std::alloc::Global;
-use std::iter::Iterator;
-use version_graph::{Graph, Heading};
-
-fn is_named(heading: &Heading, name: &Name) -> bool
-    ensures { result ≡ bytes_eq heading.now.name name.now }
-{
-    heading.name.as_str().as_bytes() == name.as_str().as_bytes()
-}
-
-fn has_name<O>(graph: &Graph<O>, table: u32, name: &Name) -> bool
-    ensures { result ≡ has_name_lem graph.now.edges name.now table }
-{
-    match graph.heading(table) {
-        Some(heading) => is_named(heading, name),
-        None => false,
-    }
-}
-
-fn table_named<O>(graph: &Graph<O>, tables: &[u32], name: &Name) -> Option<u32>
-    ensures { result ≡ number_named graph.now.edges tables.now name.now }
-{
-    tables
-        .iter()
-        .copied()
-        .find(|table| has_name(graph, *table, name))
-}
+use version_graph::Graph;
 
 fn copy(alloc: Global, tables: &[u32]) -> Result<Vec<u32>, Memory>
     ensures { IfOk result (λ made. made.items ≡ tables.now) }
@@ -54,7 +27,7 @@ fn choose<O>(
     let Some(name) = table else {
         return Ok(Some(copy(alloc, tables)?));
     };
-    match table_named(graph, tables, name) {
+    match graph.number_named(tables, name) {
         Some(number) => Ok(Some(copy(alloc, &[number])?)),
         None => Ok(None),
     }

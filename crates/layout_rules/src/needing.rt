@@ -9,7 +9,7 @@ ghost use Rattle.layout_rules.specs.Lookups.{climbed as climbed_lem, in_trees as
 ghost use Rattle.layout_rules.specs.Choices.{is_chosen};
 
 use crate::storing::{holds, sources_of};
-use crate::validity::{meet, number_at};
+use crate::validity::meet;
 use par_base::{List, Memory};
 use std::alloc::Global;
 use version_graph::{Graph, Placed};
@@ -146,7 +146,7 @@ pub fn chosen<O>(alloc: Global, graph: &Graph<O>, choice: Choice<'_>) -> Result<
 {
     let mut made = List::new(alloc);
     for place in 0..graph.live_operators() {
-        push_staying(graph, choice, number_at(graph, place), &mut made)?;
+        push_staying(graph, choice, graph.number_at(place), &mut made)?;
     }
     Ok(made)
 }

@@ -68,22 +68,12 @@ fn may_miss<O>(graph: &Graph<O>, layout: &[u32], operator: u32) -> bool
     !sources_of(graph, operator).is_empty() || holds(layout, operator)
 }
 
-/// The live operator at a place, by ascending number.
-pub fn number_at<O>(graph: &Graph<O>, place: usize) -> Option<u32>
-    ensures { result ≡ slice_get (numbers_up graph.now.edges) place }
-{
-    match graph.edge_at(place) {
-        Some(placed) => Some(placed.number),
-        None => None,
-    }
-}
-
 // Whether the operator at a place may miss, where there is one.
 fn may_miss_at<O>(graph: &Graph<O>, layout: &[u32], place: usize) -> bool
     ensures { result ≡ option_map_or (may_miss_lem graph.now.edges layout.now)
         (slice_get (numbers_up graph.now.edges) place) true }
 {
-    match number_at(graph, place) {
+    match graph.number_at(place) {
         Some(operator) => may_miss(graph, layout, operator),
         None => true,
     }

@@ -9,4 +9,4 @@ returns-in_err-tables c =
     absurd (not_none (tables_at es c.args.set) _ c.in_err-tables.ensures (set_tables es c.args.set c.requires.edges c.requires.lives))
 
 pub returns : goal.returns
-returns c = c.find_number.ensures ∙ number_is c.args.graph.now.edges c.args.set c.args.name.now c.in_ok-tables.tables.now c.requires.edges c.requires.lives c.in_ok-tables.ensures
+returns c = c.number_named.ensures ∙ number_is c.args.graph.now.edges c.args.set c.args.name.now c.in_ok-tables.tables.now c.requires.edges c.requires.lives c.in_ok-tables.ensures
