@@ -15,6 +15,7 @@ pub struct Input<R: Read + Drop> {
 }
 
 impl<R: Read + Drop> Input<R> {
+    /// What the reader gives, with no fault counted yet.
     pub fn new(reader: R) -> Input<R>
         ensures reader { result.reader ≡ reader }
         ensures faults { result.faults ≡ 0 }
@@ -47,6 +48,7 @@ pub struct Output<W: Write + Drop> {
 }
 
 impl<W: Write + Drop> Output<W> {
+    /// What goes to the writer, with no fault counted yet.
     pub fn new(writer: W) -> Output<W>
         ensures writer { result.writer ≡ writer }
         ensures faults { result.faults ≡ 0 }

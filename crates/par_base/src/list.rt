@@ -36,18 +36,21 @@ impl<T> List<T> {
         }
     }
 
+    /// How many items there are.
     pub fn len(&self) -> usize
         ensures { result ≡ length self.now }
     {
         self.items.len()
     }
 
+    /// Whether there is no item.
     pub fn is_empty(&self) -> bool
         ensures { result ≡ (length self.now == 0) }
     {
         self.items.len() == 0
     }
 
+    /// The item at a place, from 0 on.
     pub fn get(&self, at: usize) -> Option<&T>
         ensures value { option_copied result ≡ slice_get self.now at }
         ensures within { OnSome result (at < length self.now) }
@@ -55,6 +58,7 @@ impl<T> List<T> {
         self.items.get(at)
     }
 
+    /// The item at a place, to be changed there.
     pub fn get_mut(&mut self, at: usize) -> Option<&mut T>
         ensures* writes_back { sem 𝓛 (lends_item T.row self.entry at result) }
         ensures value { option_copied_mut result ≡ slice_get self.old at }
@@ -62,12 +66,14 @@ impl<T> List<T> {
         self.items.get_mut(at)
     }
 
+    /// The items in their order.
     pub fn as_slice(&self) -> &[T]
         ensures { result.now ≡ self.now }
     {
         self.items.as_slice()
     }
 
+    /// Takes the last item out.
     pub fn pop(&mut self) -> Option<T>
         ensures { MatchOption result ((self.old ≡ []) × (self.new ≡ [])) (λ last. self.old
             ≡ self.new ++ last ∷ []) }
@@ -101,6 +107,7 @@ impl<T: Drop> List<T> {
         Ok(())
     }
 
+    /// Puts an item at a place. It moves all items behind it by one.
     pub fn insert(&mut self, at: usize, item: T) -> Result<(), Memory>
         requires { at ≤ length self.old }
         ensures ok { OnOk result (self.new ≡ insert self.old at item) }
@@ -110,6 +117,7 @@ impl<T: Drop> List<T> {
         Ok(())
     }
 
+    /// Takes the item at a place out. It moves all items behind it by one.
     pub fn remove(&mut self, at: usize) -> T
         requires { at < length self.old }
         ensures item { slice_get self.old at ≡ Some result }

@@ -94,6 +94,7 @@ impl Model for Name {
 }
 
 impl Name {
+    /// The name as text, in lower case.
     pub fn as_str(&self) -> &str
         ensures text { result.now ≡ self.now }
         ensures is_name { is_name self.now ≡ true }

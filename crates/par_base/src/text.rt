@@ -35,6 +35,7 @@ impl Text {
         Text { text }
     }
 
+    /// The characters of the text.
     pub fn as_str(&self) -> &str
         ensures { result.now ≡ self.now }
     {
