@@ -11,6 +11,8 @@ mod cases;
 mod evolving;
 mod fit;
 #[cfg(test)]
+mod layouts;
+#[cfg(test)]
 mod memories;
 #[cfg(test)]
 mod placing;

@@ -1,7 +1,7 @@
 -- How the run of a script ends.
-use Rattle.std.proofs.Common.{◌≡◌, ◌≤◌, ◌<◌, ◌==◌, ◌⊎◌, ℕ, List, [], ◌∷◌, ◌++◌, Option, None, Some, Bool, true, false, inl, inr, refl, sym, ap, subst, ◌∙◌, append-nil, take, length, arith, length-append}
+use Rattle.std.proofs.Common.{◌≡◌, ◌≢◌, ◌≤◌, ◌<◌, ◌==◌, ◌⊎◌, ℕ, List, [], ◌∷◌, ◌++◌, Option, None, Some, Bool, true, false, inl, inr, refl, sym, ap, subst, ◌∙◌, append-nil, take, length, arith, length-append}
 use Rattle.std.specs.Prelude.{nat_le, min, codes}
-use Rattle.std.proofs.lemmas.List.{take_all, take-append-le}
+use Rattle.std.proofs.lemmas.List.{append_cancel_right, take_all, take-append-le}
 use Rattle.std.proofs.lemmas.Bool.{le-leb, lt-leb}
 use Rattle.std.proofs.lemmas.Bool.Decides.{eqb_tells, leb_tells}
 use Rattle.std.specs.Io.KnownBytes.{Appends, Consumes, IsAtEnd}
@@ -25,12 +25,13 @@ use Rattle.bidel_script.proofs.UniqueLaws.{one_comes}
 use Rattle.engine_core.specs.Texts.{line}
 use Rattle.inverda_run.specs.Output.{out_of}
 use Rattle.inverda_run.specs.Statuses as statuses
-use Rattle.inverda_run.specs.Statuses.{limit, Taken, whole, failed, above, last_line, WritesScript, Had, PutsFront, Begun}
-use Rattle.inverda_run.specs.Calls.{Runs, RunsTo, RunsFront, RunsScript, RunsBytes, AtWithin, BeginsRun, PutsLine, PutsAll, EndsScript, Counts, ended_by, Ends}
+use Rattle.inverda_run.specs.Statuses.{limit, Taken, whole, failed, above, last_line, WritesScript, Had, PutsFront, Begun, BegunTaken}
+use Rattle.inverda_run.specs.Calls.{Runs, RunsTo, RunsFront, RunsScript, RunsBytes, AtWithin, BeginsRun, PutsLine, PutsAll, EndsScript, Counts, ended_by, Ends, EndStays, RunStays}
 use Rattle.inverda_run.specs.declared.run.Ran.{Ran}
 use Rattle.inverda_run.specs.declared.run.Ran.TheVariants as ran
 use Rattle.inverda_run.specs.declared.top.Counted.{Counted}
 use Rattle.inverda_run.specs.declared.end.End.{End}
+use Rattle.inverda_run.specs.declared.end.End.TheVariants as end
 use Rattle.inverda_run.proofs.FrontLemmas.{puts_none, puts_behind, begins_run}
 
 -- ---- the run of the bytes
@@ -100,17 +101,19 @@ puts_nothing s held held' was is same = (refl, subst (λ (h : Option (List ℕ))
 ends_as : {W : Type 0} (words : List W) (left left' : Option (List ℕ)) (read read' : ℕ) (held held' : Option (List ℕ)) (was is : ℕ) (bytes : List ℕ) (ended : Bool) (stopped : List ℕ) (e : End) (r : Ran)
     → words ≡ [] → Taken left left' read read' bytes ended
     → (Begins : (¬ Rose read read') → BeginsRun bytes ended stopped held held' → Begun left held held')
-    → (done : (statements : List StatementView) → Comes bytes ended statements Over → Appends held held' (out_of statements ++ []) → statuses.Done left left' held held')
+    → (BeginsTaken : (read' ≢ read) → BeginsRun bytes ended stopped held held' → BegunTaken left left' held held')
+    → (done : (statements : List StatementView) → Comes bytes ended statements Over → Appends held held' (out_of statements ++ []) → statuses.Done left left' held held' × (read' ≡ read))
     → (open' : (statements : List StatementView) → Comes bytes ended statements Open → Appends held held' (out_of statements ++ stopped) → Ends words left left' read read' held held' was is e)
     → EndsScript bytes ended stopped held held' was is r → Ends words left left' read read' held held' was is (ended_by e r)
-ends_as words left left' read read' held held' was is bytes ended stopped e (ran.Stops stop.Over) none t begins done open' h = (none, done h.statements h.comes h.put)
-ends_as words left left' read read' held held' was is bytes ended stopped e (ran.Stops (stop.Fault at)) none t begins done open' h =
+ends_as words left left' read read' held held' was is bytes ended stopped e (ran.Stops stop.Over) none t begins taken done open' h = (let d = done h.statements h.comes h.put in (none, d.0, d.1))
+ends_as words left left' read read' held held' was is bytes ended stopped e (ran.Stops (stop.Fault at)) none t begins taken done open' h =
     (none, record { bytes = bytes; ended = ended; before = h.statements; at = at; taken = t; fault = h.comes; put = h.put })
-ends_as words left left' read read' held held' was is bytes ended stopped e (ran.Stops stop.Long) none t begins done open' h =
+ends_as words left left' read read' held held' was is bytes ended stopped e (ran.Stops stop.Long) none t begins taken done open' h =
     (none, record { bytes = bytes; ended = ended; before = h.statements; taken = t; long = inl h.comes; put = h.put })
-ends_as words left left' read read' held held' was is bytes ended stopped e (ran.Stops stop.Open) none t begins done open' h = open' h.statements h.comes h.put
-ends_as words left left' read read' held held' was is bytes ended stopped e ran.Memory none t begins done open' h = (none, λ safe. begins safe h)
-ends_as words left left' read read' held held' was is bytes ended stopped e ran.Unwritten none t begins done open' h = (h.0, λ same safe. begins safe h.1)
+ends_as words left left' read read' held held' was is bytes ended stopped e (ran.Stops stop.Open) none t begins taken done open' h = open' h.statements h.comes h.put
+ends_as words left left' read read' held held' was is bytes ended stopped e ran.Memory none t begins taken done open' h = (none, λ safe. begins safe h, λ fails. taken fails h)
+ends_as words left left' read read' held held' was is bytes ended stopped e ran.Unwritten none t begins taken done open' h =
+    (h.0, λ same safe. begins safe h.1, λ same fails. taken fails h.1, λ some. absurd (some none))
 
 some_same : (one other : List ℕ) → Some one ≡ Some other → one ≡ other
 some_same one other h = cc
@@ -175,6 +178,19 @@ begun_counts (Some told) left' held held' was is bytes ended stopped t said safe
       same = e ∙ moved ∙ ap (λ (l : List ℕ). out_of statements ++ l) (line_same statements o c);
     }
 
+-- the bytes that were taken are one list
+taken_one : (left left' : List ℕ) (one other : List ℕ) → left ≡ one ++ left' → left ≡ other ++ left' → one ≡ other
+taken_one left rest one other a b = append_cancel_right one other rest (sym a ∙ b)
+
+-- what was put begins what the run of the bytes that were taken puts
+begun_taken : (left left' held held' : Option (List ℕ)) (bytes : List ℕ) (ended : Bool) (stopped : List ℕ) → Consumes left left' bytes → ended ≡ false → stopped ≡ line (codes "read fault")
+    → BeginsRun bytes ended stopped held held' → BegunTaken left left' held held'
+begun_taken None left' held held' bytes ended stopped t open' said h = tt
+begun_taken (Some told) None held held' bytes ended stopped t open' said h = absurd t
+begun_taken (Some told) (Some rest) held held' bytes ended stopped t open' said h = λ other text c w.
+    h text (subst (λ (l : List ℕ). WritesScript l ended stopped text) (taken_one told rest other bytes c t)
+    (subst (λ (b : Bool). WritesScript other b stopped text) (sym open') (subst (λ (l : List ℕ). WritesScript other false l text) (sym said) w)))
+
 -- the source was read, and the bytes that count were run
 pub ends_run : {W : Type 0} (words : List W) (left left' : Option (List ℕ)) (read' read2 : ℕ) (held held' : Option (List ℕ)) (was is : ℕ) (r : ReadAll) (c : Counted) (x : Ran)
     → words ≡ [] → ReadsAll limit left left' read' read2 r → Counts r c → EndsScript c.bytes.now c.ended c.stopped.now held held' was is x
@@ -183,11 +199,12 @@ ends_run words left left' read' read2 held held' was is (read.Whole bytes) c x n
     let taken : Taken left left' read' read2 c.bytes.now c.ended = whole (subst (Consumes left left') (sym k.0) t.0) t.1 (omega (arith, t.2, ap length k.0)) k.1 in
     ends_as words left left' read' read2 held held' was is c.bytes.now c.ended c.stopped.now c.end x none taken
     (λ safe b. begun_counts left left' held held' read' read2 c.bytes.now c.ended c.stopped.now taken (λ f. let clash : true ≡ false = sym k.1 ∙ f in cc) safe b)
+    (λ fails b. absurd (fails t.3))
     (λ statements comes put. done statements (subst (λ (b : Bool). Comes c.bytes.now b statements Over) k.1 comes) put)
     (λ statements comes put. absurd (ended_not_open c.bytes.now statements (subst (λ (b : Bool). Comes c.bytes.now b statements Open) k.1 comes))) h
   where
-    done : (statements : List StatementView) → Comes c.bytes.now true statements Over → Appends held held' (out_of statements ++ []) → statuses.Done left left' held held'
-    done statements comes put = record {
+    done : (statements : List StatementView) → Comes c.bytes.now true statements Over → Appends held held' (out_of statements ++ []) → statuses.Done left left' held held' × (read2 ≡ read')
+    done statements comes put = (record {
       bytes = c.bytes.now;
       statements = statements;
       taken = subst (Consumes left left') (sym k.0) t.0;
@@ -196,11 +213,12 @@ ends_run words left left' read' read2 held held' was is (read.Whole bytes) c x n
       script = over_is_script c.bytes.now statements comes;
       comes = comes;
       put = subst (Appends held held') (append-nil (out_of statements)) put;
-    }
+    }, t.3)
 ends_run words left left' read' read2 held held' was is (read.TooLong bytes) c x none t k h =
     let taken : Taken left left' read' read2 c.bytes.now c.ended = above bytes.items t.0 t.1 k.0 k.1 in
     ends_as words left left' read' read2 held held' was is c.bytes.now c.ended c.stopped.now c.end x none taken
     (λ safe b. begun_counts left left' held held' read' read2 c.bytes.now c.ended c.stopped.now taken (λ f. k.2) safe b)
+    (λ fails b. absurd (fails t.2))
     (λ statements comes put. absurd (open_not_over c.bytes.now statements (subst (λ (b : Bool). Comes c.bytes.now b statements Over) k.1 comes)))
     (λ statements comes put. subst (Ends words left left' read' read2 held held' was is) (sym k.3) (
       none,
@@ -218,6 +236,7 @@ ends_run words left left' read' read2 held held' was is (read.Fault bytes) c x n
     let within : length c.bytes.now ≤ limit = omega (arith, t.1, ap length k.0) in
     ends_as words left left' read' read2 held held' was is c.bytes.now c.ended c.stopped.now c.end x none (failed consumed within t.2 k.1)
     (λ safe b. absurd (safe t.2))
+    (λ fails b. begun_taken left left' held held' c.bytes.now c.ended c.stopped.now consumed k.1 k.2 b)
     (λ statements comes put. absurd (open_not_over c.bytes.now statements (subst (λ (b : Bool). Comes c.bytes.now b statements Over) k.1 comes)))
     (λ statements comes put. subst (Ends words left left' read' read2 held held' was is) (sym k.3) (
       none,
@@ -231,6 +250,21 @@ ends_run words left left' read' read2 held held' was is (read.Fault bytes) c x n
         put = subst (λ (l : List ℕ). Appends held held' (out_of statements ++ l)) k.2 put;
       },
     )) h
+
+-- the count stays as the turns leave it
+pub ends_stay : (was is : ℕ) (e : End) (r : Ran) → RunStays was is r → EndStays was is (ended_by e r)
+ends_stay was is e (ran.Stops stop.Over) h = h
+ends_stay was is e (ran.Stops (stop.Fault at)) h = h
+ends_stay was is e (ran.Stops stop.Long) h = h
+ends_stay was is end.Unwritten (ran.Stops stop.Open) h = tt
+ends_stay was is end.Done (ran.Stops stop.Open) h = h
+ends_stay was is end.Memory (ran.Stops stop.Open) h = h
+ends_stay was is end.BadWords (ran.Stops stop.Open) h = h
+ends_stay was is end.Syntax (ran.Stops stop.Open) h = h
+ends_stay was is end.Unread (ran.Stops stop.Open) h = h
+ends_stay was is end.TooLong (ran.Stops stop.Open) h = h
+ends_stay was is e ran.Memory h = h
+ends_stay was is e ran.Unwritten h = tt
 
 -- ---- what the source told decides the status
 

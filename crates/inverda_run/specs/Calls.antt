@@ -17,7 +17,7 @@ use Rattle.engine_layouts.specs.Laid.{Laid}
 use Rattle.engine_core.specs.Act.{act}
 use Rattle.engine_core.specs.Texts.{line}
 use Rattle.inverda_run.specs.Output.{text_of, next_state, out_of}
-use Rattle.inverda_run.specs.Statuses.{Done, Stopped, Unread, Passed, PutsFront, WritesScript, Begun, last_line, limit}
+use Rattle.inverda_run.specs.Statuses.{Done, Stopped, Unread, Passed, PutsFront, WritesScript, Begun, BegunTaken, last_line, limit}
 use Rattle.inverda_run.specs.declared.turn.Turn.{Turn}
 use Rattle.inverda_run.specs.declared.turn.Turn.TheVariants as turn
 use Rattle.inverda_run.specs.declared.run.Ran.{Ran}
@@ -52,6 +52,11 @@ Turns bytes tail tokens held held' was is s s' (turn.Stops stop) = StandsBehind 
 Turns bytes tail tokens held held' was is s s' turn.Memory = held' ≡ held
 Turns bytes tail tokens held held' was is s s' turn.Unwritten = Rose was is × RunsPart bytes tail tokens held held' s
 
+-- a turn counts no fault of the sink where it isn't the sink that failed
+abbrev pub TurnStays : ℕ → ℕ → Turn → Type 0
+TurnStays was is turn.Unwritten = ⊤
+TurnStays was is _ = is ≡ was
+
 -- statements were carried out and answered, and this stands behind them
 pub record RunsTo (bytes : List ℕ) (tail : Tail) (tokens : List Token) (held held' : Option (List ℕ)) (outcome : Outcome) : Type 0 where
   pub statements : List StatementView
@@ -72,6 +77,11 @@ abbrev pub Runs : List ℕ → Tail → List Token → Option (List ℕ) → Opt
 Runs bytes tail tokens held held' was is (ran.Stops stop) = RunsTo bytes tail tokens held held' (outcome_of stop)
 Runs bytes tail tokens held held' was is ran.Memory = RunsFront bytes tail tokens held held'
 Runs bytes tail tokens held held' was is ran.Unwritten = Rose was is × RunsFront bytes tail tokens held held'
+
+-- the turns count no fault of the sink where it isn't the sink that failed
+abbrev pub RunStays : ℕ → ℕ → Ran → Type 0
+RunStays was is ran.Unwritten = ⊤
+RunStays was is _ = is ≡ was
 
 -- a fault is at one of the bytes, or behind the last one
 abbrev pub AtWithin : List ℕ → Stop → Type 0
@@ -128,12 +138,20 @@ ended_by stopped (ran.Stops stop.Open) = stopped
 ended_by stopped ran.Memory = end.Memory
 ended_by stopped ran.Unwritten = end.Unwritten
 
+-- the run counts no fault of the sink where it isn't the sink that failed
+abbrev pub EndStays : ℕ → ℕ → End → Type 0
+EndStays was is end.Unwritten = ⊤
+EndStays was is _ = is ≡ was
+
 -- what a run leaves: of the source what is left and its count of faults, and of the sink its bytes and its count, before and now
 abbrev pub Ends : {W : Type 0} → List W → Option (List ℕ) → Option (List ℕ) → ℕ → ℕ → Option (List ℕ) → Option (List ℕ) → ℕ → ℕ → End → Type 0
-Ends words left left' read read' held held' was is end.Done = (words ≡ []) × Done left left' held held'
-Ends words left left' read read' held held' was is end.Memory = (words ≡ []) × (¬ Rose read read' → Begun left held held')
+Ends words left left' read read' held held' was is end.Done = (words ≡ []) × Done left left' held held' × (read' ≡ read)
+Ends words left left' read read' held held' was is end.Memory =
+    (words ≡ []) × (¬ Rose read read' → Begun left held held') × (read' ≢ read → BegunTaken left left' held held')
 Ends words left left' read read' held held' was is end.BadWords = (words ≢ []) × Appends held held' (line (codes "bad words"))
 Ends words left left' read read' held held' was is end.Syntax = (words ≡ []) × Stopped left left' read read' held held'
 Ends words left left' read read' held held' was is end.Unread = (words ≡ []) × Unread left left' read read' held held'
-Ends words left left' read read' held held' was is end.Unwritten = Rose was is × (words ≡ [] → ¬ Rose read read' → Begun left held held')
+Ends words left left' read read' held held' was is end.Unwritten =
+    Rose was is × (words ≡ [] → ¬ Rose read read' → Begun left held held') × (words ≡ [] → read' ≢ read → BegunTaken left left' held held')
+    × (words ≢ [] → PutsFront held held' (line (codes "bad words")))
 Ends words left left' read read' held held' was is end.TooLong = (words ≡ []) × Passed left left' read read' held held'

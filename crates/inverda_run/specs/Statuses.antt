@@ -121,6 +121,13 @@ abbrev pub Begun : Option (List ℕ) → Option (List ℕ) → Option (List ℕ)
 Begun None held held' = ⊤
 Begun (Some bytes) held held' = (text : List ℕ) → WritesScript (take limit bytes) (nat_le (length bytes) limit) (line (codes "too long")) text → PutsFront held held' text
 
+-- where the source told its bytes, the sink was given a front of what the run of those that were taken puts where the source failed
+-- behind them and nothing else fails
+abbrev pub BegunTaken : Option (List ℕ) → Option (List ℕ) → Option (List ℕ) → Option (List ℕ) → Type 0
+BegunTaken None left' held held' = ⊤
+BegunTaken (Some told) left' held held' =
+    (bytes text : List ℕ) → Consumes (Some told) left' bytes → WritesScript bytes false (line (codes "read fault")) text → PutsFront held held' text
+
 -- the run of any bytes puts one text where nothing fails
 abbrev pub OneText : Type 0
 OneText = (bytes : List ℕ) (ended : Bool) (stopped : List ℕ) → (text : List ℕ) × WritesScript bytes ended stopped text

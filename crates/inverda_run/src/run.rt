@@ -2,7 +2,7 @@
 ghost use Rattle.std.specs.Prelude.{◌≤◌};
 ghost use Rattle.bidel_lex.specs.Tokens.{AreTokens};
 ghost use Rattle.bidel_script.specs.Tails.{Fits};
-ghost use Rattle.inverda_run.specs.Calls.{Runs};
+ghost use Rattle.inverda_run.specs.Calls.{RunStays, Runs};
 
 use crate::turn::{Turn, take_turn};
 use bidel_lex::Token;
@@ -42,6 +42,7 @@ pub fn run_tokens<K: Sink, L: Ledger>(
     ensures runs { Runs bytes.now tail tokens.now (K.held out.old) (K.held out.new)
         (K.faults out.old)
         (K.faults out.new) result }
+    ensures stays { RunStays (K.faults out.old) (K.faults out.new) result }
     ensures later { K.faults out.old ≤ K.faults out.new }
 {
     let mut engine = Engine::new(alloc, Limits { max_id: MAX_ID });

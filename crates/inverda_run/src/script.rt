@@ -2,7 +2,7 @@
 ghost use Rattle.std.specs.Prelude.{◌≡◌, ◌≤◌};
 ghost use Rattle.bidel_script.specs.Calls.{outcome_of};
 ghost use Rattle.inverda_run.specs.Statuses.{last_line};
-ghost use Rattle.inverda_run.specs.Calls.{EndsScript, AtWithin, PutsLine, RunsScript};
+ghost use Rattle.inverda_run.specs.Calls.{EndsScript, AtWithin, PutsLine, RunStays, RunsScript};
 
 use crate::lines::syntax_line;
 use crate::run::{Ran, run_tokens};
@@ -27,6 +27,7 @@ pub fn run_script<K: Sink, L: Ledger>(
     requires one { blank.parts ≡ 1 }
     ensures runs { RunsScript bytes.now ended (K.held out.old) (K.held out.new) (K.faults out.old)
         (K.faults out.new) result }
+    ensures stays { RunStays (K.faults out.old) (K.faults out.new) result }
     ensures later { K.faults out.old ≤ K.faults out.new }
 {
     let mut steps = Steps::<L>::new(blank);
@@ -47,6 +48,7 @@ pub fn run_script<K: Sink, L: Ledger>(
 fn put_line<K: Sink>(stop: Stop, text: &[u8], out: &mut K) -> Ran
     ensures puts { PutsLine stop text.now (K.held out.old) (K.held out.new) (K.faults out.old)
         (K.faults out.new) result }
+    ensures stays { RunStays (K.faults out.old) (K.faults out.new) result }
     ensures later { K.faults out.old ≤ K.faults out.new }
 {
     match write_all(out, text) {
@@ -61,6 +63,7 @@ fn put_last<K: Sink>(alloc: Global, bytes: &[u8], stopped: &[u8], stop: Stop, ou
     ensures puts { PutsLine stop (last_line bytes.now stopped.now (outcome_of stop))
         (K.held out.old) (K.held out.new)
         (K.faults out.old) (K.faults out.new) result }
+    ensures stays { RunStays (K.faults out.old) (K.faults out.new) result }
     ensures later { K.faults out.old ≤ K.faults out.new }
 {
     match stop {
@@ -90,6 +93,7 @@ pub fn end_script<K: Sink, L: Ledger>(
     ensures ends { EndsScript bytes.now ended stopped.now (K.held out.old) (K.held out.new)
         (K.faults out.old)
         (K.faults out.new) result }
+    ensures stays { RunStays (K.faults out.old) (K.faults out.new) result }
     ensures later { K.faults out.old ≤ K.faults out.new }
 {
     match run_script::<K, L>(alloc, bytes, ended, out, blank) {

@@ -4,9 +4,9 @@ ghost use Rattle.std.specs.Io.KnownBytes.{Appends};
 ghost use Rattle.outside.specs.Causes.{Rose};
 ghost use Rattle.engine_core.specs.Texts.{line};
 ghost use Rattle.inverda_run.specs.Moves.{MovesUnseen};
-ghost use Rattle.inverda_run.specs.Statuses.{Done, AnswersScript, Begun, Stopped, Unread, Passed};
+ghost use Rattle.inverda_run.specs.Statuses.{Done, AnswersScript, Begun, BegunTaken, PutsFront, Stopped, Unread, Passed};
 ghost use Rattle.inverda_run.specs.Statuses.{HadFault, HadMore, HadScript, limit};
-ghost use Rattle.inverda_run.specs.Calls.{Counts, Ends, ended_by};
+ghost use Rattle.inverda_run.specs.Calls.{Counts, EndStays, Ends, ended_by};
 
 use crate::end::End;
 use crate::run::Ran;
@@ -84,6 +84,7 @@ fn run<S: Source, K: Sink>(alloc: Global, words: &[String], script: &mut S, out:
         result }
     ensures untouched { words.now ≢ [] → (S.left script.new ≡ S.left script.old)
         × (S.faults script.new ≡ S.faults script.old) }
+    ensures stays { EndStays (K.faults out.old) (K.faults out.new) result }
     ensures later_read { S.faults script.old ≤ S.faults script.new }
     ensures later_write { K.faults out.old ≤ K.faults out.new }
 {
@@ -140,6 +141,8 @@ pub fn inverda<S: Source, K: Sink, F: Files>(
         (K.held out.new) }
     ensures unseen { result ≡ 0
         → MovesUnseen (S.left script.old) (S.left script.new) (K.held out.old) (K.held out.new) }
+    ensures calm { result ≡ 0 → (S.faults script.new ≡ S.faults script.old)
+        × (K.faults out.new ≡ K.faults out.old) }
     ensures complete { words.now ≡ [] → HadScript (S.left script.old)
         → ¬ Rose (S.faults script.old) (S.faults script.new)
         → ¬ Rose (K.faults out.old) (K.faults out.new) → (result ≡ 0) ⊎ (result ≡ 1) }
@@ -161,6 +164,7 @@ pub fn inverda<S: Source, K: Sink, F: Files>(
     ensures read { result ≡ 5 → (words.now ≡ []) × Unread (S.left script.old) (S.left script.new)
         (S.faults script.old) (S.faults script.new) (K.held out.old) (K.held out.new) }
     ensures write { result ≡ 6 → Rose (K.faults out.old) (K.faults out.new) }
+    ensures sink { K.faults out.new ≢ K.faults out.old → result ≡ 6 }
     ensures long { result ≡ 7 → (words.now ≡ []) × Passed (S.left script.old) (S.left script.new)
         (S.faults script.old) (S.faults script.new) (K.held out.old) (K.held out.new) }
 
@@ -168,6 +172,12 @@ pub fn inverda<S: Source, K: Sink, F: Files>(
     ensures begun { (result ≡ 1) ⊎ (result ≡ 6) → words.now ≡ []
         → ¬ Rose (S.faults script.old) (S.faults script.new)
         → Begun (S.left script.old) (K.held out.old) (K.held out.new) }
+
+    ensures begun_taken { (result ≡ 1) ⊎ (result ≡ 6) → words.now ≡ []
+        → S.faults script.new ≢ S.faults script.old
+        → BegunTaken (S.left script.old) (S.left script.new) (K.held out.old) (K.held out.new) }
+    ensures begun_words { result ≡ 6 → words.now ≢ []
+        → PutsFront (K.held out.old) (K.held out.new) (line (codes "bad words")) }
 
     // No count falls, and the files stay as they were.
     ensures later_read { S.faults script.old ≤ S.faults script.new }

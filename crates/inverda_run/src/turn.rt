@@ -8,7 +8,7 @@ ghost use Rattle.bidel_script.specs.Tails.{Fits};
 ghost use Rattle.engine_core.specs.Act.{act};
 ghost use Rattle.engine_core.specs.Kept.{state_of};
 ghost use Rattle.inverda_run.specs.Output.{next_state, text_of};
-ghost use Rattle.inverda_run.specs.Calls.{Turns};
+ghost use Rattle.inverda_run.specs.Calls.{TurnStays, Turns};
 
 use bidel_lex::Token;
 use bidel_script::{Found, Stop, Tail, find_front};
@@ -72,6 +72,7 @@ pub fn take_turn<K: Sink, L: Ledger>(
     ensures turns { Turns bytes.now tail tokens.now (K.held out.old) (K.held out.new)
         (K.faults out.old)
         (K.faults out.new) (state_of engine.old) (state_of engine.new) result }
+    ensures stays { TurnStays (K.faults out.old) (K.faults out.new) result }
     ensures later { K.faults out.old ≤ K.faults out.new }
 {
     match find_front(alloc, bytes, tail, tokens) {

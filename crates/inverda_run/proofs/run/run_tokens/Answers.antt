@@ -1,4 +1,4 @@
-use Rattle.std.proofs.Common.{◌≡◌, List, sym, subst, drop, length-drop, arith}
+use Rattle.std.proofs.Common.{◌≡◌, List, refl, sym, subst, drop, length-drop, arith}
 use Rattle.bidel_lex.specs.declared.tokens.Token.{Token}
 use Rattle.bidel_lex.specs.Tokens.{AreTokens}
 use Rattle.bidel_expr.specs.Lexemes.{lexemes}
@@ -15,7 +15,7 @@ use Rattle.inverda_run.proofs.run.run_tokens.Goals as goal
 pub loop-used-init : goal.loop-used-init
 loop-used-init g c = record {
   so_far = ran_none c.args.bytes.now c.args.tail c.args.tokens.now (g.K.Sink.held c.args.out.now) (state_of c.new-engine.result) c.new-engine.ensures;
-  later = omega arith;
+  stays = refl;
 }
 
 pub take_turn-requires-clause-tokens : goal.take_turn-requires-clause-tokens
@@ -34,7 +34,7 @@ loop-used-preserved g c =
     record {
       so_far = ran_more bytes c.args.tail tokens (g.K.Sink.held c.args.out.now) mid now s s2 c.loop-used.done c.in-Ran.used c.loop-used.invariant.so_far
           (subst (λ (l : List Token). RunsOne bytes c.args.tail l mid now s s2 c.in-Ran.used) (rest_is tokens c.loop-used.done) c.in-Ran.ensures.turns);
-      later = omega (arith, c.loop-used.invariant.later, c.in-Ran.ensures.later);
+      stays = omega (arith, c.loop-used.invariant.stays, c.in-Ran.ensures.stays);
     }
 
 pub loop-used-smaller : goal.loop-used-smaller
@@ -70,7 +70,7 @@ returns-in-Unwritten-clause-runs g c =
     let mid = g.K.Sink.held c.loop-used.out in
     let now = g.K.Sink.held c.take_turn.new.out in
     let s = state_of c.loop-used.engine in (
-      omega (arith, c.loop-used.invariant.later, c.in-Unwritten.ensures.turns.0),
+      omega (arith, c.loop-used.invariant.stays, c.in-Unwritten.ensures.turns.0),
       ran_part bytes c.args.tail tokens (g.K.Sink.held c.args.out.now) mid now s c.loop-used.done c.loop-used.invariant.so_far
           (subst (λ (l : List Token). RunsPart bytes c.args.tail l mid now s) (rest_is tokens c.loop-used.done) c.in-Unwritten.ensures.turns.1),
     )

@@ -1,4 +1,4 @@
-use Rattle.std.proofs.Common.{◌≤◌, ◌-◌, length}
+use Rattle.std.proofs.Common.{◌≡◌, ◌-◌, length}
 use Rattle.engine_core.specs.Kept.{state_of}
 use Rattle.inverda_run.proofs.RunLemmas.{RanSoFar}
 use Rattle.inverda_run.proofs.run.run_tokens.Given as goal
@@ -6,7 +6,7 @@ use Rattle.inverda_run.proofs.run.run_tokens.Given as goal
 abbrev pub invariant-loop-used : goal.invariant-loop-used
 invariant-loop-used g l = record {
   so_far : RanSoFar l.bytes l.fn.tail l.tokens (g.K.Sink.held l.fn.out) (g.K.Sink.held l.out) (state_of l.engine) l.done;
-  later : g.K.Sink.faults l.fn.out ≤ g.K.Sink.faults l.out;
+  stays : g.K.Sink.faults l.out ≡ g.K.Sink.faults l.fn.out;
 }
 
 abbrev pub decreases-loop-used : goal.decreases-loop-used
