@@ -15,6 +15,8 @@ mod layouts;
 #[cfg(test)]
 mod memories;
 #[cfg(test)]
+mod pages;
+#[cfg(test)]
 mod placing;
 mod steps;
 #[cfg(test)]

@@ -37,7 +37,7 @@ fn row_text(alloc: Global, id: u64, row: &Row) -> Result<String, Memory> {
 /// The lines of a table's rows.
 pub fn table_text(alloc: Global, table: &Table) -> Result<String, Memory> {
     let mut text = String::new(alloc);
-    for (id, row) in table.as_slice() {
+    for (id, row) in table.iter() {
         push_row(alloc, &mut text, *id, row)?;
     }
     Ok(text)
@@ -77,7 +77,7 @@ fn expect_table<L: Ledger>(
     let text = table_text(alloc, &read)?;
     let wanted = table_text(alloc, plain)?;
     assert_eq!(rt; text.as_str(), wanted.as_str(), "table {table}");
-    for (id, row) in plain.as_slice() {
+    for (id, row) in plain.iter() {
         expect_row(rt, alloc, twin, table, *id, row, steps)?;
     }
     // No row has the next identifier.

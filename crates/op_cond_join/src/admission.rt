@@ -1,5 +1,5 @@
 //! Whether a side and its auxiliary tables belong together.
-ghost use Rattle.std.specs.Prelude.{◌≡◌, ◌↔◌, IsTrue, length, IfOk};
+ghost use Rattle.std.specs.Prelude.{◌↔◌, IsTrue, IfOk};
 ghost use Rattle.row_store.specs.Rows.{RiseFrom};
 ghost use Rattle.op_law.specs.Tables.{RowsWide};
 ghost use Rattle.op_law.specs.Meaning.{flip};
@@ -16,9 +16,8 @@ use crate::memories::entries_of;
 use crate::showing::is_there;
 use id_memory::PairMemory;
 use op_law::{Aux, Side};
-use op_tables::is_same_rows;
 use pair_rows::{Half, alone, side_read};
-use par_base::{Memory, Row};
+use par_base::Memory;
 use row_store::Table;
 use std::alloc::Global;
 
@@ -35,10 +34,11 @@ fn are_there(s: &Table, t: &Table, entries: &[(u64, u64, u64)]) -> bool
 }
 
 /// Whether each row has so many values.
-fn are_wide(rows: &[(u64, Row)], width: usize) -> bool
-    ensures { IsTrue result ↔ RowsWide width rows.now }
+fn are_wide(table: &Table, width: usize) -> bool
+    ensures wide { IsTrue result ↔ RowsWide width table.now.rows }
+    ensures rise { RiseFrom 0 table.now.rows }
 {
-    for row in rows {
+    for row in table.iter() {
         if row.1.len() != width {
             return false;
         }
@@ -93,12 +93,12 @@ fn is_source(alloc: Global, join: &JoinOn, it: &Candidate<'_>) -> Result<bool, M
         it.now.first_alone.now.rows it.now.second_alone.now.rows it.now.s.now.rows
         it.now.t.now.rows) }
 {
-    let s = it.s.as_slice();
-    let t = it.t.as_slice();
-    if !are_wide(s, join.first.len()) {
+    let is_first_wide = are_wide(it.s, join.first.len());
+    let is_second_wide = are_wide(it.t, join.second.len());
+    if !is_first_wide {
         return Ok(false);
     }
-    if !are_wide(t, join.second.len()) {
+    if !is_second_wide {
         return Ok(false);
     }
     let entries = entries_of(alloc, it.memory)?;
@@ -106,15 +106,15 @@ fn is_source(alloc: Global, join: &JoinOn, it: &Candidate<'_>) -> Result<bool, M
         return Ok(false);
     }
     let table = joined_table(alloc, join, it.s, it.t, entries.as_slice())?;
-    if !is_same_rows(table.as_slice(), it.target.as_slice()) {
+    if !table.is_same(it.target) {
         return Ok(false);
     }
     let first = alone(alloc, Half::First, it.memory, it.s)?;
-    if !is_same_rows(first.as_slice(), it.first_alone.as_slice()) {
+    if !first.is_same(it.first_alone) {
         return Ok(false);
     }
     let second = alone(alloc, Half::Second, it.memory, it.t)?;
-    Ok(is_same_rows(second.as_slice(), it.second_alone.as_slice()))
+    Ok(second.is_same(it.second_alone))
 }
 
 /// The source of the related pair to which a target, auxiliary tables and a memory belong.

@@ -18,6 +18,7 @@ use crate::unchanged::{OldTarget, unchanged_pair};
 use id_memory::IdCounter;
 use par_base::{Fault, IdsSpent, List, Memory, Row, is_same_row};
 use row_parts::pick;
+use row_store::Table;
 use std::alloc::Global;
 
 /// The rows of both tables, and the pairs that are taken.
@@ -194,19 +195,19 @@ pub(crate) fn assign(
     alloc: Global,
     join: &JoinOn,
     old: &OldTarget<'_>,
-    near: &[(u64, Row)],
+    near: &Table,
     it: &mut Assigning,
     ids: &mut IdCounter,
 ) -> Result<List<(u64, u64, u64)>, Fault<IdsSpent>>
     requires below { AreBelowNext (assigning it.old ids.old.next) }
     requires knows { Knows it.old }
-    ensures { let end = end_of join.now old.now it.old ids.old.next near.now in
-        let all = pairs_given join.now old.now it.old ids.old.next near.now in
+    ensures { let end = end_of join.now old.now it.old ids.old.next near.now.rows in
+        let all = pairs_given join.now old.now it.old ids.old.next near.now.rows in
         Draws end.next ids.old ids.new
         (λ pairs. (pairs ≡ all) × (assigning it.new ids.new.next ≡ end)) result }
 {
     let mut made = List::new(alloc);
-    for row in near {
+    for row in near.iter() {
         let (a, b) = place_row(alloc, join, old, it, row, ids)?;
         made.push((row.0, a, b))?;
     }

@@ -1,6 +1,6 @@
 //! Which rows of a new table are as they were.
 ghost use Rattle.std.specs.Prelude.{◌≡◌, ◌++◌, ◌∷◌, [], if◌then◌else◌, IsTrue, IfOk, OnOk};
-ghost use Rattle.row_store.specs.Rows.{row_of};
+ghost use Rattle.row_store.specs.Rows.{RiseFrom, row_of};
 ghost use Rattle.op_cond_join.specs.inner.Changed.{as_before, changed_in, ids_of};
 
 use par_base::{List, Memory, Row, is_same_row};
@@ -38,26 +38,23 @@ fn push_if_changed(old: &Table, row: &(u64, Row), ids: &mut List<u64>) -> Result
 }
 
 /// The identifiers of the rows that aren't as they were.
-pub(crate) fn changed_ids(
-    alloc: Global,
-    old: &Table,
-    new: &[(u64, Row)],
-) -> Result<List<u64>, Memory>
-    ensures { IfOk result (λ ids. ids ≡ changed_in old.now.rows new.now) }
+pub(crate) fn changed_ids(alloc: Global, old: &Table, new: &Table) -> Result<List<u64>, Memory>
+    ensures { IfOk result (λ ids. ids ≡ changed_in old.now.rows new.now.rows) }
 {
     let mut ids = List::new(alloc);
-    for row in new {
+    for row in new.iter() {
         push_if_changed(old, row, &mut ids)?;
     }
     Ok(ids)
 }
 
-/// The identifiers of rows.
-pub(crate) fn ids_of(alloc: Global, rows: &[(u64, Row)]) -> Result<List<u64>, Memory>
-    ensures { IfOk result (λ ids. ids ≡ ids_of rows.now) }
+/// The identifiers of a table.
+pub(crate) fn ids_of(alloc: Global, table: &Table) -> Result<List<u64>, Memory>
+    ensures all { IfOk result (λ ids. ids ≡ ids_of table.now.rows) }
+    ensures rise { IfOk result (λ _. RiseFrom 0 table.now.rows) }
 {
     let mut ids = List::new(alloc);
-    for row in rows {
+    for row in table.iter() {
         ids.push(row.0)?;
     }
     Ok(ids)

@@ -20,14 +20,11 @@ pub(crate) struct Growing {
 
 /// The least identifier of each row's values: the rows are put in from behind, so that the least
 /// stands.
-fn least_numbers(alloc: Global, rows: &[(u64, Row)]) -> Result<RowMap, Memory>
-    ensures { IfOk result (λ made. HasLeast made rows.now) }
+fn least_numbers(alloc: Global, table: &Table) -> Result<RowMap, Memory>
+    ensures { IfOk result (λ made. HasLeast made table.now.rows) }
 {
     let mut made = RowMap::new(alloc);
-    let mut left = rows.len();
-    while left > 0 {
-        left -= 1;
-        let row = &rows[left];
+    for row in table.iter().rev() {
         made.insert(&row.1, row.0)?;
     }
     Ok(made)
@@ -38,7 +35,7 @@ pub(crate) fn growing_from(alloc: Global, old: &Table) -> Result<Growing, Memory
     ensures rows { IfOk result (λ made. made.table.rows ≡ old.now.rows) }
     ensures finds { IfOk result (λ made. FindsLeast made) }
 {
-    let numbers = least_numbers(alloc, old.as_slice())?;
+    let numbers = least_numbers(alloc, old)?;
     Ok(Growing {
         table: old.copy()?,
         numbers,

@@ -103,7 +103,7 @@ pub(crate) fn backward<L: Ledger>(
         rows: table_in(&old.target, 0, &none),
         memory: &old.memory,
     };
-    let new = table_in(near, 0, &none).as_slice();
+    let new = table_in(near, 0, &none);
     let mut it = Assigning {
         first: growing_from(alloc, table_in(&old.source, 0, &none))?,
         second: growing_from(alloc, table_in(&old.source, 1, &none))?,

@@ -190,11 +190,11 @@ pub(crate) fn new_pairs<L: Ledger>(
         filter (is_new_in it.now) (all_pairs it.now.new_s.now.rows it.now.new_t.now.rows)) }
 {
     let seconds = Seconds {
-        all: ids_of(alloc, it.new_t.as_slice())?,
-        changed: changed_ids(alloc, it.t, it.new_t.as_slice())?,
+        all: ids_of(alloc, it.new_t)?,
+        changed: changed_ids(alloc, it.t, it.new_t)?,
     };
     let mut made = List::new(alloc);
-    for row in it.new_s.as_slice() {
+    for row in it.new_s.iter() {
         add_pairs_of(alloc, it, row, &seconds, &mut made, steps)?;
     }
     Ok(made)

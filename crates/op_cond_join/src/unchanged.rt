@@ -51,17 +51,13 @@ fn take_kept(taken: &mut Taken, id: u64, pair: Option<(u64, u64)>) -> Result<(),
 }
 
 /// The pairs of the identifiers whose row is unchanged, which are taken from the start.
-pub(crate) fn kept_in(
-    alloc: Global,
-    old: &OldTarget<'_>,
-    near: &[(u64, Row)],
-) -> Result<Taken, Memory>
+pub(crate) fn kept_in(alloc: Global, old: &OldTarget<'_>, near: &Table) -> Result<Taken, Memory>
     ensures entries { IfOk result (λ taken. taken.entries ≡
-        kept_in old.now.rows.now.rows old.now.memory.now.entries near.now) }
+        kept_in old.now.rows.now.rows old.now.memory.now.entries near.now.rows) }
     ensures knows { IfOk result (λ taken. KnowsPairs taken) }
 {
     let mut taken = none_taken(alloc);
-    for row in near {
+    for row in near.iter() {
         take_kept(&mut taken, row.0, unchanged_pair(old, row.0, &row.1))?;
     }
     Ok(taken)

@@ -1,7 +1,7 @@
 //! Whether tables are ones that the tests call operators with.
 ghost use Rattle.std.specs.Prelude.{◌≡◌, IsTrue, IfOk};
 ghost use Rattle.std.specs.List.{list_all};
-ghost use Rattle.row_store.specs.Rows.{AreBelow};
+ghost use Rattle.row_store.specs.Rows.{AreBelow, RiseFrom};
 ghost use Rattle.operator_tests.specs.Worked.{is_sound as is_sound_value, is_row as is_worked_row, is_below as is_below_id, IsTable, AreTables};
 
 use op_law::Side;
@@ -35,16 +35,22 @@ fn is_row(row: &(u64, Row), width: usize, next: u64) -> bool
     0 < row.0 && row.0 < next && row.1.len() == width && are_sound(row.1.as_slice(), next)
 }
 
-fn are_rows(rows: &[(u64, Row)], width: usize, next: u64) -> bool
-    ensures { result ≡ list_all (is_worked_row width next) rows.now }
+fn are_rows(table: &Table, width: usize, next: u64) -> bool
+    ensures rows { result ≡ list_all (is_worked_row width next) table.now.rows }
+    ensures rise { RiseFrom 0 table.now.rows }
 {
-    rows.iter().all(|row| is_row(row, width, next))
+    for row in table.iter() {
+        if !is_row(row, width, next) {
+            return false;
+        }
+    }
+    true
 }
 
 fn is_table(table: &Table, width: usize, next: u64) -> bool
     ensures { IsTrue result → IsTable width next table.now.rows }
 {
-    are_rows(table.as_slice(), width, next)
+    are_rows(table, width, next)
 }
 
 fn are_tables(side: &Side, widths: &[usize], next: u64) -> bool
@@ -75,15 +81,20 @@ fn is_below(row: &(u64, Row), id: u64) -> bool
     row.0 < id
 }
 
-fn all_below(rows: &[(u64, Row)], id: u64) -> bool
-    ensures { result ≡ list_all (is_below_id id) rows.now }
+fn all_below(table: &Table, id: u64) -> bool
+    ensures { result ≡ list_all (is_below_id id) table.now.rows }
 {
-    rows.iter().all(|row| is_below(row, id))
+    for row in table.iter() {
+        if !is_below(row, id) {
+            return false;
+        }
+    }
+    true
 }
 
-/// Whether every identifier of the rows is below this one.
-pub fn are_below(rows: &[(u64, Row)], id: u64) -> bool
-    ensures { IsTrue result → AreBelow rows.now id }
+/// Whether every identifier of the table is below this one.
+pub fn are_below(table: &Table, id: u64) -> bool
+    ensures { IsTrue result → AreBelow table.now.rows id }
 {
-    all_below(rows, id)
+    all_below(table, id)
 }

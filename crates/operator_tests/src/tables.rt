@@ -53,7 +53,7 @@ fn row_of<C: Cell>(alloc: Global, cells: &[C]) -> Result<Row, Memory> {
 }
 
 fn push_row(table: &mut Table, id: u64, row: Row) -> Result<(), Fail> {
-    if !are_below(table.as_slice(), id) {
+    if !are_below(table, id) {
         return Err(Fail::new("the identifiers don't ascend"));
     }
     table.push(id, row)?;

@@ -4,6 +4,7 @@ use Rattle.std.proofs.lemmas.List.{length-take-le, take_more}
 use Rattle.par_base.specs.declared.value.Value.{Value}
 use Rattle.expr_lang.specs.Terms.{Term}
 use Rattle.row_store.specs.Rows.{Rows, RiseFrom, AreBelow}
+use Rattle.row_store.specs.inner.RowsLeft.{Comes, passed}
 use Rattle.op_law.specs.Tables.{RowsWide}
 use Rattle.ordinary_table.specs.Shown.{meets}
 use Rattle.ordinary_table.specs.Written.{SetTerm, numbered, inserted, updated, deleted}
@@ -14,8 +15,9 @@ pub record IsRowAt (rows : Rows) (i : ℕ) (r : ℕ × List Value) : Type 0 wher
   pub within : i < length rows
   pub is : r ≡ get_or rows i r
 
-pub row_at : (all rows : Rows) (i : ℕ) (r : ℕ × List Value) → all ≡ rows → i < length all → r ≡ get_or all i r → IsRowAt rows i r
-row_at all rows i r same within is = subst (λ (rs : Rows). IsRowAt rs i r) same (record { within = within; is = is })
+-- the next row of those that are left
+pub row_at : (rows before : Rows) (r : ℕ × List Value) (left : Rows) → Comes rows before r left → IsRowAt rows (passed rows before) r
+row_at rows before r left come = record { within = come.within; is = come.is }
 
 pub take_row : (rows : Rows) (i : ℕ) (r : ℕ × List Value) → IsRowAt rows i r → take (i + 1) rows ≡ take i rows ++ r ∷ []
 take_row rows i r at = take_more rows i r at.within ∙ ap (λ (q : ℕ × List Value). take i rows ++ q ∷ []) (sym at.is)

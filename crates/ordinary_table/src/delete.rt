@@ -29,14 +29,13 @@ pub fn delete_rows<L: Ledger>(
         ≡ chosen_count table.now.rows (condition_of filter.entry)) }
     ensures steps { steps.new ≤ steps.old + length table.now.rows }
 {
-    let rows = table.as_slice();
     let mut left = Table::new(alloc);
-    for row in rows {
+    for row in table.iter() {
         if !is_chosen(alloc, row, filter, steps)? {
             left.push(row.0, row.1.copy(alloc)?)?;
         }
     }
-    let chosen = rows.len() - left.len();
+    let chosen = table.len() - left.len();
     Ok(Changed {
         table: left,
         chosen,

@@ -55,7 +55,7 @@ pub fn select_rows<L: Ledger>(
     ensures steps { steps.new ≤ steps.old + length table.now.rows }
 {
     let mut made = List::new(alloc);
-    for row in table.as_slice() {
+    for row in table.iter() {
         if is_chosen(alloc, row, filter, steps)? {
             made.push(listed_row(alloc, row, places)?)?;
         }

@@ -96,11 +96,10 @@ pub fn update_rows<L: Ledger>(
         ≡ chosen_count table.now.rows (condition_of filter.entry)) }
     ensures steps { steps.new ≤ steps.old + length table.now.rows * (1 + length sets.now) }
 {
-    let rows = table.as_slice();
     let mut made = Table::new(alloc);
-    made.reserve(rows.len())?;
+    made.reserve(table.len())?;
     let mut chosen = 0;
-    for row in rows {
+    for row in table.iter() {
         let RowAfter { values, is_chosen } = row_after(alloc, row, sets, filter, steps)?;
         made.push(row.0, values)?;
         if is_chosen {

@@ -1,6 +1,10 @@
 use Rattle.std.proofs.Common.{◌≡◌, take}
+use Rattle.row_store.specs.inner.RowsLeft.{AreLeft, passed}
 use Rattle.op_cond_join.specs.inner.Changed.{changed_in}
 use Rattle.op_cond_join.proofs.changed.changed_ids.Given as goal
 
 abbrev pub invariant-loop-row : goal.invariant-loop-row
-invariant-loop-row l = l.ids ≡ changed_in l.old.rows (take l.row-index l.new)
+invariant-loop-row l = record {
+  left : AreLeft l.new.rows l.row-iterator;
+  ids : l.ids ≡ changed_in l.old.rows (take (passed l.new.rows l.row-iterator) l.new.rows);
+}

@@ -1,8 +1,8 @@
-use Rattle.std.proofs.Common.{◌≡◌, ◌∙◌, ℕ, ◌+◌, ◌≤◌, length, take, Option, sym, ap, arith}
+use Rattle.std.proofs.Common.{◌≡◌, ◌∙◌, ℕ, ◌+◌, ◌≤◌, [], length, take, Option, sym, ap, arith}
 use Rattle.expr_lang.specs.Terms.{Term}
 use Rattle.row_store.specs.Rows.{Rows}
 use Rattle.row_store.specs.States.{TableState}
-use Rattle.std.proofs.lemmas.List.{take_all}
+use Rattle.row_store.specs.inner.RowsLeft.{all_left, comes, none_passed, passed, take_passed}
 use Rattle.ordinary_table.specs.Shown.{condition_of}
 use Rattle.ordinary_table.specs.Written.{deleted, chosen_count}
 use Rattle.ordinary_table.proofs.RowLemmas.{row_at, condition_row, below_row, below_deleted}
@@ -10,48 +10,85 @@ use Rattle.ordinary_table.proofs.StepLemmas.{deleted_met, deleted_unmet, chosen_
 use Rattle.ordinary_table.proofs.delete.delete_rows.Goals as goal
 use Rattle.ordinary_table.proofs.delete.delete_rows.Goals.{then-not-branch+in_ok-copy+in_ok-push, else-not-branch}
 
+pub loop-row-init : goal.loop-row-init
+loop-row-init g c =
+    let rows = c.args.table.now.rows in
+    let all = c.into_iter-row-iterator.result in
+    let same = c.into_iter-row-iterator.ensures.into_iter_gives ∙ c.iter-row-items.ensures.all in
+    record {
+      left = all_left rows all same;
+      rows = c.new-left.ensures ∙ ap (λ (n : ℕ). deleted (take n rows) (condition_of c.args.filter)) (sym (none_passed rows all same));
+      steps = let long = ap length same in omega (arith, long);
+    }
+
 pub is_chosen-requires : goal.is_chosen-requires
 is_chosen-requires g c =
-    let at = row_at c.as_slice-rows.result.now c.args.table.now.rows c.loop-row.row-index c.row-item.result c.as_slice-rows.ensures.all c.loop-row-test.true c.row-item.is in
-    condition_row c.requires.width c.args.table.now.rows c.loop-row.row-index c.row-item.result (condition_of c.args.filter) at c.requires.wide c.requires.reads
+    let rows = c.args.table.now.rows in
+    let row = c.in-Some.row.now in
+    let come = comes rows c.loop-row.row-iterator row c.next.new.self c.loop-row.invariant.left c.in-Some.ensures.steps in
+    let i = passed rows c.loop-row.row-iterator in
+    let at = row_at rows c.loop-row.row-iterator row c.next.new.self come in
+    condition_row c.requires.width rows i row (condition_of c.args.filter) at c.requires.wide c.requires.reads
 
 pub push-requires : goal.push-requires
 push-requires g c =
-    let at = row_at c.as_slice-rows.result.now c.args.table.now.rows c.loop-row.row-index c.row-item.result c.as_slice-rows.ensures.all c.loop-row-test.true c.row-item.is in
-    rw c.loop-row.invariant.0 (below_deleted (take c.loop-row.row-index c.args.table.now.rows) (condition_of c.args.filter) c.row-item.result.0
-    (below_row c.args.table.now.rows c.loop-row.row-index c.row-item.result at c.as_slice-rows.ensures.rise))
+    let rows = c.args.table.now.rows in
+    let row = c.in-Some.row.now in
+    let come = comes rows c.loop-row.row-iterator row c.next.new.self c.loop-row.invariant.left c.in-Some.ensures.steps in
+    let i = passed rows c.loop-row.row-iterator in
+    let at = row_at rows c.loop-row.row-iterator row c.next.new.self come in
+    rw c.loop-row.invariant.rows (below_deleted (take i rows) (condition_of c.args.filter) row.0 (below_row rows i row at c.iter-row-items.ensures.rise))
 
 pub loop-row-preserved : goal.loop-row-preserved
 loop-row-preserved g c =
-    let at = row_at c.as_slice-rows.result.now c.args.table.now.rows c.loop-row.row-index c.row-item.result c.as_slice-rows.ensures.all c.loop-row-test.true c.row-item.is in
-    let steps : c.is_chosen.new.steps ≤ c.args.steps.now + (c.loop-row.row-index + 1) = omega (arith, c.in_ok-is_chosen.ensures.steps, c.loop-row.invariant.1) in
+    let rows = c.args.table.now.rows in
+    let row = c.in-Some.row.now in
+    let come = comes rows c.loop-row.row-iterator row c.next.new.self c.loop-row.invariant.left c.in-Some.ensures.steps in
+    let i = passed rows c.loop-row.row-iterator in
+    let at = row_at rows c.loop-row.row-iterator row c.next.new.self come in
+    let condition = condition_of c.args.filter in
+    let next = ap (λ (n : ℕ). deleted (take n rows) condition) (sym come.next) in
+    let long = ap length c.in-Some.ensures.steps in
+    let steps : c.is_chosen.new.steps + length c.next.new.self ≤ c.args.steps.now + length rows = omega (arith, long, c.in_ok-is_chosen.ensures.steps, c.loop-row.invariant.steps) in
     elim c.if-not-branch.branch [
-      | then-not-branch+in_ok-copy+in_ok-push w ↦ (
-        ap (λ (t : TableState). t.rows) w.left-is
+      | then-not-branch+in_ok-copy+in_ok-push w ↦ record {
+        left = come.rest;
+        rows = ap (λ (t : TableState). t.rows) w.left-is
             ∙ w.in_ok-push.ensures.ok
-            ∙ rw (w.in_ok-copy.ensures, c.loop-row.invariant.0) (sym (deleted_unmet c.args.table.now.rows (condition_of c.args.filter) c.loop-row.row-index c.row-item.result at (sym c.in_ok-is_chosen.ensures.ok ∙ w.if-not-branch.true))),
-        steps,
-      )
-      | else-not-branch w ↦ (
-        ap (λ (t : TableState). t.rows) w.left-is
-            ∙ c.loop-row.invariant.0
-            ∙ sym (deleted_met c.args.table.now.rows (condition_of c.args.filter) c.loop-row.row-index c.row-item.result at (sym c.in_ok-is_chosen.ensures.ok ∙ w.if-not-branch.false)),
-        steps,
-      )
+            ∙ rw (w.in_ok-copy.ensures, c.loop-row.invariant.rows) (sym (deleted_unmet rows condition i row at (sym c.in_ok-is_chosen.ensures.ok ∙ w.if-not-branch.true)))
+            ∙ next;
+        steps = steps;
+      }
+      | else-not-branch w ↦ record {
+        left = come.rest;
+        rows = ap (λ (t : TableState). t.rows) w.left-is
+            ∙ c.loop-row.invariant.rows
+            ∙ sym (deleted_met rows condition i row at (sym c.in_ok-is_chosen.ensures.ok ∙ w.if-not-branch.false))
+            ∙ next;
+        steps = steps;
+      }
     ]
 
 -- what is left at the end is the table without the chosen rows
-whole : (all rows left : Rows) (condition : Option (Term ℕ)) (i len : ℕ) → all ≡ rows → length all ≤ i → left ≡ deleted (take i rows) condition → len ≡ length left → chosen_count rows condition + len ≡ length all
-whole all rows left condition i len same done is many =
-    many' ∙ sym (ap length same) where
-      ends : take i rows ≡ rows
-      ends = take_all i rows (rw (← same) done)
+whole : (rows left : Rows) (condition : Option (Term ℕ)) (all len : ℕ) → left ≡ deleted rows condition → all ≡ length rows → len ≡ length left → chosen_count rows condition + len ≡ all
+whole rows left condition all len is many long = rw (long, is, many) (chosen_or_left rows condition)
 
-      many' : chosen_count rows condition + len ≡ length rows
-      many' = rw (many, is, ends) (chosen_or_left rows condition)
+ended : (rows before left : Rows) (condition : Option (Term ℕ)) → left ≡ deleted (take (passed rows before) rows) condition → before ≡ [] → left ≡ deleted rows condition
+ended rows before left condition is none = is ∙ ap (λ (rs : Rows). deleted rs condition) (take_passed rows before none)
 
 pub overflow_sub-chosen : goal.overflow_sub-chosen
-overflow_sub-chosen g c = omega (arith, whole c.as_slice-rows.result.now c.args.table.now.rows c.loop-row.left.rows (condition_of c.args.filter) c.loop-row.row-index c.len.result c.as_slice-rows.ensures.all c.loop-row-test.false c.loop-row.invariant.0 c.len.ensures)
+overflow_sub-chosen g c =
+    let rows = c.args.table.now.rows in
+    let condition = condition_of c.args.filter in
+    let is = ended rows c.loop-row.row-iterator c.loop-row.left.rows condition c.loop-row.invariant.rows c.in-None.ensures.steps.0 in
+    omega (arith, whole rows c.loop-row.left.rows condition c.len.result c.len-2.result is c.len.ensures c.len-2.ensures)
+
+pub returns-clause-rows : goal.returns-clause-rows
+returns-clause-rows g c = ended c.args.table.now.rows c.loop-row.row-iterator c.loop-row.left.rows (condition_of c.args.filter) c.loop-row.invariant.rows c.in-None.ensures.steps.0
 
 pub returns-clause-chosen : goal.returns-clause-chosen
-returns-clause-chosen g c = omega (arith, whole c.as_slice-rows.result.now c.args.table.now.rows c.loop-row.left.rows (condition_of c.args.filter) c.loop-row.row-index c.len.result c.as_slice-rows.ensures.all c.loop-row-test.false c.loop-row.invariant.0 c.len.ensures)
+returns-clause-chosen g c =
+    let rows = c.args.table.now.rows in
+    let condition = condition_of c.args.filter in
+    let is = ended rows c.loop-row.row-iterator c.loop-row.left.rows condition c.loop-row.invariant.rows c.in-None.ensures.steps.0 in
+    omega (arith, whole rows c.loop-row.left.rows condition c.len.result c.len-2.result is c.len.ensures c.len-2.ensures)

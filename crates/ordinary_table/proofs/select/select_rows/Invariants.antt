@@ -1,7 +1,12 @@
-use Rattle.std.proofs.Common.{◌≡◌, ◌+◌, ◌≤◌, take}
+use Rattle.std.proofs.Common.{◌≡◌, ◌+◌, ◌≤◌, length, take}
+use Rattle.row_store.specs.inner.RowsLeft.{AreLeft, passed}
 use Rattle.ordinary_table.specs.Shown.{condition_of}
 use Rattle.ordinary_table.specs.Selected.{selected}
 use Rattle.ordinary_table.proofs.select.select_rows.Given as goal
 
 abbrev pub invariant-loop-row : goal.invariant-loop-row
-invariant-loop-row g l = (l.made ≡ selected (take l.row-index l.table.rows) l.places (condition_of l.filter)) × (l.steps ≤ l.fn.steps + l.row-index)
+invariant-loop-row g l = record {
+  left : AreLeft l.table.rows l.row-iterator;
+  made : l.made ≡ selected (take (passed l.table.rows l.row-iterator) l.table.rows) l.places (condition_of l.filter);
+  steps : l.steps + length l.row-iterator ≤ l.fn.steps + length l.table.rows;
+}

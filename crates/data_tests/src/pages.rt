@@ -1,0 +1,78 @@
+//! Tables of many pages: filled from behind, one change at a time, and thinned out.
+ghost use Rattle.std.specs.Prelude.{◌≡◌, ◌+◌, ◌≤◌, length, IfOk};
+ghost use Rattle.row_store.specs.Rows.{row_of};
+ghost use Rattle.row_store.specs.Changes.{AreOld};
+
+use crate::tables::change;
+use expr_lang::Steps;
+use par_base::Memory;
+use row_store::{Changes, Table};
+use std::alloc::Global;
+use std::marker::Brand;
+use std::process::Abort;
+use std::sync::ledger::{Blank, Ledger};
+use std::test::Fail;
+
+fn one_change(alloc: Global, table: &Table, id: u64, number: Option<i64>) -> Result<Changes, Memory>
+    ensures fit { IfOk result (AreOld table.now.rows) }
+    ensures len { IfOk result (λ made. length made ≡ 1) }
+{
+    let only = change(alloc, table, id, number)?;
+    let mut changes = Changes::new(alloc);
+    changes.push(only)?;
+    Ok(changes)
+}
+
+/// Puts a row at the identifier, or none.
+fn put(alloc: Global, table: &mut Table, id: u64, number: Option<i64>) -> Result<(), Memory> {
+    let mut changes = one_change(alloc, table, id, number)?;
+    table.reserve(1)?;
+    table.apply(&mut changes);
+    Ok(())
+}
+
+/// The table with the identifiers from `most` down to 1, put one after another.
+fn filled(alloc: Global, most: u64) -> Result<Table, Memory> {
+    let mut table = Table::new(alloc);
+    for below in 0..most {
+        put(alloc, &mut table, most - below, Some(7))?;
+    }
+    Ok(table)
+}
+
+/// Looks for an identifier that has a row and one that has none. How many steps that takes is a
+/// clause of `find`.
+fn expect_found<L: Ledger>(rt: &impl Abort, table: &Table, ids: (u64, u64), blank: Blank)
+    requires name { blank.name ≡ L.name }
+    requires parts { blank.parts ≡ L.parts }
+    requires one { blank.parts ≡ 1 }
+{
+    let mut steps = Steps::<L>::new(blank);
+    assert_eq!(rt; table.find(ids.0, &mut steps).is_some(), true);
+    assert_eq!(rt; table.find(ids.1, &mut steps).is_some(), false);
+}
+
+/// The table with the odd identifiers up to 9,999.
+fn odd_rows(alloc: Global) -> Result<Table, Memory> {
+    let mut table = filled(alloc, 10_000)?;
+    for half in 0..5_000u64 {
+        put(alloc, &mut table, 2 * half + 2, None)?;
+    }
+    table.copy()
+}
+
+#[test]
+fn even_rows_are_taken_out(rt: HostRuntime) -> Result<(), Fail> {
+    let table = odd_rows(rt.alloc())?;
+    assert_eq!(rt; table.len(), 5_000);
+    expect_found::<Brand>(&rt, &table, (9_999, 10_000), Blank::new(1));
+    Ok(())
+}
+
+#[test]
+fn rows_are_put_from_behind(rt: HostRuntime) -> Result<(), Fail> {
+    let table = filled(rt.alloc(), 600_000)?;
+    assert_eq!(rt; table.len(), 600_000);
+    expect_found::<Brand>(&rt, &table, (600_000, 600_001), Blank::new(1));
+    Ok(())
+}
