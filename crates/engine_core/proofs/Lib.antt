@@ -2,3 +2,5 @@ pub mod TextLaws
 mod PlanLemmas
 mod WriteLemmas
 mod LaidLemmas
+mod LineLemmas
+mod MoveLemmas

@@ -1,3 +1,4 @@
 pub mod Act
 pub mod Kept
 pub mod Texts
+pub mod Laws

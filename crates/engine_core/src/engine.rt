@@ -10,6 +10,7 @@ ghost use Rattle.op_kinds.specs.Operators.{any_meaning};
 ghost use Rattle.version_model.specs.Sound.{IsSound};
 ghost use Rattle.storage_law.specs.Canonical.{SameStored};
 ghost use Rattle.db_state.specs.Fields.{storage_in, IsDatabase};
+ghost use Rattle.db_state.specs.Laws.{IsRestored};
 ghost use Rattle.engine_state.specs.Replies.{IsReply};
 ghost use Rattle.engine_statements.specs.Statements.{Planned, wrote};
 ghost use Rattle.engine_statements.specs.Calls.{planned_view, TakesWrite};
@@ -65,7 +66,8 @@ impl Engine {
     }
 
     /// Carries out one statement of a session, whose texts have at most 65,536 bytes, and answers the
-    /// model's reply or refusal. After an error the state is as it was.
+    /// model's reply or refusal. After an error the state is as it was. Whatever brings back a state
+    /// with its layout brings back every stored table, auxiliary table and memory.
     ///
     /// An INSERT, UPDATE or DELETE takes time in the number of values of its table and of the tables of
     /// its tree, a CREATE SCHEMA VERSION in that of the sources and targets of its operators, a SELECT in
@@ -88,12 +90,18 @@ impl Engine {
         ensures ordinary { (p : Planned) → planned_write (data_of self.old)
             (statement_view statement) ≡ Ok p
             → OnOk result (IsOrdinary (data_of self.old) p (data_of self.new)) }
+        ensures restores { IsRestored any_meaning self.new }
     {
         let _session = session;
+        // What is stored rests on these.
+        states_are_stored_once::<AnyOp>();
+        self.versions_always_agree();
         if !is_built(&statement) {
             return Err(Fault::Refused(Refusal::NotBuilt));
         }
-        self.carry_out(alloc, &statement, steps)
+        let answer = self.carry_out(alloc, &statement, steps);
+        self.versions_always_agree();
+        answer
     }
 
     /// In every database each operator relates its source and its target tables, so that all versions

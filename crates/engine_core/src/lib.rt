@@ -5,6 +5,8 @@
 //! the next state, or the refusal in its order; that a refused or starved call leaves the state as
 //! it was; that each version is an ordinary database for its own writes; that engines of one state
 //! store the same; and that `reply_text` and `refusal_text` give the lines of replies and refusals.
+//! By the laws of `specs/Laws.antt` a MATERIALIZE changes no data and stores what it names, moves
+//! there and back restore what was stored, and each answer ends its line.
 //! A statement whose form isn't carried out yet is refused as not built before every other check.
 //! The crate must not know how statements are written, or where their bytes come from and where the
 //! lines go.
@@ -14,11 +16,13 @@
 
 mod built;
 mod engine;
+mod laws;
 mod refusal_line;
 mod reply_lines;
 mod spent;
 mod writing;
 
 pub use engine::Engine;
+pub use laws::{moves_restore, moves_store_targets, replies_are_lines};
 pub use refusal_line::refusal_text;
 pub use reply_lines::reply_text;

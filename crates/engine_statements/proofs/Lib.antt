@@ -6,3 +6,4 @@ mod RepeatedLemmas
 mod StandLemmas
 mod TakenLemmas
 mod ItemLemmas
+mod ChosenLemmas

@@ -9,14 +9,11 @@ use Rattle.expr_lang.specs.Terms.{Term}
 use Rattle.expr_lang.specs.Resolved.{place_of, first_unknown_id}
 use Rattle.statements.specs.Views.{Tree}
 use Rattle.version_graph.specs.Tables.{row_name, column_limit, headings_passing}
+pub use Rattle.version_graph.specs.Tables.{heading_named}
 use Rattle.version_graph.specs.declared.parts.Heading.{Heading}
 use Rattle.par_base.specs.Checked.{Checked, ◌then◌}
 
 -- ---- look-ups by name
-
--- the table of a working set with this name
-abbrev pub heading_named : List Heading → List ℕ → Option Heading
-heading_named set name = find (λ (h : Heading). bytes_eq h.name name) set
 
 -- the name is that of a table that passes through: one that is none of the sources
 unfoldable pub is_passing : List Heading → List (List ℕ) → List ℕ → Bool

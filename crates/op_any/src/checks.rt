@@ -5,15 +5,15 @@ ghost use Rattle.std.specs.Str.{bytes_eq};
 ghost use Rattle.expr_lang.specs.Terms.{text_term, expr_term};
 ghost use Rattle.expr_lang.specs.Resolved.{place_of, resolved};
 ghost use Rattle.par_base.specs.Checked.{Gives};
-ghost use Rattle.op_any.specs.NameChecks.{heading_named, is_passing as is_passing_name, known_table, other_table, new_table, known_column, known_places, known_columns, repeated, misdivided, well_divided, new_columns, same_columns, few_columns, known_ids};
+ghost use Rattle.op_any.specs.NameChecks.{heading_named as heading_named_lem, is_passing as is_passing_name, known_table, other_table, new_table, known_column, known_places, known_columns, repeated, misdivided, well_divided, new_columns, same_columns, few_columns, known_ids};
 
 use crate::lookup::{
-    find_again, find_column, find_heading, find_misdivided, find_repeated, has_name, is_passing,
+    find_again, find_column, find_misdivided, find_repeated, has_name, is_passing,
 };
 use expr_lang::{Expr, ExprText, first_unknown, resolve};
 use par_base::{Fault, List, Name, Refusal};
 use std::alloc::Global;
-use version_graph::Heading;
+use version_graph::{Heading, heading_named};
 
 /// The greatest number of columns of a table.
 const COLUMN_LIMIT: usize = 64;
@@ -25,9 +25,9 @@ pub(crate) fn find_table<'a>(
     name: &Name,
 ) -> Result<&'a Heading, Fault<Refusal>>
     ensures { Gives (λ heading. heading.now) result (known_table name.now
-        (heading_named set.entry.now name.now)) }
+        (heading_named_lem set.entry.now name.now)) }
 {
-    match find_heading(set, name) {
+    match heading_named(set, name) {
         Some(heading) => Ok(heading),
         None => Err(Fault::Refused(Refusal::UnknownTable {
             table: name.copy(alloc)?,

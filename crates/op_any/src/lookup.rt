@@ -1,11 +1,11 @@
 //! Tables and columns by their names.
 ghost use Rattle.std.specs.Prelude.{◌≡◌, ◌<◌, ◌&&◌, ◌++◌, ◌∷◌, [], not, length, IfSome};
-ghost use Rattle.std.specs.Option.{option_map, option_copied};
+ghost use Rattle.std.specs.Option.{option_map};
 ghost use Rattle.std.specs.List.{list_any};
 ghost use Rattle.std.specs.Str.{bytes_eq};
 ghost use Rattle.expr_lang.specs.Resolved.{place_of};
 ghost use Rattle.version_graph.specs.Tables.{row_name, is_among as is_source};
-ghost use Rattle.op_any.specs.NameChecks.{heading_named, is_passing as is_passing_name, repeated, left_out, misdivided};
+ghost use Rattle.op_any.specs.NameChecks.{is_passing as is_passing_name, repeated, left_out, misdivided};
 
 use par_base::Name;
 use version_graph::Heading;
@@ -21,13 +21,6 @@ fn is_among(names: &[Name], wanted: &Name) -> bool
     ensures { result ≡ list_any (bytes_eq wanted.now) names.now }
 {
     names.iter().any(|name| has_name(wanted, name))
-}
-
-/// The table of a working set with this name. It takes one comparison for each table before it.
-pub(crate) fn find_heading<'a>(set: &'a [Heading], name: &Name) -> Option<&'a Heading>
-    ensures { option_copied result ≡ heading_named set.entry.now name.now }
-{
-    set.iter().find(|heading| has_name(&heading.name, name))
 }
 
 fn is_none_of(heading: &Heading, sources: &[Name]) -> bool

@@ -1,6 +1,6 @@
 mod RowLemmas
 pub mod KeptLaws
-mod RowOfLemmas
+pub mod RowOfLaws
 pub mod ColumnLaws
 mod SetLemmas
 mod StepLemmas

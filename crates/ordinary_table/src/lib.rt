@@ -4,7 +4,7 @@
 //! stay sound. Every version of a database is such an ordinary database for its own writes; but
 //! this crate knows nothing of versions and operators, nor of names, statements and their texts.
 //!
-//! Lemmas that crates above may use stand in proofs/: `KeptLaws` and `ColumnLaws`.
+//! Lemmas that crates above may use stand in proofs/: `KeptLaws`, `RowOfLaws` and `ColumnLaws`.
 #![tactic(auto)]
 
 mod changed;

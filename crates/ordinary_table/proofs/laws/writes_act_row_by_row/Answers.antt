@@ -1,4 +1,4 @@
-use Rattle.ordinary_table.proofs.RowOfLemmas.{row_of_inserted, row_of_updated, row_of_deleted}
+use Rattle.ordinary_table.proofs.RowOfLaws.{row_of_inserted, row_of_updated, row_of_deleted}
 use Rattle.ordinary_table.proofs.laws.writes_act_row_by_row.Goals as goal
 
 pub returns-clause-insert : goal.returns-clause-insert
