@@ -154,7 +154,7 @@ module _ (bytes : List ℕ) (tail : Tail) (none : is_token tail.last ≡ false) 
 tail_of : (bytes : List ℕ) (ended : Bool) → Found ended bytes 0 → Tail
 tail_of bytes ended f = record { last = f.last; begun = begun_at bytes (last_end 0 f.tokens) f.last }
 
-something_comes : (bytes : List ℕ) (ended : Bool) → (statements : List StatementView) × (outcome : Outcome) × Comes bytes ended statements outcome
+pub something_comes : (bytes : List ℕ) (ended : Bool) → (statements : List StatementView) × (outcome : Outcome) × Comes bytes ended statements outcome
 unfolding tail_of
 something_comes bytes ended =
     let f = found_from ended (length bytes + 1) bytes 0 (omega arith) in

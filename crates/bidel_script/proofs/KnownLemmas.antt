@@ -35,7 +35,7 @@ no_gap [] h = refl
 no_gap (b ∷ gap) h = absurd (omega (arith, h))
 
 -- the end of a token is as many bytes as show it, or one fewer
-by_end : (bytes : List ℕ) (token : Token) (b : Bool) → is_token (next_of (take token.end bytes) token.start false) ≡ b → shown_end bytes token ≡ cond b token.end (min (token.end + 1) (length bytes))
+pub by_end : (bytes : List ℕ) (token : Token) (b : Bool) → is_token (next_of (take token.end bytes) token.start false) ≡ b → shown_end bytes token ≡ cond b token.end (min (token.end + 1) (length bytes))
 by_end bytes token b e = ap (λ (x : Bool). cond x token.end (min (token.end + 1) (length bytes))) e
 
 module _ (bytes : List ℕ) (token : Token) (n : ℕ) (h : next_of bytes token.start true ≡ lexed.Token token) (inside : token.end < length bytes) (le : n ≤ length bytes) where

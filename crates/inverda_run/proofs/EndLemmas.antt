@@ -204,16 +204,19 @@ ends_run words left left' read' read2 held held' was is (read.Whole bytes) c x n
     (λ statements comes put. absurd (ended_not_open c.bytes.now statements (subst (λ (b : Bool). Comes c.bytes.now b statements Open) k.1 comes))) h
   where
     done : (statements : List StatementView) → Comes c.bytes.now true statements Over → Appends held held' (out_of statements ++ []) → statuses.Done left left' held held' × (read2 ≡ read')
-    done statements comes put = (record {
-      bytes = c.bytes.now;
-      statements = statements;
-      taken = subst (Consumes left left') (sym k.0) t.0;
-      whole = t.1;
-      within = omega (arith, t.2, ap length k.0);
-      script = over_is_script c.bytes.now statements comes;
-      comes = comes;
-      put = subst (Appends held held') (append-nil (out_of statements)) put;
-    }, t.3)
+    done statements comes put = (
+      record {
+        bytes = c.bytes.now;
+        statements = statements;
+        taken = subst (Consumes left left') (sym k.0) t.0;
+        whole = t.1;
+        within = omega (arith, t.2, ap length k.0);
+        script = over_is_script c.bytes.now statements comes;
+        comes = comes;
+        put = subst (Appends held held') (append-nil (out_of statements)) put;
+      },
+      t.3,
+    )
 ends_run words left left' read' read2 held held' was is (read.TooLong bytes) c x none t k h =
     let taken : Taken left left' read' read2 c.bytes.now c.ended = above bytes.items t.0 t.1 k.0 k.1 in
     ends_as words left left' read' read2 held held' was is c.bytes.now c.ended c.stopped.now c.end x none taken
