@@ -1,14 +1,12 @@
 use Rattle.std.proofs.Common.{◌≡◌, ◌∙◌, ℕ, ◌+◌, ◌≤◌, [], length, take, Option, sym, ap, arith}
 use Rattle.expr_lang.specs.Terms.{Term}
 use Rattle.row_store.specs.Rows.{Rows}
-use Rattle.row_store.specs.States.{TableState}
 use Rattle.row_store.specs.inner.RowsLeft.{all_left, comes, none_passed, passed, take_passed}
 use Rattle.ordinary_table.specs.Shown.{condition_of}
 use Rattle.ordinary_table.specs.Written.{deleted, chosen_count}
 use Rattle.ordinary_table.proofs.RowLemmas.{row_at, condition_row, below_row, below_deleted}
 use Rattle.ordinary_table.proofs.StepLemmas.{deleted_met, deleted_unmet, chosen_or_left}
 use Rattle.ordinary_table.proofs.delete.delete_rows.Goals as goal
-use Rattle.ordinary_table.proofs.delete.delete_rows.Goals.{then-not-branch+in_ok-copy+in_ok-push, else-not-branch}
 
 pub loop-row-init : goal.loop-row-init
 loop-row-init g c =
@@ -39,35 +37,41 @@ push-requires g c =
     let at = row_at rows c.loop-row.row-iterator row c.next.new.self come in
     rw c.loop-row.invariant.rows (below_deleted (take i rows) (condition_of c.args.filter) row.0 (below_row rows i row at c.iter-row-items.ensures.rise))
 
-pub loop-row-preserved : goal.loop-row-preserved
-loop-row-preserved g c =
+pub loop-row-preserved-in_ok-push : goal.loop-row-preserved-in_ok-push
+loop-row-preserved-in_ok-push g c =
     let rows = c.args.table.now.rows in
     let row = c.in-Some.row.now in
     let come = comes rows c.loop-row.row-iterator row c.next.new.self c.loop-row.invariant.left c.in-Some.ensures.steps in
     let i = passed rows c.loop-row.row-iterator in
     let at = row_at rows c.loop-row.row-iterator row c.next.new.self come in
     let condition = condition_of c.args.filter in
-    let next = ap (λ (n : ℕ). deleted (take n rows) condition) (sym come.next) in
     let long = ap length c.in-Some.ensures.steps in
     let steps : c.is_chosen.new.steps + length c.next.new.self ≤ c.args.steps.now + length rows = omega (arith, long, c.in_ok-is_chosen.ensures.steps, c.loop-row.invariant.steps) in
-    elim c.if-not-branch.branch [
-      | then-not-branch+in_ok-copy+in_ok-push w ↦ record {
-        left = come.rest;
-        rows = ap (λ (t : TableState). t.rows) w.left-is
-            ∙ w.in_ok-push.ensures.ok
-            ∙ rw (w.in_ok-copy.ensures, c.loop-row.invariant.rows) (sym (deleted_unmet rows condition i row at (sym c.in_ok-is_chosen.ensures.ok ∙ w.if-not-branch.true)))
-            ∙ next;
-        steps = steps;
-      }
-      | else-not-branch w ↦ record {
-        left = come.rest;
-        rows = ap (λ (t : TableState). t.rows) w.left-is
-            ∙ c.loop-row.invariant.rows
-            ∙ sym (deleted_met rows condition i row at (sym c.in_ok-is_chosen.ensures.ok ∙ w.if-not-branch.false))
-            ∙ next;
-        steps = steps;
-      }
-    ]
+    record {
+      left = come.rest;
+      rows = c.in_ok-push.ensures.ok
+          ∙ rw (c.in_ok-copy.ensures, c.loop-row.invariant.rows) (sym (deleted_unmet rows condition i row at (sym c.in_ok-is_chosen.ensures.ok ∙ c.if-not-branch.true)))
+          ∙ ap (λ (n : ℕ). deleted (take n rows) condition) (sym come.next);
+      steps = steps;
+    }
+
+pub loop-row-preserved-else-not-branch : goal.loop-row-preserved-else-not-branch
+loop-row-preserved-else-not-branch g c =
+    let rows = c.args.table.now.rows in
+    let row = c.in-Some.row.now in
+    let come = comes rows c.loop-row.row-iterator row c.next.new.self c.loop-row.invariant.left c.in-Some.ensures.steps in
+    let i = passed rows c.loop-row.row-iterator in
+    let at = row_at rows c.loop-row.row-iterator row c.next.new.self come in
+    let condition = condition_of c.args.filter in
+    let long = ap length c.in-Some.ensures.steps in
+    let steps : c.is_chosen.new.steps + length c.next.new.self ≤ c.args.steps.now + length rows = omega (arith, long, c.in_ok-is_chosen.ensures.steps, c.loop-row.invariant.steps) in
+    record {
+      left = come.rest;
+      rows = c.loop-row.invariant.rows
+          ∙ sym (deleted_met rows condition i row at (sym c.in_ok-is_chosen.ensures.ok ∙ c.if-not-branch.false))
+          ∙ ap (λ (n : ℕ). deleted (take n rows) condition) (sym come.next);
+      steps = steps;
+    }
 
 -- what is left at the end is the table without the chosen rows
 whole : (rows left : Rows) (condition : Option (Term ℕ)) (all len : ℕ) → left ≡ deleted rows condition → all ≡ length rows → len ≡ length left → chosen_count rows condition + len ≡ all

@@ -6,7 +6,6 @@ use Rattle.ordinary_table.specs.Selected.{selected}
 use Rattle.ordinary_table.proofs.RowLemmas.{row_at, wide_row, condition_row}
 use Rattle.ordinary_table.proofs.StepLemmas.{selected_met, selected_unmet}
 use Rattle.ordinary_table.proofs.select.select_rows.Goals as goal
-use Rattle.ordinary_table.proofs.select.select_rows.Goals.{then-branch+in_ok-listed_row+in_ok-push, else-branch}
 
 pub loop-row-init : goal.loop-row-init
 loop-row-init g c =
@@ -37,8 +36,8 @@ listed_row-requires g c =
     let at = row_at rows c.loop-row.row-iterator row c.next.new.self come in
     rw (wide_row c.requires.width rows i row at c.requires.wide) c.requires.shows
 
-pub loop-row-preserved : goal.loop-row-preserved
-loop-row-preserved g c =
+pub loop-row-preserved-in_ok-push : goal.loop-row-preserved-in_ok-push
+loop-row-preserved-in_ok-push g c =
     let rows = c.args.table.now.rows in
     let row = c.in-Some.row.now in
     let come = comes rows c.loop-row.row-iterator row c.next.new.self c.loop-row.invariant.left c.in-Some.ensures.steps in
@@ -46,28 +45,35 @@ loop-row-preserved g c =
     let at = row_at rows c.loop-row.row-iterator row c.next.new.self come in
     let places = c.args.places.now in
     let condition = condition_of c.args.filter in
-    let next = ap (λ (n : ℕ). selected (take n rows) places condition) (sym come.next) in
     let long = ap length c.in-Some.ensures.steps in
     let steps : c.is_chosen.new.steps + length c.next.new.self ≤ c.args.steps.now + length rows = omega (arith, long, c.in_ok-is_chosen.ensures.steps, c.loop-row.invariant.steps) in
-    elim c.if-branch.branch [
-      | then-branch+in_ok-listed_row+in_ok-push w ↦ record {
-        left = come.rest;
-        made = w.made-is
-            ∙ w.in_ok-push.ensures.ok
-            ∙ rw (w.in_ok-listed_row.ensures, c.loop-row.invariant.made)
-            (sym (selected_met rows places condition i row at (sym c.in_ok-is_chosen.ensures.ok ∙ w.if-branch.true)))
-            ∙ next;
-        steps = steps;
-      }
-      | else-branch w ↦ record {
-        left = come.rest;
-        made = w.made-is
-            ∙ c.loop-row.invariant.made
-            ∙ sym (selected_unmet rows places condition i row at (sym c.in_ok-is_chosen.ensures.ok ∙ w.if-branch.false))
-            ∙ next;
-        steps = steps;
-      }
-    ]
+    record {
+      left = come.rest;
+      made = c.in_ok-push.ensures.ok
+          ∙ rw (c.in_ok-listed_row.ensures, c.loop-row.invariant.made)
+          (sym (selected_met rows places condition i row at (sym c.in_ok-is_chosen.ensures.ok ∙ c.if-branch.true)))
+          ∙ ap (λ (n : ℕ). selected (take n rows) places condition) (sym come.next);
+      steps = steps;
+    }
+
+pub loop-row-preserved-else-branch : goal.loop-row-preserved-else-branch
+loop-row-preserved-else-branch g c =
+    let rows = c.args.table.now.rows in
+    let row = c.in-Some.row.now in
+    let come = comes rows c.loop-row.row-iterator row c.next.new.self c.loop-row.invariant.left c.in-Some.ensures.steps in
+    let i = passed rows c.loop-row.row-iterator in
+    let at = row_at rows c.loop-row.row-iterator row c.next.new.self come in
+    let places = c.args.places.now in
+    let condition = condition_of c.args.filter in
+    let long = ap length c.in-Some.ensures.steps in
+    let steps : c.is_chosen.new.steps + length c.next.new.self ≤ c.args.steps.now + length rows = omega (arith, long, c.in_ok-is_chosen.ensures.steps, c.loop-row.invariant.steps) in
+    record {
+      left = come.rest;
+      made = c.loop-row.invariant.made
+          ∙ sym (selected_unmet rows places condition i row at (sym c.in_ok-is_chosen.ensures.ok ∙ c.if-branch.false))
+          ∙ ap (λ (n : ℕ). selected (take n rows) places condition) (sym come.next);
+      steps = steps;
+    }
 
 pub returns-clause-ok : goal.returns-clause-ok
 returns-clause-ok g c =

@@ -1,4 +1,4 @@
-use Rattle.std.proofs.Common.{ℕ, ◌∙◌, ◌+◌, ◌*◌, ◌≤◌, length, take, ap, sym, subst}
+use Rattle.std.proofs.Common.{ℕ, ◌∙◌, ◌+◌, ◌*◌, ◌≤◌, length, take, ap, sym, subst, arith}
 use Rattle.row_store.specs.Rows.{Rows}
 use Rattle.row_store.specs.inner.RowsLeft.{all_left, comes, none_passed, passed, take_passed}
 use Rattle.ordinary_table.specs.Shown.{condition_of}
@@ -6,7 +6,6 @@ use Rattle.ordinary_table.specs.Written.{chosen_count, sets_of, updated}
 use Rattle.ordinary_table.proofs.RowLemmas.{row_at, wide_row, condition_row, below_row, below_updated}
 use Rattle.ordinary_table.proofs.StepLemmas.{updated_more, chosen_met, chosen_unmet, steps_more, steps_most}
 use Rattle.ordinary_table.proofs.update.update_rows.Goals as goal
-use Rattle.ordinary_table.proofs.update.update_rows.Goals.{then-is_chosen, else-is_chosen}
 
 pub loop-row-init : goal.loop-row-init
 loop-row-init g c =
@@ -65,8 +64,8 @@ returns-in_err-push-clause-steps g c =
     steps_most c.args.steps.now c.row_after.new.steps i (length rows) (1 + length c.args.sets.now) come.within
     (steps_more c.args.steps.now c.loop-row.steps c.row_after.new.steps i (1 + length c.args.sets.now) c.loop-row.invariant.steps c.in_ok-values.ensures.steps)
 
-pub loop-row-preserved : goal.loop-row-preserved
-loop-row-preserved g c =
+pub loop-row-preserved-then-is_chosen : goal.loop-row-preserved-then-is_chosen
+loop-row-preserved-then-is_chosen g c =
     let rows = c.args.table.now.rows in
     let row = c.in-Some.row.now in
     let come = comes rows c.loop-row.row-iterator row c.next.new.self c.loop-row.invariant.left c.in-Some.ensures.steps in
@@ -79,12 +78,26 @@ loop-row-preserved g c =
       left = come.rest;
       rows = rw (c.in_ok-push.ensures.ok, c.in_ok-values.ensures.values, c.loop-row.invariant.rows) (sym (updated_more rows sets condition i row at))
           ∙ ap (λ (n : ℕ). updated (take n rows) sets condition) (sym come.next);
-      chosen = elim c.if-is_chosen.branch [
-        | then-is_chosen w ↦
-            w.chosen-is ∙ rw c.loop-row.invariant.chosen (sym (chosen_met rows condition i row at (sym c.in_ok-values.ensures.chosen ∙ w.if-is_chosen.true))) ∙ next
-        | else-is_chosen w ↦
-            w.chosen-is ∙ c.loop-row.invariant.chosen ∙ sym (chosen_unmet rows condition i row at (sym c.in_ok-values.ensures.chosen ∙ w.if-is_chosen.false)) ∙ next
-      ];
+      chosen = rw c.loop-row.invariant.chosen (sym (chosen_met rows condition i row at (sym c.in_ok-values.ensures.chosen ∙ c.if-is_chosen.true))) ∙ next;
+      steps = subst (λ (n : ℕ). c.row_after.new.steps ≤ c.args.steps.now + n * (1 + length c.args.sets.now)) (sym come.next)
+          (steps_more c.args.steps.now c.loop-row.steps c.row_after.new.steps i (1 + length c.args.sets.now) c.loop-row.invariant.steps c.in_ok-values.ensures.steps);
+    }
+
+pub loop-row-preserved-else-is_chosen : goal.loop-row-preserved-else-is_chosen
+loop-row-preserved-else-is_chosen g c =
+    let rows = c.args.table.now.rows in
+    let row = c.in-Some.row.now in
+    let come = comes rows c.loop-row.row-iterator row c.next.new.self c.loop-row.invariant.left c.in-Some.ensures.steps in
+    let i = passed rows c.loop-row.row-iterator in
+    let at = row_at rows c.loop-row.row-iterator row c.next.new.self come in
+    let sets = sets_of c.args.sets.now in
+    let condition = condition_of c.args.filter in
+    let next = ap (λ (n : ℕ). chosen_count (take n rows) condition) (sym come.next) in
+    record {
+      left = come.rest;
+      rows = rw (c.in_ok-push.ensures.ok, c.in_ok-values.ensures.values, c.loop-row.invariant.rows) (sym (updated_more rows sets condition i row at))
+          ∙ ap (λ (n : ℕ). updated (take n rows) sets condition) (sym come.next);
+      chosen = c.loop-row.invariant.chosen ∙ sym (chosen_unmet rows condition i row at (sym c.in_ok-values.ensures.chosen ∙ c.if-is_chosen.false)) ∙ next;
       steps = subst (λ (n : ℕ). c.row_after.new.steps ≤ c.args.steps.now + n * (1 + length c.args.sets.now)) (sym come.next)
           (steps_more c.args.steps.now c.loop-row.steps c.row_after.new.steps i (1 + length c.args.sets.now) c.loop-row.invariant.steps c.in_ok-values.ensures.steps);
     }
