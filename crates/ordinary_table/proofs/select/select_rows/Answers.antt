@@ -56,8 +56,8 @@ loop-row-preserved-in_ok-push g c =
       steps = steps;
     }
 
-pub loop-row-preserved-else-branch : goal.loop-row-preserved-else-branch
-loop-row-preserved-else-branch g c =
+pub loop-row-preserved : goal.loop-row-preserved
+loop-row-preserved g c =
     let rows = c.args.table.now.rows in
     let row = c.in-Some.row.now in
     let come = comes rows c.loop-row.row-iterator row c.next.new.self c.loop-row.invariant.left c.in-Some.ensures.steps in

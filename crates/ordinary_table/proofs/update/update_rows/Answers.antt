@@ -83,8 +83,8 @@ loop-row-preserved-then-is_chosen g c =
           (steps_more c.args.steps.now c.loop-row.steps c.row_after.new.steps i (1 + length c.args.sets.now) c.loop-row.invariant.steps c.in_ok-values.ensures.steps);
     }
 
-pub loop-row-preserved-else-is_chosen : goal.loop-row-preserved-else-is_chosen
-loop-row-preserved-else-is_chosen g c =
+pub loop-row-preserved : goal.loop-row-preserved
+loop-row-preserved g c =
     let rows = c.args.table.now.rows in
     let row = c.in-Some.row.now in
     let come = comes rows c.loop-row.row-iterator row c.next.new.self c.loop-row.invariant.left c.in-Some.ensures.steps in
