@@ -1,6 +1,6 @@
 -- What an answered INSERT, UPDATE or DELETE makes of its table, by identifier.
-use Rattle.std.proofs.Common.{◌≡◌, ℕ, ◌+◌, ◌<◌, List, [], ◌∷◌, ◌++◌, true, false, length, refl, sym, subst, arith}
-use Rattle.std.specs.Prelude.{Option, Some, None, Result, Ok, Err, ◌||◌, ◌==◌, nat_le, ⊤}
+use Rattle.std.proofs.Common.{◌≡◌, ℕ, ◌+◌, List, [], ◌∷◌, ◌++◌, length, refl, sym, subst, arith}
+use Rattle.std.specs.Prelude.{Option, Some, None, Ok, Err}
 use Rattle.std.specs.List.{All}
 use Rattle.std.proofs.lemmas.Bool.Decides.{nat_tests}
 use Rattle.par_base.specs.Checked.{Checked, ◌then◌}
@@ -8,16 +8,13 @@ use Rattle.par_base.specs.declared.value.Value.{Value}
 use Rattle.par_base.specs.declared.value.Value.TheVariants.{Null, Int, Text, Reference}
 use Rattle.expr_lang.specs.Terms.{Term}
 use Rattle.row_store.specs.Rows.{AreBelow, RiseFrom}
-use Rattle.statements.specs.Views.{AssignmentView, Tree}
-use Rattle.statements.specs.declared.statement.TableName.{TableName}
 use Rattle.op_any.specs.NameChecks.{known_id, repeated, unrepeated}
 use Rattle.ordinary_table.specs.Written.{SetTerm, chosen_count, deleted, inserted, numbered, updated}
 use Rattle.ordinary_table.proofs.RowOfLaws.{row_of_deleted, row_of_inserted, row_of_updated}
-use Rattle.engine_state.specs.AnyDatabase.{AnyDatabase}
 use Rattle.engine_state.specs.declared.reply.Reply.TheVariants.{Inserted, Updated, Deleted}
 use Rattle.engine_statements.specs.Found.{Found, condition_list, found, known_condition, known_references, unknown_in_row, unknown_in_rows, unknown_value}
 use Rattle.engine_statements.specs.Laws.{DeletesByIdentifier, DeletesChosen, InsertsByIdentifier, InsertsRows, IsDrawn, UpdatesByIdentifier, UpdatesChosen}
-use Rattle.engine_statements.specs.Statements.{Planned, columns_of, ids_of, known_sets, planned_delete, planned_insert, planned_update, right_counts, rows_of, set_columns, set_values}
+use Rattle.engine_statements.specs.Statements.{Planned, columns_of, ids_of, known_sets, right_counts, rows_of, set_columns, set_values}
 use Rattle.engine_statements.proofs.ExpressionLemmas.{all_cons, ok_same}
 use Rattle.engine_statements.proofs.IdLemmas.{first_none}
 

@@ -63,7 +63,7 @@ pub condition_reads : (columns : List (List ℕ)) (filter : Option Tree) (c : Op
 condition_reads columns None c known = subst (λ (o : Option (Term ℕ)). condition_fits o (length columns + 1) ≡ true) (ok_same None c known) refl
 condition_reads columns (Some value) c known = some_reads columns value (known_expression columns value) c refl known
 
-lent_term : (o : Option (Bor Expr)) → condition_of o ≡ condition_term (option_copied o)
+pub lent_term : (o : Option (Bor Expr)) → condition_of o ≡ condition_term (option_copied o)
 lent_term None = refl
 lent_term (Some e) = refl
 

@@ -7,3 +7,4 @@ mod StandLemmas
 mod TakenLemmas
 mod ItemLemmas
 mod ChosenLemmas
+mod PlannedLemmas

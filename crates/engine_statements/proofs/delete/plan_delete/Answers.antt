@@ -1,13 +1,16 @@
-use Rattle.std.proofs.Common.{length, ap, sym, subst, ◌∙◌}
+use Rattle.std.proofs.Common.{ℕ, Ok, Option, length, ap, sym, subst, ◌∙◌}
 use Rattle.id_memory.specs.States.{CounterState}
+use Rattle.expr_lang.specs.Terms.{Term}
 use Rattle.row_store.specs.Rows.{Rows}
 use Rattle.statements.specs.Views.{filter_view}
 use Rattle.ordinary_table.specs.Shown.{condition_of}
 use Rattle.ordinary_table.specs.Laws.{IsTable}
 use Rattle.ordinary_table.proofs.KeptLaws.{delete_keeps}
 use Rattle.engine_statements.specs.Found.{shown_names}
-use Rattle.engine_statements.proofs.ExpressionLemmas.{lent_reads}
+use Rattle.engine_statements.specs.Calls.{condition_term}
+use Rattle.engine_statements.proofs.ExpressionLemmas.{lent_reads, lent_term}
 use Rattle.engine_statements.proofs.StandLemmas.{may_get_same}
+use Rattle.engine_statements.proofs.PlannedLemmas.{delete_planned}
 use Rattle.engine_statements.proofs.delete.plan_delete.Goals as goal
 
 pub delete_rows-requires : goal.delete_rows-requires
@@ -29,3 +32,14 @@ returns-clause-taken g c =
     let next = c.next-next.ensures.value ∙ ap (λ (i : CounterState). i.next) c.ids.ensures in
     let stands = subst (λ (rows : Rows). IsTable width k.ids.next rows) (sym c.in_ok-changed.ensures.rows) (delete_keeps width k.ids.next f.table.rows (condition_of c.as_ref.result) table.stands) in
     record { lives = table.lives; may = may_get_same k f c.in_ok-changed.changed.table.rows c.next-next.result table next stands }
+
+pub returns-clause-gives : goal.returns-clause-gives
+returns-clause-gives g c =
+    let k = c.args.database.now in
+    let f = c.in_ok-found.found in
+    let shown = c.as_slice-2.ensures ∙ c.in_ok-shown.ensures ∙ ap shown_names c.as_slice.ensures in
+    let next = c.next-next.ensures.value ∙ ap (λ (i : CounterState). i.next) c.ids.ensures in
+    let lent = lent_term c.as_ref.result ∙ ap condition_term c.as_ref.ensures.value in
+    let knows = c.in_ok-condition.ensures f.heading.now.columns shown ∙ ap (λ (t : Option (Term ℕ)). Ok t) (sym lent) in
+    delete_planned k c.args.name.now (filter_view c.args.filter.now) f (condition_of c.as_ref.result) c.in_ok-changed.changed.table.rows c.next-next.result c.in_ok-changed.changed.chosen tt
+    c.in_ok-found.ensures.gives c.in_ok-found.ensures.there next knows c.in_ok-check_condition_ids.ensures c.in_ok-changed.ensures.rows c.in_ok-changed.ensures.chosen
