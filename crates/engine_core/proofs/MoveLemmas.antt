@@ -44,4 +44,4 @@ moves_leave_data s (named ∷ moves) =
 pub restores : StoredOnce any_meaning → MovesRestore
 restores once old new moves was is led layouts =
     let kept : database_for any_meaning new ≡ database_for any_meaning old = ap (λ (l : Laid). l.database) led ∙ moves_leave_data (laid_of old) moves in
-    once new is old was (sym kept) (sym layouts)
+    once old new was is (sym kept) (sym layouts)
