@@ -10,4 +10,4 @@ pub mod TextLimitsLaws
 mod CutTokens
 mod CutBlanks
 mod CutLengths
-mod CutLaws
+pub mod CutLaws

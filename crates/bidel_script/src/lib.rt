@@ -16,7 +16,7 @@
 //! statements mean, where bytes come from, or what is put for them.
 //!
 //! Lemmas that crates above may use stand in proofs/: `TokenLaws`, `ScriptLaws`, `UniqueLaws`,
-//! `ComesLaws` and `TextLimitsLaws`.
+//! `ComesLaws`, `CutLaws` and `TextLimitsLaws`.
 #![tactic(auto)]
 
 mod front;

@@ -119,14 +119,14 @@ some_same : (one other : List ℕ) → Some one ≡ Some other → one ≡ other
 some_same one other h = cc
 
 -- what was read to its end is what the source told
-whole_told : (left left' : Option (List ℕ)) (told bytes : List ℕ) → left ≡ Some told → Consumes left left' bytes → IsAtEnd left' → told ≡ bytes
+pub whole_told : (left left' : Option (List ℕ)) (told bytes : List ℕ) → left ≡ Some told → Consumes left left' bytes → IsAtEnd left' → told ≡ bytes
 whole_told None left' told bytes h c e = cc
 whole_told (Some b) None told bytes h c e = absurd c
 whole_told (Some b) (Some rest) told bytes h c e =
     sym (some_same b told h) ∙ c ∙ ap (λ (l : List ℕ). bytes ++ l) e ∙ append-nil bytes
 
 -- what passes the limit is more than it, and its first bytes are those that the source told
-above_told : (left left' : Option (List ℕ)) (told taken : List ℕ) → left ≡ Some told → Consumes left left' taken → limit < length taken
+pub above_told : (left left' : Option (List ℕ)) (told taken : List ℕ) → left ≡ Some told → Consumes left left' taken → limit < length taken
     → (limit < length told) × (take limit told ≡ take limit taken)
 above_told None left' told taken h c lt = cc
 above_told (Some b) None told taken h c lt = absurd c

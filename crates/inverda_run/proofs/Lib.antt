@@ -4,3 +4,4 @@ mod RunLemmas
 mod EndLemmas
 mod TextLemmas
 mod MoveLemmas
+mod CutLemmas

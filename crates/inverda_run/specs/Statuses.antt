@@ -128,6 +128,23 @@ BegunTaken None left' held held' = ⊤
 BegunTaken (Some told) left' held held' =
     (bytes text : List ℕ) → Consumes (Some told) left' bytes → WritesScript bytes false (line (codes "read fault")) text → PutsFront held held' text
 
+-- ---- what was cut off
+
+-- where the source told its bytes, the fault is the first one of all of them that count, and the sink was given what their run puts
+abbrev pub StoppedOfAll : Option (List ℕ) → Option (List ℕ) → Option (List ℕ) → Type 0
+StoppedOfAll None held held' = ⊤
+StoppedOfAll (Some bytes) held held' =
+    (before : List StatementView) × (at : ℕ) × Comes (take limit bytes) (nat_le (length bytes) limit) before (Fault at)
+    × Appends held held' (out_of before ++ fault_line (place_of (take limit bytes) at))
+
+-- where the source told its bytes, the sink was given the replies to first ones of the statements that all of them fix that count, and
+-- this line
+abbrev pub FirstReplies : Option (List ℕ) → Option (List ℕ) → Option (List ℕ) → List ℕ → Type 0
+FirstReplies None held held' last = ⊤
+FirstReplies (Some bytes) held held' last =
+    (before : List StatementView) × (rest : List StatementView) × (outcome : Outcome)
+    × Comes (take limit bytes) (nat_le (length bytes) limit) (before ++ rest) outcome × Appends held held' (out_of before ++ line last)
+
 -- the run of any bytes puts one text where nothing fails
 abbrev pub OneText : Type 0
 OneText = (bytes : List ℕ) (ended : Bool) (stopped : List ℕ) → (text : List ℕ) × WritesScript bytes ended stopped text

@@ -5,7 +5,7 @@ ghost use Rattle.outside.specs.Causes.{Rose};
 ghost use Rattle.engine_core.specs.Texts.{line};
 ghost use Rattle.inverda_run.specs.Moves.{MovesUnseen};
 ghost use Rattle.inverda_run.specs.Statuses.{Done, AnswersScript, Begun, BegunTaken, PutsFront, Stopped, Unread, Passed};
-ghost use Rattle.inverda_run.specs.Statuses.{HadFault, HadMore, HadScript, limit};
+ghost use Rattle.inverda_run.specs.Statuses.{FirstReplies, HadFault, HadMore, HadScript, StoppedOfAll, limit};
 ghost use Rattle.inverda_run.specs.Calls.{Counts, EndStays, Ends, ended_by};
 
 use crate::end::End;
@@ -167,6 +167,15 @@ pub fn inverda<S: Source, K: Sink, F: Files>(
     ensures sink { K.faults out.new ≢ K.faults out.old → result ≡ 6 }
     ensures long { result ≡ 7 → (words.now ≡ []) × Passed (S.left script.old) (S.left script.new)
         (S.faults script.old) (S.faults script.new) (K.held out.old) (K.held out.new) }
+
+    // The replies after 3, 5 and 7 are those of all bytes that the source told, up to their first fault
+    // or to where they were cut off.
+    ensures cut_syntax { result ≡ 3
+        → StoppedOfAll (S.left script.old) (K.held out.old) (K.held out.new) }
+    ensures cut_read { result ≡ 5 → FirstReplies (S.left script.old) (K.held out.old)
+        (K.held out.new) (codes "read fault") }
+    ensures cut_long { result ≡ 7 → FirstReplies (S.left script.old) (K.held out.old)
+        (K.held out.new) (codes "too long") }
 
     // Where memory ran out or the sink failed, a front was put of what would be otherwise.
     ensures begun { (result ≡ 1) ⊎ (result ≡ 6) → words.now ≡ []

@@ -1,6 +1,7 @@
 use Rattle.std.proofs.Common.{◌≡◌, inl, inr}
 use Rattle.bidel_script.specs.Script.{Outcome, Over, Fault, Long, Open}
 use Rattle.inverda_run.proofs.EndLemmas.{had_done, had_stopped, had_passed}
+use Rattle.inverda_run.proofs.CutLemmas.{stopped_of_all, unread_first, passed_first}
 use Rattle.inverda_run.proofs.MoveLemmas.{moves_unseen}
 use Rattle.inverda_run.proofs.top.inverda.Goals as goal
 
@@ -40,3 +41,18 @@ pub returns-in-TooLong-clause-stops : goal.returns-in-TooLong-clause-stops
 returns-in-TooLong-clause-stops g c = λ none had safe write.
     elim (had_passed (g.S.Source.left c.args.script.now) (g.S.Source.left c.run.new.script) (g.K.Sink.held c.args.out.now) (g.K.Sink.held c.run.new.out)
     (g.S.Source.faults c.args.script.now) (g.S.Source.faults c.run.new.script) (Fault had.0) had.1 safe c.in-TooLong.ensures.ends.1) [ inl bad ↦ cc | inr bad ↦ cc ]
+
+pub returns-in-Syntax-clause-cut_syntax : goal.returns-in-Syntax-clause-cut_syntax
+returns-in-Syntax-clause-cut_syntax g c = λ zero.
+    stopped_of_all (g.S.Source.left c.args.script.now) (g.S.Source.left c.run.new.script) (g.K.Sink.held c.args.out.now) (g.K.Sink.held c.run.new.out)
+    (g.S.Source.faults c.args.script.now) (g.S.Source.faults c.run.new.script) c.in-Syntax.ensures.ends.1
+
+pub returns-in-Unread-clause-cut_read : goal.returns-in-Unread-clause-cut_read
+returns-in-Unread-clause-cut_read g c = λ zero.
+    unread_first (g.S.Source.left c.args.script.now) (g.S.Source.left c.run.new.script) (g.K.Sink.held c.args.out.now) (g.K.Sink.held c.run.new.out)
+    (g.S.Source.faults c.args.script.now) (g.S.Source.faults c.run.new.script) c.in-Unread.ensures.ends.1
+
+pub returns-in-TooLong-clause-cut_long : goal.returns-in-TooLong-clause-cut_long
+returns-in-TooLong-clause-cut_long g c = λ zero.
+    passed_first (g.S.Source.left c.args.script.now) (g.S.Source.left c.run.new.script) (g.K.Sink.held c.args.out.now) (g.K.Sink.held c.run.new.out)
+    (g.S.Source.faults c.args.script.now) (g.S.Source.faults c.run.new.script) c.in-TooLong.ensures.ends.1
