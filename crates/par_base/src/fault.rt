@@ -5,8 +5,8 @@ ghost use Rattle.par_base.specs.Checked.{ran_out};
 
 use std::alloc::{AllocError, AllocFailed};
 
-/// Memory ran out. The error of a call that refuses nothing. Only what allocates makes one: its
-/// field is private, and no public call makes one from nothing.
+/// Memory ran out. The error of a call that refuses nothing. It is made from the error of an
+/// allocation, or of a count of more things than memory holds; its field is private.
 #[derive(Clone, Copy, Debug, PartialEq, Eq, Drop)]
 pub struct Memory {
     passed: (),
