@@ -2,6 +2,9 @@ pub mod FieldLaws
 mod EmptyLemmas
 mod AuxLemmas
 pub mod OnceLaws
+pub mod PartLaws
+mod SeenLemmas
+mod LocalLemmas
 mod PassLemmas
 mod WayLemmas
 mod CrossLemmas

@@ -14,6 +14,7 @@ use Rattle.version_graph.proofs.WalkLaws.{is_forest}
 use Rattle.layout_rules.specs.declared.layout.Layout.{Layout}
 use Rattle.layout_rules.proofs.DownLaws.{Beside, below, below_all, below_next, below_past, beside, link_listed}
 use Rattle.layout_rules.proofs.LookupLaws.{not_off, not_on}
+use Rattle.op_law.specs.Local.{rows_only}
 use Rattle.op_law.specs.Meaning.{Meaning}
 use Rattle.row_store.specs.States.{TableState}
 use Rattle.version_model.specs.Kept.{rows_now}
@@ -27,8 +28,11 @@ use Rattle.db_state.specs.Fields.{IsDatabase, state_for}
 use Rattle.db_state.specs.declared.parts.Parts.{Parts}
 use Rattle.db_state.specs.declared.read.Pass.{Pass}
 use Rattle.db_state.specs.Covered.{CoversItself}
+use Rattle.db_state.specs.Parts.{passes, seen_of}
+use Rattle.db_state.specs.declared.sight.Sight.{Sight}
 use Rattle.db_state.specs.inner.Passes.{AreRead, PassesOver, IsDown, IsDownTo, IsUpTo, MayCross, MayPass, Passes, Settles, is_passed}
 use Rattle.db_state.proofs.AuxLemmas.{crosses}
+use Rattle.db_state.proofs.PartLaws.{ascends_of, sees_of}
 use Rattle.db_state.proofs.PassLemmas.{all_right, down_step, near_down, near_up, up_step}
 
 module _ {O : Type 0} (es : List (Placed O)) (edges : AreEdges es) (layout ns : List ℕ) (covers : CoversItself (forest es) layout ns) (tables : ℕ → Rows) where
@@ -135,57 +139,66 @@ module _ {O : Type 0} (meaning : O → Meaning) (p : Parts O) (is : IsDatabase m
         ap (λ (x : Placed O). x.number) same ∙ there.2
 
     -- the operator may be crossed
-    pub may_cross : MayPass meaning p pass i made → test e.number ≡ true → MayCross meaning p made (record { operator = e.number; backward = pass.backward })
+    pub may_cross : MayPass meaning p pass i made → test e.number ≡ true → MayCross meaning p pass.sight made (record { operator = e.number; backward = pass.backward })
     may_cross may passed =
         let l = link_at p.graph.edges i e found in
         let f = l.0 in
         let mine : test f.number ≡ true = subst (λ (n : ℕ). test n ≡ true) l.2 passed in
         let has = is_in f.number p.layout.operators in
-        let back : has ≡ pass.backward = stored_side has pass.backward (and_parts (is_in f.number pass.operators.now) (cond pass.backward has (not has)) mine).1 in
+        let tests = and_parts (is_in f.number pass.operators.now) (cond pass.backward has (not has)) mine in
+        let back : has ≡ pass.backward = stored_side has pass.backward tests.1 in
         let at = link_listed p.graph.edges i f (sym l.1) in
         record {
           over = f;
           lives = at;
           crosses = crosses p.graph.edges is.graph.edges f at has;
           tells = ap (λ (n : ℕ). record { operator = n; backward = has }) (sym l.2) ∙ ap (λ (b : Bool). record { operator = e.number; backward = b }) back;
-          near = λ t j. may f l.1 mine t (subst (λ (b : Bool). In t (crossing b f).near) back j);
+          near = λ t j. may.near f l.1 mine t (subst (λ (b : Bool). In t (crossing b f).near) back j);
+          ascends = ascends_of meaning p.graph.edges pass.operators.now pass.sight may.may;
+          sees = sees_of meaning p.graph.edges pass.operators.now pass.sight may.may f at (in_of_test f.number pass.operators.now tests.0);
         }
 
     -- the pass went over it
-    pub passes_over : (new : List (Numbered TableState)) → test e.number ≡ true → PassesOver meaning p made new (record { operator = e.number; backward = pass.backward }) → Passes meaning p pass i made new
+    pub passes_over : (new : List (Numbered TableState)) → test e.number ≡ true → PassesOver meaning p pass.sight made new (record { operator = e.number; backward = pass.backward }) → Passes meaning p pass i made new
     passes_over new passed crossed f here =
         let number = same_number f here in
         let at = link_listed p.graph.edges i f (sym here) in
-        subst (λ (l : List ℕ). Settles (state_for meaning p).tables l (rows_now p.stored made) (rows_now p.stored new)) (sym (cond-true (test f.number) (crossing pass.backward f).far [] (subst (λ (n : ℕ). test n ≡ true) number passed)))
+        subst (λ (l : List ℕ). Settles (seen_of pass.sight (state_for meaning p).tables) l (seen_of pass.sight (rows_now p.stored made)) (seen_of pass.sight (rows_now p.stored new))) (sym (cond-true (test f.number) (crossing pass.backward f).far [] (subst (λ (n : ℕ). test n ≡ true) number passed)))
         (crossed (crossing pass.backward f) (crosses p.graph.edges is.graph.edges f at pass.backward) (ap (λ (n : ℕ). record { operator = n; backward = pass.backward }) (sym number)))
 
     -- the pass leaves it
     pub passes_by : test e.number ≡ false → Passes meaning p pass i made made
     passes_by off f here =
-        subst (λ (l : List ℕ). Settles (state_for meaning p).tables l (rows_now p.stored made) (rows_now p.stored made)) (sym (cond-false (test f.number) (crossing pass.backward f).far [] (subst (λ (n : ℕ). test n ≡ false) (same_number f here) off)))
+        subst (λ (l : List ℕ). Settles (seen_of pass.sight (state_for meaning p).tables) l (seen_of pass.sight (rows_now p.stored made)) (seen_of pass.sight (rows_now p.stored made))) (sym (cond-false (test f.number) (crossing pass.backward f).far [] (subst (λ (n : ℕ). test n ≡ false) (same_number f here) off)))
         (record { kept = λ t h. h; right = λ t j. absurd j })
 
 -- ---- the ends of the passes
 
-module _ {O : Type 0} (meaning : O → Meaning) (p : Parts O) (is : IsDatabase meaning p) (ns : List ℕ) where
+module _ {O : Type 0} (meaning : O → Meaning) (p : Parts O) (is : IsDatabase meaning p) (ns : List ℕ) (sight : Sight) where
+  abbrev state : ℕ → Rows
+  state = seen_of sight (state_for meaning p).tables
+
+  abbrev now : List (Numbered TableState) → ℕ → Rows
+  now made = seen_of sight (rows_now p.stored made)
+
   -- nothing was read yet
-  pub down_start : (left : ℕ) → left ≡ length p.graph.edges → (made : List (Numbered TableState)) → made ≡ [] → IsDownTo (forest p.graph.edges) p.layout.operators ns (state_for meaning p).tables (below p.graph.edges left) (rows_now p.stored made)
+  pub down_start : (left : ℕ) → left ≡ length p.graph.edges → (made : List (Numbered TableState)) → made ≡ [] → IsDownTo (forest p.graph.edges) p.layout.operators ns state (below p.graph.edges left) (now made)
   down_start left count made none =
-      let start : IsDownTo (forest p.graph.edges) p.layout.operators ns (state_for meaning p).tables (forest p.graph.edges) (rows_now p.stored []) = record {
-        stored = λ t k. is.stands.stored t k;
+      let start : IsDownTo (forest p.graph.edges) p.layout.operators ns state (forest p.graph.edges) (now []) = record {
+        stored = λ t k. ap (λ (rows : Rows). rows_only (passes sight) rows) (is.stands.stored t k);
         sources = λ f i out. absurd (out i);
       } in
-      subst (λ (l : List (Link O)). IsDownTo (forest p.graph.edges) p.layout.operators ns (state_for meaning p).tables l (rows_now p.stored made)) (sym (below_all p.graph.edges left count))
-      (subst (λ (m : List (Numbered TableState)). IsDownTo (forest p.graph.edges) p.layout.operators ns (state_for meaning p).tables (forest p.graph.edges) (rows_now p.stored m)) (sym none) start)
+      subst (λ (l : List (Link O)). IsDownTo (forest p.graph.edges) p.layout.operators ns state l (now made)) (sym (below_all p.graph.edges left count))
+      (subst (λ (m : List (Numbered TableState)). IsDownTo (forest p.graph.edges) p.layout.operators ns state (forest p.graph.edges) (now m)) (sym none) start)
 
   -- no operator is left
-  pub down_end : (left : ℕ) → left ≤ 0 → (made : List (Numbered TableState)) → IsDownTo (forest p.graph.edges) p.layout.operators ns (state_for meaning p).tables (below p.graph.edges left) (rows_now p.stored made) → IsDown meaning p ns made
+  pub down_end : (left : ℕ) → left ≤ 0 → (made : List (Numbered TableState)) → IsDownTo (forest p.graph.edges) p.layout.operators ns state (below p.graph.edges left) (now made) → IsDown meaning p ns sight made
   down_end left none made down =
       let zero_left : left ≡ 0 = omega (arith, none) in
-      subst (λ (n : ℕ). IsDownTo (forest p.graph.edges) p.layout.operators ns (state_for meaning p).tables (below p.graph.edges n) (rows_now p.stored made)) zero_left down
+      subst (λ (n : ℕ). IsDownTo (forest p.graph.edges) p.layout.operators ns state (below p.graph.edges n) (now made)) zero_left down
 
   -- all operators were passed
-  pub up_end : (i count : ℕ) → count ≡ length p.graph.edges → count ≤ i → (made : List (Numbered TableState)) → IsUpTo (forest p.graph.edges) p.layout.operators ns (state_for meaning p).tables (below p.graph.edges i) (rows_now p.stored made) → AreRead meaning p ns made
+  pub up_end : (i count : ℕ) → count ≡ length p.graph.edges → count ≤ i → (made : List (Numbered TableState)) → IsUpTo (forest p.graph.edges) p.layout.operators ns state (below p.graph.edges i) (now made) → AreRead meaning p ns sight made
   up_end i count is_count past made up t j covered =
-      let all = subst (λ (l : List (Link O)). IsUpTo (forest p.graph.edges) p.layout.operators ns (state_for meaning p).tables l (rows_now p.stored made)) (below_past p.graph.edges i count is_count past) up in
-      all_right (forest p.graph.edges) p.layout.operators ns (state_for meaning p).tables (rows_now p.stored made) all t (subst (λ (l : List ℕ). In t l) (sym (targets_linked p.graph.edges is.graph.edges)) j) covered
+      let all = subst (λ (l : List (Link O)). IsUpTo (forest p.graph.edges) p.layout.operators ns state l (now made)) (below_past p.graph.edges i count is_count past) up in
+      all_right (forest p.graph.edges) p.layout.operators ns state (now made) all t (subst (λ (l : List ℕ). In t l) (sym (targets_linked p.graph.edges is.graph.edges)) j) covered

@@ -1,16 +1,21 @@
 -- Stored tables, and those that were read beside them.
-use Rattle.std.specs.Prelude.{IfSome}
+use Rattle.std.specs.Prelude.{IfOk, IfSome, Result, Ok, Err}
 use Rattle.std.specs.Option.{option_copied, option_map_or}
-use Rattle.std.proofs.Common.{◌≡◌, ℕ, List, [], Bor, Option, Some, None, inl, inr, ap, ◌∙◌}
+use Rattle.std.proofs.Common.{◌≡◌, ℕ, List, [], Bor, Option, Some, None, inl, inr, sym, ap, ◌∙◌}
+use Rattle.row_store.specs.Rows.{Rows}
 use Rattle.row_store.specs.States.{TableState}
 use Rattle.version_graph.specs.Sets.{In}
+use Rattle.op_law.specs.Local.{rows_only}
 use Rattle.op_law.specs.Meaning.{Meaning}
 use Rattle.layout_rules.proofs.LinkLaws.{in_or_out}
 use Rattle.version_model.specs.Kept.{latest_of, newer_rows, rows_at, rows_now, value_of}
 use Rattle.version_model.specs.declared.numbered.Numbered.{Numbered}
 use Rattle.db_state.specs.Fields.{IsDatabase, numbers_in, state_for}
 use Rattle.db_state.specs.declared.parts.Parts.{Parts}
+use Rattle.db_state.specs.Parts.{passes}
+use Rattle.db_state.specs.declared.sight.Sight.TheVariants.{All}
 use Rattle.db_state.proofs.FieldLaws.{none_at}
+use Rattle.db_state.proofs.PartLaws.{rows_all}
 
 -- the number of a value is listed
 in_numbers : {T : Type 0} (items : List (Numbered T)) (n : ℕ) (x : T) → Some x ≡ value_of items n → In n (numbers_in items)
@@ -30,3 +35,8 @@ lent_right {O} meaning p is t (Some b) found =
 -- a table that isn't stored is among those that were read
 pub unstored_rows : (stored read : List (Numbered TableState)) (t : ℕ) → value_of stored t ≡ None → rows_now stored read t ≡ rows_now [] read t
 unstored_rows stored read t none = ap (λ (o : Option TableState). newer_rows (latest_of read t) (option_map_or (λ (x : TableState). x.rows) o [])) none
+
+-- what was read of all rows is the table
+pub read_whole : {E : Type 0} (read : Result TableState E) (rows : Rows) → IfOk read (λ (table : TableState). rows_only (passes All) table.rows ≡ rows_only (passes All) rows) → IfOk read (λ (table : TableState). table.rows ≡ rows)
+read_whole {E} (Ok table) rows same = sym (rows_all table.rows) ∙ same ∙ rows_all rows
+read_whole {E} (Err e) rows same = tt

@@ -1,6 +1,6 @@
 //! Reading the tables that some operators give back, in two passes: down over those of the layout,
 //! the newest first, and then up over the others, the oldest first. Each gives the tables of the
-//! side on which it isn't stored.
+//! side on which it isn't stored, with the rows that are seen.
 ghost use Rattle.std.specs.Prelude.{◌≡◌, ℕ, IfOk, OnOk};
 ghost use Rattle.version_graph.specs.Sets.{In};
 ghost use Rattle.version_graph.specs.Tables.{table_numbers};
@@ -12,9 +12,11 @@ ghost use Rattle.version_model.specs.Kept.{rows_now};
 ghost use Rattle.version_model.specs.Steps.{directed};
 ghost use Rattle.db_state.specs.Fields.{state_for};
 ghost use Rattle.db_state.specs.Covered.{Covers, CoversItself};
+ghost use Rattle.db_state.specs.Parts.{MaySee, seen_of};
 ghost use Rattle.db_state.specs.inner.Passes.{is_passed as is_passed_lem, AreRead, PassesOver, IsDown, MayCross, MayPass, Passes};
 
-use crate::Db;
+use crate::sight::{aux_seen, side_seen};
+use crate::{Db, Sight};
 use expr_lang::Steps;
 use id_memory::PairMemory;
 use layout_rules::holds;
@@ -24,13 +26,14 @@ use row_store::Table;
 use std::alloc::Global;
 use std::sync::ledger::Ledger;
 use version_graph::Step;
-use version_model::{Numbered, Way, put_side, side_now, value_of, way_of};
+use version_model::{Numbered, Way, put_side, value_of, way_of};
 
 /// Over which operators a pass goes: backward over those of the layout, or forward over others.
 #[derive(Clone, Copy)]
 struct Pass<'a> {
     operators: &'a [u32],
     backward: bool,
+    sight: Sight<'a>,
 }
 
 fn read_far<O: Operator, L: Ledger>(
@@ -58,11 +61,12 @@ fn cross<O: Operator, L: Ledger>(
     alloc: Global,
     db: &Db<O>,
     step: Step,
+    sight: Sight<'_>,
     made: &mut List<Numbered<Table>>,
     steps: &mut Steps<L>,
 ) -> Result<(), Memory>
-    requires { MayCross O.meaning db.now made.old step }
-    ensures { OnOk result (PassesOver O.meaning db.now made.old made.new step) }
+    requires { MayCross O.meaning db.now sight made.old step }
+    ensures { OnOk result (PassesOver O.meaning db.now sight.entry made.old made.new step) }
 {
     let Some(over) = way_of(db.graph(), step) else {
         unreachable!()
@@ -73,8 +77,9 @@ fn cross<O: Operator, L: Ledger>(
     let Some(memory) = value_of(db.memories(), step.operator) else {
         unreachable!()
     };
-    let near = side_now(alloc, db.stored(), made.as_slice(), over.near)?;
-    let far = read_far(alloc, &over, &near, aux, memory, steps)?;
+    let near = side_seen(alloc, db.stored(), made.as_slice(), over.near, sight)?;
+    let beside = aux_seen(alloc, aux, sight)?;
+    let far = read_far(alloc, &over, &near, &beside, memory, steps)?;
     put_side(made, over.far, far)?;
     Ok(())
 }
@@ -109,7 +114,7 @@ fn pass_at<O: Operator, L: Ledger>(
             operator: placed.number,
             backward: pass.backward,
         };
-        cross(alloc, db, step, made, steps)?;
+        cross(alloc, db, step, pass.sight, made, steps)?;
     }
     Ok(())
 }
@@ -118,14 +123,17 @@ fn pass_down<O: Operator, L: Ledger>(
     alloc: Global,
     db: &Db<O>,
     operators: &[u32],
+    sight: Sight<'_>,
     steps: &mut Steps<L>,
 ) -> Result<List<Numbered<Table>>, Memory>
-    requires { CoversItself (forest db.now.graph.edges) db.now.layout.operators operators.now }
-    ensures { IfOk result (IsDown O.meaning db.now operators.now) }
+    requires covers { CoversItself (forest db.now.graph.edges) db.now.layout.operators operators.now }
+    requires may { MaySee O.meaning db.now.graph.edges operators.now sight }
+    ensures { IfOk result (IsDown O.meaning db.now operators.now sight.entry) }
 {
     let pass = Pass {
         operators,
         backward: true,
+        sight,
     };
     let mut made = List::new(alloc);
     let mut left = db.graph().live_operators();
@@ -140,16 +148,19 @@ fn pass_up<O: Operator, L: Ledger>(
     alloc: Global,
     db: &Db<O>,
     operators: &[u32],
+    sight: Sight<'_>,
     made: &mut List<Numbered<Table>>,
     steps: &mut Steps<L>,
 ) -> Result<(), Memory>
     requires covers { CoversItself (forest db.now.graph.edges) db.now.layout.operators operators.now }
-    requires down { IsDown O.meaning db.now operators.now made.old }
-    ensures { OnOk result (AreRead O.meaning db.now operators.now made.new) }
+    requires may { MaySee O.meaning db.now.graph.edges operators.now sight }
+    requires down { IsDown O.meaning db.now operators.now sight made.old }
+    ensures { OnOk result (AreRead O.meaning db.now operators.now sight.entry made.new) }
 {
     let pass = Pass {
         operators,
         backward: false,
+        sight,
     };
     for place in 0..db.graph().live_operators() {
         pass_at(alloc, db, pass, place, made, steps)?;
@@ -157,20 +168,25 @@ fn pass_up<O: Operator, L: Ledger>(
     Ok(())
 }
 
-/// The far tables of these operators, read from what is stored. It copies the near tables of each,
-/// and takes time in the number of live operators for each.
+/// The far tables of these operators, read from what is stored, with the rows that are seen: all, or
+/// those of some identifiers, where each of the operators treats each identifier by itself. It takes
+/// time in the number of live operators for each. All rows of the near tables of each are copied; of
+/// a list of identifiers each is looked up in them.
 pub fn read_over<O: Operator, L: Ledger>(
     alloc: Global,
     db: &Db<O>,
     operators: &[u32],
+    sight: Sight<'_>,
     steps: &mut Steps<L>,
 ) -> Result<List<Numbered<Table>>, Memory>
-    requires { CoversItself (forest db.now.graph.edges) db.now.layout.operators operators.now }
+    requires covers { CoversItself (forest db.now.graph.edges) db.now.layout.operators operators.now }
+    requires may { MaySee O.meaning db.now.graph.edges operators.now sight }
     ensures { IfOk result (λ read. (t : ℕ) → In t (table_numbers (made_lem db.now.graph.edges))
         → Covers (forest db.now.graph.edges) db.now.layout.operators operators.now t
-        → rows_now db.now.stored read t ≡ (state_for O.meaning db.now).tables t) }
+        → seen_of sight.entry (rows_now db.now.stored read) t
+        ≡ seen_of sight.entry (state_for O.meaning db.now).tables t) }
 {
-    let mut made = pass_down(alloc, db, operators, steps)?;
-    pass_up(alloc, db, operators, &mut made, steps)?;
+    let mut made = pass_down(alloc, db, operators, sight, steps)?;
+    pass_up(alloc, db, operators, sight, &mut made, steps)?;
     Ok(made)
 }

@@ -4,11 +4,14 @@ ghost use Rattle.version_graph.specs.Sets.{In};
 ghost use Rattle.version_graph.specs.Tables.{table_numbers};
 ghost use Rattle.version_graph.specs.Edges.{made as made_lem};
 ghost use Rattle.row_store.specs.Rows.{row_of};
+ghost use Rattle.op_law.specs.Local.{rows_only};
 ghost use Rattle.version_model.specs.Kept.{rows_now, value_of};
 ghost use Rattle.db_state.specs.Fields.{state_for};
+ghost use Rattle.db_state.specs.Parts.{Ascends, passes, seen_of};
 
-use crate::Db;
+use crate::local::sight_over;
 use crate::read::read_over;
+use crate::{Db, Sight};
 use expr_lang::Steps;
 use layout_rules::way_to_storage;
 use op_law::Operator;
@@ -31,18 +34,23 @@ fn take_latest(alloc: Global, tables: List<Numbered<Table>>, number: u32) -> Tab
     Table::new(alloc)
 }
 
+// What is seen of a table, and maybe more.
 fn read_along_way<O: Operator, L: Ledger>(
     alloc: Global,
     db: &Db<O>,
     table: u32,
+    sight: Sight<'_>,
     steps: &mut Steps<L>,
 ) -> Result<Table, Memory>
     requires lives { In table (table_numbers (made_lem db.now.graph.edges)) }
     requires unstored { value_of db.now.stored table ≡ None }
-    ensures { IfOk result (λ read. read.rows ≡ (state_for O.meaning db.now).tables table) }
+    requires ascends { Ascends sight }
+    ensures { IfOk result (λ read. rows_only (passes sight.entry) read.rows
+        ≡ seen_of sight.entry (state_for O.meaning db.now).tables table) }
 {
     let operators = way_to_storage(alloc, db.graph(), db.layout(), table)?;
-    let read = read_over(alloc, db, operators.as_slice(), steps)?;
+    let wider = sight_over(db.graph(), operators.as_slice(), sight);
+    let read = read_over(alloc, db, operators.as_slice(), wider, steps)?;
     Ok(take_latest(alloc, read, table))
 }
 
@@ -69,12 +77,13 @@ pub fn read_table<O: Operator, L: Ledger>(
 {
     match db.stored_table(table) {
         Some(stored) => stored.copy(),
-        None => read_along_way(alloc, db, table, steps),
+        None => read_along_way(alloc, db, table, Sight::All, steps),
     }
 }
 
 /// The row of an identifier in a live table, where there is one. Of a stored table it is copied and
-/// nothing else.
+/// nothing else. Where each operator on the way to storage treats each identifier by itself, the
+/// identifier's rows alone are read along it; else it costs what `read_table` does.
 pub fn row_at<O: Operator, L: Ledger>(
     alloc: Global,
     db: &Db<O>,
@@ -88,7 +97,8 @@ pub fn row_at<O: Operator, L: Ledger>(
     match db.stored_table(table) {
         Some(stored) => copy_row(alloc, stored, id),
         None => {
-            let read = read_along_way(alloc, db, table, steps)?;
+            let ids = [id];
+            let read = read_along_way(alloc, db, table, Sight::Of(&ids), steps)?;
             copy_row(alloc, &read, id)
         }
     }

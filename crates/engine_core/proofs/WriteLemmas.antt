@@ -22,25 +22,25 @@ use Rattle.version_model.specs.Laws.{WriteIsOrdinary}
 use Rattle.version_model.proofs.WriteLaws.{write_is_ordinary}
 use Rattle.engine_state.specs.AnyDatabase.{AnyDatabase}
 use Rattle.engine_statements.specs.Statements.{Planned, state_with, wrote}
-use Rattle.engine_statements.specs.Calls.{planned_view, TakesWrite}
+use Rattle.engine_statements.specs.Calls.{planned_view, rows_after, TakesWrite}
 use Rattle.engine_statements.specs.declared.write_plan.WritePlan.{WritePlan}
 use Rattle.engine_core.specs.Act.{IsOrdinary}
 use Rattle.engine_core.specs.Kept.{Follows}
-use Rattle.write_propagation.specs.Plans.{Fits, Plans, Puts}
-use Rattle.write_propagation.specs.declared.change.Plan.{Plan}
+use Rattle.write_propagation.specs.Plans.{Plans, Puts}
+use Rattle.write_propagation.specs.declared.plans.Plan.{Plan}
 
 module _ (k : Parts AnyView) (w : WritePlan) (edges : AreEdges k.graph.edges) (sound : IsSound any_meaning k.graph.edges (state_for any_meaning k)) (taken : TakesWrite k w) where
   abbrev d : AnyDatabase
   d = database_for any_meaning k
 
   abbrev p : Planned
-  p = planned_view k.graph.edges w
+  p = planned_view k w
 
   abbrev end : ℕ
   end = (state_with d p).state.next
 
-  ordinary : WriteIsOrdinary any_meaning k.graph.edges d.state w.set w.table w.rows.rows w.next
-  ordinary = write_is_ordinary any_meaning k.graph.edges d.state sound w.set w.table w.rows.rows w.next taken.may any_laws edges
+  ordinary : WriteIsOrdinary any_meaning k.graph.edges d.state w.set w.table (rows_after k w) w.next
+  ordinary = write_is_ordinary any_meaning k.graph.edges d.state sound w.set w.table (rows_after k w) w.next taken.may any_laws edges
 
   checked : (b : Bool) → Rattle.std.proofs.Math.Dec.ltb (first_refused k.ids) end ≡ b
       → wrote d p ≡ ((if b then Err (IdsSpent (first_refused k.ids) k.ids.limit) else Ok (tt {0})) then λ _. Ok (w.reply, state_with d p))
@@ -54,14 +54,14 @@ module _ (k : Parts AnyView) (w : WritePlan) (edges : AreEdges k.graph.edges) (s
   pub above_already : first_refused k.ids < w.next → wrote d p ≡ Err (IdsSpent (first_refused k.ids) k.ids.limit)
   above_already h = above (omega (arith, h, ordinary.rises))
 
-  pub spent_then : (spent : Spent) (new : AnyDatabase) → Writes any_meaning d w.set w.table w.rows.rows w.next (Err (Refused spent)) new → wrote d p ≡ Err (IdsSpent spent.needed spent.limit)
+  pub spent_then : (spent : Spent) (new : AnyDatabase) → Writes any_meaning d w.set w.table (rows_after k w) w.next (Err (Refused spent)) new → wrote d p ≡ Err (IdsSpent spent.needed spent.limit)
   spent_then spent new e =
       above e.0.0 ∙ ap (λ (n : ℕ). Err (IdsSpent n k.ids.limit)) (sym e.0.1) ∙ ap (λ (n : ℕ). Err (IdsSpent spent.needed n)) (sym e.0.2)
 
-  pub written_then : (new : AnyDatabase) → Writes any_meaning d w.set w.table w.rows.rows w.next (Ok tt) new → wrote d p ≡ Ok (w.reply, new)
+  pub written_then : (new : AnyDatabase) → Writes any_meaning d w.set w.table (rows_after k w) w.next (Ok tt) new → wrote d p ≡ Ok (w.reply, new)
   written_then new e = checked false (le-ltb (first_refused k.ids) end e.0) ∙ ap (λ (s : AnyDatabase). Ok (w.reply, s)) (sym e.1)
 
-  pub ordinary_then : (new : AnyDatabase) → Writes any_meaning d w.set w.table w.rows.rows w.next (Ok tt) new → IsOrdinary d p new
+  pub ordinary_then : (new : AnyDatabase) → Writes any_meaning d w.set w.table (rows_after k w) w.next (Ok tt) new → IsOrdinary d p new
   ordinary_then new e =
       subst (λ (s : AnyDatabase). IsOrdinary d p s) (sym e.1) (record { written = ordinary.table; others = ordinary.others; versions = refl })
 
@@ -74,9 +74,6 @@ both_stay k n is graph layout =
 -- a plan that was put in is the model's write
 pub plan_writes : (k n : Parts AnyView) (plan : Plan) (w t : ℕ) (rows : Rows) (next : ℕ) → Plans any_meaning k w t rows next (Ok plan) → Puts k plan n → Writes any_meaning (database_for any_meaning k) w t rows next (Ok tt) (database_for any_meaning n)
 plan_writes k n plan w t rows next plans puts = (plans.0, (plans.1 n puts).1)
-
-pub plan_fits : (k : Parts AnyView) (plan : Plan) (w t : ℕ) (rows : Rows) (next : ℕ) → Plans any_meaning k w t rows next (Ok plan) → Fits any_meaning k plan
-plan_fits k plan w t rows next plans n puts = (plans.1 n puts).0
 
 pub plan_refused : (k : Parts AnyView) (w t : ℕ) (rows : Rows) (next : ℕ) (fault : Fault Spent) → Plans any_meaning k w t rows next (Err fault) → Writes any_meaning (database_for any_meaning k) w t rows next (Err fault) (database_for any_meaning k)
 plan_refused k w t rows next (Refused spent) plans = (plans, refl)

@@ -34,7 +34,7 @@ use statements::{OpText, Statement};
 use std::alloc::Global;
 use std::marker::Model;
 use std::sync::ledger::Ledger;
-use version_model::Written;
+use write_propagation::RowWrite;
 
 /// A database with all its versions, under a layout.
 #[derive(Drop)]
@@ -69,8 +69,10 @@ impl Engine {
     /// model's reply or refusal. After an error the state is as it was. Whatever brings back a state
     /// with its layout brings back every stored table, auxiliary table and memory.
     ///
-    /// An INSERT, UPDATE or DELETE takes time in the number of values of its table and of the tables of
-    /// its tree, a CREATE SCHEMA VERSION in that of the sources and targets of its operators, a SELECT in
+    /// Where every operator of its tree treats each identifier by itself, an INSERT takes time in the
+    /// number of its values, for each table of the tree, and an UPDATE or DELETE besides in the number
+    /// of values of its table; else each takes time in the number of values of its table and of the
+    /// tables of its tree. A CREATE SCHEMA VERSION takes time in that of the sources and targets of its operators, a SELECT in
     /// that of its table and of those on its way to storage, a MATERIALIZE in that of the operators that
     /// change sides, near and far. Besides, each takes time in the square of the number of live operators
     /// and tables at most, but MATERIALIZE and DROP SCHEMA VERSION also in that of the operators that
@@ -273,13 +275,13 @@ impl Engine {
         steps: &mut Steps<L>,
     ) -> Result<WritePlan, Fault<Refusal>>
         requires texts { TextsWithin text_limit (statement_view statement.now) }
-        ensures gives { Gives (planned_view self.now.graph.edges) result
+        ensures gives { Gives (planned_view self.now) result
             (planned_write (data_of self.now) (statement_view statement.now)) }
         ensures taken { IfOk result (TakesWrite self.now) }
     {
         match statement {
             Statement::Insert { table, rows } => {
-                plan_insert(alloc, &self.database, table, rows.as_slice(), steps)
+                plan_insert(alloc, &self.database, table, rows.as_slice())
             }
             Statement::Update {
                 table,
@@ -300,7 +302,7 @@ impl Engine {
         }
     }
 
-    // Gives a table the rows that a statement makes, and carries the change along the walk.
+    // Makes the changes of a statement, and carries them along the walk.
     fn write<L: Ledger>(
         &mut self,
         alloc: Global,
@@ -309,13 +311,13 @@ impl Engine {
     ) -> Result<Reply, Fault<Refusal>>
         requires { TakesWrite self.old plan }
         ensures answers { Answers (wrote (data_of self.old)
-            (planned_view self.old.graph.edges plan)) result
+            (planned_view self.old plan)) result
             (data_of self.new) }
         ensures same { OnErr result (data_of self.new ≡ data_of self.old) }
         ensures layout { Follows self.old self.new }
         ensures reply { IsReply plan.reply → IfOk result IsReply }
         ensures ordinary { OnOk result (IsOrdinary (data_of self.old)
-            (planned_view self.old.graph.edges plan)
+            (planned_view self.old plan)
             (data_of self.new)) }
     {
         // What follows in the other versions rests on it.
@@ -323,15 +325,15 @@ impl Engine {
         let WritePlan {
             set,
             table,
-            rows,
+            changes,
             next,
             reply,
         } = plan;
         let ids = counter_at(self.database.ids(), next)?;
-        let written = Written {
+        let written = RowWrite {
             set,
             table,
-            rows,
+            changes,
             ids,
         };
         match write_through(alloc, &mut self.database, written, steps) {

@@ -1,5 +1,6 @@
 //! A write of rows, whatever is stored.
 ghost use Rattle.std.specs.Prelude.{◌≡◌, ◌≤◌};
+ghost use Rattle.row_store.specs.Changes.{AreOld};
 ghost use Rattle.version_graph.specs.Sets.{In};
 ghost use Rattle.version_graph.specs.Edges.{numbers};
 ghost use Rattle.op_law.specs.Calls.{first_refused};
@@ -7,6 +8,7 @@ ghost use Rattle.op_kinds.specs.Operators.{any_meaning};
 ghost use Rattle.version_model.specs.Writes.{MayWrite};
 ghost use Rattle.version_model.specs.Databases.{Writes};
 ghost use Rattle.db_state.specs.Fields.{database_for};
+ghost use Rattle.write_propagation.specs.Plans.{rows_written};
 
 use db_state::Db;
 use expr_lang::Steps;
@@ -14,23 +16,25 @@ use op_any::AnyOp;
 use par_base::{Fault, IdsSpent};
 use std::alloc::Global;
 use std::sync::ledger::Ledger;
-use version_model::Written;
-use write_propagation::{commit, plan};
+use write_propagation::{RowWrite, commit, plan};
 
-/// Gives a table of a live working set other rows, and carries the change along the walk.
+/// Makes changes in a table of a live working set, and carries them along the walk. After an error
+/// nothing has changed but the room of tables.
 pub fn write_through<L: Ledger>(
     alloc: Global,
     database: &mut Db<AnyOp>,
-    written: Written,
+    written: RowWrite,
     steps: &mut Steps<L>,
 ) -> Result<(), Fault<IdsSpent>>
     requires lives { In written.set (numbers database.old.graph.edges) }
     requires may { MayWrite database.old.graph.edges (database_for any_meaning database.old).state
-        written.set written.table written.rows.rows written.ids.next }
+        written.set written.table (rows_written any_meaning database.old written) written.ids.next }
+    requires old { AreOld ((database_for any_meaning database.old).state.tables written.table)
+        written.changes }
     requires drawn { written.ids.next ≤ first_refused database.old.ids }
     requires limit { written.ids.limit ≡ database.old.ids.limit }
     ensures writes { Writes any_meaning (database_for any_meaning database.old) written.set
-        written.table written.rows.rows
+        written.table (rows_written any_meaning database.old written)
         written.ids.next result (database_for any_meaning database.new) }
     ensures layout { database.new.layout ≡ database.old.layout }
 {

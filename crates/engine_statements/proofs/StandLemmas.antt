@@ -18,7 +18,7 @@ use Rattle.db_state.specs.Fields.{IsDatabase, state_for}
 use Rattle.db_state.specs.declared.parts.Parts.{Parts}
 use Rattle.version_model.specs.Writes.{MayWrite}
 use Rattle.engine_state.specs.SharedChecks.{known_version}
-use Rattle.engine_statements.specs.Calls.{IsTableOf}
+use Rattle.engine_statements.specs.Calls.{IsTableOf, rows_in}
 use Rattle.engine_statements.specs.declared.found.FoundTable.{FoundTable}
 
 version_found : (name : List ℕ) (o : Option ℕ) (set : ℕ) → known_version name o ≡ Ok set → o ≡ Some set
@@ -37,15 +37,14 @@ width_at : (k : Parts AnyView) (n : ℕ) (h : Heading) → heading_of k.graph.ed
 width_at k n h is = ap (λ (o : Option Heading). length (option_map_or as_seen o (record { name = []; columns = [] })).columns) is
 
 -- a table of a kept database may stand
-pub stands_at : (k : Parts AnyView) (n : ℕ) (h : Heading) (rows : Rows) → IsDatabase any_meaning k → heading_of k.graph.edges n ≡ Some h → rows ≡ (state_for any_meaning k).tables n → IsTable (length h.columns) k.ids.next rows
-stands_at k n h rows kept is same =
+pub stands_at : (k : Parts AnyView) (n : ℕ) (h : Heading) → IsDatabase any_meaning k → heading_of k.graph.edges n ≡ Some h → IsTable (length h.columns) k.ids.next (rows_in k n)
+stands_at k n h kept is =
     let well = kept.sound.well in
-    let there : IsTable (length h.columns) k.ids.next ((state_for any_meaning k).tables n) = record {
+    record {
       rises = (well.tables n).0;
-      wide = subst (λ (w : ℕ). RowsWide w ((state_for any_meaning k).tables n)) (width_at k n h is) (well.tables n).1;
+      wide = subst (λ (w : ℕ). RowsWide w (rows_in k n)) (width_at k n h is) (well.tables n).1;
       sound = well.rows n;
-    } in
-    subst (λ (l : Rows). IsTable (length h.columns) k.ids.next l) (sym same) there
+    }
 
 -- it may get rows that may stand there
 pub may_get : (k : Parts AnyView) (f : FoundTable) (rows : Rows) (next : ℕ) → IsTableOf k f → IsTable (length f.heading.now.columns) next rows → k.ids.next ≤ next

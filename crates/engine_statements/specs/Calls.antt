@@ -4,6 +4,9 @@ use Rattle.std.specs.List.{All}
 use Rattle.par_base.specs.declared.value.Value.{Value}
 use Rattle.expr_lang.specs.declared.tree.Expr.{Expr}
 use Rattle.expr_lang.specs.Terms.{Term, expr_term}
+use Rattle.row_store.specs.Rows.{Rows}
+use Rattle.row_store.specs.Changes.{AreOld}
+use Rattle.row_changes.specs.Changed.{changed}
 use Rattle.statements.specs.Views.{AssignmentView}
 use Rattle.version_graph.specs.Sets.{In}
 use Rattle.version_graph.specs.Tables.{TableVersion, table_numbers}
@@ -19,7 +22,8 @@ use Rattle.version_model.specs.Writes.{MayWrite}
 use Rattle.engine_statements.specs.Found.{Found}
 use Rattle.engine_statements.specs.Statements.{Planned}
 use Rattle.engine_statements.specs.declared.found.FoundTable.{FoundTable}
-use Rattle.engine_statements.specs.declared.found.NamedTable.{NamedTable}
+use Rattle.engine_statements.specs.declared.read.ReadTable.{ReadTable}
+use Rattle.engine_statements.specs.declared.read.ReadTable.TheVariants.{Stored, Made}
 use Rattle.engine_statements.specs.declared.write_plan.WritePlan.{WritePlan}
 
 -- ---- tables
@@ -32,23 +36,22 @@ found_view f = record { set = f.set; table = record { number = f.number; heading
 abbrev pub table_of : ℕ → TableVersion → Found
 table_of set t = record { set = set; table = t }
 
--- a table of this working set, by its number
-abbrev pub named_view : ℕ → NamedTable → Found
-named_view set n = record { set = set; table = record { number = n.number; heading = n.heading.now } }
+-- the rows of a table
+abbrev pub rows_in : Parts AnyView → ℕ → Rows
+rows_in k t = (state_for any_meaning k).tables t
 
--- a table of the working set, with its heading
-pub record IsNamedIn (es : List (Placed AnyView)) (set : ℕ) (n : NamedTable) : Type 0 where
-  pub held : In n.number (table_numbers (working es set))
-  pub made : In n.number (table_numbers (made es))
-  pub heading : heading_of es n.number ≡ Some n.heading.now
-
--- a live table of a live working set, with its heading and its rows, as it may stand
+-- a live table of a live working set, with its heading, as it may stand
 pub record IsTableOf (k : Parts AnyView) (f : FoundTable) : Type 0 where
   pub lives : In f.set (numbers k.graph.edges)
   pub held : In f.number (table_numbers (working k.graph.edges f.set))
+  pub made : In f.number (table_numbers (made k.graph.edges))
   pub heading : heading_of k.graph.edges f.number ≡ Some f.heading.now
-  pub rows : f.table.rows ≡ (state_for any_meaning k).tables f.number
-  pub stands : IsTable (length f.heading.now.columns) k.ids.next f.table.rows
+  pub stands : IsTable (length f.heading.now.columns) k.ids.next (rows_in k f.number)
+
+-- the rows of a table that was read
+abbrev pub rows_read : ReadTable → Rows
+rows_read (Stored table) = table.now.rows
+rows_read (Made table) = table.rows
 
 -- ---- expressions
 
@@ -72,11 +75,15 @@ AssignmentFits a = TermFits a.value
 abbrev pub heading_at : List (Placed AnyView) → ℕ → Heading
 heading_at es t = unwrap_or (heading_of es t) (record { name = []; columns = [] })
 
--- what a statement makes, with the heading that its table has on these edges
-abbrev pub planned_view : List (Placed AnyView) → WritePlan → Planned
-planned_view es w = record {
-  found = record { set = w.set; table = record { number = w.table; heading = heading_at es w.table } };
-  rows = w.rows.rows;
+-- the rows that the table of a write is to have
+abbrev pub rows_after : Parts AnyView → WritePlan → Rows
+rows_after k w = changed (rows_in k w.table) w.changes
+
+-- what a statement makes, with the heading and the rows that its table has in this database
+abbrev pub planned_view : Parts AnyView → WritePlan → Planned
+planned_view k w = record {
+  found = record { set = w.set; table = record { number = w.table; heading = heading_at k.graph.edges w.table } };
+  rows = rows_after k w;
   next = w.next;
   reply = w.reply;
 }
@@ -84,4 +91,6 @@ planned_view es w = record {
 -- a database takes the write
 pub record TakesWrite (k : Parts AnyView) (w : WritePlan) : Type 0 where
   pub lives : In w.set (numbers k.graph.edges)
-  pub may : MayWrite k.graph.edges (state_for any_meaning k) w.set w.table w.rows.rows w.next
+  pub may : MayWrite k.graph.edges (state_for any_meaning k) w.set w.table (rows_after k w) w.next
+  -- each old row is there
+  pub old : AreOld (rows_in k w.table) w.changes

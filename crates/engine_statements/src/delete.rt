@@ -11,6 +11,7 @@ use crate::WritePlan;
 use crate::expressions::{find_condition, shown_names};
 use crate::found::find_table;
 use crate::ids::check_condition_ids;
+use crate::read::read_named;
 use db_state::Db;
 use engine_state::Reply;
 use expr_lang::{ExprText, Steps};
@@ -23,7 +24,9 @@ use std::sync::ledger::Ledger;
 
 /// What a DELETE makes of its table, or the first of its checks that refuses it.
 ///
-/// It takes time in the number of values of the table: the rows that stay are copied.
+/// It takes the time of reading the table, where it isn't stored, and time in the number of values of
+/// the table where there is a condition. The rows that it chooses are copied, and no row where it is
+/// refused.
 pub fn plan_delete<L: Ledger>(
     alloc: Global,
     database: &Db<AnyOp>,
@@ -31,21 +34,22 @@ pub fn plan_delete<L: Ledger>(
     filter: &Option<ExprText>,
     steps: &mut Steps<L>,
 ) -> Result<WritePlan, Fault<Refusal>>
-    ensures gives { Gives (planned_view database.now.graph.edges) result
+    ensures gives { Gives (planned_view database.now) result
         (planned_delete (database_for any_meaning database.now) name.now (filter_view filter.now)) }
     ensures taken { IfOk result (TakesWrite database.now) }
 {
-    let found = find_table(alloc, database, name, steps)?;
+    let found = find_table(alloc, database, name)?;
     let next = database.ids().next();
     let shown = shown_names(alloc, found.heading.columns.as_slice())?;
     let condition = find_condition(alloc, shown.as_slice(), filter)?;
     check_condition_ids(filter, next)?;
-    let changed = delete_rows(alloc, &found.table, condition.as_ref(), steps)?;
-    let Changed { table, chosen } = changed;
+    let read = read_named(alloc, database, &found, steps)?;
+    let changed = delete_rows(alloc, read.table(), condition.as_ref(), steps)?;
+    let Changed { changes, chosen } = changed;
     Ok(WritePlan {
         set: found.set,
         table: found.number,
-        rows: table,
+        changes,
         next,
         reply: Reply::Deleted { count: chosen },
     })

@@ -8,33 +8,22 @@ ghost use Rattle.par_base.specs.Checked.{Gives};
 ghost use Rattle.op_kinds.specs.Operators.{any_meaning};
 ghost use Rattle.db_state.specs.Fields.{database_for};
 ghost use Rattle.engine_statements.specs.Found.{found, set_of};
-ghost use Rattle.engine_statements.specs.Calls.{found_view, named_view, table_of, IsNamedIn, IsTableOf};
+ghost use Rattle.engine_statements.specs.Calls.{found_view, table_of, IsTableOf};
 
-use db_state::{Db, read_table};
+use db_state::Db;
 use engine_state::known_set;
-use expr_lang::Steps;
 use op_any::AnyOp;
-use par_base::{Fault, Memory, Name, Refusal};
-use row_store::Table;
+use par_base::{Fault, Name, Refusal};
 use statements::TableName;
 use std::alloc::Global;
-use std::sync::ledger::Ledger;
 use version_graph::{Graph, Heading};
 
-/// A table of a version, where it stands.
+/// A table of a version, where it stands. Its rows aren't read.
 #[derive(Drop)]
 pub struct FoundTable<'a> {
     /// The version's working set.
     pub set: u32,
     /// The table's number.
-    pub number: u32,
-    pub heading: &'a Heading,
-    pub table: Table,
-}
-
-/// The number and the heading of a table of a version.
-#[derive(Drop)]
-pub struct NamedTable<'a> {
     pub number: u32,
     pub heading: &'a Heading,
 }
@@ -65,51 +54,28 @@ fn number_in(graph: &Graph<AnyOp>, set: u32, name: &Name) -> Option<u32>
 }
 
 /// The table of a live working set with this name.
-fn table_in<'a>(database: &'a Db<AnyOp>, set: u32, name: &Name) -> Option<NamedTable<'a>>
+fn table_in<'a>(database: &'a Db<AnyOp>, set: u32, name: &Name) -> Option<FoundTable<'a>>
     requires { In set (numbers database.now.graph.edges) }
-    ensures found { option_map (named_view set) result ≡ option_map (table_of set)
+    ensures found { option_map found_view result ≡ option_map (table_of set)
         (table_named (working database.entry.now.graph.edges set) name.now) }
-    ensures there { IfSome result (IsNamedIn database.entry.now.graph.edges set) }
+    ensures there { IfSome result (IsTableOf database.entry.now) }
 {
     let graph = database.graph();
     let number = number_in(graph, set, name)?;
     let heading = graph.heading(number)?;
-    Some(NamedTable { number, heading })
-}
-
-// The table with its rows.
-fn read_found<'a, L: Ledger>(
-    alloc: Global,
-    database: &'a Db<AnyOp>,
-    set: u32,
-    named: NamedTable<'a>,
-    steps: &mut Steps<L>,
-) -> Result<FoundTable<'a>, Memory>
-    requires lives { In set (numbers database.now.graph.edges) }
-    requires named { IsNamedIn database.now.graph.edges set named }
-    ensures found { IfOk result (λ found. found_view found ≡ named_view set named.entry) }
-    ensures there { IfOk result (IsTableOf database.entry.now) }
-{
-    // That its rows may stand rests on it.
-    let _graph = database.graph();
-    let NamedTable { number, heading } = named;
-    let table = read_table(alloc, database, number, steps)?;
-    Ok(FoundTable {
+    Some(FoundTable {
         set,
         number,
         heading,
-        table,
     })
 }
 
-/// The table that a statement names, with a copy of its rows as they are read from what is stored,
-/// or the refusal. It takes one comparison for each version, time in the number of live tables for
-/// each table of the version, and the time of reading.
-pub fn find_table<'a, L: Ledger>(
+/// The table that a statement names, or the refusal. It reads no row, and takes one comparison for
+/// each version, and time in the number of live tables for each table of the version.
+pub fn find_table<'a>(
     alloc: Global,
     database: &'a Db<AnyOp>,
     name: &TableName,
-    steps: &mut Steps<L>,
 ) -> Result<FoundTable<'a>, Fault<Refusal>>
     ensures gives { Gives found_view result
         (found (database_for any_meaning database.entry.now) name.now) }
@@ -117,7 +83,7 @@ pub fn find_table<'a, L: Ledger>(
 {
     let set = find_set(alloc, database, &name.version)?;
     match table_in(database, set, &name.table) {
-        Some(named) => Ok(read_found(alloc, database, set, named, steps)?),
+        Some(found) => Ok(found),
         None => Err(Fault::Refused(Refusal::UnknownTable {
             table: name.table.copy(alloc)?,
         })),

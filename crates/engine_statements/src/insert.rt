@@ -14,13 +14,11 @@ use crate::found::find_table;
 use crate::ids::check_row_ids;
 use db_state::Db;
 use engine_state::Reply;
-use expr_lang::Steps;
 use op_any::AnyOp;
 use ordinary_table::insert_rows;
 use par_base::{Fault, List, Memory, Refusal, Row, add_counts};
 use statements::TableName;
 use std::alloc::Global;
-use std::sync::ledger::Ledger;
 
 /// The next identifier behind those of the rows. So many rows that it doesn't fit in 64 bits don't
 /// fit in memory beside their copies either.
@@ -45,30 +43,30 @@ fn drawn(alloc: Global, next: u64, rows: &[Row]) -> Result<List<u64>, Memory>
 
 /// What an INSERT makes of its table, or the first of its checks that refuses it.
 ///
-/// It takes time in the number of values of the table and of the new rows: the table is copied.
-pub fn plan_insert<L: Ledger>(
+/// It takes time in the number of values of the new rows, and in that of live tables for each table
+/// of the version; it reads no row of the table.
+pub fn plan_insert(
     alloc: Global,
     database: &Db<AnyOp>,
     name: &TableName,
     rows: &[Row],
-    steps: &mut Steps<L>,
 ) -> Result<WritePlan, Fault<Refusal>>
     requires { All RowFits rows.now }
-    ensures gives { Gives (planned_view database.now.graph.edges) result
+    ensures gives { Gives (planned_view database.now) result
         (planned_insert (database_for any_meaning database.now) name.now rows.now) }
     ensures taken { IfOk result (TakesWrite database.now) }
 {
-    let found = find_table(alloc, database, name, steps)?;
+    let found = find_table(alloc, database, name)?;
     let next = database.ids().next();
     check_counts(rows, found.heading.columns.len())?;
     check_row_ids(rows, next)?;
     let end = next_after(next, rows)?;
-    let written = insert_rows(alloc, &found.table, rows, next)?;
+    let changes = insert_rows(alloc, rows, next)?;
     let ids = drawn(alloc, next, rows)?;
     Ok(WritePlan {
         set: found.set,
         table: found.number,
-        rows: written,
+        changes,
         next: end,
         reply: Reply::Inserted { ids },
     })

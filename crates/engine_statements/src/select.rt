@@ -11,6 +11,7 @@ use crate::expressions::{find_condition, shown_names};
 use crate::found::find_table;
 use crate::ids::check_condition_ids;
 use crate::items::{find_places, header};
+use crate::read::read_named;
 use db_state::Db;
 use engine_state::Reply;
 use expr_lang::{ExprText, Steps};
@@ -23,7 +24,9 @@ use std::sync::ledger::Ledger;
 /// The rows that a SELECT asks for, under the listed names, or the first of its checks that refuses
 /// it. It changes nothing.
 ///
-/// It takes time in the number of values of the table and of the answer.
+/// It takes the time of reading the table, where it isn't stored, and time in the number of values of
+/// the table, where there is a condition, and of the answer. It copies the rows that it shows, and
+/// reads none where it is refused.
 pub fn select_rows<L: Ledger>(
     alloc: Global,
     database: &Db<AnyOp>,
@@ -37,14 +40,15 @@ pub fn select_rows<L: Ledger>(
         name.now items.now (filter_view filter.now)) }
     ensures reply { IfOk result IsReply }
 {
-    let found = find_table(alloc, database, name, steps)?;
+    let found = find_table(alloc, database, name)?;
     let shown = shown_names(alloc, found.heading.columns.as_slice())?;
     let places = find_places(alloc, shown.as_slice(), items)?;
     let condition = find_condition(alloc, shown.as_slice(), filter)?;
     check_condition_ids(filter, database.ids().next())?;
+    let read = read_named(alloc, database, &found, steps)?;
     let rows = ordinary_table::select_rows(
         alloc,
-        &found.table,
+        read.table(),
         places.as_slice(),
         condition.as_ref(),
         steps,

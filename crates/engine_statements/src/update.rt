@@ -12,6 +12,7 @@ use crate::WritePlan;
 use crate::expressions::{check_set_once, find_condition, find_sets, shown_names};
 use crate::found::find_table;
 use crate::ids::check_update_ids;
+use crate::read::read_named;
 use db_state::Db;
 use engine_state::Reply;
 use expr_lang::{ExprText, Steps};
@@ -25,8 +26,9 @@ use std::sync::ledger::Ledger;
 /// What an UPDATE makes of its table, or the first of its checks that refuses it. All SETs see the
 /// row as it was.
 ///
-/// It takes time in the number of values of the table and, for each row, of SETs, and in the
-/// number of pairs of SETs.
+/// It takes the time of reading the table, where it isn't stored, and time in the number of values of
+/// the table and, for each row that it chooses, of SETs, and in the number of pairs of SETs. It gives
+/// copies of the rows that it chooses, and reads no row where it is refused.
 pub fn plan_update<L: Ledger>(
     alloc: Global,
     database: &Db<AnyOp>,
@@ -36,12 +38,12 @@ pub fn plan_update<L: Ledger>(
     steps: &mut Steps<L>,
 ) -> Result<WritePlan, Fault<Refusal>>
     requires { All AssignmentFits (map assignment_view assignments.now) }
-    ensures gives { Gives (planned_view database.now.graph.edges) result
+    ensures gives { Gives (planned_view database.now) result
         (planned_update (database_for any_meaning database.now) name.now
         (map assignment_view assignments.now) (filter_view filter.now)) }
     ensures taken { IfOk result (TakesWrite database.now) }
 {
-    let found = find_table(alloc, database, name, steps)?;
+    let found = find_table(alloc, database, name)?;
     let next = database.ids().next();
     let columns = found.heading.columns.as_slice();
     let shown = shown_names(alloc, columns)?;
@@ -49,18 +51,19 @@ pub fn plan_update<L: Ledger>(
     let condition = find_condition(alloc, shown.as_slice(), filter)?;
     check_set_once(alloc, assignments)?;
     check_update_ids(assignments, filter, next)?;
+    let read = read_named(alloc, database, &found, steps)?;
     let changed = update_rows(
         alloc,
-        &found.table,
+        read.table(),
         sets.as_slice(),
         condition.as_ref(),
         steps,
     )?;
-    let Changed { table, chosen } = changed;
+    let Changed { changes, chosen } = changed;
     Ok(WritePlan {
         set: found.set,
         table: found.number,
-        rows: table,
+        changes,
         next,
         reply: Reply::Updated { count: chosen },
     })

@@ -1,6 +1,6 @@
 //! What a statement makes of its version's table.
 use engine_state::Reply;
-use row_store::Table;
+use row_store::Changes;
 
 /// A write that nothing but the limit of identifiers can refuse any more.
 #[derive(Drop)]
@@ -9,8 +9,8 @@ pub struct WritePlan {
     pub set: u32,
     /// The number of the table.
     pub table: u32,
-    /// The rows that the table is to have.
-    pub rows: Table,
+    /// The changes of the table's rows.
+    pub changes: Changes,
     /// The next identifier after those that the rows took; it may be above the limit.
     pub next: u64,
     pub reply: Reply,

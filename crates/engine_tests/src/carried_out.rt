@@ -5,47 +5,45 @@ ghost use Rattle.statement_texts.specs.Short.{IsShortStatement, AreShortOperator
 ghost use Rattle.engine_tests.specs.Twins.{IsTwin, Stays};
 
 use crate::Twin;
+use db_state::Db;
 use engine_statements::{WritePlan, plan_delete, plan_insert, plan_update};
 use expr_lang::Steps;
+use op_any::AnyOp;
 use par_base::{Fault, Name, Refusal};
 use statements::{OpText, Statement};
 use std::alloc::Global;
 use std::sync::ledger::Ledger;
 
-impl Twin {
-    // What a statement makes of its version's table.
-    fn plan<L: Ledger>(
-        &self,
-        alloc: Global,
-        statement: &Statement,
-        steps: &mut Steps<L>,
-    ) -> Result<WritePlan, Fault<Refusal>>
-        requires texts { IsShortStatement statement.now }
-        ensures { IfOk result (TakesWrite self.now.moved) }
-    {
-        match statement {
-            Statement::Insert { table, rows } => {
-                plan_insert(alloc, &self.moved, table, rows.as_slice(), steps)
-            }
-            Statement::Update {
-                table,
-                assignments,
-                filter,
-            } => plan_update(
-                alloc,
-                &self.moved,
-                table,
-                assignments.as_slice(),
-                filter,
-                steps,
-            ),
-            Statement::Delete { table, filter } => {
-                plan_delete(alloc, &self.moved, table, filter, steps)
-            }
-            _ => Err(Fault::Refused(Refusal::NotBuilt)),
-        }
+/// What a statement makes of its version's table.
+pub fn planned<L: Ledger>(
+    alloc: Global,
+    database: &Db<AnyOp>,
+    statement: &Statement,
+    steps: &mut Steps<L>,
+) -> Result<WritePlan, Fault<Refusal>>
+    requires texts { IsShortStatement statement.now }
+    ensures { IfOk result (TakesWrite database.now) }
+{
+    match statement {
+        Statement::Insert { table, rows } => plan_insert(alloc, database, table, rows.as_slice()),
+        Statement::Update {
+            table,
+            assignments,
+            filter,
+        } => plan_update(
+            alloc,
+            database,
+            table,
+            assignments.as_slice(),
+            filter,
+            steps,
+        ),
+        Statement::Delete { table, filter } => plan_delete(alloc, database, table, filter, steps),
+        _ => Err(Fault::Refused(Refusal::NotBuilt)),
     }
+}
 
+impl Twin {
     // Carries out a statement that writes rows.
     fn change<L: Ledger>(
         &mut self,
@@ -57,7 +55,7 @@ impl Twin {
         requires texts { IsShortStatement statement.now }
         ensures { Stays result self.old self.new }
     {
-        let plan = self.plan(alloc, statement, steps)?;
+        let plan = planned(alloc, &self.moved, statement, steps)?;
         self.write(alloc, plan, steps)?;
         Ok(())
     }

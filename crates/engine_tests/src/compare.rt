@@ -90,7 +90,8 @@ fn expect_table<L: Ledger>(
     Ok(())
 }
 
-fn is_live(graph: &Graph<AnyOp>, table: u32) -> bool
+/// Whether a table lives.
+pub fn is_live(graph: &Graph<AnyOp>, table: u32) -> bool
     ensures { result ≡ is_in table (table_numbers (made graph.now.edges)) }
 {
     graph.heading(table).is_some()

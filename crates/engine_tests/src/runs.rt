@@ -1,5 +1,5 @@
 //! Runs of scripts on a twin, with moves between the statements.
-ghost use Rattle.std.specs.Prelude.{◌≡◌, OnOk};
+ghost use Rattle.std.specs.Prelude.{◌≡◌, IfOk, OnOk};
 ghost use Rattle.engine_tests.specs.Twins.{IsTwin, Stays};
 ghost use Rattle.engine_tests.specs.declared.kept.Twin.{Twin};
 
@@ -62,6 +62,24 @@ fn expect_done<L: Ledger>(
     let answer = is_done(alloc, twin, text, steps)?;
     assert_eq!(rt; answer, done, "{text}");
     Ok(())
+}
+
+/// A twin after a script and one statement more.
+pub fn twin_after<L: Ledger>(
+    rt: &impl Abort,
+    alloc: Global,
+    script: &[Given],
+    last: Given,
+    steps: &mut Steps<L>,
+) -> Result<Twin, Fail>
+    ensures { IfOk result IsTwin }
+{
+    let mut twin = Twin::new(alloc, LIMITS);
+    for given in script {
+        expect_done(rt, alloc, &mut twin, *given, steps)?;
+    }
+    expect_done(rt, alloc, &mut twin, last, steps)?;
+    Ok(twin)
 }
 
 // Moves the data to the tables of the version at a place, where there is one, and compares.

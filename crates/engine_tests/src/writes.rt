@@ -1,6 +1,9 @@
 //! Writes of rows to both.
 ghost use Rattle.std.specs.Prelude.{◌≡◌, ◌≤◌, IfOk};
+ghost use Rattle.row_store.specs.Changes.{AreOld};
 ghost use Rattle.op_law.specs.Calls.{first_refused};
+ghost use Rattle.row_changes.specs.Changed.{changed};
+ghost use Rattle.version_model.specs.Kept.{state_of};
 ghost use Rattle.engine_statements.specs.Calls.{TakesWrite};
 ghost use Rattle.engine_tests.specs.Twins.{IsTakenTwice, IsTwin, WritesMoved, WritesPlan};
 
@@ -9,14 +12,17 @@ use engine_state::Reply;
 use engine_statements::WritePlan;
 use expr_lang::Steps;
 use id_memory::IdCounter;
-use par_base::{Fault, IdsSpent, Refusal};
+use op_any::AnyOp;
+use par_base::{Fault, IdsSpent, Memory, Refusal};
+use row_changes::changed_copy;
+use row_store::{Changes, Table};
 use std::alloc::Global;
 use std::sync::ledger::Ledger;
-use version_model::Written;
-use write_propagation::{commit, plan};
+use version_model::{PlainDatabase, Written};
+use write_propagation::{RowWrite, commit, plan};
 
-// The counter at a later identifier, where that isn't above the first one that is refused.
-fn counter_at(ids: &IdCounter, next: u64) -> Result<IdCounter, IdsSpent>
+/// The counter at a later identifier, where that isn't above the first one that is refused.
+pub fn counter_at(ids: &IdCounter, next: u64) -> Result<IdCounter, IdsSpent>
     requires { ids.now.next ≤ next }
     ensures { IfOk result (λ new. (new ≡ record ids.now { next = next })
         × (next ≤ first_refused ids.now)) }
@@ -29,12 +35,30 @@ fn counter_at(ids: &IdCounter, next: u64) -> Result<IdCounter, IdsSpent>
     Ok(IdCounter::new(next, limit))
 }
 
+// A whole table with changes.
+fn table_after(
+    alloc: Global,
+    plain: &PlainDatabase<AnyOp>,
+    table: u32,
+    changes: &Changes,
+) -> Result<Table, Memory>
+    requires { AreOld ((state_of plain.now).tables table) changes.now }
+    ensures { IfOk result (λ made. made.rows
+        ≡ changed ((state_of plain.now).tables table) changes.now) }
+{
+    match plain.table(table) {
+        Some(rows) => changed_copy(alloc, rows, changes),
+        None => changed_copy(alloc, &Table::new(alloc), changes),
+    }
+}
+
 impl Twin {
-    // Makes one write in both. After an error both are as before.
+    // Makes one write in both: in one by its changes, and in the other by a whole table. After an
+    // error both are as before.
     fn write_both<L: Ledger>(
         &mut self,
         alloc: Global,
-        first: Written,
+        first: RowWrite,
         second: Written,
         steps: &mut Steps<L>,
     ) -> Result<(), Fault<IdsSpent>>
@@ -43,14 +67,14 @@ impl Twin {
         ensures twin { IsTwin self.new }
         ensures writes { WritesMoved self.old first result self.new }
     {
-        let made = plan(alloc, &self.moved, first, steps)?;
+        let made = plan(alloc, &mut self.moved, first, steps)?;
         self.plain.write(alloc, second, steps)?;
         commit(alloc, &mut self.moved, made);
         Ok(())
     }
 
-    /// Gives a table of both the rows that a statement makes, and carries the change along the walk,
-    /// or refuses. After an error both are as before.
+    /// Makes the changes of a statement in both, and carries them along the walk, or refuses. After an
+    /// error both are as before.
     pub fn write<L: Ledger>(
         &mut self,
         alloc: Global,
@@ -65,7 +89,7 @@ impl Twin {
         let WritePlan {
             set,
             table,
-            rows,
+            changes,
             next,
             reply,
         } = plan;
@@ -76,13 +100,13 @@ impl Twin {
         let second = Written {
             set,
             table,
-            rows: rows.copy()?,
+            rows: table_after(alloc, &self.plain, table, &changes)?,
             ids: ids.copy(),
         };
-        let first = Written {
+        let first = RowWrite {
             set,
             table,
-            rows,
+            changes,
             ids,
         };
         match self.write_both(alloc, first, second, steps) {

@@ -1,18 +1,17 @@
 -- A move has as many flips as operators change sides.
-use Rattle.std.specs.Prelude.{◌⊎◌}
-use Rattle.std.proofs.Common.{◌≡◌, ℕ, zero, suc, ◌<◌, List, [], ◌∷◌, Bool, true, false, not, cond, filter, length, inl, inr, refl, sym, ap, ◌∙◌, subst, arith}
+use Rattle.std.proofs.Common.{◌≡◌, ℕ, zero, suc, List, [], ◌∷◌, Bool, true, false, not, cond, filter, length, inl, inr, refl, sym, ap, ◌∙◌, subst, arith}
 use Rattle.std.proofs.lemmas.Bool.{cond-false, cond-true}
 use Rattle.version_graph.specs.Sets.{In}
-use Rattle.version_graph.specs.Edges.{AreEdges, Rises, is_in, numbers}
-use Rattle.version_graph.specs.Forest.{Link, forest}
+use Rattle.version_graph.specs.Edges.{AreEdges, Rises, is_in}
+use Rattle.version_graph.specs.Forest.{forest}
 use Rattle.version_graph.specs.declared.parts.Placed.{Placed}
 use Rattle.version_graph.proofs.TableLaws.{rises_above}
 use Rattle.layout_rules.specs.Lookups.{numbers_up}
-use Rattle.layout_rules.specs.Moves.{Flips, IsDown, IsUp, Moves, PutsIn, SameOperators, TakesOut}
+use Rattle.layout_rules.specs.Moves.{Flips, Moves, SameOperators}
 use Rattle.layout_rules.proofs.ChangeLaws.{link_number}
 use Rattle.layout_rules.proofs.CloseLaws.{numbers_rise}
 use Rattle.storage_law.proofs.LinkLaws.{not_in_false, same_test}
-use Rattle.migration.specs.Sides.{changes_side, changing, flip_count}
+use Rattle.migration.specs.Sides.{changes_side, flip_count}
 use Rattle.migration.proofs.SideLemmas.{comes, goes, up_in}
 
 -- two tests that agree on each number of a list keep the same of it

@@ -19,7 +19,10 @@ use Rattle.version_model.proofs.ProgressLaws.{state_is}
 use Rattle.db_state.specs.Calls.{AreAuxesOf, IsRelatedAt}
 use Rattle.db_state.specs.Covered.{Covers, CoversItself}
 use Rattle.db_state.specs.Fields.{IsDatabase, state_for}
+use Rattle.db_state.specs.Parts.{seen_of}
 use Rattle.db_state.specs.declared.parts.Parts.{Parts}
+use Rattle.db_state.specs.declared.sight.Sight.TheVariants.{All}
+use Rattle.db_state.proofs.PartLaws.{rows_all}
 use Rattle.migration.specs.Moved.{Leads}
 use Rattle.migration.specs.Places.{AreStoredPlaces}
 use Rattle.migration.specs.Sides.{changing}
@@ -29,6 +32,12 @@ use Rattle.migration.proofs.LeadLemmas.{all_related, leads, read_state}
 
 pub changing_is : {O : Type 0} (g h : Drawn O) (a b c d : List ℕ) → g ≡ h → a ≡ b → c ≡ d → changing g.edges a c ≡ changing h.edges b d
 changing_is g h a b c d same first second = λ j. changing (same j).edges (first j) (second j)
+
+-- where all rows are seen, the tables that were read are the state's
+pub read_whole : {O : Type 0} (meaning : O → Meaning) (old : Parts O) (ns : List ℕ) (read : List (Numbered TableState))
+    → ((t : ℕ) → In t (table_numbers (made old.graph.edges)) → Covers (forest old.graph.edges) old.layout.operators ns t → seen_of All (rows_now old.stored read) t ≡ seen_of All (state_for meaning old).tables t)
+    → (t : ℕ) → In t (table_numbers (made old.graph.edges)) → Covers (forest old.graph.edges) old.layout.operators ns t → rows_now old.stored read t ≡ (state_for meaning old).tables t
+read_whole meaning old ns read seen t live over = sym (rows_all (rows_now old.stored read t)) ∙ seen t live over ∙ rows_all ((state_for meaning old).tables t)
 
 module _ {O : Type 0} (meaning : O → Meaning) (old : Parts O) (base : IsDatabase meaning old) (goal : List ℕ) (valid : IsValid (forest old.graph.edges) goal) (ns : List ℕ) (is : ns ≡ changing old.graph.edges old.layout.operators goal) where
   -- the operators may be read

@@ -9,7 +9,7 @@ ghost use Rattle.migration.specs.Moved.{Adopts, Leads};
 use crate::Moved;
 use crate::sides::changing;
 use crate::storing::places;
-use db_state::{Db, Parts, auxes_in, put_parts, read_over, take_parts};
+use db_state::{Db, Parts, Sight, auxes_in, put_parts, read_over, take_parts};
 use expr_lang::Steps;
 use layout_rules::Layout;
 use op_law::Operator;
@@ -36,7 +36,7 @@ pub fn prepare<O: Operator, L: Ledger>(
     let graph = db.graph();
     let layout = db.layout().operators.as_slice();
     let operators = changing(alloc, graph, layout, goal.operators.as_slice())?;
-    let read = read_over(alloc, db, operators.as_slice(), steps)?;
+    let read = read_over(alloc, db, operators.as_slice(), Sight::All, steps)?;
     let stored = places(alloc, graph, &goal, db.stored(), read.as_slice())?;
     let before = Before {
         tables: db.stored(),

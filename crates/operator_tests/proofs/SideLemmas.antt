@@ -10,8 +10,12 @@ use Rattle.row_store.specs.Rows.{Rows, RiseFrom, AreBelow}
 use Rattle.op_law.specs.Tables.{Tables, Heading, RowsWide, AreTablesOf}
 use Rattle.op_law.specs.Sound.{ValuesSound, RowsSound, TablesSound, PairsSound}
 use Rattle.op_law.specs.Meaning.{Meaning, PairState, flip, exchanged}
-use Rattle.op_law.specs.Premises.{IsPair, SomeMap, SomeNear}
+use Rattle.op_law.specs.Premises.{IsPair, MayMap, SomeMap, SomeNear}
 use Rattle.op_law.specs.Calls.{Admits}
+use Rattle.row_changes.specs.Changed.{TableChanges, changed_tables}
+use Rattle.row_changes.specs.Differences.{AreDifferences}
+use Rattle.row_changes.proofs.DifferenceLaws.{differences_fit, differences_make}
+use Rattle.operator_changes.specs.Calls.{MayChange}
 use Rattle.operator_tests.specs.Worked.{is_sound, is_row, is_below, IsTable, AreTables, widths, IsBuiltFor, IsWorked}
 
 values_sound : (n : ℕ) (row : List Value) → list_all (is_sound n) row ≡ true → ValuesSound n row
@@ -112,3 +116,14 @@ module _ (m : Meaning) (source target : List ℕ) (n : ℕ) where
       near_sound = side_sound n source near side;
     };
   }
+
+-- ---- changes
+
+module _ (m : Meaning) (source target : List ℕ) (n : ℕ) where
+  pub change_of_worked : (near : Tables) (p : PairState) (cs : TableChanges) → IsWorked m source target n p → p.memory ≡ [] → AreTables source n near → AreDifferences p.source near cs
+      → MayChange m cs (record { source = p.source; target = p.target; memory = [] }) n
+  change_of_worked near p cs worked fresh side are =
+      let some = map_of_worked m source target n near p worked fresh side in
+      let may : MayMap m some.hs some.ht (changed_tables p.source cs) p n = subst (λ (ts : Tables). MayMap m some.hs some.ht ts p n) (sym (differences_make p.source near cs are)) some.may in
+      let whole : MayChange m cs p n = record { hs = some.hs; ht = some.ht; fit = differences_fit p.source near cs are; may = may } in
+      subst (λ (pairs : Pairs). MayChange m cs (record { source = p.source; target = p.target; memory = pairs }) n) fresh whole

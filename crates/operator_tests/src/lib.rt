@@ -3,7 +3,8 @@
 //!
 //! A case has a related pair of an operator and what is kept beside either side: each side is admitted
 //! of the other one and what belongs to it, and read back, and none is admitted where one row is
-//! missing or too many. Where the operator draws no identifiers, new sides are mapped either way too.
+//! missing or too many. Where the operator draws no identifiers, new sides are mapped either way too,
+//! and of a split the changes that one side makes on the other.
 #![tactic(auto)]
 
 #[cfg(test)]
@@ -12,6 +13,8 @@ mod bench;
 mod cases;
 #[cfg(test)]
 mod chains;
+#[cfg(test)]
+mod changes;
 #[cfg(test)]
 mod checks;
 #[cfg(test)]

@@ -29,7 +29,7 @@ rises_append : (n m : ℕ) (rows more : Rows) → n ≤ m → RiseFrom n rows �
 rises_append n m [] more h rise below behind = rise_more n m more h behind
 rises_append n m (r ∷ rs) more h rise below behind = (rise.0, rises_append (r.0 + 1) m rs more (omega (arith, below.0)) rise.1 below.1 behind)
 
-rises_numbered : (next : ℕ) (new : List (List Value)) → RiseFrom next (numbered next new)
+pub rises_numbered : (next : ℕ) (new : List (List Value)) → RiseFrom next (numbered next new)
 unfolding numbered
 rises_numbered next [] = tt
 rises_numbered next (row ∷ new) = (omega arith, rises_numbered (next + 1) new)

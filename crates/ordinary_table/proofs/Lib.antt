@@ -4,3 +4,4 @@ pub mod RowOfLaws
 pub mod ColumnLaws
 mod SetLemmas
 mod StepLemmas
+mod ToldLemmas

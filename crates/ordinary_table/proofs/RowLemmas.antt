@@ -1,13 +1,12 @@
 -- One row of a table, and the identifiers before it.
-use Rattle.std.proofs.Common.{◌≡◌, ◌∙◌, ℕ, zero, suc, ◌+◌, ◌<◌, ◌≤◌, List, [], ◌∷◌, ◌++◌, Bool, true, false, not, cond, length, get_or, take, Option, ap, sym, subst, arith}
-use Rattle.std.proofs.lemmas.List.{length-take-le, take_more}
+use Rattle.std.proofs.Common.{◌≡◌, ◌∙◌, ℕ, zero, suc, ◌+◌, ◌<◌, ◌≤◌, List, [], ◌∷◌, ◌++◌, true, length, get_or, take, Option, ap, sym, subst, arith}
+use Rattle.std.proofs.lemmas.List.{take_more}
 use Rattle.par_base.specs.declared.value.Value.{Value}
 use Rattle.expr_lang.specs.Terms.{Term}
 use Rattle.row_store.specs.Rows.{Rows, RiseFrom, AreBelow}
 use Rattle.row_store.specs.inner.RowsLeft.{Comes, passed}
 use Rattle.op_law.specs.Tables.{RowsWide}
-use Rattle.ordinary_table.specs.Shown.{meets}
-use Rattle.ordinary_table.specs.Written.{SetTerm, numbered, inserted, updated, deleted}
+use Rattle.ordinary_table.specs.Written.{numbered}
 use Rattle.ordinary_table.specs.Fits.{condition_fits}
 
 -- a row stands at the place
@@ -53,28 +52,7 @@ pub below_more : (rows : Rows) (n m : ℕ) → n ≤ m → AreBelow rows n → A
 below_more [] n m h below = tt
 below_more (r ∷ rs) n m h below = (omega (arith, below.0), below_more rs n m h below.1)
 
-pub below_append : (rows more : Rows) (n : ℕ) → AreBelow rows n → AreBelow more n → AreBelow (rows ++ more) n
-below_append [] more n below new = new
-below_append (r ∷ rs) more n below new = (below.0, below_append rs more n below.1 new)
-
 pub below_numbered : (next : ℕ) (new : List (List Value)) (n : ℕ) → next + length new ≤ n → AreBelow (numbered next new) n
 unfolding numbered
 below_numbered next [] n h = tt
 below_numbered next (row ∷ new) n h = (omega arith, below_numbered (next + 1) new n (omega arith))
-
-pub below_inserted : (rows : Rows) (new : List (List Value)) (next i : ℕ) → AreBelow rows next → i ≤ length new → AreBelow (inserted rows (take i new) next) (next + i)
-below_inserted rows new next i below within =
-    below_append rows (numbered next (take i new)) (next + i) (below_more rows next (next + i) (omega arith) below)
-    (below_numbered next (take i new) (next + i) (omega (arith, length-take-le i new within)))
-
-pub below_updated : (rows : Rows) (sets : List SetTerm) (condition : Option (Term ℕ)) (n : ℕ) → AreBelow rows n → AreBelow (updated rows sets condition) n
-below_updated [] sets condition n below = tt
-below_updated (r ∷ rs) sets condition n below = (below.0, below_updated rs sets condition n below.1)
-
-below_cons : (b : Bool) (r : ℕ × List Value) (rs : Rows) (n : ℕ) → r.0 < n → AreBelow rs n → AreBelow (cond b (r ∷ rs) rs) n
-below_cons true r rs n h below = (h, below)
-below_cons false r rs n h below = below
-
-pub below_deleted : (rows : Rows) (condition : Option (Term ℕ)) (n : ℕ) → AreBelow rows n → AreBelow (deleted rows condition) n
-below_deleted [] condition n below = tt
-below_deleted (r ∷ rs) condition n below = below_cons (not (meets condition r)) r (deleted rs condition) n below.0 (below_deleted rs condition n below.1)

@@ -3,3 +3,4 @@ pub mod Selected
 pub mod Written
 pub mod Fits
 pub mod Laws
+pub mod inner

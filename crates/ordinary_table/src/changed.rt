@@ -1,10 +1,11 @@
 //! What an UPDATE or a DELETE gives.
-use row_store::Table;
+use row_store::Changes;
 
-/// The table after an UPDATE or a DELETE, and how many rows were chosen.
+/// The changes that an UPDATE or a DELETE makes, and how many rows were chosen.
 #[derive(Debug, Drop)]
 pub struct Changed {
-    pub table: Table,
-    /// The rows that met the condition, also those that are as before.
+    /// A change for each row that met the condition, also where an UPDATE leaves it as it was.
+    pub changes: Changes,
+    /// The rows that met the condition.
     pub chosen: usize,
 }

@@ -1,5 +1,7 @@
 //! DELETE.
 ghost use Rattle.std.specs.Prelude.{◌≡◌, ◌+◌, ◌≤◌, IfOk, length};
+ghost use Rattle.row_store.specs.Changes.{AreOld};
+ghost use Rattle.row_changes.specs.Changed.{changed};
 ghost use Rattle.ordinary_table.specs.Shown.{condition_of};
 ghost use Rattle.ordinary_table.specs.Written.{deleted, chosen_count};
 ghost use Rattle.ordinary_table.specs.Fits.{DeleteFits};
@@ -8,14 +10,14 @@ use crate::Changed;
 use crate::shown::is_chosen;
 use expr_lang::{Expr, Steps};
 use par_base::Memory;
-use row_store::Table;
+use row_store::{Change, Changes, Table};
 use std::alloc::Global;
 use std::sync::ledger::Ledger;
 
-/// The table without the rows that meet the condition, and how many these are.
+/// The changes that leave the rows that meet the condition no more, and how many these are.
 ///
 /// It takes time in the number of values of the table: for a condition each row is copied with its
-/// reference, and evaluated once; a row that stays is copied.
+/// reference, and evaluated once. What it gives has the rows that meet the condition alone.
 pub fn delete_rows<L: Ledger>(
     alloc: Global,
     table: &Table,
@@ -23,21 +25,23 @@ pub fn delete_rows<L: Ledger>(
     steps: &mut Steps<L>,
 ) -> Result<Changed, Memory>
     requires { DeleteFits table.now.rows (condition_of filter) }
-    ensures rows { IfOk result (λ made. made.table.rows
+    ensures rows { IfOk result (λ made. changed table.now.rows made.changes
         ≡ deleted table.now.rows (condition_of filter.entry)) }
+    ensures old { IfOk result (λ made. AreOld table.now.rows made.changes) }
     ensures chosen { IfOk result (λ made. made.chosen
         ≡ chosen_count table.now.rows (condition_of filter.entry)) }
     ensures steps { steps.new ≤ steps.old + length table.now.rows }
 {
-    let mut left = Table::new(alloc);
+    let mut changes = Changes::new(alloc);
     for row in table.iter() {
-        if !is_chosen(alloc, row, filter, steps)? {
-            left.push(row.0, row.1.copy(alloc)?)?;
+        if is_chosen(alloc, row, filter, steps)? {
+            changes.push(Change {
+                id: row.0,
+                old: Some(row.1.copy(alloc)?),
+                new: None,
+            })?;
         }
     }
-    let chosen = table.len() - left.len();
-    Ok(Changed {
-        table: left,
-        chosen,
-    })
+    let chosen = changes.len();
+    Ok(Changed { changes, chosen })
 }

@@ -1,24 +1,32 @@
 //! INSERT.
 ghost use Rattle.std.specs.Prelude.{◌≡◌, ◌+◌, ◌≤◌, ◌^◌, IfOk, length};
-ghost use Rattle.row_store.specs.Rows.{AreBelow};
+ghost use Rattle.row_store.specs.Rows.{Rows, RiseFrom, AreBelow};
+ghost use Rattle.row_store.specs.Changes.{AreOld};
+ghost use Rattle.row_changes.specs.Changed.{changed};
 ghost use Rattle.ordinary_table.specs.Written.{inserted};
 
 use par_base::{Memory, Row};
-use row_store::Table;
+use row_store::{Change, Changes};
 use std::alloc::Global;
 
-/// The table with the new rows behind its own, under the identifiers from the next one on.
+/// The changes that put the new rows behind those of a table, under the identifiers from the next
+/// one on. They are the same for each table whose identifiers are below the next one.
 ///
-/// It takes time in the number of values of the table and of the new rows.
-pub fn insert_rows(alloc: Global, table: &Table, rows: &[Row], next: u64) -> Result<Table, Memory>
-    requires below { AreBelow table.now.rows next }
-    requires fits { next + length rows.now ≤ 2 ^ 64 }
-    ensures { IfOk result (λ made. made.rows ≡ inserted table.now.rows rows.now next) }
+/// It takes time in the number of values of the new rows, and sees no table.
+pub fn insert_rows(alloc: Global, rows: &[Row], next: u64) -> Result<Changes, Memory>
+    requires { next + length rows.now ≤ 2 ^ 64 }
+    ensures rows { IfOk result (λ made. (table : Rows) → RiseFrom 0 table → AreBelow table next
+        → changed table made ≡ inserted table rows.now next) }
+    ensures old { IfOk result (λ made. (table : Rows) → AreBelow table next
+        → AreOld table made) }
 {
-    let mut made = table.copy()?;
-    made.reserve(rows.len())?;
+    let mut made = Changes::new(alloc);
     for (at, row) in rows.iter().enumerate() {
-        made.push(next + at as u64, row.copy(alloc)?)?;
+        made.push(Change {
+            id: next + at as u64,
+            old: None,
+            new: Some(row.copy(alloc)?),
+        })?;
     }
     Ok(made)
 }

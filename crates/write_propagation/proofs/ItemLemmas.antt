@@ -1,19 +1,31 @@
 -- Values under numbers, and newer ones over them.
 use Rattle.std.specs.Option.{option_map_or}
-use Rattle.std.proofs.Common.{◌≡◌, ℕ, ◌==◌, List, [], ◌∷◌, ◌++◌, Bool, true, false, cond, filter, map, Option, Some, None, inl, inr, refl, sym, ap, ◌∙◌, subst}
+use Rattle.std.proofs.Common.{◌≡◌, ℕ, ◌+◌, ◌<◌, ◌==◌, take, get_or, length, List, [], ◌∷◌, ◌++◌, Bool, true, false, cond, filter, map, Option, Some, None, inl, inr, refl, sym, ap, ◌∙◌, subst}
 use Rattle.std.proofs.lemmas.Bool.{cond-false, cond-true, eq-eqb, eqb-true}
-use Rattle.std.proofs.lemmas.List.{append-nil, reverse-reverse}
+use Rattle.std.proofs.lemmas.List.{append-nil, map-append, reverse-reverse, take_more}
 use Rattle.std.proofs.lemmas.List.Elements.{filter-append}
 use mathlib.Core.List.{reverse}
-use Rattle.version_graph.specs.Sets.{In}
-use Rattle.version_graph.proofs.SetLaws.{in_map, origin}
+use Rattle.version_graph.specs.Edges.{Rises, is_in}
+use Rattle.version_graph.specs.Sets.{Distinct, In}
+use Rattle.version_graph.proofs.TableLaws.{in_filter, rises_apart}
+use Rattle.db_state.specs.declared.parts.Parts.{Parts}
+use Rattle.write_propagation.specs.Calls.{AreAuxChanges, AreTableChanges, stored_in}
+use Rattle.write_propagation.specs.declared.tree.Tree.{Tree}
+use Rattle.version_graph.proofs.SetLaws.{in_append, in_left, in_map, in_of_test, in_right, origin}
 use Rattle.version_graph.proofs.WalkStepLaws.{in_reverse}
-use Rattle.version_model.specs.Kept.{latest_of, renewed, value_of}
+use Rattle.row_store.specs.States.{TableState}
+use Rattle.row_store.specs.declared.change.Change.{Change}
+use Rattle.op_law.specs.Calls.{tables_of}
+use Rattle.op_law.specs.Local.{only}
+use Rattle.op_law.specs.declared.side.Aux.{Aux}
+use Rattle.row_changes.specs.Differences.{AreDifferences, IsDifference}
+use Rattle.row_changes.specs.declared.change.SideChanges.{SideChanges}
+use Rattle.version_model.specs.Kept.{latest_of, renewed, rows_at, rows_now, value_of}
 use Rattle.version_model.specs.declared.numbered.Numbered.{Numbered}
 use Rattle.version_model.proofs.AscendingLaws.{reverse_first}
 use Rattle.version_model.proofs.LiveLaws.{value_passes}
 use Rattle.version_model.proofs.NumberedLaws.{looked, value_of_first}
-use Rattle.db_state.specs.Fields.{numbers_in}
+use Rattle.db_state.specs.Fields.{auxes_at, numbers_in}
 use Rattle.db_state.proofs.FieldLaws.{none_at}
 
 -- what was turned twice is as it was
@@ -132,3 +144,60 @@ module _ {T : Type 0} (test : ℕ → Bool) where
 
   pub latest_stops : (items : List (Numbered T)) (n : ℕ) → test n ≡ false → latest_of (filter (λ (i : Numbered T). test i.number) items) n ≡ None
   latest_stops items n is = ap (λ (l : List (Numbered T)). value_of l n) (passing_turned items) ∙ value_passes test (reverse items) n ∙ cond-false (test n) (value_of (reverse items) n) None is
+
+-- ---- stored tables of a tree
+
+filter_passes : (test : ℕ → Bool) (n : ℕ) (ns : List ℕ) → In n (filter test ns) → test n ≡ true
+filter_passes test n [] i = absurd i
+filter_passes test n (k ∷ ks) i = (elim (test k) as (λ b. test k ≡ b → In n (cond b (k ∷ filter test ks) (filter test ks)) → test n ≡ true) [
+  | true ↦ λ is j. elim j as (λ _. test n ≡ true) [ inl same ↦ ap test same ∙ is | inr more ↦ filter_passes test n ks more ]
+  | false ↦ λ is j. filter_passes test n ks j
+]) refl i
+
+pub stored_beside : {O : Type 0} (d : Parts O) (tree : Tree) (t : ℕ) → In t (stored_in d tree) → In t tree.tables
+stored_beside d tree t i = in_of_test t tree.tables (filter_passes (λ u. is_in u tree.tables) t (numbers_in d.stored) i)
+
+filter_apart : (test : ℕ → Bool) (ns : List ℕ) → Distinct ns → Distinct (filter test ns)
+filter_apart test [] apart = tt
+filter_apart test (k ∷ ks) apart =
+    let rest = filter_apart test ks apart.1 in
+    elim (test k) as (λ b. Distinct (cond b (k ∷ filter test ks) (filter test ks))) [ true ↦ ((λ i. apart.0 (in_filter test k ks i)), rest) | false ↦ rest ]
+
+pub stored_apart : {O : Type 0} (d : Parts O) (tree : Tree) → Rises 0 (numbers_in d.stored) → Distinct (stored_in d tree)
+stored_apart d tree rises = filter_apart (λ u. is_in u tree.tables) (numbers_in d.stored) (rises_apart 0 (numbers_in d.stored) rises)
+
+-- ---- changes of one table more
+
+module _ (before made : List (Numbered TableState)) (ns : List ℕ) (i : ℕ) (within : i < length ns) where
+  pub table_more : (items : List (Numbered (List Change))) (value : List Change) → AreTableChanges before made (take i ns) items → IsDifference (rows_at before (get_or ns i 0)) (rows_now before made (get_or ns i 0)) value
+      → AreTableChanges before made (take (i + 1) ns) (items ++ record { number = get_or ns i 0; value = value } ∷ [])
+  table_more items value are new =
+      let item : Numbered (List Change) = record { number = get_or ns i 0; value = value } in
+      record {
+        listed = map-append (λ (x : Numbered (List Change)). x.number) items (item ∷ []) ∙ ap (λ (l : List ℕ). l ++ get_or ns i 0 ∷ []) are.listed ∙ sym (take_more ns i 0 within);
+        values = λ x j.
+            elim (in_append x items (item ∷ []) j) as (λ _. IsDifference (rows_at before x.number) (rows_now before made x.number) x.value) [
+              | inl k ↦ are.values x k
+              | inr (inl same) ↦ subst (λ (y : Numbered (List Change)). IsDifference (rows_at before y.number) (rows_now before made y.number) y.value) (sym same) new
+              | inr (inr none) ↦ absurd none
+            ];
+      }
+
+module _ (kept : List (Numbered Aux)) (test : ℕ → Bool) (newer : List (Numbered Aux)) (i : ℕ) (one : Numbered Aux) (within : i < length newer) (is : one ≡ get_or newer i one) where
+  abbrev Differs : Numbered SideChanges → Numbered Aux → Type 0
+  Differs x b = AreDifferences (only test (auxes_at kept b.number)) (tables_of b.value) x.value.tables
+
+  pub aux_more : (items : List (Numbered SideChanges)) (value : SideChanges) → AreAuxChanges kept test (take i newer) items → AreDifferences (only test (auxes_at kept one.number)) (tables_of one.value) value.tables
+      → AreAuxChanges kept test (take (i + 1) newer) (items ++ record { number = one.number; value = value } ∷ [])
+  aux_more items value are new =
+      let item : Numbered SideChanges = record { number = one.number; value = value } in
+      let more : take (i + 1) newer ≡ take i newer ++ one ∷ [] = take_more newer i one within ∙ ap (λ (x : Numbered Aux). take i newer ++ x ∷ []) (sym is) in
+      subst (λ (l : List (Numbered Aux)). AreAuxChanges kept test l (items ++ item ∷ [])) (sym more) (record {
+        listed = map-append (λ (x : Numbered SideChanges). x.number) items (item ∷ []) ∙ ap (λ (l : List ℕ). l ++ one.number ∷ []) are.listed ∙ sym (map-append (λ (x : Numbered Aux). x.number) (take i newer) (one ∷ []));
+        values = λ x j.
+            elim (in_append x items (item ∷ []) j) as (λ _. (b : Numbered Aux) × In b (take i newer ++ one ∷ []) × (b.number ≡ x.number) × Differs x b) [
+              | inl k ↦ (let v = are.values x k in (v.0, in_left v.0 (take i newer) (one ∷ []) v.1, v.2, v.3))
+              | inr (inl same) ↦ (one, in_right one (take i newer) (one ∷ []) (inl refl), ap (λ (y : Numbered SideChanges). y.number) (sym same), subst (λ (y : Numbered SideChanges). Differs y one) (sym same) new)
+              | inr (inr none) ↦ absurd none
+            ];
+      })

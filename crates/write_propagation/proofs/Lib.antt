@@ -1,6 +1,11 @@
 mod ItemLemmas
 mod WholeLemmas
-mod CutLemmas
+mod PartLemmas
+mod TreeLemmas
 mod CopyLemmas
-mod PlanLemmas
+mod SeenLemmas
+mod WholePlanLemmas
+mod LeadLemmas
+mod RowPlanLemmas
 mod ChangeLemmas
+pub mod PlanLaws

@@ -1,7 +1,8 @@
 -- What a walk crosses is one whole tree.
 use Rattle.std.specs.Option.{option_map_or}
 use Rattle.std.proofs.Common.{◌≡◌, ℕ, ◌+◌, ◌<◌, List, [], ◌∷◌, ◌++◌, length, map, take, get_or, true, false, Bool, Option, inl, inr, refl, sym, ap, ◌∙◌, subst}
-use Rattle.version_graph.specs.Sets.{In, Each, Within}
+use Rattle.version_graph.specs.Laws.{Leaves, Ordered}
+use Rattle.version_graph.specs.Sets.{Distinct, In, Each, Within}
 use Rattle.version_graph.specs.Tables.{table_numbers}
 use Rattle.version_graph.specs.Edges.{AreEdges, edge_of, working}
 use Rattle.version_graph.specs.Forest.{Crossing, Link, crossed, crossing, forest, step_told, tree as root_in, walk}
@@ -11,7 +12,7 @@ use Rattle.std.proofs.lemmas.List.{append_assoc, append-nil, take_more}
 use Rattle.version_graph.specs.declared.parts.Placed.{Placed}
 use Rattle.version_graph.proofs.SetLaws.{each_at, each_of, in_append, in_left, in_map, in_right, origin}
 use Rattle.version_graph.proofs.TreeLaws.{tree_in_walk, walk_in_tree}
-use Rattle.version_graph.proofs.WalkLaws.{is_forest, sets_linked}
+use Rattle.version_graph.proofs.WalkLaws.{is_forest, sets_linked, walk_in_order}
 use Rattle.layout_rules.proofs.ChangeLaws.{link_number}
 use Rattle.layout_rules.proofs.LinkLaws.{target_listed}
 use Rattle.version_model.specs.Calls.{IsCrossing}
@@ -123,6 +124,19 @@ module _ {O : Type 0} (es : List (Placed O)) (edges : AreEdges es) (set : ℕ) (
       let held = tables_in_tree root links (is_forest es edges) (trees_together es edges) (root set) set (inr refl) t (subst (λ (l : List ℕ). In t l) (sym (sets_linked es edges set)) i) in
       let m = made_link root links (root set) t held in
       has_target m.0 m.1 (of_tree m.0 m.1 m.2) t m.3
+
+-- each operator is crossed once
+crossed_apart : {O : Type 0} (ps : List (Crossing O)) → Ordered ps → Distinct (crossed ps)
+crossed_apart [] order = tt
+crossed_apart {O} (p ∷ ps) order = (
+  λ i.
+      let o = origin (λ (q : Crossing O). q.number) p.number ps i in
+      (each_at (Leaves p) ps o.0 o.1 order.2).memory o.2,
+  crossed_apart ps order.3,
+)
+
+pub operators_apart : {O : Type 0} (es : List (Placed O)) (edges : AreEdges es) (set : ℕ) (tree : Tree) → IsTree es set tree → Distinct tree.operators
+operators_apart es edges set tree is = subst (λ (l : List ℕ). Distinct l) (sym is.operators) (crossed_apart (walk (forest es) set) (walk_in_order es edges set))
 
 -- ---- how a tree is listed
 

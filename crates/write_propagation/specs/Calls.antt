@@ -1,21 +1,25 @@
 -- What inner calls ensure.
-use Rattle.std.specs.Prelude.{◌≡◌, ℕ, List, filter, is_some, map}
+use Rattle.std.specs.Prelude.{◌≡◌, ℕ, Bool, List, filter, length, map}
 use Rattle.row_store.specs.Rows.{Rows}
 use Rattle.row_store.specs.States.{TableState}
 use Rattle.id_memory.specs.Pairs.{Pairs}
 use Rattle.id_memory.specs.States.{MemoryState}
+use Rattle.row_store.specs.declared.change.Change.{Change}
 use Rattle.version_graph.specs.Edges.{is_in}
+use Rattle.version_graph.specs.Sets.{In}
 use Rattle.op_law.specs.Meaning.{Meaning}
-use Rattle.version_model.specs.Calls.{made_state}
-use Rattle.version_model.specs.Kept.{pairs_at, rows_at, rows_now, value_of}
+use Rattle.op_law.specs.Calls.{tables_of}
+use Rattle.op_law.specs.Local.{only}
+use Rattle.op_law.specs.declared.side.Aux.{Aux}
+use Rattle.row_changes.specs.Differences.{AreDifferences, IsDifference}
+use Rattle.row_changes.specs.declared.change.SideChanges.{SideChanges}
+use Rattle.version_model.specs.Kept.{pairs_at, rows_at, rows_now}
 use Rattle.version_model.specs.declared.numbered.Numbered.{Numbered}
-use Rattle.version_model.specs.declared.progress.Before.{Before}
-use Rattle.version_model.specs.declared.progress.Made.{Made}
-use Rattle.db_state.specs.Calls.{AreAuxesOf}
-use Rattle.db_state.specs.Fields.{state_for}
+use Rattle.db_state.specs.Fields.{auxes_at, numbers_in, state_for}
+use Rattle.db_state.specs.Parts.{passes}
+use Rattle.db_state.specs.declared.sight.Sight.{Sight}
 use Rattle.db_state.specs.declared.parts.Parts.{Parts}
-use Rattle.write_propagation.specs.Trees.{cut}
-use Rattle.write_propagation.specs.declared.change.Plan.{Plan}
+use Rattle.write_propagation.specs.Trees.{part}
 use Rattle.write_propagation.specs.declared.copies.Copies.{Copies}
 use Rattle.write_propagation.specs.declared.tree.Tree.{Tree}
 
@@ -31,14 +35,34 @@ told_pairs items = map (λ (i : Numbered MemoryState). (i.number, i.value.entrie
 abbrev pub beside : {A : Type 0} → (ℕ → A) → List ℕ → List (ℕ × A)
 beside f ns = map (λ n. (n, f n)) ns
 
--- the copies hold the state cut down to the tree
-pub record CopiesTree {O : Type 0} (meaning : O → Meaning) (d : Parts O) (tree : Tree) (copies : Copies) : Type 0 where
-  pub tables : (t : ℕ) → rows_at copies.tables t ≡ (cut tree (state_for meaning d)).tables t
-  pub memories : (n : ℕ) → pairs_at copies.memories n ≡ (cut tree (state_for meaning d)).memory n
+-- the copies hold what is seen of the tree
+pub record CopiesTree {O : Type 0} (meaning : O → Meaning) (d : Parts O) (tree : Tree) (sight : Sight) (copies : Copies) : Type 0 where
+  pub tables : (t : ℕ) → rows_at copies.tables t ≡ (part (passes sight) tree (state_for meaning d)).tables t
+  pub memories : (n : ℕ) → pairs_at copies.memories n ≡ (part (passes sight) tree (state_for meaning d)).memory n
 
--- a plan from what was made: the stored tables of the tree, and the auxiliary tables and memories of its operators
-pub record IsMadeFor {O : Type 0} (meaning : O → Meaning) (d : Parts O) (tree : Tree) (before : Before) (made : Made) (plan : Plan) : Type 0 where
-  pub stored : told_rows plan.stored ≡ beside (rows_now before.tables.now made.tables) (filter (λ t. is_some (value_of d.stored t)) tree.tables)
-  pub auxes : AreAuxesOf meaning d.graph.edges d.layout.operators (made_state before made) tree.operators plan.auxes
-  pub memories : plan.memories ≡ filter (λ i. is_in i.number tree.operators) made.memories
-  pub ids : plan.ids ≡ made.ids
+-- the stored tables of the tree
+abbrev pub stored_in : {O : Type 0} → Parts O → Tree → List ℕ
+stored_in d tree = filter (λ t. is_in t tree.tables) (numbers_in d.stored)
+
+-- the difference of each of these tables before and after
+pub record AreTableChanges (before made : List (Numbered TableState)) (numbers : List ℕ) (items : List (Numbered (List Change))) : Type 0 where
+  pub listed : numbers_in items ≡ numbers
+  pub values : (i : Numbered (List Change)) → In i items → IsDifference (rows_at before i.number) (rows_now before made i.number) i.value
+
+-- as many auxiliary tables are kept of each of these operators
+abbrev pub AreAsMany : List (Numbered Aux) → List (Numbered Aux) → Type 0
+AreAsMany kept newer = (a : Numbered Aux) → In a newer → length (auxes_at kept a.number) ≡ length (tables_of a.value)
+
+-- the difference of the auxiliary tables that are seen and of newer ones
+pub record AreAuxChanges (kept : List (Numbered Aux)) (test : ℕ → Bool) (newer : List (Numbered Aux)) (items : List (Numbered SideChanges)) : Type 0 where
+  pub listed : numbers_in items ≡ numbers_in newer
+  pub values : (i : Numbered SideChanges) → In i items → (a : Numbered Aux) × In a newer × (a.number ≡ i.number) × AreDifferences (only test (auxes_at kept a.number)) (tables_of a.value) i.value.tables
+
+-- the same rows are kept under the same numbers
+pub record KeepsRows (old new : List (Numbered TableState)) : Type 0 where
+  pub rows : (n : ℕ) → rows_at new n ≡ rows_at old n
+  pub listed : numbers_in new ≡ numbers_in old
+
+pub record KeepsAuxes (old new : List (Numbered Aux)) : Type 0 where
+  pub rows : (n : ℕ) → auxes_at new n ≡ auxes_at old n
+  pub listed : numbers_in new ≡ numbers_in old

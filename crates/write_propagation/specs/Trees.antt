@@ -1,11 +1,12 @@
 -- The operators and tables of one tree, and the state cut down to them.
-use Rattle.std.specs.Prelude.{◌≡◌, ◌⊎◌, ℕ, List, [], ◌∷◌, ◌++◌, if◌then◌else◌}
+use Rattle.std.specs.Prelude.{◌≡◌, ◌⊎◌, ℕ, Bool, List, [], ◌∷◌, ◌++◌, if◌then◌else◌}
 use Rattle.std.specs.Option.{option_map_or}
 use Rattle.version_graph.specs.Sets.{In}
 use Rattle.version_graph.specs.Tables.{table_numbers}
 use Rattle.version_graph.specs.Edges.{edge_of, is_in, made}
 use Rattle.version_graph.specs.Forest.{Link, crossed, forest, walk}
 use Rattle.version_graph.specs.declared.parts.Placed.{Placed}
+use Rattle.op_law.specs.Local.{rows_only}
 use Rattle.version_model.specs.States.{State}
 use Rattle.write_propagation.specs.declared.tree.Tree.{Tree}
 
@@ -29,7 +30,15 @@ pub record IsWhole {O : Type 0} (es : List (Placed O)) (tree : Tree) : Type 0 wh
   pub operators : (e : Link O) → In e (forest es) → (t : ℕ) → In t tree.tables → IsBeside t e → In e.number tree.operators
   pub live : (t : ℕ) → In t tree.tables → In t (table_numbers (made es))
 
--- the state with the tables and memories of one tree alone
+-- of one tree's tables the rows of some identifiers alone, and its memories
+abbrev pub part : (ℕ → Bool) → Tree → State → State
+part test tree s = record {
+  tables = λ t. if is_in t tree.tables then rows_only test (s.tables t) else [];
+  memory = λ n. if is_in n tree.operators then s.memory n else [];
+  next = s.next;
+}
+
+-- all rows of one tree
 abbrev pub cut : Tree → State → State
 cut tree s = record {
   tables = λ t. if is_in t tree.tables then s.tables t else [];

@@ -1,26 +1,18 @@
 //! What a write puts into a database.
 ghost use Rattle.std.specs.Prelude.{◌≡◌, ℕ};
 ghost use Rattle.version_model.specs.Kept.{value_of, latest_of, renewed};
-ghost use Rattle.db_state.specs.Fields.{numbers_in};
-ghost use Rattle.write_propagation.specs.Plans.{Fits, Puts};
+ghost use Rattle.db_state.specs.Fields.{numbers_in, IsDatabase};
+ghost use Rattle.db_state.specs.declared.parts.Parts.{Parts as Fields};
+ghost use Rattle.write_propagation.specs.Plans.{Puts, PutsRows, PutsWhole};
+ghost use Rattle.write_propagation.specs.Room.{ChangesRows, HasRoom, MayCommit};
 
+use crate::plans::{Plan, RowPlan, WholePlan};
 use db_state::{Db, Parts, put_parts, take_parts};
-use id_memory::{IdCounter, PairMemory};
-use op_law::{Aux, Operator};
+use kept_changes::{change_auxes, change_tables};
+use op_law::Operator;
 use par_base::List;
-use row_store::Table;
 use std::alloc::Global;
 use version_model::{Numbered, replace_all};
-
-/// What a write puts into a database: newer stored tables, auxiliary tables and memories, under the
-/// numbers of those that they take the place of, and the counter after all that was drawn.
-#[derive(Drop)]
-pub struct Plan {
-    pub stored: List<Numbered<Table>>,
-    pub auxes: List<Numbered<Aux>>,
-    pub memories: List<Numbered<PairMemory>>,
-    pub ids: IdCounter,
-}
 
 fn with_newer<T: Drop>(items: List<Numbered<T>>, newer: List<Numbered<T>>) -> List<Numbered<T>>
     ensures values { (n : ℕ) → value_of result n ≡ renewed (value_of items n) (latest_of newer n) }
@@ -31,11 +23,9 @@ fn with_newer<T: Drop>(items: List<Numbered<T>>, newer: List<Numbered<T>>) -> Li
     List::from_vec(renewed)
 }
 
-/// Puts a plan into the database for which it was made. It takes no memory, and time in the number
-/// of what is kept, for each value of the plan.
-pub fn commit<O: Operator + Drop>(alloc: Global, db: &mut Db<O>, plan: Plan)
-    requires { Fits O.meaning db.old plan }
-    ensures { Puts db.old plan db.new }
+fn commit_whole<O: Operator + Drop>(alloc: Global, db: &mut Db<O>, plan: WholePlan)
+    requires { (new : Fields _) → PutsWhole db.old plan new → IsDatabase O.meaning new }
+    ensures { PutsWhole db.old plan db.new }
 {
     let parts = take_parts(alloc, db);
     put_parts(
@@ -49,4 +39,37 @@ pub fn commit<O: Operator + Drop>(alloc: Global, db: &mut Db<O>, plan: Plan)
             ids: plan.ids,
         },
     );
+}
+
+fn commit_rows<O: Operator + Drop>(alloc: Global, db: &mut Db<O>, plan: RowPlan)
+    requires old { ChangesRows db.old plan }
+    requires room { HasRoom db.old plan }
+    requires leaves { (new : Fields _) → PutsRows db.old plan new → IsDatabase O.meaning new }
+    ensures { PutsRows db.old plan db.new }
+{
+    let parts = take_parts(alloc, db);
+    put_parts(
+        db,
+        Parts {
+            graph: parts.graph,
+            layout: parts.layout,
+            stored: change_tables(parts.stored, plan.stored),
+            aux: change_auxes(alloc, parts.aux, plan.auxes),
+            memories: parts.memories,
+            ids: plan.ids,
+        },
+    );
+}
+
+/// Puts a plan into the database for which it was made. It takes no memory. Whole tables take time
+/// in the number of what is kept, for each value of the plan; changes take that for each table that
+/// changes, and for each change the time of a search.
+pub fn commit<O: Operator + Drop>(alloc: Global, db: &mut Db<O>, plan: Plan)
+    requires { MayCommit O.meaning db.old plan }
+    ensures { Puts db.old plan db.new }
+{
+    match plan {
+        Plan::ByRows(rows) => commit_rows(alloc, db, rows),
+        Plan::Whole(whole) => commit_whole(alloc, db, whole),
+    }
 }

@@ -1,12 +1,14 @@
 //! Copies of the tables and memories of a tree.
-ghost use Rattle.std.specs.Prelude.{◌≡◌, filter, is_some, IfOk};
+ghost use Rattle.std.specs.Prelude.{◌≡◌, filter, IfOk};
 ghost use Rattle.version_graph.specs.Edges.{is_in};
-ghost use Rattle.version_model.specs.Kept.{rows_now, pairs_at, value_of as value_of_lem};
+ghost use Rattle.version_model.specs.Kept.{rows_now, pairs_at};
+ghost use Rattle.db_state.specs.Fields.{numbers_in};
+ghost use Rattle.db_state.specs.Parts.{seen_of, Ascends, MaySee};
 ghost use Rattle.write_propagation.specs.Trees.{IsWhole};
 ghost use Rattle.write_propagation.specs.Calls.{beside, told_pairs, told_rows, CopiesTree};
 
 use crate::tree::Tree;
-use db_state::{Db, read_over};
+use db_state::{Db, Sight, now_seen, read_over};
 use expr_lang::Steps;
 use id_memory::PairMemory;
 use layout_rules::holds;
@@ -15,7 +17,7 @@ use par_base::{List, Memory};
 use row_store::Table;
 use std::alloc::Global;
 use std::sync::ledger::Ledger;
-use version_model::{Numbered, copy_now, memory_at, value_of};
+use version_model::{Numbered, memory_at};
 
 /// The tables and memories of a tree, as they are read.
 #[derive(Drop)]
@@ -24,19 +26,22 @@ pub struct Copies {
     pub memories: List<Numbered<PairMemory>>,
 }
 
-/// Copies of the tables of these numbers: those that were made last, else those that are kept.
+/// Copies of the rows that are seen of the tables of these numbers: of those that were made last,
+/// else of those that are kept.
 pub fn copy_tables(
     alloc: Global,
     kept: &[Numbered<Table>],
     made: &[Numbered<Table>],
     numbers: &[u32],
+    sight: Sight<'_>,
 ) -> Result<List<Numbered<Table>>, Memory>
-    ensures { IfOk result (λ copies. told_rows copies ≡ beside
-        (rows_now kept.now made.now) numbers.now) }
+    requires { Ascends sight }
+    ensures { IfOk result (λ copies. told_rows copies
+        ≡ beside (seen_of sight.entry (rows_now kept.now made.now)) numbers.now) }
 {
     let mut copies = List::new(alloc);
     for number in numbers {
-        let value = copy_now(alloc, kept, made, *number)?;
+        let value = now_seen(alloc, kept, made, *number, sight)?;
         copies.push(Numbered {
             number: *number,
             value,
@@ -76,42 +81,41 @@ pub fn memories_of(
     List::from_vec(kept)
 }
 
-fn is_kept(kept: &[Numbered<Table>], number: u32) -> bool
-    ensures { result ≡ is_some (value_of_lem kept.now number) }
-{
-    value_of(kept, number).is_some()
-}
-
-/// Those of the numbers under which tables are kept.
-pub fn kept_of(
-    alloc: Global,
-    kept: &[Numbered<Table>],
-    numbers: &[u32],
-) -> Result<List<u32>, Memory>
-    ensures { IfOk result (λ made. made ≡ filter (λ number.
-        is_some (value_of_lem kept.now number)) numbers.now) }
+/// The numbers of the tables that are kept, of those that are listed.
+pub fn kept_of(alloc: Global, kept: &[Numbered<Table>], tables: &[u32]) -> Result<List<u32>, Memory>
+    ensures { IfOk result (λ made. made
+        ≡ filter (λ number. is_in number tables.now) (numbers_in kept.now)) }
 {
     let mut made = List::new(alloc);
-    for table in numbers {
-        if is_kept(kept, *table) {
-            made.push(*table)?;
+    for item in kept {
+        if holds(tables, item.number) {
+            made.push(item.number)?;
         }
     }
     Ok(made)
 }
 
-/// The tables of a tree, read from what is stored, and its memories.
+/// What is seen of the tables of a tree, read from what is stored, and its memories.
 pub fn copy_tree<O: Operator, L: Ledger>(
     alloc: Global,
     db: &Db<O>,
     tree: &Tree,
+    sight: Sight<'_>,
     steps: &mut Steps<L>,
 ) -> Result<Copies, Memory>
-    requires { IsWhole db.now.graph.edges tree.now }
-    ensures { IfOk result (CopiesTree O.meaning db.now tree.now) }
+    requires whole { IsWhole db.now.graph.edges tree.now }
+    requires may { MaySee O.meaning db.now.graph.edges tree.now.operators sight }
+    requires ascends { Ascends sight }
+    ensures { IfOk result (CopiesTree O.meaning db.now tree.now sight.entry) }
 {
-    let read = read_over(alloc, db, tree.operators.as_slice(), steps)?;
-    let tables = copy_tables(alloc, db.stored(), read.as_slice(), tree.tables.as_slice())?;
+    let read = read_over(alloc, db, tree.operators.as_slice(), sight, steps)?;
+    let tables = copy_tables(
+        alloc,
+        db.stored(),
+        read.as_slice(),
+        tree.tables.as_slice(),
+        sight,
+    )?;
     let memories = copy_memories(alloc, db.memories(), tree.operators.as_slice())?;
     Ok(Copies { tables, memories })
 }

@@ -1,89 +1,187 @@
 //! The plan of a write.
-ghost use Rattle.std.specs.Prelude.{◌≡◌, ◌≤◌, IfOk};
+ghost use Rattle.std.specs.Prelude.{◌≡◌, ◌≤◌, map, IfOk};
+ghost use Rattle.row_store.specs.Changes.{AreOld};
 ghost use Rattle.version_graph.specs.Sets.{In, Each};
 ghost use Rattle.version_graph.specs.Edges.{numbers};
 ghost use Rattle.op_law.specs.Calls.{first_refused};
+ghost use Rattle.op_law.specs.Identifiers.{IdsRise};
 ghost use Rattle.version_model.specs.Writes.{MayWrite};
-ghost use Rattle.version_model.specs.Calls.{made_state};
 ghost use Rattle.db_state.specs.Calls.{IsRelatedAt};
-ghost use Rattle.db_state.specs.Fields.{state_for};
-ghost use Rattle.write_propagation.specs.Plans.{Plans};
-ghost use Rattle.write_propagation.specs.Calls.{IsMadeFor};
+ghost use Rattle.db_state.specs.Fields.{database_for, state_for};
+ghost use Rattle.db_state.specs.Parts.{passes, AreLocalAt, Ascends};
+ghost use Rattle.write_propagation.specs.Plans.{rows_written, IsSame, Plans, PlansBy, PutsRows, PutsWhole};
+ghost use Rattle.write_propagation.specs.Room.{ChangesRows, HasRoom, IsReadyFor};
+ghost use Rattle.write_propagation.specs.Making.{made_over, AreAsManyMade, AreRowsFor, IsMadeFor, MayPlan};
 
-use crate::change::Plan;
-use crate::copies::{copy_tables, copy_tree, kept_of, memories_of};
+use crate::copies::{copy_tables, kept_of, memories_of};
+use crate::differing::{aux_changes, table_changes};
+use crate::making::{Making, make_auxes, make_write};
+use crate::plans::{Plan, RowPlan, RowWrite, WholePlan};
+use crate::room::make_room;
 use crate::tree::{Tree, tree_of};
-use db_state::{Db, auxes_in};
+use db_state::{Db, Sight, are_local};
 use expr_lang::Steps;
 use op_law::Operator;
-use par_base::{Fault, IdsSpent, Memory};
+use par_base::{Fault, IdsSpent, List, Memory};
+use row_store::Changes;
 use std::alloc::Global;
 use std::sync::ledger::Ledger;
-use version_model::{Before, Made, Written, write_rows};
 
-fn plan_of<O: Operator, L: Ledger>(
+// The identifiers that the changes name.
+fn named_ids(alloc: Global, changes: &Changes) -> Result<List<u64>, Memory>
+    ensures value { IfOk result (λ ids. ids ≡ map (λ change. change.id) changes.now) }
+    ensures rise { IfOk result (λ ids. IdsRise 0 ids) }
+{
+    let mut ids = List::new(alloc);
+    for change in changes.as_slice() {
+        ids.push(change.id)?;
+    }
+    Ok(ids)
+}
+
+fn whole_plan<O: Operator, L: Ledger>(
     alloc: Global,
     db: &Db<O>,
     tree: &Tree,
-    before: Before<'_>,
-    made: Made,
+    making: Making,
     steps: &mut Steps<L>,
-) -> Result<Plan, Memory>
-    requires { Each (IsRelatedAt O.meaning db.now.graph.edges
-        (made_state before made)) tree.now.operators }
-    ensures { IfOk result (IsMadeFor O.meaning db.now tree.now before.entry made) }
+) -> Result<WholePlan, Memory>
+    requires { Each (IsRelatedAt O.meaning db.now.graph.edges (made_over making))
+        tree.now.operators }
+    ensures { IfOk result (IsMadeFor O.meaning db.now tree.now making) }
 {
-    let operators = tree.operators.as_slice();
-    let auxes = auxes_in(
-        alloc,
-        db.graph(),
-        db.layout(),
-        before,
-        &made,
-        operators,
-        steps,
-    )?;
+    let auxes = make_auxes(alloc, db, tree, &making, steps)?;
     let numbers = kept_of(alloc, db.stored(), tree.tables.as_slice())?;
     let stored = copy_tables(
         alloc,
-        before.tables,
-        made.tables.as_slice(),
+        making.copies.tables.as_slice(),
+        making.made.tables.as_slice(),
         numbers.as_slice(),
+        Sight::All,
     )?;
-    Ok(Plan {
+    let Making { copies: _, made } = making;
+    Ok(WholePlan {
         stored,
         auxes,
-        memories: memories_of(made.memories, operators),
+        memories: memories_of(made.memories, tree.operators.as_slice()),
         ids: made.ids,
     })
 }
 
-/// What it takes to give a table of a live working set other rows, and to carry the change over the
-/// whole tree. It changes nothing. It reads and copies the tables of the tree, near and far for
-/// each operator.
-pub fn plan<O: Operator, L: Ledger>(
+fn row_plan<O: Operator, L: Ledger>(
     alloc: Global,
     db: &Db<O>,
-    written: Written,
+    tree: &Tree,
+    making: Making,
+    sight: Sight<'_>,
+    steps: &mut Steps<L>,
+) -> Result<RowPlan, Memory>
+    requires related { Each (IsRelatedAt O.meaning db.now.graph.edges (made_over making))
+        tree.now.operators }
+    requires ascends { Ascends sight }
+    requires many { AreAsManyMade O.meaning db.now tree.now making }
+    ensures { IfOk result (AreRowsFor O.meaning db.now tree.now (passes sight.entry) making) }
+{
+    let newer = make_auxes(alloc, db, tree, &making, steps)?;
+    let auxes = aux_changes(alloc, db.aux(), newer.as_slice(), sight)?;
+    let numbers = kept_of(alloc, db.stored(), tree.tables.as_slice())?;
+    let stored = table_changes(
+        alloc,
+        making.copies.tables.as_slice(),
+        making.made.tables.as_slice(),
+        numbers.as_slice(),
+    )?;
+    let Making { copies: _, made } = making;
+    Ok(RowPlan {
+        stored,
+        auxes,
+        ids: made.ids,
+    })
+}
+
+fn plan_whole<O: Operator, L: Ledger>(
+    alloc: Global,
+    db: &Db<O>,
+    tree: &Tree,
+    written: RowWrite,
+    steps: &mut Steps<L>,
+) -> Result<WholePlan, Fault<IdsSpent>>
+    requires { MayPlan O.meaning db.now tree.now written }
+    ensures { PlansBy (PutsWhole db.now) O.meaning db.now written.set written.table
+        (rows_written O.meaning db.now written) written.ids.next result }
+{
+    let making = make_write(alloc, db, tree, written, Sight::All, steps)?;
+    let plan = whole_plan(alloc, db, tree, making, steps)?;
+    Ok(plan)
+}
+
+// The changes of a write that is made of the rows that it names alone.
+fn plan_changes<O: Operator, L: Ledger>(
+    alloc: Global,
+    db: &Db<O>,
+    tree: &Tree,
+    written: RowWrite,
+    steps: &mut Steps<L>,
+) -> Result<RowPlan, Fault<IdsSpent>>
+    requires may { MayPlan O.meaning db.now tree.now written }
+    requires local { AreLocalAt O.meaning db.now.graph.edges tree.now.operators }
+    ensures plans { PlansBy (PutsRows db.now) O.meaning db.now written.set written.table
+        (rows_written O.meaning db.now written) written.ids.next result }
+    ensures old { IfOk result (ChangesRows db.now) }
+{
+    let ids = named_ids(alloc, &written.changes)?;
+    let sight = Sight::Of(ids.as_slice());
+    let making = make_write(alloc, db, tree, written, sight, steps)?;
+    let plan = row_plan(alloc, db, tree, making, sight, steps)?;
+    Ok(plan)
+}
+
+fn plan_rows<O: Operator + Drop, L: Ledger>(
+    alloc: Global,
+    db: &mut Db<O>,
+    tree: &Tree,
+    written: RowWrite,
+    steps: &mut Steps<L>,
+) -> Result<RowPlan, Fault<IdsSpent>>
+    requires may { MayPlan O.meaning db.old tree.now written }
+    requires local { AreLocalAt O.meaning db.old.graph.edges tree.now.operators }
+    ensures plans { PlansBy (PutsRows db.new) O.meaning db.new written.set written.table
+        (rows_written O.meaning db.old written) written.ids.next result }
+    ensures ready { IfOk result (λ plan. ChangesRows db.new plan × HasRoom db.new plan) }
+    ensures same { IsSame db.old db.new }
+{
+    let plan = plan_changes(alloc, db, tree, written, steps)?;
+    make_room(alloc, db, &plan)?;
+    Ok(plan)
+}
+
+/// What it takes to make changes in a table of a live working set, and to carry them over the whole
+/// tree. It changes no contents, and makes room for all that is to be put in.
+///
+/// Where every operator of the tree treats each identifier by itself, it reads and makes the rows of
+/// the identifiers that the changes name, in each table of the tree, and no others. Else it reads
+/// and copies the tables of the tree, near and far for each operator.
+pub fn plan<O: Operator + Drop, L: Ledger>(
+    alloc: Global,
+    db: &mut Db<O>,
+    written: RowWrite,
     steps: &mut Steps<L>,
 ) -> Result<Plan, Fault<IdsSpent>>
-    requires lives { In written.set (numbers db.now.graph.edges) }
-    requires may { MayWrite db.now.graph.edges (state_for O.meaning db.now) written.set
-        written.table written.rows.rows written.ids.next }
-    requires drawn { written.ids.next ≤ first_refused db.now.ids }
-    requires limit { written.ids.limit ≡ db.now.ids.limit }
-    ensures { Plans O.meaning db.now written.set written.table written.rows.rows written.ids.next
-        result }
+    requires lives { In written.set (numbers db.old.graph.edges) }
+    requires may { MayWrite db.old.graph.edges (state_for O.meaning db.old) written.set
+        written.table (rows_written O.meaning db.old written) written.ids.next }
+    requires old { AreOld ((state_for O.meaning db.old).tables written.table) written.changes }
+    requires drawn { written.ids.next ≤ first_refused db.old.ids }
+    requires limit { written.ids.limit ≡ db.old.ids.limit }
+    ensures plans { Plans O.meaning db.new written.set written.table
+        (rows_written O.meaning db.old written) written.ids.next result }
+    ensures ready { IfOk result (IsReadyFor db.new) }
+    ensures same { IsSame db.old db.new }
+    ensures data { database_for O.meaning db.new ≡ database_for O.meaning db.old }
 {
-    let graph = db.graph();
-    let tree = tree_of(alloc, graph, written.set)?;
-    let copies = copy_tree(alloc, db, &tree, steps)?;
-    let before = Before {
-        tables: copies.tables.as_slice(),
-        memories: copies.memories.as_slice(),
-        next: db.ids().next(),
-    };
-    let made = write_rows(alloc, graph, before, written, steps)?;
-    let plan = plan_of(alloc, db, &tree, before, made, steps)?;
-    Ok(plan)
+    let tree = tree_of(alloc, db.graph(), written.set)?;
+    if are_local(db.graph(), tree.operators.as_slice()) {
+        return Ok(Plan::ByRows(plan_rows(alloc, db, &tree, written, steps)?));
+    }
+    Ok(Plan::Whole(plan_whole(alloc, db, &tree, written, steps)?))
 }

@@ -1,5 +1,6 @@
 -- Two passes read tables: down over operators of the layout, the newest first, and then up over others, the oldest first.
-use Rattle.std.specs.Prelude.{◌≡◌, ◌&&◌, ℕ, Bool, true, cond, not, List, [], Some, slice_get}
+use Rattle.std.specs.Prelude.{◌≡◌, ◌&&◌, ℕ, Bool, true, cond, not, List, [], ◌∷◌, Option, Some, None, ⊤, slice_get}
+use Rattle.par_base.specs.declared.value.Value.{Value}
 use Rattle.row_store.specs.Rows.{Rows}
 use Rattle.version_graph.specs.Sets.{In}
 use Rattle.version_graph.specs.Tables.{table_numbers}
@@ -18,6 +19,9 @@ use Rattle.db_state.specs.declared.read.Pass.{Pass}
 use Rattle.db_state.specs.Fields.{state_for}
 use Rattle.layout_rules.specs.Layouts.{IsMade, IsStored}
 use Rattle.db_state.specs.Covered.{Covers}
+use Rattle.db_state.specs.Parts.{Ascends, MaySee, seen_of}
+use Rattle.db_state.specs.declared.sight.Sight.{Sight}
+use Rattle.db_state.specs.declared.sight.Sight.TheVariants.{All, Of}
 
 -- whether a pass goes over the operator: it is one of these, and is stored on the side from which the pass comes
 abbrev pub is_passed : List ℕ → List ℕ → Bool → ℕ → Bool
@@ -38,34 +42,47 @@ pub record IsUpTo {O : Type 0} (es : List (Link O)) (layout ns : List ℕ) (tabl
   pub made : (t : ℕ) → IsMade es layout t → Covers es layout ns t → rows t ≡ tables t
   pub targets : (f : Link O) → In f behind → (In f.number layout → ⊥) → In f.number ns → (t : ℕ) → In t f.targets → rows t ≡ tables t
 
+-- what one identifier adds
+abbrev pub picked : ℕ → Option (List Value) → Rows
+picked id None = []
+picked id (Some row) = (id, row) ∷ []
+
+-- over the operator what is seen can be read: a list of identifiers, where it treats each identifier by itself
+abbrev pub SeesOver : Sight → Meaning → Type 0
+SeesOver All m = ⊤
+SeesOver (Of ids) m = m.is_local ≡ true
+
 -- ---- what the calls suppose and ensure
 
 -- all operators were passed down
-abbrev pub IsDown : {O : Type 0} → (O → Meaning) → Parts O → List ℕ → List (Numbered TableState) → Type 0
-IsDown meaning p ns made = IsDownTo (forest p.graph.edges) p.layout.operators ns (state_for meaning p).tables [] (rows_now p.stored made)
+abbrev pub IsDown : {O : Type 0} → (O → Meaning) → Parts O → List ℕ → Sight → List (Numbered TableState) → Type 0
+IsDown meaning p ns sight made = IsDownTo (forest p.graph.edges) p.layout.operators ns (seen_of sight (state_for meaning p).tables) [] (seen_of sight (rows_now p.stored made))
 
 -- each covered table was read
-abbrev pub AreRead : {O : Type 0} → (O → Meaning) → Parts O → List ℕ → List (Numbered TableState) → Type 0
-AreRead meaning p ns made = (t : ℕ) → In t (table_numbers (made_by p.graph.edges)) → Covers (forest p.graph.edges) p.layout.operators ns t → rows_now p.stored made t ≡ (state_for meaning p).tables t
+abbrev pub AreRead : {O : Type 0} → (O → Meaning) → Parts O → List ℕ → Sight → List (Numbered TableState) → Type 0
+AreRead meaning p ns sight made = (t : ℕ) → In t (table_numbers (made_by p.graph.edges)) → Covers (forest p.graph.edges) p.layout.operators ns t → seen_of sight (rows_now p.stored made) t ≡ seen_of sight (state_for meaning p).tables t
 
--- the step comes from the stored side of a live operator, and the tables of that side are right
-pub record MayCross {O : Type 0} (meaning : O → Meaning) (p : Parts O) (made : List (Numbered TableState)) (step : Step) : Type 0 where
+-- the step comes from the stored side of a live operator, the tables of that side are right, and what is seen of them can be read over it
+pub record MayCross {O : Type 0} (meaning : O → Meaning) (p : Parts O) (sight : Sight) (made : List (Numbered TableState)) (step : Step) : Type 0 where
   pub over : Link O
   pub lives : In over (forest p.graph.edges)
   pub crosses : IsCrossing p.graph.edges (stored_way p.layout.operators over)
   pub tells : step_told (stored_way p.layout.operators over) ≡ step
-  pub near : (t : ℕ) → In t (stored_way p.layout.operators over).near → rows_now p.stored made t ≡ (state_for meaning p).tables t
+  pub near : (t : ℕ) → In t (stored_way p.layout.operators over).near → seen_of sight (rows_now p.stored made) t ≡ seen_of sight (state_for meaning p).tables t
+  pub ascends : Ascends sight
+  pub sees : SeesOver sight (meaning over.operator)
 
 -- the far tables of the step's crossing were read
-abbrev pub PassesOver : {O : Type 0} → (O → Meaning) → Parts O → List (Numbered TableState) → List (Numbered TableState) → Step → Type 0
-PassesOver {O} meaning p made new step = (q : Crossing O) → IsCrossing p.graph.edges q → step_told q ≡ step → Settles (state_for meaning p).tables q.far (rows_now p.stored made) (rows_now p.stored new)
+abbrev pub PassesOver : {O : Type 0} → (O → Meaning) → Parts O → Sight → List (Numbered TableState) → List (Numbered TableState) → Step → Type 0
+PassesOver {O} meaning p sight made new step = (q : Crossing O) → IsCrossing p.graph.edges q → step_told q ≡ step → Settles (seen_of sight (state_for meaning p).tables) q.far (seen_of sight (rows_now p.stored made)) (seen_of sight (rows_now p.stored new))
 
--- where the pass goes over the operator at a place, the tables on its stored side are right
-abbrev pub MayPass : {O : Type 0} → (O → Meaning) → Parts O → Pass → ℕ → List (Numbered TableState) → Type 0
-MayPass {O} meaning p pass place made = (f : Link O) → slice_get (ascending p.graph.edges) place ≡ Some f → is_passed p.layout.operators pass.operators.now pass.backward f.number ≡ true
-    → (t : ℕ) → In t (crossing pass.backward f).near → rows_now p.stored made t ≡ (state_for meaning p).tables t
+-- where the pass goes over the operator at a place, the tables on its stored side are right, and what is seen of them can be read over it
+pub record MayPass {O : Type 0} (meaning : O → Meaning) (p : Parts O) (pass : Pass) (place : ℕ) (made : List (Numbered TableState)) : Type 0 where
+  pub near : (f : Link O) → slice_get (ascending p.graph.edges) place ≡ Some f → is_passed p.layout.operators pass.operators.now pass.backward f.number ≡ true
+      → (t : ℕ) → In t (crossing pass.backward f).near → seen_of pass.sight (rows_now p.stored made) t ≡ seen_of pass.sight (state_for meaning p).tables t
+  pub may : MaySee meaning p.graph.edges pass.operators.now pass.sight
 
 -- there the tables on its other side were read
 abbrev pub Passes : {O : Type 0} → (O → Meaning) → Parts O → Pass → ℕ → List (Numbered TableState) → List (Numbered TableState) → Type 0
 Passes {O} meaning p pass place made new = (f : Link O) → slice_get (ascending p.graph.edges) place ≡ Some f
-    → Settles (state_for meaning p).tables (cond (is_passed p.layout.operators pass.operators.now pass.backward f.number) (crossing pass.backward f).far []) (rows_now p.stored made) (rows_now p.stored new)
+    → Settles (seen_of pass.sight (state_for meaning p).tables) (cond (is_passed p.layout.operators pass.operators.now pass.backward f.number) (crossing pass.backward f).far []) (seen_of pass.sight (rows_now p.stored made)) (seen_of pass.sight (rows_now p.stored new))

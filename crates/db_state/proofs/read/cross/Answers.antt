@@ -7,6 +7,7 @@ use Rattle.version_model.specs.Calls.{crossing_of}
 use Rattle.version_model.specs.Kept.{rows_now}
 use Rattle.storage_law.specs.Storage.{stored_way}
 use Rattle.db_state.specs.Fields.{state_for}
+use Rattle.db_state.specs.Parts.{seen_of}
 use Rattle.db_state.specs.inner.Passes.{Settles}
 use Rattle.db_state.proofs.CrossLemmas.{far_long, has_aux, has_memory, may_read, near_kept, near_within, none_kept, same_crossing, settles, some_kept}
 use Rattle.db_state.proofs.read.cross.Goals as goal
@@ -25,8 +26,8 @@ unreachable-requires-in_default-value_of-2 g c =
     has_memory g.O.Operator.meaning p c.graph.ensures.kept c.requires.over c.requires.lives c.args.step.operator n
     (none_kept c.value_of-2.result c.memories.result.now p.memories c.args.step.operator c.in_default-value_of-2.is c.value_of-2.ensures c.memories.ensures)
 
-pub side_now-requires : goal.side_now-requires
-side_now-requires g c =
+pub side_seen-requires-clause-few : goal.side_seen-requires-clause-few
+side_seen-requires-clause-few g c =
     let p = c.args.db.now in
     let e = c.requires.over in
     let q = crossing_of c.in-Some.over in
@@ -39,12 +40,12 @@ read_far-requires g c =
     let e = c.requires.over in
     let q = crossing_of c.in-Some.over in
     let over = same_crossing c.graph.result.now p.graph c.graph.ensures.graph c.args.step q (stored_way p.layout.operators e) c.in-Some.ensures c.requires.crosses c.requires.tells in
-    let near = near_kept c.stored.result.now p.stored c.as_slice.result.now c.args.made.now c.in_ok-near.near q.near c.in_ok-near.ensures c.stored.ensures c.as_slice.ensures in
+    let near = near_kept c.args.sight c.stored.result.now p.stored c.as_slice.result.now c.args.made.now c.in_ok-near.near q.near c.in_ok-near.ensures c.stored.ensures c.as_slice.ensures in
     let aux = some_kept c.in-Some-value_of.aux.now c.aux.result.now p.aux c.args.step.operator c.in-Some-value_of.ensures c.aux.ensures in
     let memory = some_kept c.in-Some-value_of-2.memory.now c.memories.result.now p.memories c.args.step.operator c.in-Some-value_of-2.ensures c.memories.ensures in
-    may_read g.O.Operator.meaning g.met.O.Operator.laws p c.graph.ensures.kept e c.requires.lives q over (rows_now p.stored c.args.made.now) c.requires.near
-    c.in_ok-near.near c.args.step.operator (ap (λ (s : Step). s.operator) c.requires.tells) c.in-Some-value_of.aux.now c.in-Some-value_of-2.memory.now
-    near aux memory
+    may_read g.O.Operator.meaning g.met.O.Operator.laws p c.graph.ensures.kept c.args.sight e c.requires.lives c.requires.sees q over (rows_now p.stored c.args.made.now) c.requires.near
+    c.in_ok-near.near c.args.step.operator (ap (λ (s : Step). s.operator) c.requires.tells) c.in-Some-value_of.aux.now c.in_ok-beside.beside c.in-Some-value_of-2.memory.now
+    near aux c.in_ok-beside.ensures memory
 
 pub put_side-requires : goal.put_side-requires
 put_side-requires g c =
@@ -52,12 +53,12 @@ put_side-requires g c =
     let e = c.requires.over in
     let q = crossing_of c.in-Some.over in
     let over = same_crossing c.graph.result.now p.graph c.graph.ensures.graph c.args.step q (stored_way p.layout.operators e) c.in-Some.ensures c.requires.crosses c.requires.tells in
-    let near = near_kept c.stored.result.now p.stored c.as_slice.result.now c.args.made.now c.in_ok-near.near q.near c.in_ok-near.ensures c.stored.ensures c.as_slice.ensures in
+    let near = near_kept c.args.sight c.stored.result.now p.stored c.as_slice.result.now c.args.made.now c.in_ok-near.near q.near c.in_ok-near.ensures c.stored.ensures c.as_slice.ensures in
     let aux = some_kept c.in-Some-value_of.aux.now c.aux.result.now p.aux c.args.step.operator c.in-Some-value_of.ensures c.aux.ensures in
     let memory = some_kept c.in-Some-value_of-2.memory.now c.memories.result.now p.memories c.args.step.operator c.in-Some-value_of-2.ensures c.memories.ensures in
-    far_long g.O.Operator.meaning g.met.O.Operator.laws p c.graph.ensures.kept e c.requires.lives q over (rows_now p.stored c.args.made.now) c.requires.near
-    c.in_ok-near.near c.args.step.operator (ap (λ (s : Step). s.operator) c.requires.tells) c.in-Some-value_of.aux.now c.in-Some-value_of-2.memory.now
-    near aux memory
+    far_long g.O.Operator.meaning g.met.O.Operator.laws p c.graph.ensures.kept c.args.sight e c.requires.lives c.requires.sees q over (rows_now p.stored c.args.made.now) c.requires.near
+    c.in_ok-near.near c.args.step.operator (ap (λ (s : Step). s.operator) c.requires.tells) c.in-Some-value_of.aux.now c.in_ok-beside.beside c.in-Some-value_of-2.memory.now
+    near aux c.in_ok-beside.ensures memory
     c.in_ok-far.far c.in_ok-far.ensures
 
 pub returns : goal.returns
@@ -67,11 +68,11 @@ returns g c other crosses tells =
     let q = crossing_of c.in-Some.over in
     let over = same_crossing c.graph.result.now p.graph c.graph.ensures.graph c.args.step q (stored_way p.layout.operators e) c.in-Some.ensures c.requires.crosses c.requires.tells in
     let same = same_crossing c.graph.result.now p.graph c.graph.ensures.graph c.args.step q other c.in-Some.ensures crosses tells in
-    let near = near_kept c.stored.result.now p.stored c.as_slice.result.now c.args.made.now c.in_ok-near.near q.near c.in_ok-near.ensures c.stored.ensures c.as_slice.ensures in
+    let near = near_kept c.args.sight c.stored.result.now p.stored c.as_slice.result.now c.args.made.now c.in_ok-near.near q.near c.in_ok-near.ensures c.stored.ensures c.as_slice.ensures in
     let aux = some_kept c.in-Some-value_of.aux.now c.aux.result.now p.aux c.args.step.operator c.in-Some-value_of.ensures c.aux.ensures in
     let memory = some_kept c.in-Some-value_of-2.memory.now c.memories.result.now p.memories c.args.step.operator c.in-Some-value_of-2.ensures c.memories.ensures in
-    subst (λ (x : Crossing _). Settles (state_for g.O.Operator.meaning p).tables x.far (rows_now p.stored c.args.made.now) (rows_now p.stored c.put_side.new.made)) same
-    (settles g.O.Operator.meaning g.met.O.Operator.laws p c.graph.ensures.kept e c.requires.lives q over (rows_now p.stored c.args.made.now) c.requires.near
-    c.in_ok-near.near c.args.step.operator (ap (λ (s : Step). s.operator) c.requires.tells) c.in-Some-value_of.aux.now c.in-Some-value_of-2.memory.now
-    near aux memory
+    subst (λ (x : Crossing _). Settles (seen_of c.args.sight (state_for g.O.Operator.meaning p).tables) x.far (seen_of c.args.sight (rows_now p.stored c.args.made.now)) (seen_of c.args.sight (rows_now p.stored c.put_side.new.made))) same
+    (settles g.O.Operator.meaning g.met.O.Operator.laws p c.graph.ensures.kept c.args.sight e c.requires.lives c.requires.sees q over (rows_now p.stored c.args.made.now) c.requires.near
+    c.in_ok-near.near c.args.step.operator (ap (λ (s : Step). s.operator) c.requires.tells) c.in-Some-value_of.aux.now c.in_ok-beside.beside c.in-Some-value_of-2.memory.now
+    near aux c.in_ok-beside.ensures memory
     c.in_ok-far.far (rows_now p.stored c.put_side.new.made) c.in_ok-far.ensures (c.in_ok-put_side.ensures p.stored))

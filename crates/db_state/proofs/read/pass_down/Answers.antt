@@ -6,6 +6,7 @@ use Rattle.version_model.specs.Kept.{rows_now}
 use Rattle.version_model.specs.Making.{ascending}
 use Rattle.version_model.proofs.AscendingLaws.{length_ascending}
 use Rattle.db_state.specs.Fields.{state_for}
+use Rattle.db_state.specs.Parts.{seen_of}
 use Rattle.db_state.specs.inner.Passes.{IsDownTo}
 use Rattle.db_state.proofs.PlaceLemmas.{down_end, down_start, goes_down, may_down}
 use Rattle.db_state.proofs.read.pass_down.Goals as goal
@@ -16,7 +17,7 @@ loop-left-init g c =
     let count : c.live_operators-left.result ≡ length p.graph.edges = c.live_operators-left.ensures.count ∙ Rattle.std.proofs.Common.ap (λ (d : Drawn _). length d.edges) c.graph.ensures.graph in
     record {
       within = omega (arith, count);
-      so_far = down_start g.O.Operator.meaning p c.graph.ensures.kept c.args.operators.now c.live_operators-left.result count c.new-made.result c.new-made.ensures;
+      so_far = down_start g.O.Operator.meaning p c.graph.ensures.kept c.args.operators.now c.args.sight c.live_operators-left.result count c.new-made.result c.new-made.ensures;
     }
 
 pub pass_at-requires : goal.pass_at-requires
@@ -24,26 +25,29 @@ pass_at-requires g c =
     let p = c.args.db.now in
     let kept = c.graph.ensures.kept in
     let l = c.loop-left in
-    let s = state_for g.O.Operator.meaning p in
+    let s = seen_of c.args.sight (state_for g.O.Operator.meaning p).tables in
     let some = c.loop-left-test.true in
     let one : l.left - 1 + 1 ≡ l.left = omega (arith, some) in
-    let down = subst (λ (n : ℕ). IsDownTo (forest p.graph.edges) p.layout.operators c.args.operators.now s.tables (below p.graph.edges n) (rows_now p.stored l.made)) (sym one) l.invariant.so_far in
-    may_down p.graph.edges kept.graph.edges p.layout.operators c.args.operators.now c.requires s.tables (l.left - 1) (rows_now p.stored l.made) down
+    let down = subst (λ (n : ℕ). IsDownTo (forest p.graph.edges) p.layout.operators c.args.operators.now s (below p.graph.edges n) (seen_of c.args.sight (rows_now p.stored l.made))) (sym one) l.invariant.so_far in
+    record {
+      near = may_down p.graph.edges kept.graph.edges p.layout.operators c.args.operators.now c.requires.covers s (l.left - 1) (seen_of c.args.sight (rows_now p.stored l.made)) down;
+      may = c.requires.may;
+    }
 
 pub loop-left-preserved : goal.loop-left-preserved
 loop-left-preserved g c =
     let p = c.args.db.now in
     let kept = c.graph.ensures.kept in
     let l = c.loop-left in
-    let s = state_for g.O.Operator.meaning p in
+    let s = seen_of c.args.sight (state_for g.O.Operator.meaning p).tables in
     let some = c.loop-left-test.true in
     let one : l.left - 1 + 1 ≡ l.left = omega (arith, some) in
-    let down = subst (λ (n : ℕ). IsDownTo (forest p.graph.edges) p.layout.operators c.args.operators.now s.tables (below p.graph.edges n) (rows_now p.stored l.made)) (sym one) l.invariant.so_far in
+    let down = subst (λ (n : ℕ). IsDownTo (forest p.graph.edges) p.layout.operators c.args.operators.now s (below p.graph.edges n) (seen_of c.args.sight (rows_now p.stored l.made))) (sym one) l.invariant.so_far in
     let within : l.left - 1 < length (ascending p.graph.edges) = omega (arith, some, l.invariant.within, length_ascending p.graph.edges) in
     record {
       within = omega (arith, l.invariant.within);
-      so_far = goes_down p.graph.edges kept.graph.edges p.layout.operators c.args.operators.now c.requires s.tables (l.left - 1) within (rows_now p.stored l.made) (rows_now p.stored c.pass_at.new.made) down c.in_ok-pass_at.ensures;
+      so_far = goes_down p.graph.edges kept.graph.edges p.layout.operators c.args.operators.now c.requires.covers s (l.left - 1) within (seen_of c.args.sight (rows_now p.stored l.made)) (seen_of c.args.sight (rows_now p.stored c.pass_at.new.made)) down c.in_ok-pass_at.ensures;
     }
 
 pub returns : goal.returns
-returns g c = down_end g.O.Operator.meaning c.args.db.now c.graph.ensures.kept c.args.operators.now c.loop-left.left c.loop-left-test.false c.loop-left.made c.loop-left.invariant.so_far
+returns g c = down_end g.O.Operator.meaning c.args.db.now c.graph.ensures.kept c.args.operators.now c.args.sight c.loop-left.left c.loop-left-test.false c.loop-left.made c.loop-left.invariant.so_far

@@ -2,21 +2,36 @@ use Rattle.std.proofs.Common.{ap, sym, ◌∙◌}
 use Rattle.version_graph.specs.Edges.{Drawn}
 use Rattle.version_graph.specs.Forest.{forest}
 use Rattle.version_graph.proofs.WalkLaws.{is_forest}
+use Rattle.op_law.specs.Local.{rows_only}
+use Rattle.row_store.specs.Rows.{Rows}
+use Rattle.version_model.specs.Kept.{rows_now}
+use Rattle.db_state.specs.Fields.{state_for}
+use Rattle.db_state.specs.Parts.{passes}
+use Rattle.db_state.proofs.PartLaws.{rows_within}
 use Rattle.db_state.proofs.StoredLemmas.{unstored_rows}
 use Rattle.db_state.proofs.WayLemmas.{way_covers, way_covers_itself, way_listed}
 use Rattle.db_state.proofs.table.read_along_way.Goals as goal
 
-pub read_over-requires : goal.read_over-requires
-read_over-requires g c =
+pub read_over-requires-clause-covers : goal.read_over-requires-clause-covers
+read_over-requires-clause-covers g c =
     let p = c.args.db.now in
     let kept = c.graph.ensures.kept in
-    let listed = way_listed p.graph.edges _ p.layout.operators _ c.args.table c.in_ok-operators.operators c.as_slice.result.now (ap (λ (d : Drawn _). d.edges) c.graph.ensures.graph) (ap (λ l. l.operators) c.layout.ensures) c.as_slice.ensures c.in_ok-operators.ensures.way in
-    way_covers_itself (forest p.graph.edges) (is_forest p.graph.edges kept.graph.edges) p.layout.operators kept.valid c.args.table c.as_slice.result.now (λ n. (listed n).0) (λ n. (listed n).1)
+    let listed = way_listed p.graph.edges _ p.layout.operators _ c.args.table c.in_ok-operators.operators c.as_slice-2.result.now (ap (λ (d : Drawn _). d.edges) c.graph.ensures.graph) (ap (λ l. l.operators) c.layout.ensures) c.as_slice-2.ensures c.in_ok-operators.ensures.way in
+    way_covers_itself (forest p.graph.edges) (is_forest p.graph.edges kept.graph.edges) p.layout.operators kept.valid c.args.table c.as_slice-2.result.now (λ n. (listed n).0) (λ n. (listed n).1)
 
 pub returns : goal.returns
 returns g c =
     let p = c.args.db.now in
     let kept = c.graph.ensures.kept in
-    let listed = way_listed p.graph.edges _ p.layout.operators _ c.args.table c.in_ok-operators.operators c.as_slice.result.now (ap (λ (d : Drawn _). d.edges) c.graph.ensures.graph) (ap (λ l. l.operators) c.layout.ensures) c.as_slice.ensures c.in_ok-operators.ensures.way in
-    let covered = way_covers (forest p.graph.edges) (is_forest p.graph.edges kept.graph.edges) p.layout.operators kept.valid c.args.table c.as_slice.result.now (λ n. (listed n).1) in
-    c.take_latest.ensures ∙ sym (unstored_rows p.stored c.in_ok-read.read c.args.table c.requires.unstored) ∙ c.in_ok-read.ensures c.args.table c.requires.lives covered
+    let listed = way_listed p.graph.edges _ p.layout.operators _ c.args.table c.in_ok-operators.operators c.as_slice-2.result.now (ap (λ (d : Drawn _). d.edges) c.graph.ensures.graph) (ap (λ l. l.operators) c.layout.ensures) c.as_slice-2.ensures c.in_ok-operators.ensures.way in
+    let covered = way_covers (forest p.graph.edges) (is_forest p.graph.edges kept.graph.edges) p.layout.operators kept.valid c.args.table c.as_slice-2.result.now (λ n. (listed n).1) in
+    let P = passes c.args.sight in
+    let Q = passes c.sight_over-wider.result in
+    let got = c.take_latest.ensures ∙ sym (unstored_rows p.stored c.in_ok-read.read c.args.table c.requires.unstored) in
+    let read = c.in_ok-read.ensures c.args.table c.requires.lives covered in
+    let table = (state_for g.O.Operator.meaning p).tables c.args.table in
+    let wider = c.sight_over-wider.ensures.seen in
+    ap (λ (rows : Rows). rows_only P rows) got
+    ∙ sym (rows_within P Q wider (rows_now p.stored c.in_ok-read.read c.args.table))
+    ∙ ap (λ (rows : Rows). rows_only P rows) read
+    ∙ rows_within P Q wider table

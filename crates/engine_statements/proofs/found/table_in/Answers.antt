@@ -1,6 +1,7 @@
 use Rattle.std.proofs.Common.{Some, None, sym}
 use Rattle.version_graph.specs.Edges.{heading_of}
 use Rattle.engine_statements.proofs.FoundLemmas.{lent_at, lent_heading, named_table, not_none}
+use Rattle.engine_statements.proofs.StandLemmas.{stands_at}
 use Rattle.engine_statements.proofs.found.table_in.Goals as goal
 
 pub returns-in_err-heading-clause-found : goal.returns-in_err-heading-clause-found
@@ -26,4 +27,4 @@ returns-clause-there c =
     let n = c.in_ok-number.number in
     let at = lent_at g k.graph c.args.set c.args.name.now n c.graph-graph.ensures.graph c.graph-graph.ensures.kept.graph.edges c.in_ok-number.ensures in
     let heading = lent_heading g k.graph n (Some c.in_ok-heading.heading.now) c.graph-graph.ensures.graph c.in_ok-heading.ensures in
-    record { held = at.held; made = at.made; heading = heading }
+    record { lives = c.requires; held = at.held; made = at.made; heading = heading; stands = stands_at k n c.in_ok-heading.heading.now c.graph-graph.ensures.kept heading }

@@ -5,14 +5,18 @@ use Rattle.version_graph.specs.Forest.{forest}
 use Rattle.version_model.specs.Kept.{pairs_at, rows_now}
 use Rattle.version_model.specs.declared.numbered.Numbered.{Numbered}
 use Rattle.db_state.specs.Covered.{Covers, CoversItself}
+use Rattle.db_state.specs.Parts.{MaySee, seen_of}
 use Rattle.write_propagation.specs.Calls.{beside}
 use Rattle.write_propagation.proofs.CopyLemmas.{copies_tree, covers_itself}
 use Rattle.write_propagation.proofs.copies.copy_tree.Goals as goal
 
-pub read_over-requires : goal.read_over-requires
-read_over-requires g c =
+pub read_over-requires-clause-covers : goal.read_over-requires-clause-covers
+read_over-requires-clause-covers g c =
     let d = c.args.db.now in
-    subst (λ (ns : List ℕ). CoversItself (forest d.graph.edges) d.layout.operators ns) (sym c.as_slice.ensures) (covers_itself g.O.Operator.meaning d c.args.tree.now c.requires)
+    subst (λ (ns : List ℕ). CoversItself (forest d.graph.edges) d.layout.operators ns) (sym c.as_slice.ensures) (covers_itself g.O.Operator.meaning d c.args.tree.now c.requires.whole)
+
+pub read_over-requires-clause-may : goal.read_over-requires-clause-may
+read_over-requires-clause-may g c = subst (λ (ns : List ℕ). MaySee g.O.Operator.meaning c.args.db.now.graph.edges ns c.args.sight) (sym c.as_slice.ensures) c.requires.may
 
 pub returns : goal.returns
 returns g c =
@@ -20,8 +24,8 @@ returns g c =
     let tree = c.args.tree.now in
     let read = c.in_ok-read.read in
     let copied =
-    c.in_ok-tables.ensures ∙ ap (λ (l : List (Numbered TableState)). beside (rows_now l c.as_slice-2.result.now) c.as_slice-3.result.now) c.stored.ensures
-    ∙ ap (λ (l : List (Numbered TableState)). beside (rows_now d.stored l) c.as_slice-3.result.now) c.as_slice-2.ensures ∙ ap (λ (l : List ℕ). beside (rows_now d.stored read) l) c.as_slice-3.ensures in
+    c.in_ok-tables.ensures ∙ ap (λ (l : List (Numbered TableState)). beside (seen_of c.args.sight (rows_now l c.as_slice-2.result.now)) c.as_slice-3.result.now) c.stored.ensures
+    ∙ ap (λ (l : List (Numbered TableState)). beside (seen_of c.args.sight (rows_now d.stored l)) c.as_slice-3.result.now) c.as_slice-2.ensures ∙ ap (λ (l : List ℕ). beside (seen_of c.args.sight (rows_now d.stored read)) l) c.as_slice-3.ensures in
     let held = c.in_ok-memories.ensures ∙ ap (λ (l : List (Numbered MemoryState)). beside (pairs_at l) c.as_slice-4.result.now) c.memories.ensures ∙ ap (λ (l : List ℕ). beside (pairs_at d.memories) l) c.as_slice-4.ensures in
-    copies_tree g.O.Operator.meaning d tree c.requires read c.in_ok-tables.tables c.in_ok-memories.memories
+    copies_tree g.O.Operator.meaning d tree c.requires.whole c.args.sight read c.in_ok-tables.tables c.in_ok-memories.memories
     (λ t live over. c.in_ok-read.ensures t live (subst (λ (ns : List ℕ). Covers (forest d.graph.edges) d.layout.operators ns t) (sym c.as_slice.ensures) over)) copied held

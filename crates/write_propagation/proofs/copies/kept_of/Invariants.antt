@@ -1,7 +1,7 @@
-use Rattle.std.specs.Prelude.{is_some}
 use Rattle.std.proofs.Common.{◌≡◌, filter, take}
-use Rattle.version_model.specs.Kept.{value_of}
+use Rattle.version_graph.specs.Edges.{is_in}
+use Rattle.db_state.specs.Fields.{numbers_in}
 use Rattle.write_propagation.proofs.copies.kept_of.Given as goal
 
-abbrev pub invariant-loop-table : goal.invariant-loop-table
-invariant-loop-table l = l.made ≡ filter (λ number. is_some (value_of l.kept number)) (take l.table-index l.numbers)
+abbrev pub invariant-loop-item : goal.invariant-loop-item
+invariant-loop-item l = l.made ≡ filter (λ number. is_in number l.tables) (numbers_in (take l.item-index l.kept))

@@ -8,6 +8,7 @@ use Rattle.op_kinds.specs.Operators.{AnyView, any_meaning}
 use Rattle.db_state.specs.Fields.{database_for}
 use Rattle.db_state.specs.declared.parts.Parts.{Parts}
 use Rattle.version_model.specs.Databases.{Writes}
+use Rattle.engine_statements.specs.Calls.{rows_after}
 use Rattle.engine_core.proofs.WriteLemmas.{above_already, both_stay, ordinary_then, write_follows, written_then}
 use Rattle.engine_core.proofs.engine.Engine.write.Goals as goal
 
@@ -25,8 +26,8 @@ returns-in-Ok-clause-answers g c =
     let k = c.args.self.now in
     let w = c.args.plan in
     let next : c.in_ok-ids.ids.next ≡ w.next = ap (λ i. i.next) c.in_ok-ids.ensures.ok.0 in
-    let e = subst (λ (x : Parts AnyView). Writes any_meaning (database_for any_meaning x) w.set w.table w.rows.rows w.next (Ok tt) (database_for any_meaning c.write_through.new.database)) c.self.view_is
-    (subst (λ n. Writes any_meaning (database_for any_meaning c.self.inside.database) w.set w.table w.rows.rows n (Ok tt) (database_for any_meaning c.write_through.new.database)) next c.in-Ok.ensures.writes) in
+    let e = subst (λ (x : Parts AnyView). Writes any_meaning (database_for any_meaning x) w.set w.table (rows_after x w) w.next (Ok tt) (database_for any_meaning c.write_through.new.database)) c.self.view_is
+    (subst (λ n. Writes any_meaning (database_for any_meaning c.self.inside.database) w.set w.table (rows_after c.self.inside.database w) n (Ok tt) (database_for any_meaning c.write_through.new.database)) next c.in-Ok.ensures.writes) in
     written_then k w c.versions_always_agree.ensures.graph.edges c.versions_always_agree.ensures.agree c.requires (database_for any_meaning c.write_through.new.database) e
 
 pub returns-in-Ok-clause-ordinary : goal.returns-in-Ok-clause-ordinary
@@ -34,8 +35,8 @@ returns-in-Ok-clause-ordinary g c =
     let k = c.args.self.now in
     let w = c.args.plan in
     let next : c.in_ok-ids.ids.next ≡ w.next = ap (λ i. i.next) c.in_ok-ids.ensures.ok.0 in
-    let e = subst (λ (x : Parts AnyView). Writes any_meaning (database_for any_meaning x) w.set w.table w.rows.rows w.next (Ok tt) (database_for any_meaning c.write_through.new.database)) c.self.view_is
-    (subst (λ n. Writes any_meaning (database_for any_meaning c.self.inside.database) w.set w.table w.rows.rows n (Ok tt) (database_for any_meaning c.write_through.new.database)) next c.in-Ok.ensures.writes) in
+    let e = subst (λ (x : Parts AnyView). Writes any_meaning (database_for any_meaning x) w.set w.table (rows_after x w) w.next (Ok tt) (database_for any_meaning c.write_through.new.database)) c.self.view_is
+    (subst (λ n. Writes any_meaning (database_for any_meaning c.self.inside.database) w.set w.table (rows_after c.self.inside.database w) n (Ok tt) (database_for any_meaning c.write_through.new.database)) next c.in-Ok.ensures.writes) in
     ordinary_then k w c.versions_always_agree.ensures.graph.edges c.versions_always_agree.ensures.agree c.requires (database_for any_meaning c.write_through.new.database) e
 
 pub returns-in_err-ids-clause-layout : goal.returns-in_err-ids-clause-layout
@@ -46,24 +47,24 @@ returns-in-Ok-clause-layout g c =
     let w = c.args.plan in
     let n = c.in_ok-ids.ids.next in
     let new = c.write_through.new.database in
-    let writes = subst (λ (x : Parts AnyView). Writes any_meaning (database_for any_meaning x) w.set w.table w.rows.rows n c.write_through.result (database_for any_meaning new)) c.self.view_is c.write_through.ensures.writes in
+    let writes = subst (λ (x : Parts AnyView). Writes any_meaning (database_for any_meaning x) w.set w.table (rows_after x w) n c.write_through.result (database_for any_meaning new)) c.self.view_is c.write_through.ensures.writes in
     let layout = subst (λ (x : Parts AnyView). new.layout ≡ x.layout) c.self.view_is c.write_through.ensures.layout in
-    write_follows c.args.self.now new w.set w.table w.rows.rows n c.write_through.result c.versions_always_agree.ensures.stored writes layout
+    write_follows c.args.self.now new w.set w.table (rows_after c.args.self.now w) n c.write_through.result c.versions_always_agree.ensures.stored writes layout
 
 pub returns-in-Err-Refused-clause-layout : goal.returns-in-Err-Refused-clause-layout
 returns-in-Err-Refused-clause-layout g c =
     let w = c.args.plan in
     let n = c.in_ok-ids.ids.next in
     let new = c.write_through.new.database in
-    let writes = subst (λ (x : Parts AnyView). Writes any_meaning (database_for any_meaning x) w.set w.table w.rows.rows n c.write_through.result (database_for any_meaning new)) c.self.view_is c.write_through.ensures.writes in
+    let writes = subst (λ (x : Parts AnyView). Writes any_meaning (database_for any_meaning x) w.set w.table (rows_after x w) n c.write_through.result (database_for any_meaning new)) c.self.view_is c.write_through.ensures.writes in
     let layout = subst (λ (x : Parts AnyView). new.layout ≡ x.layout) c.self.view_is c.write_through.ensures.layout in
-    write_follows c.args.self.now new w.set w.table w.rows.rows n c.write_through.result c.versions_always_agree.ensures.stored writes layout
+    write_follows c.args.self.now new w.set w.table (rows_after c.args.self.now w) n c.write_through.result c.versions_always_agree.ensures.stored writes layout
 
 pub returns-clause-layout : goal.returns-clause-layout
 returns-clause-layout g c =
     let w = c.args.plan in
     let n = c.in_ok-ids.ids.next in
     let new = c.write_through.new.database in
-    let writes = subst (λ (x : Parts AnyView). Writes any_meaning (database_for any_meaning x) w.set w.table w.rows.rows n c.write_through.result (database_for any_meaning new)) c.self.view_is c.write_through.ensures.writes in
+    let writes = subst (λ (x : Parts AnyView). Writes any_meaning (database_for any_meaning x) w.set w.table (rows_after x w) n c.write_through.result (database_for any_meaning new)) c.self.view_is c.write_through.ensures.writes in
     let layout = subst (λ (x : Parts AnyView). new.layout ≡ x.layout) c.self.view_is c.write_through.ensures.layout in
-    write_follows c.args.self.now new w.set w.table w.rows.rows n c.write_through.result c.versions_always_agree.ensures.stored writes layout
+    write_follows c.args.self.now new w.set w.table (rows_after c.args.self.now w) n c.write_through.result c.versions_always_agree.ensures.stored writes layout

@@ -1,0 +1,138 @@
+-- What is seen of tables, of a state and of what is stored.
+use Rattle.std.proofs.Common.{◌≡◌, ℕ, ◌==◌, List, [], ◌∷◌, Bool, true, false, cond, map, Option, Some, refl, sym, ap, ◌∙◌, subst}
+use Rattle.std.proofs.lemmas.Bool.{cond-false, false≢true, ne_eqb}
+use Rattle.par_base.specs.declared.value.Value.{Value}
+use Rattle.row_store.specs.Rows.{Rows, row_of}
+use Rattle.version_graph.specs.Sets.{In}
+use Rattle.version_graph.specs.Forest.{Crossing, Link, forest}
+use Rattle.version_graph.specs.declared.parts.Placed.{Placed}
+use Rattle.op_law.specs.Tables.{Heading, Tables}
+use Rattle.op_law.specs.Laws.{Laws}
+use Rattle.op_law.specs.Local.{HalfLocal, only, pair_only, rows_only}
+use Rattle.op_law.specs.Meaning.{Meaning, PairState}
+use Rattle.op_law.specs.Premises.{IsPair}
+use Rattle.version_model.specs.States.{State}
+use Rattle.version_model.specs.Steps.{directed, pair_in}
+use Rattle.version_model.proofs.RunLaws.{way_laws}
+use Rattle.storage_law.specs.Storage.{StandsOver, Storage, aux_of}
+use Rattle.db_state.specs.Parts.{AreLocalAt, Ascends, MaySee, passes, seen_of}
+use Rattle.db_state.specs.inner.Passes.{SeesOver}
+use Rattle.db_state.specs.declared.sight.Sight.{Sight}
+use Rattle.db_state.specs.declared.sight.Sight.TheVariants.{All, Of}
+
+-- ---- tables
+
+-- where all are seen, a table is seen as it is
+pub rows_all : (rows : Rows) → rows_only (passes All) rows ≡ rows
+rows_all [] = refl
+rows_all (r ∷ rs) = ap (λ (l : Rows). r ∷ l) (rows_all rs)
+
+pub only_all : (tables : Tables) → only (passes All) tables ≡ tables
+only_all [] = refl
+only_all (t ∷ ts) = let a = rows_all t in let b = only_all ts in cc
+
+-- what is seen of what more was seen of
+pub rows_within : (P Q : ℕ → Bool) → ((q : ℕ) → P q ≡ true → Q q ≡ true) → (rows : Rows) → rows_only P (rows_only Q rows) ≡ rows_only P rows
+rows_within P Q more [] = refl
+rows_within P Q more (r ∷ rs) =
+    let rest = rows_within P Q more rs in
+    let M : Bool → Type 0 = λ b. Q r.0 ≡ b → rows_only P (cond b (r ∷ rows_only Q rs) (rows_only Q rs)) ≡ cond (P r.0) (r ∷ rows_only P rs) (rows_only P rs) in
+    let both : M (Q r.0) = elim (Q r.0) as (λ b. M b) [
+      | true ↦ λ e. ap (λ (l : Rows). cond (P r.0) (r ∷ l) l) rest
+      | false ↦ λ e. rest ∙ sym (cond-false (P r.0) (r ∷ rows_only P rs) (rows_only P rs) (out (P r.0) refl e))
+    ] in
+    both refl
+  where
+    out : (b : Bool) → P r.0 ≡ b → Q r.0 ≡ false → b ≡ false
+    out false e h = refl
+    out true e h = absurd (false≢true (sym h ∙ more r.0 e))
+
+-- what is seen of what is seen is that
+pub rows_twice : (P : ℕ → Bool) (rows : Rows) → rows_only P (rows_only P rows) ≡ rows_only P rows
+rows_twice P rows = rows_within P P (λ q h. h) rows
+
+-- the row of an identifier that is seen
+pub row_seen : (P : ℕ → Bool) (rows : Rows) (id : ℕ) → P id ≡ true → row_of (rows_only P rows) id ≡ row_of rows id
+row_seen P [] id h = refl
+row_seen P (r ∷ rs) id h =
+    let rest = row_seen P rs id h in
+    let M : Bool → Type 0 = λ b. P r.0 ≡ b → row_of (cond b (r ∷ rows_only P rs) (rows_only P rs)) id ≡ cond (r.0 == id) (Some r.1) (row_of rs id) in
+    let both : M (P r.0) = elim (P r.0) as (λ b. M b) [
+      | true ↦ λ e. ap (λ (o : Option (List Value)). cond (r.0 == id) (Some r.1) o) rest
+      | false ↦ λ e. rest ∙ sym (cond-false (r.0 == id) (Some r.1) (row_of rs id) (ne_eqb r.0 id (λ same. false≢true (sym e ∙ ap P same ∙ h))))
+    ] in
+    both refl
+
+-- tables by their numbers
+pub only_map : (P : ℕ → Bool) (f : ℕ → Rows) (ns : List ℕ) → map (λ t. rows_only P (f t)) ns ≡ only P (map f ns)
+only_map P f [] = refl
+only_map P f (n ∷ ns) = ap (λ (ts : Tables). rows_only P (f n) ∷ ts) (only_map P f ns)
+
+-- ---- what may be seen
+
+pub ascends_of : {O : Type 0} (meaning : O → Meaning) (es : List (Placed O)) (ns : List ℕ) (sight : Sight) → MaySee meaning es ns sight → Ascends sight
+ascends_of meaning es ns All may = tt
+ascends_of meaning es ns (Of ids) may = may.0
+
+pub sees_of : {O : Type 0} (meaning : O → Meaning) (es : List (Placed O)) (ns : List ℕ) (sight : Sight) → MaySee meaning es ns sight → (e : Link O) → In e (forest es) → In e.number ns → SeesOver sight (meaning e.operator)
+sees_of {O} meaning es ns All may e at mine = tt
+sees_of {O} meaning es ns (Of ids) may e at mine = may.1 e at mine
+
+-- over operators that treat each identifier by itself every list may be seen
+pub may_of : {O : Type 0} (meaning : O → Meaning) (es : List (Placed O)) (ns : List ℕ) (sight : Sight) → Ascends sight → AreLocalAt meaning es ns → MaySee meaning es ns sight
+may_of meaning es ns All ascends local = tt
+may_of meaning es ns (Of ids) ascends local = (ascends, local)
+
+-- ---- states and what is stored
+
+-- what is seen of the stored and the auxiliary tables
+abbrev pub storage_seen : Sight → Storage → Storage
+storage_seen sight storage = record {
+  layout = storage.layout;
+  stored = seen_of sight storage.stored;
+  aux = λ n. only (passes sight) (storage.aux n);
+  memory = storage.memory;
+}
+
+-- what is seen of each table
+abbrev pub state_seen : Sight → State → State
+state_seen sight s = record { tables = seen_of sight s.tables; memory = s.memory; next = s.next }
+
+pub pair_all : (p : PairState) → pair_only (passes All) p ≡ p
+pair_all p =
+    ap (λ (ts : Tables). record { source = ts; target = only (passes All) p.target; memory = p.memory }) (only_all p.source)
+    ∙ ap (λ (ts : Tables). record { source = p.source; target = ts; memory = p.memory }) (only_all p.target)
+
+pub pair_seen : {O : Type 0} (sight : Sight) (s : State) (p : Crossing O) → pair_in (state_seen sight s) p ≡ pair_only (passes sight) (pair_in s p)
+pair_seen sight s p = let a = only_map (passes sight) s.tables p.near in let b = only_map (passes sight) s.tables p.far in cc
+
+way_local : (back : Bool) (m : Meaning) → m.is_local ≡ true → (directed back m).is_local ≡ true
+way_local false m e = e
+way_local true m e = e
+
+module _ {O : Type 0} (meaning : O → Meaning) (laws : (o : O) → Laws (meaning o)) (heading : ℕ → Heading) (storage : Storage) (s : State) where
+  -- a part of a related pair is one, with that part of its auxiliary tables
+  part_stands : (sight : Sight) (p : Crossing O) → IsPair (directed p.backward (meaning p.operator)) (map heading p.near) (map heading p.far) (pair_only (passes sight) (pair_in s p))
+      → (directed p.backward (meaning p.operator)).aux_at_source (pair_only (passes sight) (pair_in s p)) ≡ only (passes sight) (aux_of meaning s p)
+      → StandsOver meaning heading storage s p → StandsOver meaning heading (storage_seen sight storage) (state_seen sight s) p
+  part_stands sight p related aux stands =
+      let m = directed p.backward (meaning p.operator) in
+      let same = pair_seen sight s p in
+      record {
+        related = subst (λ (x : PairState). IsPair m (map heading p.near) (map heading p.far) x) (sym same) related;
+        aux = ap (only (passes sight)) stands.aux ∙ sym aux ∙ ap (λ (x : PairState). m.aux_at_source x) (sym same);
+        memory = stands.memory;
+      }
+
+  -- WHAT IS SEEN OF WHAT IS STORED STANDS FOR WHAT IS SEEN OF THE STATE
+  pub seen_stands : (sight : Sight) (p : Crossing O) → SeesOver sight (meaning p.operator) → StandsOver meaning heading storage s p → StandsOver meaning heading (storage_seen sight storage) (state_seen sight s) p
+  seen_stands All p sees stands =
+      let m = directed p.backward (meaning p.operator) in
+      let whole = pair_all (pair_in s p) in
+      part_stands All p (subst (λ (x : PairState). IsPair m (map heading p.near) (map heading p.far) x) (sym whole) stands.related)
+      (ap (λ (x : PairState). m.aux_at_source x) whole ∙ sym (only_all (aux_of meaning s p))) stands
+  seen_stands (Of ids) p sees stands =
+      let m = directed p.backward (meaning p.operator) in
+      let local : HalfLocal m = (way_laws p.backward (meaning p.operator) (laws p.operator)).local (way_local p.backward (meaning p.operator) sees) in
+      part_stands (Of ids) p (local.related (passes (Of ids)) (map heading p.near) (map heading p.far) (pair_in s p) stands.related)
+      (local.aux (passes (Of ids)) (map heading p.near) (map heading p.far) (pair_in s p) stands.related) stands

@@ -1,0 +1,34 @@
+-- Parts: reading the rows of some identifiers alone.
+use Rattle.std.specs.Prelude.{◌≡◌, ℕ, Bool, true, List, ⊤}
+use Rattle.row_store.specs.Rows.{Rows}
+use Rattle.version_graph.specs.Sets.{In}
+use Rattle.version_graph.specs.Forest.{Link, forest}
+use Rattle.version_graph.specs.declared.parts.Placed.{Placed}
+use Rattle.op_law.specs.Identifiers.{IdsRise, has_id}
+use Rattle.op_law.specs.Local.{rows_only}
+use Rattle.op_law.specs.Meaning.{Meaning}
+use Rattle.db_state.specs.declared.sight.Sight.{Sight}
+use Rattle.db_state.specs.declared.sight.Sight.TheVariants.{All, Of}
+
+-- whether the rows of an identifier are seen: all of them, or those of a list
+abbrev pub passes : Sight → ℕ → Bool
+passes All id = true
+passes (Of ids) id = has_id ids.now id
+
+-- of each table, the rows that are seen
+abbrev pub seen_of : Sight → (ℕ → Rows) → ℕ → Rows
+seen_of sight tables t = rows_only (passes sight) (tables t)
+
+-- a list of identifiers ascends
+abbrev pub Ascends : Sight → Type 0
+Ascends All = ⊤
+Ascends (Of ids) = IdsRise 0 ids.now
+
+-- each live operator that is one of these treats each identifier by itself
+abbrev pub AreLocalAt : {O : Type 0} → (O → Meaning) → List (Placed O) → List ℕ → Type 0
+AreLocalAt {O} meaning es ns = (e : Link O) → In e (forest es) → In e.number ns → (meaning e.operator).is_local ≡ true
+
+-- what is seen is read over these operators: a list of identifiers, where each operator treats each identifier by itself
+abbrev pub MaySee : {O : Type 0} → (O → Meaning) → List (Placed O) → List ℕ → Sight → Type 0
+MaySee meaning es ns All = ⊤
+MaySee meaning es ns (Of ids) = IdsRise 0 ids.now × AreLocalAt meaning es ns

@@ -1,0 +1,55 @@
+//! Which operators treat each identifier by itself.
+ghost use Rattle.std.specs.Prelude.{◌≡◌, ℕ, true};
+ghost use Rattle.version_graph.specs.Forest.{Link, forest};
+ghost use Rattle.version_graph.specs.Sets.{In};
+ghost use Rattle.version_graph.specs.Edges.{AreEdges};
+ghost use Rattle.db_state.specs.Parts.{AreLocalAt, Ascends, MaySee, passes};
+
+use crate::Sight;
+use op_law::Operator;
+use version_graph::Graph;
+
+// An operator that doesn't live is none that anything is read over.
+fn is_local_at<O: Operator>(graph: &Graph<O>, number: u32) -> bool
+    requires { AreEdges graph.now.edges }
+    ensures { result ≡ true → (e : Link O) → In e (forest graph.now.edges) → e.number ≡ number
+        → (O.meaning e.operator).is_local ≡ true }
+{
+    match graph.edge(number) {
+        Some(placed) => placed.edge.operator.is_local(),
+        None => true,
+    }
+}
+
+/// Whether each live operator that is one of these treats each identifier by itself. It takes time
+/// in the number of live operators for each, and no memory.
+pub fn are_local<O: Operator>(graph: &Graph<O>, operators: &[u32]) -> bool
+    ensures { result ≡ true → AreLocalAt O.meaning graph.now.edges operators.now }
+{
+    // What this call promises of the graph is what each look-up needs.
+    let _live = graph.live_operators();
+    for number in operators {
+        if !is_local_at(graph, *number) {
+            return false;
+        }
+    }
+    true
+}
+
+/// The sight itself, where what it sees may be read over these operators; else all rows. It costs
+/// what `are_local` does.
+pub fn sight_over<'a, O: Operator>(
+    graph: &Graph<O>,
+    operators: &[u32],
+    sight: Sight<'a>,
+) -> Sight<'a>
+    requires { Ascends sight }
+    ensures may { MaySee O.meaning graph.now.edges operators.now result }
+    ensures seen { (id : ℕ) → passes sight.entry id ≡ true → passes result id ≡ true }
+{
+    if are_local(graph, operators) {
+        sight
+    } else {
+        Sight::All
+    }
+}

@@ -1,0 +1,71 @@
+-- What is under a number, and what no changes do.
+use Rattle.std.specs.Option.{option_map_or}
+use Rattle.std.proofs.Common.{◌≡◌, ℕ, ◌==◌, List, [], ◌∷◌, Bool, Option, Some, None, inl, inr, refl, sym, ap, ◌∙◌, subst}
+use Rattle.std.proofs.lemmas.Bool.{eq-eqb, ne_eqb, eqb-true}
+use Rattle.row_store.specs.declared.change.Change.{Change}
+use Rattle.version_graph.specs.Sets.{Distinct, In}
+use Rattle.version_graph.proofs.SetLaws.{in_map}
+use Rattle.op_law.specs.Tables.{Tables}
+use Rattle.row_changes.specs.declared.change.SideChanges.{SideChanges}
+use Rattle.row_changes.specs.Changed.{changed_tables}
+use Rattle.row_changes.proofs.OnlyLaws.{by_test}
+use Rattle.version_model.specs.Kept.{value_of}
+use Rattle.version_model.specs.declared.numbered.Numbered.{Numbered}
+use Rattle.version_model.proofs.NumberedLaws.{looked, value_of_first}
+use Rattle.db_state.specs.Fields.{numbers_in}
+use Rattle.kept_changes.specs.Changes.{changes_at, sides_at}
+
+-- no changes leave the tables
+pub no_changes : (ts : Tables) → changed_tables ts [] ≡ ts
+no_changes [] = refl
+no_changes (t ∷ ts) = refl
+
+pub changes_none : (n : ℕ) → changes_at [] n ≡ []
+changes_none n = refl
+
+pub sides_none : (n : ℕ) → sides_at [] n ≡ []
+sides_none n = refl
+
+module _ {T : Type 0} where
+  -- the first item, and those behind it
+  pub value_first : (x : Numbered T) (xs : List (Numbered T)) (n : ℕ) → n ≡ x.number → value_of (x ∷ xs) n ≡ Some x.value
+  value_first x xs n same = value_of_first x xs n ∙ ap (λ (b : Bool). looked b x (value_of xs n)) (eq-eqb n x.number same)
+
+  pub value_rest : (x : Numbered T) (xs : List (Numbered T)) (n : ℕ) → (n ≡ x.number → ⊥) → value_of (x ∷ xs) n ≡ value_of xs n
+  value_rest x xs n other = value_of_first x xs n ∙ ap (λ (b : Bool). looked b x (value_of xs n)) (ne_eqb n x.number other)
+
+  -- nothing stands under a number that isn't listed
+  pub value_unlisted : (items : List (Numbered T)) (n : ℕ) → (In n (numbers_in items) → ⊥) → value_of items n ≡ None
+  value_unlisted [] n out = refl
+  value_unlisted (x ∷ xs) n out = value_rest x xs n (λ same. out (inl same)) ∙ value_unlisted xs n (λ i. out (inr i))
+
+  -- where the numbers differ, each item stands under its number
+  pub value_listed : (items : List (Numbered T)) (x : Numbered T) → Distinct (numbers_in items) → In x items → value_of items x.number ≡ Some x.value
+  value_listed [] x distinct i = absurd i
+  value_listed (y ∷ ys) x distinct (inl same) = value_first y ys x.number (ap (λ (i : Numbered T). i.number) same) ∙ sym (ap (λ (i : Numbered T). Some i.value) same)
+  value_listed (y ∷ ys) x distinct (inr i) =
+      value_rest y ys x.number (λ same. let here : In y.number (numbers_in ys) = subst (λ (n : ℕ). In n (numbers_in ys)) same (in_map (λ (i : Numbered T). i.number) x ys i) in distinct.0 here)
+      ∙ value_listed ys x distinct.1 i
+
+  -- something stands under a number that is listed
+  pub value_missing : (items : List (Numbered T)) (n : ℕ) → In n (numbers_in items) → value_of items n ≡ None → ⊥
+  value_missing [] n i none = i
+  value_missing (x ∷ xs) n (inl same) none = let some = value_first x xs n same in (let no : ⊥ = cc in no)
+  value_missing (x ∷ xs) n (inr i) none =
+      by_test (n == x.number)
+      (λ e. let some = value_first x xs n (eqb-true n x.number e) in (let no : ⊥ = cc in no))
+      (λ e. value_missing xs n i (sym (value_of_first x xs n ∙ ap (λ (b : Bool). looked b x (value_of xs n)) e) ∙ none))
+
+-- the changes of an item, under its number
+pub changes_listed : (items : List (Numbered (List Change))) (x : Numbered (List Change)) → Distinct (numbers_in items) → In x items → changes_at items x.number ≡ x.value
+changes_listed items x distinct i = ap (λ (o : Option (List Change)). option_map_or (λ (changes : List Change). changes) o []) (value_listed items x distinct i)
+
+pub sides_listed : (items : List (Numbered SideChanges)) (x : Numbered SideChanges) → Distinct (numbers_in items) → In x items → sides_at items x.number ≡ x.value.tables
+sides_listed items x distinct i = ap (λ (o : Option SideChanges). option_map_or (λ (side : SideChanges). side.tables) o []) (value_listed items x distinct i)
+
+-- there are none under another number
+pub changes_unlisted : (items : List (Numbered (List Change))) (n : ℕ) → (In n (numbers_in items) → ⊥) → changes_at items n ≡ []
+changes_unlisted items n out = ap (λ (o : Option (List Change)). option_map_or (λ (changes : List Change). changes) o []) (value_unlisted items n out)
+
+pub sides_unlisted : (items : List (Numbered SideChanges)) (n : ℕ) → (In n (numbers_in items) → ⊥) → sides_at items n ≡ []
+sides_unlisted items n out = ap (λ (o : Option SideChanges). option_map_or (λ (side : SideChanges). side.tables) o []) (value_unlisted items n out)

@@ -1,0 +1,5 @@
+pub mod ChangesLaws
+mod PlaceLemmas
+mod StepLemmas
+mod SideLemmas
+mod RoomLemmas

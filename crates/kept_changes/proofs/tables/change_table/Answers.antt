@@ -1,0 +1,47 @@
+use Rattle.std.specs.List.{position}
+use Rattle.std.proofs.Common.{ℕ, ◌==◌, ◌≤◌, length, List, [], ap, sym, ◌∙◌, subst}
+use Rattle.row_store.specs.Changes.{AreOld}
+use Rattle.row_store.specs.Rows.{Rows}
+use Rattle.row_store.specs.States.{TableState}
+use Rattle.row_changes.specs.Changed.{changed}
+use Rattle.version_model.specs.declared.numbered.Numbered.{Numbered}
+use Rattle.kept_changes.proofs.PlaceLemmas.{has_place, put_made, put_numbers, put_other, read_here}
+use Rattle.kept_changes.proofs.tables.change_table.Goals as goal
+
+pub unreachable-requires : goal.unreachable-requires
+unreachable-requires c =
+    let items = c.args.tables.now.items in
+    let k = c.args.item.number in
+    let found = ap (λ (l : List (Numbered _)). position (λ (i : Numbered _). k == i.number) l) (sym c.as_slice.ensures.value) ∙ sym c.place_of.ensures ∙ c.in_default.is in
+    has_place items k c.requires.old.0 found
+
+pub change-requires-clause-old : goal.change-requires-clause-old
+change-requires-clause-old c =
+    let items = c.args.tables.now.items in
+    let k = c.args.item.number in
+    let found = ap (λ (l : List (Numbered _)). position (λ (i : Numbered _). k == i.number) l) (sym c.as_slice.ensures.value) ∙ sym c.place_of.ensures ∙ c.in-Some.is in
+    subst (λ (rows : Rows). AreOld rows c.args.item.value) (read_here (λ (table : TableState). table.rows) [] items k c.in-Some.at c.index_mut.result.now c.index_mut.ensures.value found) c.requires.old.1
+
+pub change-requires-clause-room : goal.change-requires-clause-room
+change-requires-clause-room c =
+    let items = c.args.tables.now.items in
+    let k = c.args.item.number in
+    let found = ap (λ (l : List (Numbered _)). position (λ (i : Numbered _). k == i.number) l) (sym c.as_slice.ensures.value) ∙ sym c.place_of.ensures ∙ c.in-Some.is in
+    subst (λ (room : ℕ). length c.args.item.value ≤ room) (read_here (λ (table : TableState). table.spare) 0 items k c.in-Some.at c.index_mut.result.now c.index_mut.ensures.value found) c.requires.room
+
+pub returns-clause-rows : goal.returns-clause-rows
+returns-clause-rows c =
+    let items = c.args.tables.now.items in
+    let k = c.args.item.number in
+    let found = ap (λ (l : List (Numbered _)). position (λ (i : Numbered _). k == i.number) l) (sym c.as_slice.ensures.value) ∙ sym c.place_of.ensures ∙ c.in-Some.is in
+    put_made (λ (table : TableState). table.rows) [] items k c.in-Some.at c.index_mut.result.now c.index_mut.ensures.value found c.change.new.table (λ (rows : Rows). changed rows c.args.item.value) c.change.ensures
+
+pub returns-clause-room : goal.returns-clause-room
+returns-clause-room c =
+    let items = c.args.tables.now.items in
+    let k = c.args.item.number in
+    let found = ap (λ (l : List (Numbered _)). position (λ (i : Numbered _). k == i.number) l) (sym c.as_slice.ensures.value) ∙ sym c.place_of.ensures ∙ c.in-Some.is in
+    put_other (λ (table : TableState). table.spare) 0 items k c.in-Some.at c.index_mut.result.now c.index_mut.ensures.value found c.change.new.table
+
+pub returns-clause-numbers : goal.returns-clause-numbers
+returns-clause-numbers c = put_numbers c.args.tables.now.items c.in-Some.at c.index_mut.result.now c.index_mut.ensures.value c.change.new.table

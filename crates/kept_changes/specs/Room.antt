@@ -1,0 +1,45 @@
+-- Room for changes in kept tables and auxiliary tables.
+use Rattle.std.specs.Prelude.{ℕ, ◌≤◌, List, [], ◌∷◌, length, map}
+use Rattle.std.specs.Option.{option_map_or}
+use Rattle.row_store.specs.declared.change.Change.{Change}
+use Rattle.row_store.specs.States.{TableState}
+use Rattle.version_graph.specs.Sets.{Each}
+use Rattle.op_law.specs.declared.side.Aux.{Aux}
+use Rattle.row_changes.specs.declared.change.SideChanges.{SideChanges}
+use Rattle.row_changes.specs.Changed.{TableChanges}
+use Rattle.version_model.specs.Kept.{value_of}
+use Rattle.version_model.specs.declared.numbered.Numbered.{Numbered}
+
+-- how many more rows fit each table without memory
+abbrev pub spares : List TableState → List ℕ
+spares tables = map (λ table. table.spare) tables
+
+-- how many more rows fit the table under a number: none where no table is kept
+abbrev pub room_at : List (Numbered TableState) → ℕ → ℕ
+room_at tables n = option_map_or (λ (table : TableState). table.spare) (value_of tables n) 0
+
+-- likewise for each of the auxiliary tables under a number
+abbrev pub rooms_at : List (Numbered Aux) → ℕ → List ℕ
+rooms_at auxes n = option_map_or (λ (aux : Aux). spares aux.tables) (value_of auxes n) []
+
+-- each table has room for one row a change
+abbrev pub HaveRoom : List ℕ → TableChanges → Type 0
+HaveRoom [] changes = Unit {0}
+HaveRoom (r ∷ rs) [] = Unit {0}
+HaveRoom (r ∷ rs) (c ∷ cs) = (length c ≤ r) × HaveRoom rs cs
+
+-- changes have room in the table under their number
+abbrev pub IsFitAt : List (Numbered TableState) → Numbered (List Change) → Type 0
+IsFitAt tables i = length i.value ≤ room_at tables i.number
+
+-- all changes have room in the tables under their numbers
+abbrev pub FitAt : List (Numbered TableState) → List (Numbered (List Change)) → Type 0
+FitAt tables items = Each (λ i. IsFitAt tables i) items
+
+-- changes of several tables have room in the auxiliary tables under their number
+abbrev pub IsSideFitAt : List (Numbered Aux) → Numbered SideChanges → Type 0
+IsSideFitAt auxes i = HaveRoom (rooms_at auxes i.number) i.value.tables
+
+-- all such changes have room in the auxiliary tables under their numbers
+abbrev pub SidesFitAt : List (Numbered Aux) → List (Numbered SideChanges) → Type 0
+SidesFitAt auxes items = Each (λ i. IsSideFitAt auxes i) items

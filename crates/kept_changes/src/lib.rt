@@ -1,0 +1,19 @@
+//! Changes in kept tables and auxiliary tables, in place.
+//!
+//! It promises the crates above that changes whose old rows are there, and that have room, are put
+//! into the tables under their numbers without memory, and that the room is made first, by a call
+//! which leaves the rows of every table also where memory is wanting. It knows no operator, no layout
+//! and no graph.
+//!
+//! Lemmas that crates above may use stand in proofs/: `ChangesLaws`.
+#![tactic(auto)]
+
+mod auxes;
+mod one_table;
+mod room;
+mod side;
+mod tables;
+
+pub use auxes::change_auxes;
+pub use room::{reserve_auxes, reserve_tables};
+pub use tables::change_tables;

@@ -1,0 +1,88 @@
+//! Room for changes in kept tables and auxiliary tables.
+ghost use Rattle.std.specs.Prelude.{◌≡◌, ◌≤◌, ℕ, length, OnOk};
+ghost use Rattle.version_graph.specs.Sets.{In};
+ghost use Rattle.version_model.specs.Kept.{rows_at};
+ghost use Rattle.db_state.specs.Fields.{auxes_at, numbers_in};
+ghost use Rattle.kept_changes.specs.Changes.{AreOldAt, AreSidesAt, IsSideAt};
+ghost use Rattle.kept_changes.specs.Room.{room_at, rooms_at, FitAt, SidesFitAt, IsSideFitAt};
+ghost use Rattle.kept_changes.specs.inner.Calls.{AreAtLeast};
+
+use crate::one_table::place_of;
+use crate::side::reserve_side;
+use op_law::Aux;
+use par_base::Memory;
+use row_changes::SideChanges;
+use row_store::{Changes, Table};
+use std::alloc::Global;
+use version_model::Numbered;
+
+fn reserve_table(tables: &mut Vec<Numbered<Table>>, number: u32, more: usize) -> Result<(), Memory>
+    requires { In number (numbers_in tables.old.items) }
+    ensures room { OnOk result (more ≤ room_at tables.new.items number) }
+    ensures grown { (n : ℕ) → room_at tables.old.items n ≤ room_at tables.new.items n }
+    ensures same { (n : ℕ) → rows_at tables.new.items n ≡ rows_at tables.old.items n }
+    ensures numbers { numbers_in tables.new.items ≡ numbers_in tables.old.items }
+{
+    let Some(at) = place_of(tables.as_slice(), number) else {
+        unreachable!()
+    };
+    tables[at].value.reserve(more)
+}
+
+/// Room for changes in the tables under their numbers. The rows stay, and none moves. For each of the
+/// tables it takes one comparison of numbers for each table before it, and the time of
+/// `Table::reserve`.
+pub fn reserve_tables(
+    tables: &mut Vec<Numbered<Table>>,
+    changes: &[Numbered<Changes>],
+) -> Result<(), Memory>
+    requires { AreOldAt tables.old.items changes.now }
+    ensures room { OnOk result (FitAt tables.new.items changes.now) }
+    ensures same { (n : ℕ) → rows_at tables.new.items n ≡ rows_at tables.old.items n }
+    ensures numbers { numbers_in tables.new.items ≡ numbers_in tables.old.items }
+{
+    for item in changes {
+        reserve_table(tables, item.number, item.value.len())?;
+    }
+    Ok(())
+}
+
+fn reserve_aux(
+    alloc: Global,
+    auxes: &mut Vec<Numbered<Aux>>,
+    item: &Numbered<SideChanges>,
+) -> Result<(), Memory>
+    requires { IsSideAt auxes.old.items item.now }
+    ensures room { OnOk result (IsSideFitAt auxes.new.items item.now) }
+    ensures grown { (n : ℕ) → AreAtLeast (rooms_at auxes.old.items n) (rooms_at auxes.new.items n) }
+    ensures same { (n : ℕ) → auxes_at auxes.new.items n ≡ auxes_at auxes.old.items n }
+    ensures numbers { numbers_in auxes.new.items ≡ numbers_in auxes.old.items }
+{
+    match place_of(auxes.as_slice(), item.number) {
+        Some(at) => reserve_side(
+            alloc,
+            &mut auxes[at].value.tables,
+            item.value.tables.as_slice(),
+        ),
+        None => Ok(()),
+    }
+}
+
+/// Room for changes in the auxiliary tables under their numbers. The rows stay, and none moves. For
+/// each operator it takes one comparison of numbers for each operator before it, and for each of its
+/// tables the time of `Table::reserve`.
+pub fn reserve_auxes(
+    alloc: Global,
+    auxes: &mut Vec<Numbered<Aux>>,
+    changes: &[Numbered<SideChanges>],
+) -> Result<(), Memory>
+    requires { AreSidesAt auxes.old.items changes.now }
+    ensures room { OnOk result (SidesFitAt auxes.new.items changes.now) }
+    ensures same { (n : ℕ) → auxes_at auxes.new.items n ≡ auxes_at auxes.old.items n }
+    ensures numbers { numbers_in auxes.new.items ≡ numbers_in auxes.old.items }
+{
+    for item in changes {
+        reserve_aux(alloc, auxes, item)?;
+    }
+    Ok(())
+}

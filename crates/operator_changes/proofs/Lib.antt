@@ -1,0 +1,7 @@
+mod AuxLemmas
+mod DrawnLemmas
+mod FootLemmas
+mod LocalLemmas
+mod LoopLemmas
+mod PartLemmas
+mod WholeLemmas

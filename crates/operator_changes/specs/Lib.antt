@@ -1,0 +1,7 @@
+pub mod MemoryChanges
+pub mod Pairs
+pub mod Parts
+pub mod Footprint
+pub mod Calls
+pub mod AuxCalls
+pub mod Laws

@@ -1,0 +1,14 @@
+-- Tables with the rows of some identifiers alone.
+use Rattle.std.specs.Prelude.{ℕ, List, [], map}
+use Rattle.row_store.specs.Rows.{Rows, row_of}
+use Rattle.op_law.specs.Tables.{Tables}
+use Rattle.op_law.specs.Meaning.{PairState}
+use Rattle.op_rows.specs.Cells.{table_from}
+
+-- each table with what it has at these identifiers
+abbrev pub part_of : List ℕ → Tables → Tables
+part_of ids tables = map (λ (t : Rows). table_from ids (row_of t)) tables
+
+-- both sides with what they have there, without the memory
+abbrev pub pair_part : List ℕ → PairState → PairState
+pair_part ids p = record { source = part_of ids p.source; target = part_of ids p.target; memory = [] }

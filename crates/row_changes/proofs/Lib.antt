@@ -1,0 +1,7 @@
+pub mod ChangedLaws
+pub mod DifferenceLaws
+pub mod OnlyLaws
+pub mod PickLaws
+pub mod TouchedLaws
+mod LoopLemmas
+mod MergeLemmas

@@ -1,0 +1,68 @@
+//! Room for the changes of a plan.
+ghost use Rattle.std.specs.Prelude.{OnOk};
+ghost use Rattle.write_propagation.specs.Plans.{IsSame};
+ghost use Rattle.kept_changes.specs.Changes.{AreOldAt, AreSidesAt};
+ghost use Rattle.kept_changes.specs.Room.{FitAt, SidesFitAt};
+ghost use Rattle.write_propagation.specs.Calls.{KeepsAuxes, KeepsRows};
+ghost use Rattle.write_propagation.specs.Room.{ChangesRows, HasRoom};
+
+use crate::plans::RowPlan;
+use db_state::{Db, Parts, put_parts, take_parts};
+use kept_changes::{reserve_auxes, reserve_tables};
+use op_law::{Aux, Operator};
+use par_base::{List, Memory};
+use row_store::Table;
+use std::alloc::Global;
+use version_model::Numbered;
+
+fn reserve_all(
+    alloc: Global,
+    stored: &mut Vec<Numbered<Table>>,
+    aux: &mut Vec<Numbered<Aux>>,
+    plan: &RowPlan,
+) -> Result<(), Memory>
+    requires stored { AreOldAt stored.old.items plan.now.stored }
+    requires aux { AreSidesAt aux.old.items plan.now.auxes }
+    ensures stored { KeepsRows stored.old.items stored.new.items }
+    ensures aux { KeepsAuxes aux.old.items aux.new.items }
+    ensures room { OnOk result (FitAt stored.new.items plan.now.stored
+        × SidesFitAt aux.new.items plan.now.auxes) }
+{
+    reserve_tables(stored, plan.stored.as_slice())?;
+    reserve_auxes(alloc, aux, plan.auxes.as_slice())
+}
+
+/// Makes room for the changes of a plan. Also after an error nothing else has changed.
+pub(crate) fn make_room<O: Operator + Drop>(
+    alloc: Global,
+    db: &mut Db<O>,
+    plan: &RowPlan,
+) -> Result<(), Memory>
+    requires { ChangesRows db.old plan.now }
+    ensures same { IsSame db.old db.new }
+    ensures room { OnOk result (HasRoom db.new plan.now) }
+{
+    let Parts {
+        graph,
+        layout,
+        stored,
+        aux,
+        memories,
+        ids,
+    } = take_parts(alloc, db);
+    let mut tables = stored.into_vec();
+    let mut auxes = aux.into_vec();
+    let made = reserve_all(alloc, &mut tables, &mut auxes, plan);
+    put_parts(
+        db,
+        Parts {
+            graph,
+            layout,
+            stored: List::from_vec(tables),
+            aux: List::from_vec(auxes),
+            memories,
+            ids,
+        },
+    );
+    made
+}
