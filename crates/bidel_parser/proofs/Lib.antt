@@ -7,6 +7,8 @@ mod TableLaws
 pub mod StatementLaws
 mod ReadSteps
 mod ParsingLaws
+mod WholeReads
+pub mod WholeOperatorLaws
 pub mod ScriptLaws
 mod TextLaws
 pub mod TextLengthsLaws

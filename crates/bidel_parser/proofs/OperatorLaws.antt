@@ -158,7 +158,7 @@ operator-rest-reads first.Join = join-rest-reads false
 operator-rest-reads first.Split = split-rest-reads
 operator-rest-reads first.Merge = merge-rest-reads
 
-operator-reads : Reads operator_goes Operator operator_at
+pub operator-reads : Reads operator_goes Operator operator_at
 operator-reads = then_word operator_goes (choice_of operator_words) (word (codes "create")) first.Create refl OperatorRest operator_rest_at operator-rest-reads
 
 pub semicolon-reads : (o : OpView) → Reads none (Seq (Sign ";") λ _. Nothing o) (and_then (sign_at ";") λ _. done o)

@@ -1,6 +1,9 @@
--- What holds of statements and scripts, whatever the tokens are.
-use Rattle.std.specs.Prelude.{[]}
+-- What holds of statements, scripts and operators, whatever the tokens are.
+use Rattle.std.specs.Prelude.{◌≡◌, [], List}
 use Rattle.phrases.specs.Fronts as fronts
+use Rattle.bidel_expr.specs.Lexemes.{Lexeme}
+use Rattle.statements.specs.Views.{OpView}
+use Rattle.bidel_parser.specs.Operators.{Operator}
 use Rattle.bidel_parser.specs.Statements.{IsStatement, Script, stays_open}
 
 -- two statements at the front whose end is fixed are one
@@ -34,3 +37,7 @@ FaultStays = fronts.FaultStays IsStatement
 -- the first fault behind a front is the first fault of all
 abbrev pub FaultFollows : Type 0
 FaultFollows = fronts.FaultFollows stays_open IsStatement
+
+-- tokens that together spell an operator spell no other
+abbrev pub OneOperator : Type 0
+OneOperator = (ts : List Lexeme) (o other : OpView) → Operator ts o → Operator ts other → o ≡ other

@@ -1,11 +1,16 @@
-//! Laws of statements and scripts, each the contract of a function that does nothing.
+//! Laws of statements, scripts and operators, each the contract of a function that does nothing.
 
-ghost use Rattle.bidel_parser.specs.Laws.{EmptyScript, FaultFollows, FaultStays, FrontLeads, FrontPrecedes, FrontStays, NoScript, OneFront};
+ghost use Rattle.bidel_parser.specs.Laws.{EmptyScript, FaultFollows, FaultStays, FrontLeads, FrontPrecedes, FrontStays, NoScript, OneFront, OneOperator};
 ghost use Rattle.bidel_parser.specs.Texts.{TextsAreSaid, TextsAreWithin};
 
 /// Two statements at the front whose end is fixed are one.
 pub fn front_is_one()
     ensures { OneFront }
+{}
+
+/// Tokens that together spell an operator spell no other.
+pub fn operator_is_one()
+    ensures { OneOperator }
 {}
 
 /// A statement whose end is fixed, whatever comes, is the front of what comes of the tokens.

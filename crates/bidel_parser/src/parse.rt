@@ -1,4 +1,4 @@
-//! The call of the parser.
+//! The call of the parser for statements.
 ghost use Rattle.std.specs.Prelude.{◌≡◌, drop, length};
 ghost use Rattle.bidel_lex.specs.Tokens.{AreTokens};
 ghost use Rattle.bidel_parser.specs.Parsing.{Parses, start_of};
@@ -10,8 +10,8 @@ use bidel_lex::Token;
 use par_base::Fault;
 use std::alloc::Global;
 
-// Where the first of these tokens starts, and the end of the bytes where there is none.
-fn start(bytes: &[u8], tokens: &[Token]) -> usize
+/// Where the first of these tokens starts, and the end of the bytes where there is none.
+pub fn start(bytes: &[u8], tokens: &[Token]) -> usize
     ensures { result ≡ start_of (length bytes.now) tokens.now }
 {
     match tokens {

@@ -1,10 +1,10 @@
 //! The parts of each kind of operator, in two spellings.
-use crate::answers::expect_parts;
+use crate::answers::{expect_parts, operator_answer_of};
 use std::alloc::Global;
 use std::process::Abort;
 use std::test::Fail;
 
-// Expects that an operator has these parts, in a version of its own.
+// Expects that an operator has these parts, by itself and in a version.
 fn expect_operator(
     rt: &impl Abort,
     alloc: Global,
@@ -12,6 +12,10 @@ fn expect_operator(
     plain: &str,
     parts: &str,
 ) -> Result<(), Fail> {
+    for spelled in [odd, plain] {
+        let answer = operator_answer_of(alloc, spelled.as_bytes())?;
+        assert_eq!(rt; answer.as_str(), parts, "of {spelled}");
+    }
     let script = format!(in alloc; "Create Schema Version W From V With--\n{odd}\n;")?;
     let plain = format!(in alloc; "CREATE SCHEMA VERSION w FROM v WITH {plain};")?;
     let parts = format!(in alloc;

@@ -1,0 +1,11 @@
+mod Written
+mod Tokens
+mod Fronts
+mod Writable
+mod Shapes
+mod ExpressionFronts
+mod OperatorParts
+mod OperatorFronts
+mod StatementParts
+mod StatementFronts
+mod Back
