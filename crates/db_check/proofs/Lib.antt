@@ -1,0 +1,10 @@
+mod EndLemmas
+mod FoundLemmas
+mod ListLemmas
+mod OrderLemmas
+mod PassLemmas
+mod PlaceLemmas
+mod ReadLemmas
+mod SplitLemmas
+mod StepLemmas
+mod TestLemmas

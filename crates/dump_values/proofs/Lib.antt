@@ -1,0 +1,5 @@
+pub mod BackLaws
+mod DumpBack
+mod MemberLemmas
+mod PairLemmas
+mod RiseLemmas

@@ -1,0 +1,215 @@
+//! Whole dumps.
+ghost use Rattle.std.specs.Prelude.{◌≡◌, ◌≤◌, ◌^◌, IfOk, IfSome, OnOk, option_map};
+ghost use Rattle.serde_json.specs.View.{members_view, view};
+ghost use Rattle.dump_values.specs.Dumps.{dump_of, dump_seen, graph_of, has_format as is_of_format, kept_of, kept_seen, written};
+ghost use Rattle.dump_values.specs.inner.Calls.{with_graph, with_layout, with_tables};
+
+use crate::lines::{OperatorLine, VersionLine};
+use crate::lists::{auxes_at, memories_at, operators_at, stored_at, versions_at};
+use crate::members::{count_members, next_at, numbers_at, put_number, read_within, small_at};
+use id_memory::PairMemory;
+use par_base::{List, Memory};
+use row_store::Table;
+use serde_json::{Map, Value as Json, put};
+use std::alloc::Global;
+
+/// What the graph is made of.
+#[derive(Drop)]
+pub struct GraphLines {
+    pub operators: List<OperatorLine>,
+    pub versions: List<VersionLine>,
+    pub last_operator: u32,
+    pub last_table: u32,
+}
+
+/// What is stored, each under the number of its table or operator.
+#[derive(Drop)]
+pub struct KeptLines {
+    pub layout: List<u32>,
+    pub stored: List<(u32, Table)>,
+    pub auxes: List<(u32, List<Table>)>,
+    pub memories: List<(u32, PairMemory)>,
+    /// From 1 to 2^63.
+    pub next: u64,
+}
+
+/// What a dump tells.
+#[derive(Drop)]
+pub struct DumpLines {
+    pub graph: GraphLines,
+    pub kept: KeptLines,
+}
+
+/// The lists of a dump as they were written, and its numbers.
+#[derive(Drop)]
+pub struct WrittenLines {
+    pub auxes: Json,
+    pub last_operator: u32,
+    pub last_table: u32,
+    pub layout: Json,
+    pub memories: Json,
+    pub next: u64,
+    pub operators: Json,
+    pub stored: Json,
+    pub versions: Json,
+}
+
+fn has_format(json: &Json) -> bool
+    ensures { result ≡ is_of_format (view json.now) }
+{
+    match json.get("format") {
+        Some(found) => read_within(found, 1, 1).is_some(),
+        None => false,
+    }
+}
+
+fn read_graph(alloc: Global, json: &Json) -> Result<Option<GraphLines>, Memory>
+    ensures { IfOk result (λ graph. graph ≡ graph_of (view json.now)) }
+{
+    let Some(operators) = operators_at(alloc, json, "operators")? else {
+        return Ok(None);
+    };
+    let Some(versions) = versions_at(alloc, json, "versions")? else {
+        return Ok(None);
+    };
+    let Some(last_operator) = small_at(json, "last_operator") else {
+        return Ok(None);
+    };
+    match small_at(json, "last_table") {
+        Some(last_table) => Ok(Some(GraphLines {
+            operators,
+            versions,
+            last_operator,
+            last_table,
+        })),
+        None => Ok(None),
+    }
+}
+
+fn read_kept(alloc: Global, json: &Json) -> Result<Option<KeptLines>, Memory>
+    ensures value { IfOk result (λ kept. option_map kept_seen kept ≡ kept_of (view json.now)) }
+    ensures within { IfOk result (λ kept. IfSome kept (λ k. (1 ≤ k.next) × (k.next ≤ 2 ^ 63))) }
+{
+    let Some(layout) = numbers_at(alloc, json, "layout")? else {
+        return Ok(None);
+    };
+    let Some(next) = next_at(json, "next") else {
+        return Ok(None);
+    };
+    let Some(stored) = stored_at(alloc, json, "stored")? else {
+        return Ok(None);
+    };
+    let Some(auxes) = auxes_at(alloc, json, "aux")? else {
+        return Ok(None);
+    };
+    match memories_at(alloc, json, "memories")? {
+        Some(memories) => Ok(Some(KeptLines {
+            layout,
+            stored,
+            auxes,
+            memories,
+            next,
+        })),
+        None => Ok(None),
+    }
+}
+
+/// What the JSON tells, where it spells a dump. The next identifier is from 1 to 2^63.
+pub fn read_dump(alloc: Global, json: &Json) -> Result<Option<DumpLines>, Memory>
+    ensures value { IfOk result (λ dump. option_map dump_seen dump ≡ dump_of (view json.now)) }
+    ensures within { IfOk result
+        (λ dump. IfSome dump (λ d. (1 ≤ d.kept.next) × (d.kept.next ≤ 2 ^ 63))) }
+{
+    if !has_format(json) {
+        return Ok(None);
+    }
+    if count_members(json) != 10 {
+        return Ok(None);
+    }
+    let Some(graph) = read_graph(alloc, json)? else {
+        return Ok(None);
+    };
+    match read_kept(alloc, json)? {
+        Some(kept) => Ok(Some(DumpLines { graph, kept })),
+        None => Ok(None),
+    }
+}
+
+/// Puts what the graph is made of.
+fn put_graph(
+    members: &mut Map<String, Json>,
+    alloc: Global,
+    operators: Json,
+    versions: Json,
+    last_operator: u32,
+    last_table: u32,
+) -> Result<(), Memory>
+    ensures { OnOk result (members_view members.new.entries ≡ with_graph (view operators)
+        (view versions) last_operator last_table (members_view members.old.entries)) }
+{
+    put(members, alloc, "operators", operators)?;
+    put(members, alloc, "versions", versions)?;
+    put_number(members, alloc, "last_operator", last_operator as u64)?;
+    put_number(members, alloc, "last_table", last_table as u64)
+}
+
+/// Puts the lists of tables and memories.
+fn put_tables(
+    members: &mut Map<String, Json>,
+    alloc: Global,
+    stored: Json,
+    auxes: Json,
+    memories: Json,
+) -> Result<(), Memory>
+    ensures { OnOk result (members_view members.new.entries ≡ with_tables (view stored)
+        (view auxes) (view memories) (members_view members.old.entries)) }
+{
+    put(members, alloc, "stored", stored)?;
+    put(members, alloc, "aux", auxes)?;
+    put(members, alloc, "memories", memories)?;
+    Ok(())
+}
+
+/// Puts the layout, the next identifier and the format.
+fn put_layout(
+    members: &mut Map<String, Json>,
+    alloc: Global,
+    layout: Json,
+    next: u64,
+) -> Result<(), Memory>
+    ensures { OnOk result (members_view members.new.entries
+        ≡ with_layout (view layout) next (members_view members.old.entries)) }
+{
+    put(members, alloc, "layout", layout)?;
+    put_number(members, alloc, "next", next)?;
+    put_number(members, alloc, "format", 1)
+}
+
+/// A dump as JSON, of lists that were written before.
+pub fn write_dump(alloc: Global, lines: WrittenLines) -> Result<Json, Memory>
+    ensures { IfOk result (λ json. view json ≡ written lines) }
+{
+    let WrittenLines {
+        auxes,
+        last_operator,
+        last_table,
+        layout,
+        memories,
+        next,
+        operators,
+        stored,
+        versions,
+    } = lines;
+    let mut members = Map::new(alloc);
+    put_graph(
+        &mut members,
+        alloc,
+        operators,
+        versions,
+        last_operator,
+        last_table,
+    )?;
+    put_tables(&mut members, alloc, stored, auxes, memories)?;
+    put_layout(&mut members, alloc, layout, next)?;
+    Ok(Json::Object(members))
+}

@@ -1,0 +1,190 @@
+//! The entries of a dump: stored tables, auxiliary tables and memories under a number, versions and
+//! operators.
+ghost use Rattle.std.specs.Prelude.{◌≡◌, map, IfOk, option_map};
+ghost use Rattle.serde_json.specs.View.{view};
+ghost use Rattle.dump_values.specs.Lines.{aux_json, aux_of, memory_json, memory_of, operator_json, operator_of, stored_json, stored_of, version_json, version_of};
+
+use crate::members::{
+    count_members, numbers_at, put_number, put_text, small_at, text_at, write_numbers,
+};
+use crate::pairs::{pairs_at, write_pairs};
+use crate::tables::{table_at, tables_at, write_table, write_tables};
+use id_memory::PairMemory;
+use par_base::{List, Memory, Text};
+use row_store::Table;
+use serde_json::{Map, Value as Json, put};
+use std::alloc::Global;
+
+/// A version: its name as it is written, and its working set.
+#[derive(Drop)]
+pub struct VersionLine {
+    pub name: Text,
+    pub set: u32,
+}
+
+/// An operator: its number, the working set that it starts from (0 for the empty one), the numbers
+/// of its targets, and its text.
+#[derive(Drop)]
+pub struct OperatorLine {
+    pub number: u32,
+    pub parent: u32,
+    pub targets: List<u32>,
+    pub text: Text,
+}
+
+/// The number and the table of a stored table.
+pub(crate) fn read_stored(alloc: Global, json: &Json) -> Result<Option<(u32, Table)>, Memory>
+    ensures { IfOk result (λ line. option_map (λ l. (l.0, l.1.rows)) line
+        ≡ stored_of (view json.now)) }
+{
+    if count_members(json) != 2 {
+        return Ok(None);
+    }
+    let Some(number) = small_at(json, "table") else {
+        return Ok(None);
+    };
+    match table_at(alloc, json, "rows")? {
+        Some(table) => Ok(Some((number, table))),
+        None => Ok(None),
+    }
+}
+
+/// The number and the auxiliary tables of an operator.
+pub(crate) fn read_aux(alloc: Global, json: &Json) -> Result<Option<(u32, List<Table>)>, Memory>
+    ensures { IfOk result (λ line. option_map (λ l. (l.0, map (λ t. t.rows) l.1)) line
+        ≡ aux_of (view json.now)) }
+{
+    if count_members(json) != 2 {
+        return Ok(None);
+    }
+    let Some(number) = small_at(json, "operator") else {
+        return Ok(None);
+    };
+    match tables_at(alloc, json, "tables")? {
+        Some(tables) => Ok(Some((number, tables))),
+        None => Ok(None),
+    }
+}
+
+/// The number and the memory of an operator.
+pub(crate) fn read_memory(alloc: Global, json: &Json) -> Result<Option<(u32, PairMemory)>, Memory>
+    ensures { IfOk result (λ line. option_map (λ l. (l.0, l.1.entries)) line
+        ≡ memory_of (view json.now)) }
+{
+    if count_members(json) != 2 {
+        return Ok(None);
+    }
+    let Some(number) = small_at(json, "operator") else {
+        return Ok(None);
+    };
+    match pairs_at(alloc, json, "pairs")? {
+        Some(memory) => Ok(Some((number, memory))),
+        None => Ok(None),
+    }
+}
+
+pub(crate) fn read_version(alloc: Global, json: &Json) -> Result<Option<VersionLine>, Memory>
+    ensures { IfOk result (λ line. line ≡ version_of (view json.now)) }
+{
+    if count_members(json) != 2 {
+        return Ok(None);
+    }
+    let Some(name) = text_at(alloc, json, "name")? else {
+        return Ok(None);
+    };
+    match small_at(json, "set") {
+        Some(set) => Ok(Some(VersionLine { name, set })),
+        None => Ok(None),
+    }
+}
+
+pub(crate) fn read_operator(alloc: Global, json: &Json) -> Result<Option<OperatorLine>, Memory>
+    ensures { IfOk result (λ line. line ≡ operator_of (view json.now)) }
+{
+    if count_members(json) != 4 {
+        return Ok(None);
+    }
+    let Some(number) = small_at(json, "number") else {
+        return Ok(None);
+    };
+    let Some(parent) = small_at(json, "parent") else {
+        return Ok(None);
+    };
+    let Some(targets) = numbers_at(alloc, json, "targets")? else {
+        return Ok(None);
+    };
+    match text_at(alloc, json, "text")? {
+        Some(text) => Ok(Some(OperatorLine {
+            number,
+            parent,
+            targets,
+            text,
+        })),
+        None => Ok(None),
+    }
+}
+
+/// A stored table under its number, as JSON.
+pub fn write_stored(alloc: Global, number: u32, table: &Table) -> Result<Json, Memory>
+    ensures { IfOk result (λ json. view json ≡ stored_json (number, table.now.rows)) }
+{
+    let rows = write_table(alloc, table)?;
+    let mut members = Map::new(alloc);
+    put(&mut members, alloc, "rows", rows)?;
+    put_number(&mut members, alloc, "table", number as u64)?;
+    Ok(Json::Object(members))
+}
+
+/// The auxiliary tables of an operator, as JSON.
+pub fn write_aux(alloc: Global, operator: u32, tables: &[Table]) -> Result<Json, Memory>
+    ensures { IfOk result (λ json. view json
+        ≡ aux_json (operator, map (λ t. t.rows) tables.now)) }
+{
+    let items = write_tables(alloc, tables)?;
+    let mut members = Map::new(alloc);
+    put_number(&mut members, alloc, "operator", operator as u64)?;
+    put(&mut members, alloc, "tables", items)?;
+    Ok(Json::Object(members))
+}
+
+/// The memory of an operator, as JSON.
+pub fn write_memory(alloc: Global, operator: u32, memory: &PairMemory) -> Result<Json, Memory>
+    ensures { IfOk result (λ json. view json ≡ memory_json (operator, memory.now.entries)) }
+{
+    let pairs = write_pairs(alloc, memory)?;
+    let mut members = Map::new(alloc);
+    put_number(&mut members, alloc, "operator", operator as u64)?;
+    put(&mut members, alloc, "pairs", pairs)?;
+    Ok(Json::Object(members))
+}
+
+/// A version as JSON.
+pub fn write_version(alloc: Global, name: &str, set: u32) -> Result<Json, Memory>
+    ensures { IfOk result (λ json. view json
+        ≡ version_json (record { name = name.now; set = set })) }
+{
+    let mut members = Map::new(alloc);
+    put_text(&mut members, alloc, "name", name)?;
+    put_number(&mut members, alloc, "set", set as u64)?;
+    Ok(Json::Object(members))
+}
+
+/// An operator as JSON.
+pub fn write_operator(
+    alloc: Global,
+    number: u32,
+    parent: u32,
+    targets: &[u32],
+    text: &str,
+) -> Result<Json, Memory>
+    ensures { IfOk result (λ json. view json ≡ operator_json (record
+        { number = number; parent = parent; targets = targets.now; text = text.now })) }
+{
+    let numbers = write_numbers(alloc, targets)?;
+    let mut members = Map::new(alloc);
+    put_number(&mut members, alloc, "number", number as u64)?;
+    put_number(&mut members, alloc, "parent", parent as u64)?;
+    put(&mut members, alloc, "targets", numbers)?;
+    put_text(&mut members, alloc, "text", text)?;
+    Ok(Json::Object(members))
+}

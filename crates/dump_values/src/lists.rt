@@ -1,0 +1,157 @@
+//! Lists of entries.
+ghost use Rattle.std.specs.Prelude.{◌≡◌, IfOk, option_map};
+ghost use Rattle.serde_json.specs.View.{items_view, view};
+ghost use Rattle.dump_values.specs.Dumps.{auxes_seen, memories_seen, stored_seen};
+ghost use Rattle.dump_values.specs.Lines.{aux_of, memory_of, operator_of, stored_of, version_of};
+ghost use Rattle.dump_values.specs.Members.{list_at, list_of};
+
+use crate::lines::{
+    OperatorLine, VersionLine, read_aux, read_memory, read_operator, read_stored, read_version,
+};
+use crate::members::items_at;
+use id_memory::PairMemory;
+use par_base::{List, Memory};
+use row_store::Table;
+use serde_json::Value as Json;
+use std::alloc::Global;
+
+fn each_operator(alloc: Global, items: &[Json]) -> Result<Option<List<OperatorLine>>, Memory>
+    ensures { IfOk result (λ lines. lines ≡ list_of operator_of (items_view items.now)) }
+{
+    let mut lines = List::new(alloc);
+    for item in items {
+        let Some(line) = read_operator(alloc, item)? else {
+            return Ok(None);
+        };
+        lines.push(line)?;
+    }
+    Ok(Some(lines))
+}
+
+/// The operators under this key.
+pub(crate) fn operators_at(
+    alloc: Global,
+    json: &Json,
+    key: &str,
+) -> Result<Option<List<OperatorLine>>, Memory>
+    ensures { IfOk result (λ lines. lines ≡ list_at operator_of key.now (view json.now)) }
+{
+    match items_at(json, key) {
+        Some(items) => each_operator(alloc, items),
+        None => Ok(None),
+    }
+}
+
+fn each_version(alloc: Global, items: &[Json]) -> Result<Option<List<VersionLine>>, Memory>
+    ensures { IfOk result (λ lines. lines ≡ list_of version_of (items_view items.now)) }
+{
+    let mut lines = List::new(alloc);
+    for item in items {
+        let Some(line) = read_version(alloc, item)? else {
+            return Ok(None);
+        };
+        lines.push(line)?;
+    }
+    Ok(Some(lines))
+}
+
+/// The versions under this key.
+pub(crate) fn versions_at(
+    alloc: Global,
+    json: &Json,
+    key: &str,
+) -> Result<Option<List<VersionLine>>, Memory>
+    ensures { IfOk result (λ lines. lines ≡ list_at version_of key.now (view json.now)) }
+{
+    match items_at(json, key) {
+        Some(items) => each_version(alloc, items),
+        None => Ok(None),
+    }
+}
+
+fn each_stored(alloc: Global, items: &[Json]) -> Result<Option<List<(u32, Table)>>, Memory>
+    ensures { IfOk result (λ lines. option_map stored_seen lines
+        ≡ list_of stored_of (items_view items.now)) }
+{
+    let mut lines = List::new(alloc);
+    for item in items {
+        let Some(line) = read_stored(alloc, item)? else {
+            return Ok(None);
+        };
+        lines.push(line)?;
+    }
+    Ok(Some(lines))
+}
+
+/// The stored tables under this key.
+pub(crate) fn stored_at(
+    alloc: Global,
+    json: &Json,
+    key: &str,
+) -> Result<Option<List<(u32, Table)>>, Memory>
+    ensures { IfOk result (λ lines. option_map stored_seen lines
+        ≡ list_at stored_of key.now (view json.now)) }
+{
+    match items_at(json, key) {
+        Some(items) => each_stored(alloc, items),
+        None => Ok(None),
+    }
+}
+
+fn each_aux(alloc: Global, items: &[Json]) -> Result<Option<List<(u32, List<Table>)>>, Memory>
+    ensures { IfOk result (λ lines. option_map auxes_seen lines
+        ≡ list_of aux_of (items_view items.now)) }
+{
+    let mut lines = List::new(alloc);
+    for item in items {
+        let Some(line) = read_aux(alloc, item)? else {
+            return Ok(None);
+        };
+        lines.push(line)?;
+    }
+    Ok(Some(lines))
+}
+
+/// The auxiliary tables under this key.
+pub(crate) fn auxes_at(
+    alloc: Global,
+    json: &Json,
+    key: &str,
+) -> Result<Option<List<(u32, List<Table>)>>, Memory>
+    ensures { IfOk result (λ lines. option_map auxes_seen lines
+        ≡ list_at aux_of key.now (view json.now)) }
+{
+    match items_at(json, key) {
+        Some(items) => each_aux(alloc, items),
+        None => Ok(None),
+    }
+}
+
+fn each_memory(alloc: Global, items: &[Json]) -> Result<Option<List<(u32, PairMemory)>>, Memory>
+    ensures { IfOk result (λ lines. option_map memories_seen lines
+        ≡ list_of memory_of (items_view items.now)) }
+{
+    let mut lines = List::new(alloc);
+    for item in items {
+        let Some(line) = read_memory(alloc, item)? else {
+            return Ok(None);
+        };
+        lines.push(line)?;
+    }
+    Ok(Some(lines))
+}
+
+/// The memories under this key.
+pub(crate) fn memories_at(
+    alloc: Global,
+    json: &Json,
+    key: &str,
+) -> Result<Option<List<(u32, PairMemory)>>, Memory>
+    ensures { IfOk result (λ lines. option_map memories_seen lines
+        ≡ list_at memory_of key.now (view json.now)) }
+{
+    match items_at(json, key) {
+        Some(items) => each_memory(alloc, items),
+        None => Ok(None),
+    }
+}

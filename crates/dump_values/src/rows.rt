@@ -1,0 +1,56 @@
+//! Rows.
+ghost use Rattle.std.specs.Prelude.{◌≡◌, ◌<◌, ◌^◌, IfOk, IfSome};
+ghost use Rattle.serde_json.specs.View.{items_view, view};
+ghost use Rattle.dump_values.specs.Members.{list_of};
+ghost use Rattle.dump_values.specs.Values.{row_json, row_of, value_of};
+
+use crate::members::read_id;
+use crate::values::{read_value, write_value};
+use par_base::{List, Memory, Row};
+use serde_json::{Number, Value as Json};
+use std::alloc::Global;
+
+fn read_values(alloc: Global, items: &[Json]) -> Result<Option<Row>, Memory>
+    ensures { IfOk result (λ row. row ≡ list_of value_of (items_view items.now)) }
+{
+    let mut row = List::new(alloc);
+    for item in items {
+        let Some(value) = read_value(alloc, item)? else {
+            return Ok(None);
+        };
+        row.push(value)?;
+    }
+    Ok(Some(row))
+}
+
+/// The identifier and the row that the JSON spells, where it spells one.
+pub(crate) fn read_row(alloc: Global, json: &Json) -> Result<Option<(u64, Row)>, Memory>
+    ensures value { IfOk result (λ row. row ≡ row_of (view json.now)) }
+    ensures within { IfOk result (λ row. IfSome row (λ r. r.0 < 2 ^ 63)) }
+{
+    let Some(items) = json.as_array() else {
+        return Ok(None);
+    };
+    let Some((first, others)) = items.as_slice().split_first() else {
+        return Ok(None);
+    };
+    let Some(id) = read_id(first) else {
+        return Ok(None);
+    };
+    match read_values(alloc, others)? {
+        Some(row) => Ok(Some((id, row))),
+        None => Ok(None),
+    }
+}
+
+/// A row as JSON.
+pub fn write_row(alloc: Global, id: u64, row: &Row) -> Result<Json, Memory>
+    ensures { IfOk result (λ json. view json ≡ row_json (id, row.now)) }
+{
+    let mut items = Vec::new(alloc);
+    items.push(Json::Number(Number::from(id)))?;
+    for value in row.as_slice() {
+        items.push(write_value(alloc, value)?)?;
+    }
+    Ok(Json::Array(items))
+}

@@ -1,0 +1,113 @@
+//! Tables.
+ghost use Rattle.std.specs.Prelude.{◌≡◌, map, IfOk, option_map};
+ghost use Rattle.serde_json.specs.View.{items_view, view};
+ghost use Rattle.dump_values.specs.Members.{list_of, member_of};
+ghost use Rattle.dump_values.specs.Tables.{rows_from, table_json, table_of, tables_json, tables_of};
+
+use crate::rows::{read_row, write_row};
+use par_base::{List, Memory};
+use row_store::Table;
+use serde_json::Value as Json;
+use std::alloc::Global;
+
+#[tactic(auto, using(crate::proofs::RiseLemmas::below_more, crate::proofs::RiseLemmas::below_push))]
+fn read_rows(alloc: Global, items: &[Json]) -> Result<Option<Table>, Memory>
+    ensures { IfOk result (λ table. option_map (λ t. t.rows) table
+        ≡ rows_from 1 (items_view items.now)) }
+{
+    let mut table = Table::new(alloc);
+    let mut least = 1;
+    for item in items {
+        let Some((id, row)) = read_row(alloc, item)? else {
+            return Ok(None);
+        };
+        if id < least {
+            return Ok(None);
+        }
+        table.push(id, row)?;
+        least = id + 1;
+    }
+    Ok(Some(table))
+}
+
+/// The table that the JSON spells, where it spells one.
+fn read_table(alloc: Global, json: &Json) -> Result<Option<Table>, Memory>
+    ensures { IfOk result (λ table. option_map (λ t. t.rows) table ≡ table_of (view json.now)) }
+{
+    match json.as_array() {
+        Some(items) => read_rows(alloc, items.as_slice()),
+        None => Ok(None),
+    }
+}
+
+/// The table under this key.
+pub(crate) fn table_at(alloc: Global, json: &Json, key: &str) -> Result<Option<Table>, Memory>
+    ensures { IfOk result (λ table. option_map (λ t. t.rows) table
+        ≡ member_of table_of key.now (view json.now)) }
+{
+    match json.get(key) {
+        Some(found) => read_table(alloc, found),
+        None => Ok(None),
+    }
+}
+
+fn read_each_table(alloc: Global, items: &[Json]) -> Result<Option<List<Table>>, Memory>
+    ensures { IfOk result (λ tables. option_map (λ ts. map (λ t. t.rows) ts) tables
+        ≡ list_of table_of (items_view items.now)) }
+{
+    let mut tables = List::new(alloc);
+    for item in items {
+        let Some(table) = read_table(alloc, item)? else {
+            return Ok(None);
+        };
+        tables.push(table)?;
+    }
+    Ok(Some(tables))
+}
+
+fn read_tables(alloc: Global, json: &Json) -> Result<Option<List<Table>>, Memory>
+    ensures { IfOk result (λ tables. option_map (λ ts. map (λ t. t.rows) ts) tables
+        ≡ tables_of (view json.now)) }
+{
+    match json.as_array() {
+        Some(items) => read_each_table(alloc, items.as_slice()),
+        None => Ok(None),
+    }
+}
+
+/// The list of tables under this key.
+pub(crate) fn tables_at(
+    alloc: Global,
+    json: &Json,
+    key: &str,
+) -> Result<Option<List<Table>>, Memory>
+    ensures { IfOk result (λ tables. option_map (λ ts. map (λ t. t.rows) ts) tables
+        ≡ member_of tables_of key.now (view json.now)) }
+{
+    match json.get(key) {
+        Some(found) => read_tables(alloc, found),
+        None => Ok(None),
+    }
+}
+
+/// A table as JSON.
+pub fn write_table(alloc: Global, table: &Table) -> Result<Json, Memory>
+    ensures { IfOk result (λ json. view json ≡ table_json table.now.rows) }
+{
+    let mut items = Vec::new(alloc);
+    for row in table.iter() {
+        items.push(write_row(alloc, row.0, &row.1)?)?;
+    }
+    Ok(Json::Array(items))
+}
+
+/// Tables as JSON.
+pub fn write_tables(alloc: Global, tables: &[Table]) -> Result<Json, Memory>
+    ensures { IfOk result (λ json. view json ≡ tables_json (map (λ t. t.rows) tables.now)) }
+{
+    let mut items = Vec::new(alloc);
+    for table in tables {
+        items.push(write_table(alloc, table)?)?;
+    }
+    Ok(Json::Array(items))
+}
