@@ -3,6 +3,7 @@ mod EmptyLemmas
 mod AuxLemmas
 pub mod OnceLaws
 pub mod PartLaws
+pub mod BoundLaws
 mod SeenLemmas
 mod LocalLemmas
 mod PassLemmas

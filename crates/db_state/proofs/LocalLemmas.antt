@@ -1,12 +1,14 @@
 -- Operators that treat each identifier by itself, one after another.
-use Rattle.std.specs.Prelude.{◌<◌}
-use Rattle.std.proofs.Common.{◌≡◌, ℕ, ◌+◌, List, [], ◌∷◌, true, false, length, take, get_or, Some, None, inl, inr, sym, ap, ◌∙◌, subst}
+use Rattle.std.specs.Prelude.{◌<◌, ◌==◌}
+use Rattle.std.proofs.Common.{◌≡◌, ℕ, ◌+◌, List, [], ◌∷◌, true, false, length, take, get_or, Some, None, inl, inr, refl, sym, ap, ◌∙◌, subst}
+use Rattle.std.proofs.lemmas.Bool.{eqb-true}
 use Rattle.std.proofs.lemmas.List.{take_more}
 use Rattle.version_graph.specs.Sets.{In}
 use Rattle.version_graph.specs.Edges.{AreEdges, edge_of}
-use Rattle.version_graph.specs.Forest.{Link, forest}
+use Rattle.version_graph.specs.Forest.{Link, forest, link}
 use Rattle.version_graph.specs.declared.parts.Placed.{Placed}
 use Rattle.version_graph.proofs.SetLaws.{in_append}
+use Rattle.version_graph.proofs.TakenLaws.{found_passes}
 use Rattle.op_law.specs.Meaning.{Meaning}
 use Rattle.version_model.proofs.CarryLaws.{some_is}
 use Rattle.db_state.specs.Parts.{AreLocalAt}
@@ -26,6 +28,24 @@ module _ {O : Type 0} (meaning : O → Meaning) (es : List (Placed O)) where
       let c = crosses es edges e at false in
       let clash : None ≡ Some c.edge = none ∙ sym (ap (λ (k : ℕ). edge_of es k) number) ∙ c.live in
       (let no : ⊥ = cc in no)
+
+  linked : (fs : List (Placed O)) (x : Placed O) → In x fs → (e : Link O) × In e (forest fs) × (e.number ≡ x.number) × (e.operator ≡ x.edge.operator)
+  linked [] x i = absurd i
+  linked (f ∷ fs) x (inl same) = (link fs f, inl refl, ap (λ (y : Placed O). y.number) (sym same), ap (λ (y : Placed O). y.edge.operator) (sym same))
+  linked (f ∷ fs) x (inr i) = let l = linked fs x i in (l.0, inr l.1, l.2, l.3)
+
+  -- what a number's live operator is, its edge says
+  pub there_local : (n : ℕ) (x : Placed O) → Some x ≡ edge_of es n → AreLocalAt meaning es (n ∷ []) → (meaning x.edge.operator).is_local ≡ true
+  there_local n x found local =
+      let p = found_passes (λ (f : Placed O). n == f.number) es x (sym found) in
+      let l = linked es x p.0 in
+      let number : l.0.number ≡ n = l.2 ∙ sym (eqb-true n x.number p.1) in
+      subst (λ (o : O). (meaning o).is_local ≡ true) l.3 (local l.0 l.1 (inl number))
+
+  -- one of some operators
+  pub one_local : (ns : List ℕ) (n : ℕ) → In n ns → AreLocalAt meaning es ns → AreLocalAt meaning es (n ∷ [])
+  one_local ns n i all e at (inl same) = all e at (subst (λ (k : ℕ). In k ns) (sym same) i)
+  one_local ns n i all e at (inr none) = absurd none
 
   -- one operator more
   pub local_more : (ns : List ℕ) (i : ℕ) → i < length ns → AreLocalAt meaning es (take i ns) → ((e : Link O) → In e (forest es) → e.number ≡ get_or ns i 0 → (meaning e.operator).is_local ≡ true) → AreLocalAt meaning es (take (i + 1) ns)

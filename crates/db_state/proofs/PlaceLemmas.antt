@@ -28,10 +28,11 @@ use Rattle.db_state.specs.Fields.{IsDatabase, state_for}
 use Rattle.db_state.specs.declared.parts.Parts.{Parts}
 use Rattle.db_state.specs.declared.read.Pass.{Pass}
 use Rattle.db_state.specs.Covered.{CoversItself}
-use Rattle.db_state.specs.Parts.{passes, seen_of}
+use Rattle.db_state.specs.Parts.{SeenWithin, passes, seen_of}
 use Rattle.db_state.specs.declared.sight.Sight.{Sight}
-use Rattle.db_state.specs.inner.Passes.{AreRead, PassesOver, IsDown, IsDownTo, IsUpTo, MayCross, MayPass, Passes, Settles, is_passed}
+use Rattle.db_state.specs.inner.Passes.{AreRead, PassesOver, IsDown, IsDownTo, IsUpTo, MayCross, MayPass, PassTakes, Passes, Settles, is_passed, passed_in}
 use Rattle.db_state.proofs.AuxLemmas.{crosses}
+use Rattle.db_state.proofs.BoundLaws.{passed_append, seen_fewer, seen_more}
 use Rattle.db_state.proofs.PartLaws.{ascends_of, sees_of}
 use Rattle.db_state.proofs.PassLemmas.{all_right, down_step, near_down, near_up, up_step}
 
@@ -166,6 +167,11 @@ module _ {O : Type 0} (meaning : O → Meaning) (p : Parts O) (is : IsDatabase m
         subst (λ (l : List ℕ). Settles (seen_of pass.sight (state_for meaning p).tables) l (seen_of pass.sight (rows_now p.stored made)) (seen_of pass.sight (rows_now p.stored new))) (sym (cond-true (test f.number) (crossing pass.backward f).far [] (subst (λ (n : ℕ). test n ≡ true) number passed)))
         (crossed (crossing pass.backward f) (crosses p.graph.edges is.graph.edges f at pass.backward) (ap (λ (n : ℕ). record { operator = n; backward = pass.backward }) (sym number)))
 
+    -- what it took
+    pub takes_over : (s t : ℕ) → test e.number ≡ true → SeenWithin 2 pass.sight 1 s t → PassTakes p pass i s t
+    takes_over s t passed within f here =
+        subst (λ (n : ℕ). SeenWithin 2 pass.sight n s t) (sym (cond-true (test f.number) 1 0 (subst (λ (n : ℕ). test n ≡ true) (same_number f here) passed))) within
+
     -- the pass leaves it
     pub passes_by : test e.number ≡ false → Passes meaning p pass i made made
     passes_by off f here =
@@ -202,3 +208,61 @@ module _ {O : Type 0} (meaning : O → Meaning) (p : Parts O) (is : IsDatabase m
   up_end i count is_count past made up t j covered =
       let all = subst (λ (l : List (Link O)). IsUpTo (forest p.graph.edges) p.layout.operators ns state l (now made)) (below_past p.graph.edges i count is_count past) up in
       all_right (forest p.graph.edges) p.layout.operators ns state (now made) all t (subst (λ (l : List ℕ). In t l) (sym (targets_linked p.graph.edges is.graph.edges)) j) covered
+
+-- ---- the steps of the passes
+
+module _ {O : Type 0} (es : List (Placed O)) (layout ns : List ℕ) (back : Bool) where
+  abbrev passed : List (Link O) → ℕ
+  passed = passed_in layout ns back
+
+  abbrev one : Link O → ℕ
+  one f = cond (is_passed layout ns back f.number) 1 0
+
+  -- those below a place are some of all
+  below_few : (i : ℕ) → passed (below es i) ≤ passed (forest es)
+  below_few i =
+      let parts : forest es ≡ reverse (drop i (ascending es)) ++ below es i =
+      sym (reverse-reverse (forest es)) ∙ sym (ap (λ (l : List (Link O)). reverse l) (take-append-drop i (ascending es))) ∙ reverse-append (take i (ascending es)) (drop i (ascending es)) in
+      let sum = passed_append layout ns back (reverse (drop i (ascending es))) (below es i) in
+      let all = ap passed parts in
+      omega (arith, sum, all)
+
+  below_more : (i : ℕ) (f : Link O) → slice_get (ascending es) i ≡ Some f → passed (below es (i + 1)) ≡ one f + passed (below es i)
+  below_more i f here = ap passed (below_next es i (Some f) (sym here))
+
+  -- on the way down, with those below a place left
+  pub record WentDown (sight : Sight) (left s t : ℕ) : Type 0 where
+    pub count : ℕ
+    pub rest : count + passed (below es left) ≡ passed (forest es)
+    pub within : SeenWithin 2 sight count s t
+
+  pub down_more : (sight : Sight) (i s t u : ℕ) → i < length (ascending es) → WentDown sight (i + 1) s t
+      → ((f : Link O) → slice_get (ascending es) i ≡ Some f → SeenWithin 2 sight (one f) t u) → WentDown sight i s u
+  down_more sight i s t u within went takes =
+      let got = stands_at (ascending es) i within in
+      let f = got.0 in
+      let rest = went.rest in
+      let next = below_more i f got.1 in
+      record {
+        count = went.count + one f;
+        rest = omega (arith, rest, next);
+        within = seen_more 2 sight went.count (one f) s t u went.within (takes f got.1);
+      }
+
+  pub down_most : (sight : Sight) (left s t : ℕ) → WentDown sight left s t → SeenWithin 2 sight (passed (forest es)) s t
+  down_most sight left s t went =
+      let rest = went.rest in
+      seen_fewer 2 sight went.count (passed (forest es)) s t (omega (arith, rest)) went.within
+
+  -- on the way up
+  pub up_more : (sight : Sight) (i s t u : ℕ) → i < length (ascending es) → SeenWithin 2 sight (passed (below es i)) s t
+      → ((f : Link O) → slice_get (ascending es) i ≡ Some f → SeenWithin 2 sight (one f) t u) → SeenWithin 2 sight (passed (below es (i + 1))) s u
+  up_more sight i s t u within went takes =
+      let got = stands_at (ascending es) i within in
+      let f = got.0 in
+      let next = below_more i f got.1 in
+      let sum = seen_more 2 sight (passed (below es i)) (one f) s t u went (takes f got.1) in
+      seen_fewer 2 sight (passed (below es i) + one f) (passed (below es (i + 1))) s u (omega (arith, next)) sum
+
+  pub up_most : (sight : Sight) (i s t : ℕ) → SeenWithin 2 sight (passed (below es i)) s t → SeenWithin 2 sight (passed (forest es)) s t
+  up_most sight i s t went = seen_fewer 2 sight (passed (below es i)) (passed (forest es)) s t (below_few i) went

@@ -1,7 +1,8 @@
 -- Parts: reading the rows of some identifiers alone.
-use Rattle.std.specs.Prelude.{◌≡◌, ℕ, Bool, true, List, ⊤}
+use Rattle.std.specs.Prelude.{◌≡◌, ℕ, ◌+◌, ◌*◌, ◌≤◌, Bool, true, cond, List, [], ◌∷◌, length, ⊤}
 use Rattle.row_store.specs.Rows.{Rows}
 use Rattle.version_graph.specs.Sets.{In}
+use Rattle.version_graph.specs.Edges.{is_in}
 use Rattle.version_graph.specs.Forest.{Link, forest}
 use Rattle.version_graph.specs.declared.parts.Placed.{Placed}
 use Rattle.op_law.specs.Identifiers.{IdsRise, has_id}
@@ -32,3 +33,13 @@ AreLocalAt {O} meaning es ns = (e : Link O) → In e (forest es) → In e.number
 abbrev pub MaySee : {O : Type 0} → (O → Meaning) → List (Placed O) → List ℕ → Sight → Type 0
 MaySee meaning es ns All = ⊤
 MaySee meaning es ns (Of ids) = IdsRise 0 ids.now × AreLocalAt meaning es ns
+
+-- how many of some operators are listed
+abbrev pub listed_in : {O : Type 0} → List ℕ → List (Link O) → ℕ
+listed_in ns [] = 0
+listed_in ns (e ∷ es) = cond (is_in e.number ns) 1 0 + listed_in ns es
+
+-- of a list of identifiers, at most so many steps for each of them and each of so many operators
+abbrev pub SeenWithin : ℕ → Sight → ℕ → ℕ → ℕ → Type 0
+SeenWithin most All count old new = ⊤
+SeenWithin most (Of ids) count old new = new ≤ old + most * (length ids.now * count)

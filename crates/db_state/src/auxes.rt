@@ -1,15 +1,15 @@
 //! The auxiliary tables of operators, from both sides.
-ghost use Rattle.std.specs.Prelude.{◌≡◌, ◌≤◌, Some, length, IfOk};
+ghost use Rattle.std.specs.Prelude.{◌≡◌, ◌≤◌, [], ◌∷◌, Some, length, IfOk};
 ghost use Rattle.std.specs.Option.{option_map};
 ghost use Rattle.version_graph.specs.Sets.{In, Each};
 ghost use Rattle.version_graph.specs.Edges.{AreEdges};
 ghost use Rattle.version_graph.specs.Forest.{forest, Link};
-ghost use Rattle.op_law.specs.Calls.{seen, tables_of};
+ghost use Rattle.op_law.specs.Calls.{seen, tables_of, StepsWithin};
 ghost use Rattle.op_law.specs.Premises.{SomePair};
 ghost use Rattle.version_model.specs.Steps.{pair_in, directed};
 ghost use Rattle.version_model.specs.Calls.{crossing_of, made_state, seen_from};
 ghost use Rattle.storage_law.specs.Storage.{stored_way as stored_way_lem};
-ghost use Rattle.db_state.specs.Calls.{AreAuxesOf, IsAuxOf, IsRelatedAt};
+ghost use Rattle.db_state.specs.Calls.{AreAuxesOf, AuxesWithin, IsAuxOf, IsRelatedAt};
 
 use expr_lang::Steps;
 use layout_rules::{Layout, holds};
@@ -74,9 +74,12 @@ fn aux_over<O: Operator, L: Ledger>(
 ) -> Result<Aux, Memory>
     requires { SomePair (directed backward (O.meaning operator.now))
         (seen_from backward (seen pair.now)) }
-    ensures { IfOk result (λ aux. tables_of aux
+    ensures aux { IfOk result (λ aux. tables_of aux
         ≡ (directed backward (O.meaning operator.now)).aux_at_source
         (seen_from backward (seen pair.now))) }
+    ensures steps { StepsWithin (directed backward (O.meaning operator.now)) 8
+        (seen_from backward (seen pair.now)).source
+        (seen_from backward (seen pair.now)).target steps.old steps.new }
 {
     if backward {
         operator.aux_at_target(alloc, pair, steps)
@@ -96,8 +99,10 @@ fn aux_in<O: Operator, L: Ledger>(
 ) -> Result<Aux, Memory>
     requires edges { AreEdges graph.now.edges }
     requires related { IsRelatedAt O.meaning graph.now.edges (made_state before made.now) number }
-    ensures { IfOk result (λ aux. IsAuxOf O.meaning graph.now.edges layout.now.operators
+    ensures aux { IfOk result (λ aux. IsAuxOf O.meaning graph.now.edges layout.now.operators
         (made_state before.entry made.now) number (tables_of aux)) }
+    ensures steps { AuxesWithin O.meaning graph.now.edges (made_state before.entry made.now)
+        (number ∷ []) steps.old steps.new }
 {
     let Some(over) = stored_way(graph, layout, number) else {
         unreachable!()
@@ -119,8 +124,10 @@ pub fn auxes_in<O: Operator, L: Ledger>(
 ) -> Result<List<Numbered<Aux>>, Memory>
     requires { Each (IsRelatedAt O.meaning graph.now.edges
         (made_state before made.now)) operators.now }
-    ensures { IfOk result (AreAuxesOf O.meaning graph.now.edges layout.now.operators
+    ensures auxes { IfOk result (AreAuxesOf O.meaning graph.now.edges layout.now.operators
         (made_state before.entry made.now) operators.now) }
+    ensures steps { AuxesWithin O.meaning graph.now.edges (made_state before.entry made.now)
+        operators.now steps.old steps.new }
 {
     // What this call promises of the graph is what each look-up needs.
     let _live = graph.live_operators();

@@ -1,7 +1,5 @@
 //! Which operators treat each identifier by itself.
-ghost use Rattle.std.specs.Prelude.{◌≡◌, ℕ, true};
-ghost use Rattle.version_graph.specs.Forest.{Link, forest};
-ghost use Rattle.version_graph.specs.Sets.{In};
+ghost use Rattle.std.specs.Prelude.{◌≡◌, ℕ, true, [], ◌∷◌};
 ghost use Rattle.version_graph.specs.Edges.{AreEdges};
 ghost use Rattle.db_state.specs.Parts.{AreLocalAt, Ascends, MaySee, passes};
 
@@ -12,8 +10,8 @@ use version_graph::Graph;
 // An operator that doesn't live is none that anything is read over.
 fn is_local_at<O: Operator>(graph: &Graph<O>, number: u32) -> bool
     requires { AreEdges graph.now.edges }
-    ensures { result ≡ true → (e : Link O) → In e (forest graph.now.edges) → e.number ≡ number
-        → (O.meaning e.operator).is_local ≡ true }
+    ensures local { result ≡ true → AreLocalAt O.meaning graph.now.edges (number ∷ []) }
+    ensures all { AreLocalAt O.meaning graph.now.edges (number ∷ []) → result ≡ true }
 {
     match graph.edge(number) {
         Some(placed) => placed.edge.operator.is_local(),
@@ -24,7 +22,8 @@ fn is_local_at<O: Operator>(graph: &Graph<O>, number: u32) -> bool
 /// Whether each live operator that is one of these treats each identifier by itself. It takes time
 /// in the number of live operators for each, and no memory.
 pub fn are_local<O: Operator>(graph: &Graph<O>, operators: &[u32]) -> bool
-    ensures { result ≡ true → AreLocalAt O.meaning graph.now.edges operators.now }
+    ensures local { result ≡ true → AreLocalAt O.meaning graph.now.edges operators.now }
+    ensures all { AreLocalAt O.meaning graph.now.edges operators.now → result ≡ true }
 {
     // What this call promises of the graph is what each look-up needs.
     let _live = graph.live_operators();

@@ -1,19 +1,19 @@
 //! Reading the tables that some operators give back, in two passes: down over those of the layout,
 //! the newest first, and then up over the others, the oldest first. Each gives the tables of the
 //! side on which it isn't stored, with the rows that are seen.
-ghost use Rattle.std.specs.Prelude.{◌≡◌, ℕ, IfOk, OnOk};
+ghost use Rattle.std.specs.Prelude.{◌≡◌, ℕ, true, false, IfOk, OnOk};
 ghost use Rattle.version_graph.specs.Sets.{In};
 ghost use Rattle.version_graph.specs.Tables.{table_numbers};
 ghost use Rattle.version_graph.specs.Edges.{made as made_lem};
 ghost use Rattle.version_graph.specs.Forest.{forest};
-ghost use Rattle.op_law.specs.Calls.{tables_of};
+ghost use Rattle.op_law.specs.Calls.{tables_of, StepsWithin};
 ghost use Rattle.op_law.specs.Premises.{SomeStored};
 ghost use Rattle.version_model.specs.Kept.{rows_now};
 ghost use Rattle.version_model.specs.Steps.{directed};
 ghost use Rattle.db_state.specs.Fields.{state_for};
 ghost use Rattle.db_state.specs.Covered.{Covers, CoversItself};
-ghost use Rattle.db_state.specs.Parts.{MaySee, seen_of};
-ghost use Rattle.db_state.specs.inner.Passes.{is_passed as is_passed_lem, AreRead, PassesOver, IsDown, MayCross, MayPass, Passes};
+ghost use Rattle.db_state.specs.Parts.{listed_in, seen_of, MaySee, SeenWithin};
+ghost use Rattle.db_state.specs.inner.Passes.{is_passed as is_passed_lem, passed_in, AreRead, PassTakes, PassesOver, IsDown, MayCross, MayPass, Passes};
 
 use crate::sight::{aux_seen, side_seen};
 use crate::{Db, Sight};
@@ -46,9 +46,11 @@ fn read_far<O: Operator, L: Ledger>(
 ) -> Result<Side, Memory>
     requires { SomeStored (directed over.now.backward (O.meaning over.now.operator.now)) near.now
         (tables_of aux.now) memory.now.entries }
-    ensures { IfOk result (λ side. side ≡ (directed over.now.backward
+    ensures far { IfOk result (λ side. side ≡ (directed over.now.backward
         (O.meaning over.now.operator.now)).read_target
         near.now (tables_of aux.now) memory.now.entries) }
+    ensures steps { StepsWithin (directed over.now.backward (O.meaning over.now.operator.now)) 2
+        near.now (tables_of aux.now) steps.old steps.new }
 {
     if over.backward {
         over.operator.read_source(alloc, near, aux, memory, steps)
@@ -66,7 +68,8 @@ fn cross<O: Operator, L: Ledger>(
     steps: &mut Steps<L>,
 ) -> Result<(), Memory>
     requires { MayCross O.meaning db.now sight made.old step }
-    ensures { OnOk result (PassesOver O.meaning db.now sight.entry made.old made.new step) }
+    ensures passes { OnOk result (PassesOver O.meaning db.now sight.entry made.old made.new step) }
+    ensures steps { SeenWithin 2 sight.entry 1 steps.old steps.new }
 {
     let Some(over) = way_of(db.graph(), step) else {
         unreachable!()
@@ -104,7 +107,8 @@ fn pass_at<O: Operator, L: Ledger>(
     steps: &mut Steps<L>,
 ) -> Result<(), Memory>
     requires { MayPass O.meaning db.now pass place made.old }
-    ensures { OnOk result (Passes O.meaning db.now pass.entry place made.old made.new) }
+    ensures passes { OnOk result (Passes O.meaning db.now pass.entry place made.old made.new) }
+    ensures steps { PassTakes db.now pass.entry place steps.old steps.new }
 {
     let Some(placed) = db.graph().edge_at(place) else {
         return Ok(());
@@ -128,7 +132,9 @@ fn pass_down<O: Operator, L: Ledger>(
 ) -> Result<List<Numbered<Table>>, Memory>
     requires covers { CoversItself (forest db.now.graph.edges) db.now.layout.operators operators.now }
     requires may { MaySee O.meaning db.now.graph.edges operators.now sight }
-    ensures { IfOk result (IsDown O.meaning db.now operators.now sight.entry) }
+    ensures down { IfOk result (IsDown O.meaning db.now operators.now sight.entry) }
+    ensures steps { SeenWithin 2 sight.entry (passed_in db.now.layout.operators
+        operators.now true (forest db.now.graph.edges)) steps.old steps.new }
 {
     let pass = Pass {
         operators,
@@ -155,7 +161,9 @@ fn pass_up<O: Operator, L: Ledger>(
     requires covers { CoversItself (forest db.now.graph.edges) db.now.layout.operators operators.now }
     requires may { MaySee O.meaning db.now.graph.edges operators.now sight }
     requires down { IsDown O.meaning db.now operators.now sight made.old }
-    ensures { OnOk result (AreRead O.meaning db.now operators.now sight.entry made.new) }
+    ensures read { OnOk result (AreRead O.meaning db.now operators.now sight.entry made.new) }
+    ensures steps { SeenWithin 2 sight.entry (passed_in db.now.layout.operators
+        operators.now false (forest db.now.graph.edges)) steps.old steps.new }
 {
     let pass = Pass {
         operators,
@@ -181,10 +189,13 @@ pub fn read_over<O: Operator, L: Ledger>(
 ) -> Result<List<Numbered<Table>>, Memory>
     requires covers { CoversItself (forest db.now.graph.edges) db.now.layout.operators operators.now }
     requires may { MaySee O.meaning db.now.graph.edges operators.now sight }
-    ensures { IfOk result (λ read. (t : ℕ) → In t (table_numbers (made_lem db.now.graph.edges))
+    ensures read { IfOk result (λ read. (t : ℕ)
+        → In t (table_numbers (made_lem db.now.graph.edges))
         → Covers (forest db.now.graph.edges) db.now.layout.operators operators.now t
         → seen_of sight.entry (rows_now db.now.stored read) t
         ≡ seen_of sight.entry (state_for O.meaning db.now).tables t) }
+    ensures steps { SeenWithin 2 sight.entry (listed_in operators.now
+        (forest db.now.graph.edges)) steps.old steps.new }
 {
     let mut made = pass_down(alloc, db, operators, sight, steps)?;
     pass_up(alloc, db, operators, sight, &mut made, steps)?;

@@ -4,3 +4,4 @@ mod WriteLemmas
 mod LaidLemmas
 mod LineLemmas
 mod MoveLemmas
+mod BoundLemmas

@@ -1,4 +1,5 @@
 pub mod Act
 pub mod Kept
+pub mod Bounds
 pub mod Texts
 pub mod Laws

@@ -11,12 +11,14 @@ ghost use Rattle.version_model.specs.Sound.{IsSound};
 ghost use Rattle.storage_law.specs.Canonical.{SameStored};
 ghost use Rattle.db_state.specs.Fields.{storage_in, IsDatabase};
 ghost use Rattle.db_state.specs.Laws.{IsRestored};
+ghost use Rattle.write_propagation.specs.Bounds.{PlansWithin};
 ghost use Rattle.engine_state.specs.Replies.{IsReply};
 ghost use Rattle.engine_statements.specs.Statements.{Planned, wrote};
 ghost use Rattle.engine_statements.specs.Calls.{planned_view, TakesWrite};
 ghost use Rattle.engine_versions.specs.Evolve.{created};
 ghost use Rattle.engine_layouts.specs.Laid.{materialized};
 ghost use Rattle.engine_core.specs.Act.{act, acted, acted_data, are_built, is_built as is_built_statement, planned_write, IsOrdinary};
+ghost use Rattle.engine_core.specs.Bounds.{InsertTakes, PlansInsert};
 ghost use Rattle.engine_core.specs.Kept.{data_of, empty_state, state_of, Answers, Follows};
 
 use crate::built::is_built;
@@ -67,7 +69,8 @@ impl Engine {
 
     /// Carries out one statement of a session, whose texts have at most 65,536 bytes, and answers the
     /// model's reply or refusal. After an error the state is as it was. Whatever brings back a state
-    /// with its layout brings back every stored table, auxiliary table and memory.
+    /// with its layout brings back every stored table, auxiliary table and memory. Each evaluation of
+    /// an expression is a step.
     ///
     /// Where every operator of its tree treats each identifier by itself, an INSERT takes time in the
     /// number of its values, for each table of the tree, and an UPDATE or DELETE besides in the number
@@ -93,6 +96,8 @@ impl Engine {
             (statement_view statement) ≡ Ok p
             → OnOk result (IsOrdinary (data_of self.old) p (data_of self.new)) }
         ensures restores { IsRestored any_meaning self.new }
+        ensures steps { InsertTakes (data_of self.old) (statement_view statement) steps.old
+            steps.new }
     {
         let _session = session;
         // What is stored rests on these.
@@ -144,6 +149,8 @@ impl Engine {
         ensures ordinary { (p : Planned) → planned_write (data_of self.old)
             (statement_view statement.now) ≡ Ok p
             → OnOk result (IsOrdinary (data_of self.old) p (data_of self.new)) }
+        ensures steps { InsertTakes (data_of self.old) (statement_view statement.now) steps.old
+            steps.new }
     {
         // That the layout stays where the graph does rests on it.
         self.versions_always_agree();
@@ -188,6 +195,8 @@ impl Engine {
         ensures ordinary { (p : Planned) → planned_write (data_of self.old)
             (statement_view statement.now) ≡ Ok p
             → OnOk result (IsOrdinary (data_of self.old) p (data_of self.new)) }
+        ensures steps { InsertTakes (data_of self.old) (statement_view statement.now) steps.old
+            steps.new }
     {
         // That the layout stays where the graph does rests on it.
         self.versions_always_agree();
@@ -260,6 +269,8 @@ impl Engine {
         ensures ordinary { (p : Planned) → planned_write (data_of self.old)
             (statement_view statement.now) ≡ Ok p
             → OnOk result (IsOrdinary (data_of self.old) p (data_of self.new)) }
+        ensures steps { InsertTakes (data_of self.old) (statement_view statement.now) steps.old
+            steps.new }
     {
         // That the layout stays where the graph does rests on it.
         self.versions_always_agree();
@@ -278,6 +289,7 @@ impl Engine {
         ensures gives { Gives (planned_view self.now) result
             (planned_write (data_of self.now) (statement_view statement.now)) }
         ensures taken { IfOk result (TakesWrite self.now) }
+        ensures insert { PlansInsert (statement_view statement.now) result steps.old steps.new }
     {
         match statement {
             Statement::Insert { table, rows } => {
@@ -319,6 +331,8 @@ impl Engine {
         ensures ordinary { OnOk result (IsOrdinary (data_of self.old)
             (planned_view self.old plan)
             (data_of self.new)) }
+        ensures steps { PlansWithin any_meaning self.old.graph.edges plan.set plan.changes steps.old
+            steps.new }
     {
         // What follows in the other versions rests on it.
         self.versions_always_agree();

@@ -8,6 +8,7 @@ ghost use Rattle.op_kinds.specs.Operators.{any_meaning};
 ghost use Rattle.version_model.specs.Writes.{MayWrite};
 ghost use Rattle.version_model.specs.Databases.{Writes};
 ghost use Rattle.db_state.specs.Fields.{database_for};
+ghost use Rattle.write_propagation.specs.Bounds.{PlansWithin};
 ghost use Rattle.write_propagation.specs.Plans.{rows_written};
 
 use db_state::Db;
@@ -37,8 +38,10 @@ pub fn write_through<L: Ledger>(
         written.table (rows_written any_meaning database.old written)
         written.ids.next result (database_for any_meaning database.new) }
     ensures layout { database.new.layout ≡ database.old.layout }
+    ensures steps { PlansWithin any_meaning database.old.graph.edges written.set written.changes
+        steps.old steps.new }
 {
     let plan = plan(alloc, database, written, steps)?;
-    commit(alloc, database, plan);
+    let _ = commit(alloc, database, plan);
     Ok(())
 }

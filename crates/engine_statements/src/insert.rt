@@ -55,6 +55,7 @@ pub fn plan_insert(
     ensures gives { Gives (planned_view database.now) result
         (planned_insert (database_for any_meaning database.now) name.now rows.now) }
     ensures taken { IfOk result (TakesWrite database.now) }
+    ensures count { IfOk result (λ plan. length plan.changes ≡ length rows.now) }
 {
     let found = find_table(alloc, database, name)?;
     let next = database.ids().next();

@@ -22,6 +22,8 @@ mod limits;
 #[cfg(test)]
 mod mapped;
 #[cfg(test)]
+mod reverts;
+#[cfg(test)]
 mod row_writes;
 #[cfg(test)]
 mod runs;

@@ -23,10 +23,10 @@ use std::test::Fail;
 use write_propagation::{Plan, RowWrite, commit, plan};
 
 // The number of a table, and the lines of its rows.
-type Shown = (u32, &'static str);
+pub(crate) type Shown = (u32, &'static str);
 
 // Rows of a table of its own, split by two conditions that both hold for the first one.
-const SPLIT: [Given; 3] = [
+pub(crate) const SPLIT: [Given; 3] = [
     ("CREATE SCHEMA VERSION a WITH CREATE TABLE t(x);", true),
     ("INSERT INTO a.t VALUES (7), (3);", true),
     (
@@ -47,7 +47,7 @@ const PARTED: [Given; 4] = [
 ];
 
 // A to-do list, and a release in which authors have a table of their own.
-const PAPER: [Given; 3] = [
+pub(crate) const PAPER: [Given; 3] = [
     (
         "CREATE SCHEMA VERSION TasKy WITH CREATE TABLE task(author, task, prio);",
         true,
@@ -64,13 +64,16 @@ const PAPER: [Given; 3] = [
     ),
 ];
 
-const SPLIT_MOVES: [Given; 2] = [("MATERIALIZE a;", true), ("MATERIALIZE b;", true)];
+pub(crate) const SPLIT_MOVES: [Given; 2] = [("MATERIALIZE a;", true), ("MATERIALIZE b;", true)];
 
-const PAPER_MOVES: [Given; 2] = [("MATERIALIZE TasKy;", true), ("MATERIALIZE TasKy2;", true)];
+pub(crate) const PAPER_MOVES: [Given; 2] = [
+    ("MATERIALIZE TasKy;", true),
+    ("MATERIALIZE TasKy2;", true),
+];
 
 const PARTED_ROWS: [Shown; 3] = [(1, "#1|7\n#2|3\n"), (2, "#1|7\n#2|3\n"), (3, "#1|8\n")];
 
-const PAPER_ROWS: [Shown; 3] = [
+pub(crate) const PAPER_ROWS: [Shown; 3] = [
     (
         1,
         "#1|'Ann'|'Organize party'|3
@@ -91,7 +94,7 @@ const PAPER_ROWS: [Shown; 3] = [
 ];
 
 // Two tasks have authors of their own, which are drawn.
-const PAPER_AFTER: [Shown; 3] = [
+pub(crate) const PAPER_AFTER: [Shown; 3] = [
     (
         1,
         "#1|'Organize party'|'Organize party'|3
@@ -134,7 +137,7 @@ fn stored_text(alloc: Global, db: &Db<AnyOp>) -> Result<String, Memory> {
 }
 
 // The lines of all stored tables and of the auxiliary tables of all operators, and the next identifier.
-fn kept_text(alloc: Global, db: &Db<AnyOp>) -> Result<String, Memory> {
+pub(crate) fn kept_text(alloc: Global, db: &Db<AnyOp>) -> Result<String, Memory> {
     let mut text = stored_text(alloc, db)?;
     for item in db.aux() {
         write!(text, "operator {}\n", item.number)?;
@@ -180,7 +183,7 @@ fn plan_of<L: Ledger>(
 }
 
 // The plan of a statement, which changes nothing that is kept.
-fn expect_plan<L: Ledger>(
+pub(crate) fn expect_plan<L: Ledger>(
     rt: &impl Abort,
     alloc: Global,
     db: &mut Db<AnyOp>,
@@ -215,7 +218,7 @@ fn expect_rows<L: Ledger>(
 }
 
 // Expects the rows of live tables.
-fn expect_tables<L: Ledger>(
+pub(crate) fn expect_tables<L: Ledger>(
     rt: &impl Abort,
     alloc: Global,
     db: &Db<AnyOp>,
@@ -229,19 +232,19 @@ fn expect_tables<L: Ledger>(
 }
 
 // Whether a plan has changes of rows, and no whole table.
-fn is_by_rows(made: &Plan) -> bool {
+pub(crate) fn is_by_rows(made: &Plan) -> bool {
     matches!(made, Plan::ByRows(_))
 }
 
 // A write and its plan, in a database with some tables.
 #[derive(Drop)]
-struct Case<'a> {
-    script: &'a [Given],
-    moved: Given,
-    text: &'a str,
-    by_rows: bool,
-    before: &'a [Shown],
-    after: &'a [Shown],
+pub(crate) struct Case<'a> {
+    pub(crate) script: &'a [Given],
+    pub(crate) moved: Given,
+    pub(crate) text: &'a str,
+    pub(crate) by_rows: bool,
+    pub(crate) before: &'a [Shown],
+    pub(crate) after: &'a [Shown],
 }
 
 // Plans a write twice, and puts the second plan in.
@@ -265,7 +268,7 @@ fn expect_twice<L: Ledger>(
     expect_tables(rt, alloc, &db, case.before, &mut steps)?;
     let made = expect_plan(rt, alloc, &mut db, case.text, &mut steps)?;
     assert_eq!(rt; is_by_rows(&made), case.by_rows, "plan of {}", case.text);
-    commit(alloc, &mut db, made);
+    let _ = commit(alloc, &mut db, made);
     expect_tables(rt, alloc, &db, case.after, &mut steps)
 }
 

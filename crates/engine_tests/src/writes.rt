@@ -69,7 +69,7 @@ impl Twin {
     {
         let made = plan(alloc, &mut self.moved, first, steps)?;
         self.plain.write(alloc, second, steps)?;
-        commit(alloc, &mut self.moved, made);
+        let _ = commit(alloc, &mut self.moved, made);
         Ok(())
     }
 

@@ -18,6 +18,11 @@ fit_of [] (c ∷ cs) old room = absurd old
 fit_of (t ∷ ts) [] old room = absurd old
 fit_of (t ∷ ts) (c ∷ cs) old room = ((old.0.1, room.0), fit_of ts cs old.1 room.1)
 
+pub fit_many : (ts : List TableState) (cs : TableChanges) → Fit ts cs → length cs ≤ length ts
+fit_many ts [] h = omega arith
+fit_many [] (c ∷ cs) h = absurd h
+fit_many (t ∷ ts) (c ∷ cs) h = omega (arith, fit_many ts cs h.1)
+
 -- the last changes are of the table at their place
 pub fit_last : (ts : List TableState) (cs : TableChanges) (c : List Change) (d : TableState) → Fit ts (cs ++ c ∷ []) → (length cs < length ts) × AreOld (slice_index_or ts (length cs) d).rows c × (length c ≤ (slice_index_or ts (length cs) d).spare)
 fit_last [] [] c d h = absurd h

@@ -1,3 +1,4 @@
 pub mod Changes
 pub mod Room
+pub mod Undo
 pub mod inner

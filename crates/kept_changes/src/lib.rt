@@ -1,11 +1,12 @@
 //! Changes in kept tables and auxiliary tables, in place.
 //!
 //! It promises the crates above that changes whose old rows are there, and that have room, are put
-//! into the tables under their numbers without memory, and that the room is made first, by a call
-//! which leaves the rows of every table also where memory is wanting. It knows no operator, no layout
-//! and no graph.
+//! into the tables under their numbers without memory, that the reverse changes which this leaves
+//! restore every table, without memory too, and that the room is made first, by a call which leaves
+//! the rows of every table also where memory is wanting. It knows no operator, no layout and no
+//! graph.
 //!
-//! Lemmas that crates above may use stand in proofs/: `ChangesLaws`.
+//! Lemmas that crates above may use stand in proofs/: `ChangesLaws` and `TakeLaws`.
 #![tactic(auto)]
 
 mod auxes;
@@ -14,6 +15,6 @@ mod room;
 mod side;
 mod tables;
 
-pub use auxes::change_auxes;
+pub use auxes::{ChangedAuxes, change_auxes, undo_auxes};
 pub use room::{reserve_auxes, reserve_tables};
-pub use tables::change_tables;
+pub use tables::{ChangedTables, change_tables, undo_tables};

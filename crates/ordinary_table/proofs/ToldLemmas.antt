@@ -1,7 +1,7 @@
 -- What the changes that statements tell make of a table.
 use Rattle.std.specs.Option.{option_map, option_and_then}
 use Rattle.std.specs.List.{filter}
-use Rattle.std.proofs.Common.{◌≡◌, ◌∙◌, ℕ, ◌+◌, ◌<◌, ◌≤◌, ◌==◌, List, [], ◌∷◌, ◌++◌, Bool, true, false, if◌then◌else◌, cond, map, length, take, get_or, Option, Some, None, refl, ap, sym, arith, append-nil, add-one}
+use Rattle.std.proofs.Common.{◌≡◌, ◌∙◌, ℕ, suc, ◌+◌, ◌<◌, ◌≤◌, ◌==◌, List, [], ◌∷◌, ◌++◌, Bool, true, false, if◌then◌else◌, cond, map, length, take, get_or, Option, Some, None, refl, ap, sym, arith, append-nil, add-one}
 use Rattle.std.proofs.lemmas.Bool.Decides.{nat_tests}
 use Rattle.std.proofs.lemmas.Bool.{cases_order, cases_lt}
 use Rattle.std.proofs.lemmas.List.{length-map, map-append}
@@ -93,6 +93,15 @@ pub added_more : (new : List (List Value)) (next i : ℕ) (d : List Value) → i
     → added_changes next (take (i + 1) new) ≡ added_changes next (take i new) ++ added (next + i, get_or new i d) ∷ []
 added_more new next i d within =
     rw add-one (ap (map added) (numbered_suc next new i d within) ∙ map-append added (numbered next (take i new)) ((next + i, get_or new i d) ∷ []))
+
+numbered_long : (new : List (List Value)) (next : ℕ) → length (numbered next new) ≡ length new
+unfolding numbered
+numbered_long [] next = refl
+numbered_long (row ∷ rows) next = ap suc (numbered_long rows (next + 1))
+
+-- as many as new rows
+pub length_added : (new : List (List Value)) (next : ℕ) → length (added_changes next new) ≡ length new
+length_added new next = length-map (numbered next new) added ∙ numbered_long new next
 
 -- there are as many changes as rows that meet the condition
 pub changes_count : (rows : Rows) (condition : Option (Term ℕ)) (now : Renewal) → length (chosen_changes condition now rows) ≡ chosen_count rows condition

@@ -19,6 +19,7 @@ pub fn insert_rows(alloc: Global, rows: &[Row], next: u64) -> Result<Changes, Me
         → changed table made ≡ inserted table rows.now next) }
     ensures old { IfOk result (λ made. (table : Rows) → AreBelow table next
         → AreOld table made) }
+    ensures count { IfOk result (λ made. length made ≡ length rows.now) }
 {
     let mut made = Changes::new(alloc);
     for (at, row) in rows.iter().enumerate() {

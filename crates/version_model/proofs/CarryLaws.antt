@@ -109,20 +109,26 @@ module _ {O : Type 0} (meaning : O → Meaning) (laws : (o : O) → Laws (meanin
   few = walk_each (λ (p : Crossing O). (length p.near ≤ 2) × (length p.far ≤ 2)) (forest es) set
       (each_more HasSides (λ (e : Link O). ((length e.targets ≤ 2) × (length e.sources ≤ 2)) × ((length e.sources ≤ 2) × (length e.targets ≤ 2))) (λ e h. ((h.1, h.0), h)) (forest es) may.sides)
 
+  -- a mapping may be made at a place of the walk
+  pub may_map : (now : Made) (i : ℕ) (d : Crossing O) → i < length path → made_state b now ≡ carried i → SomeMap (directed (get_or path i d).backward (meaning (get_or path i d).operator)) (map (made_state b now).tables (get_or path i d).near) (pair_in before (get_or path i d)) now.ids.next
+  may_map now i d within so_far =
+      let p = get_or path i d in
+      let call = may_call meaning (headings es) before (write_so_far meaning es before set may.table may.rows may.next i) p (write_at meaning es before may.sound set may.table may.rows may.next may.may laws may.edges i d within) in
+      subst (λ (s : State). SomeMap (directed p.backward (meaning p.operator)) (map s.tables p.near) (pair_in before p) s.next) (sym (so_far ∙ written_so_far i)) call
+
   -- a step may be made
   pub may_step : (now : Made) (i : ℕ) (d : Crossing O) (step : Step) → i < length path → made_state b now ≡ carried i → step ≡ step_told (get_or path i d) → MayStep meaning es b now step
   may_step now i d step within so_far is =
       let p = get_or path i d in
       let listed = in_at path i d within in
       let sides = each_at (λ (p : Crossing O). (length p.near ≤ 2) × (length p.far ≤ 2)) path p listed few in
-      let call = may_call meaning (headings es) before (write_so_far meaning es before set may.table may.rows may.next i) p (write_at meaning es before may.sound set may.table may.rows may.next may.may laws may.edges i d within) in
       record {
         over = p;
         crosses = each_at (IsCrossing es) path p listed (walk_crosses_edges es may.edges set);
         tells = sym is;
         near = sides.0;
         far = sides.1;
-        may = subst (λ (s : State). SomeMap (directed p.backward (meaning p.operator)) (map s.tables p.near) (pair_in before p) s.next) (sym (so_far ∙ written_so_far i)) call;
+        may = may_map now i d within so_far;
       }
 
   start_rises : (i : ℕ) → made.ids.next ≤ (carried i).next

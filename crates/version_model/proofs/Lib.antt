@@ -10,6 +10,8 @@ pub mod EvolveLaws
 pub mod DropLaws
 pub mod GrownLaws
 pub mod ProgressLaws
+pub mod AmongLaws
+pub mod BoundLaws
 pub mod CarryLaws
 pub mod AscendingLaws
 pub mod MakingLaws

@@ -8,5 +8,6 @@ pub mod Dropping
 pub mod Laws
 pub mod Kept
 pub mod Calls
+pub mod Bounds
 pub mod Making
 pub mod Databases

@@ -2,7 +2,7 @@
 ghost use Rattle.std.specs.Prelude.{◌≡◌};
 ghost use Rattle.std.specs.Option.{option_map};
 ghost use Rattle.op_law.specs.Premises.{SomeMap};
-ghost use Rattle.op_law.specs.Calls.{seen, IsMapped};
+ghost use Rattle.op_law.specs.Calls.{seen, IsMapped, MapsWithin};
 ghost use Rattle.version_model.specs.Steps.{directed};
 ghost use Rattle.version_model.specs.Calls.{crossing_of, crossing_over, seen_from, IsTold};
 
@@ -71,9 +71,11 @@ pub fn map_over<O: Operator, L: Ledger>(
 ) -> Result<Far, Fault<IdsSpent>>
     requires { SomeMap (directed backward (O.meaning operator.now)) near.now
         (seen_from backward (seen old.now)) ids.old.next }
-    ensures { IsMapped ((directed backward (O.meaning operator.now)).forward near.now
+    ensures mapped { IsMapped ((directed backward (O.meaning operator.now)).forward near.now
         (seen_from backward (seen old.now)) ids.old.next)
         ids.old ids.new result }
+    ensures steps { MapsWithin (directed backward (O.meaning operator.now)) near.now
+        (seen_from backward (seen old.now)) steps.old steps.new }
 {
     if backward {
         operator.backward(alloc, near, old, ids, steps)

@@ -14,8 +14,8 @@
 //!
 //! Lemmas that crates above may use stand in proofs/: `NumberedLaws`, `NowLaws`, `PutLaws`,
 //! `RunLaws`, `CrossingLaws`, `TreeLaws`, `WriteLaws`, `HeadingLaws`, `EvolveLaws`, `DropLaws`,
-//! `GrownLaws`, `ProgressLaws`, `CarryLaws`, `AscendingLaws`, `MakingLaws`, `EvolvedLaws` and
-//! `LiveLaws`.
+//! `GrownLaws`, `ProgressLaws`, `AmongLaws`, `BoundLaws`, `CarryLaws`, `AscendingLaws`, `MakingLaws`,
+//! `EvolvedLaws` and `LiveLaws`.
 #![tactic(auto)]
 
 mod carry;

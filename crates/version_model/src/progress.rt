@@ -1,6 +1,6 @@
 //! A write or an evolution on its way: what was before, and what it has made so far.
 ghost use Rattle.std.specs.Prelude.{◌≡◌, ◌≤◌, length, map, IfOk, OnOk};
-ghost use Rattle.op_law.specs.Calls.{seen};
+ghost use Rattle.op_law.specs.Calls.{seen, MapsWithin};
 ghost use Rattle.op_law.specs.Premises.{SomeMap};
 ghost use Rattle.version_model.specs.Steps.{pair_in, directed};
 ghost use Rattle.version_model.specs.Calls.{before_state, crossing_of, made_state, seen_from, Crosses};
@@ -75,6 +75,9 @@ pub fn cross<O: Operator, L: Ledger>(
         (seen_from over.now.backward (seen old.now))
         made.old made.new result }
     ensures has { OnOk result (HasMore (crossing_of over.now) made.old made.new) }
+    ensures steps { MapsWithin (directed over.now.backward (O.meaning over.now.operator.now))
+        (map (made_state before.entry made.old).tables over.now.near.now)
+        (seen_from over.now.backward (seen old.now)) steps.old steps.new }
 {
     let near = side_now(alloc, before.tables, made.tables.as_slice(), over.near)?;
     let far = map_over(

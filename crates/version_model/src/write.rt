@@ -1,6 +1,7 @@
 //! What a write makes.
-ghost use Rattle.std.specs.Prelude.{◌≡◌};
+ghost use Rattle.std.specs.Prelude.{◌≡◌, IfOk};
 ghost use Rattle.version_model.specs.Calls.{MayWriteRows, WritesRows};
+ghost use Rattle.version_model.specs.Bounds.{WritesOnly, WritesWithin};
 
 use crate::Numbered;
 use crate::carry::carry;
@@ -24,7 +25,8 @@ pub struct Written {
     pub ids: IdCounter,
 }
 
-/// The written table and all that follows of it along the walk.
+/// The written table and all that follows of it along the walk. Each evaluation of an expression is
+/// a step.
 pub fn write_rows<O: Operator, L: Ledger>(
     alloc: Global,
     graph: &Graph<O>,
@@ -33,7 +35,9 @@ pub fn write_rows<O: Operator, L: Ledger>(
     steps: &mut Steps<L>,
 ) -> Result<Made, Fault<IdsSpent>>
     requires { MayWriteRows O.meaning graph.now.edges before written }
-    ensures { WritesRows O.meaning graph.now.edges before.entry written result }
+    ensures writes { WritesRows O.meaning graph.now.edges before.entry written result }
+    ensures only { IfOk result (WritesOnly O.meaning graph.now.edges before.entry written) }
+    ensures steps { WritesWithin O.meaning graph.now.edges before.entry written steps.old steps.new }
 {
     let Written {
         set,

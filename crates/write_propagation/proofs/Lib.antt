@@ -7,5 +7,6 @@ mod SeenLemmas
 mod WholePlanLemmas
 mod LeadLemmas
 mod RowPlanLemmas
+mod ExchangeLemmas
 mod ChangeLemmas
 pub mod PlanLaws

@@ -1,7 +1,9 @@
 -- The write of what is seen of a tree may be made, and what follows where it was made.
-use Rattle.std.proofs.Common.{◌≡◌, ℕ, ◌≤◌, Bool, List, [], ◌∷◌, true, false, map, Ok, Err, refl, sym, ap, ◌∙◌, subst}
+use Rattle.std.proofs.Common.{◌≡◌, ℕ, ◌*◌, ◌≤◌, length, Bool, List, [], ◌∷◌, true, false, map, Ok, Err, refl, sym, ap, ◌∙◌, subst, arith}
 use Rattle.std.specs.Prelude.{◌==◌, ◌+◌, if◌then◌else◌}
 use Rattle.std.proofs.lemmas.Bool.{cond-true, eq-eqb}
+use Rattle.std.proofs.lemmas.List.{length-map}
+use Rattle.std.proofs.lemmas.Nat.{mul-le}
 use Rattle.std.proofs.Math.Path.{fun_ext}
 use Rattle.par_base.specs.declared.fault.Fault.{Fault}
 use Rattle.par_base.specs.declared.fault.Fault.TheVariants.{Refused, Memory as OutOfMemory}
@@ -13,7 +15,8 @@ use Rattle.row_store.specs.States.{TableState}
 use Rattle.row_store.specs.declared.change.Change.{Change}
 use Rattle.id_memory.specs.States.{MemoryState}
 use Rattle.version_graph.specs.Sets.{In, Each}
-use Rattle.version_graph.specs.Forest.{Link, crossing, forest}
+use Rattle.version_graph.specs.Edges.{AreEdges, is_in}
+use Rattle.version_graph.specs.Forest.{Crossing, Link, crossing, forest, walk}
 use Rattle.version_graph.specs.declared.parts.Placed.{Placed}
 use Rattle.version_graph.proofs.SetLaws.{each_at, each_of}
 use Rattle.op_law.specs.Calls.{IsSpent, first_refused}
@@ -23,6 +26,7 @@ use Rattle.op_law.specs.Meaning.{Meaning}
 use Rattle.row_changes.specs.Changed.{changed}
 use Rattle.row_changes.specs.Touched.{AllPass}
 use Rattle.row_changes.proofs.ChangedLaws.{only_changed, only_old}
+use Rattle.version_model.specs.Bounds.{AreLocal, WritesOnly, WritesWithin}
 use Rattle.version_model.specs.Calls.{MayWriteRows, WritesRows, before_state, made_state}
 use Rattle.version_model.specs.Kept.{HasSides, pairs_at, pairs_now, rows_at, rows_now}
 use Rattle.version_model.specs.Sound.{IsSound}
@@ -37,20 +41,22 @@ use Rattle.version_model.proofs.ProgressLaws.{state_is}
 use Rattle.version_model.proofs.WriteLaws.{write_is_ordinary}
 use Rattle.db_state.specs.Calls.{IsRelatedAt}
 use Rattle.db_state.specs.Fields.{IsDatabase, state_for}
-use Rattle.db_state.specs.Parts.{MaySee, passes}
+use Rattle.db_state.specs.Parts.{MaySee, SeenWithin, passes}
 use Rattle.db_state.specs.declared.parts.Parts.{Parts}
 use Rattle.db_state.specs.declared.sight.Sight.{Sight}
 use Rattle.db_state.specs.declared.sight.Sight.TheVariants.{All, Of}
+use Rattle.db_state.proofs.PartLaws.{rows_all, rows_twice}
+use Rattle.write_propagation.specs.Bounds.{HasSeen}
 use Rattle.write_propagation.specs.Calls.{CopiesTree}
 use Rattle.write_propagation.specs.Making.{IsMaking, MakesWrite, MayPlan, made_over, seen_write}
 use Rattle.write_propagation.specs.Plans.{rows_written}
-use Rattle.write_propagation.specs.Trees.{IsWhole, part}
+use Rattle.write_propagation.specs.Trees.{IsTree, IsWhole, part}
 use Rattle.write_propagation.specs.declared.copies.Copies.{Copies}
 use Rattle.write_propagation.specs.declared.making.Making.{Making}
 use Rattle.write_propagation.specs.declared.plans.RowWrite.{RowWrite}
 use Rattle.write_propagation.specs.declared.tree.Tree.{Tree}
 use Rattle.write_propagation.proofs.TreeLemmas.{all_sound, local_sound, part_may, part_table}
-use Rattle.write_propagation.proofs.WholeLemmas.{has_held, lives, whole}
+use Rattle.write_propagation.proofs.WholeLemmas.{has_held, lives, path_long, walk_local, whole}
 
 -- the identifiers that changes name pass where the rows of these are seen
 abbrev pub ids_of : List Change → List ℕ
@@ -68,10 +74,40 @@ pub named_pass : (cs : List Change) → AllPass (has_id (ids_of cs)) cs
 named_pass [] = tt
 named_pass (c ∷ cs) = (cond-true (c.id == c.id) true (has_id (ids_of cs) c.id) (eq-eqb c.id c.id refl), more_pass c.id (ids_of cs) cs (named_pass cs))
 
+-- as many identifiers as changes
+pub steps_named : (cs : List Change) (ids : List ℕ) → ids ≡ ids_of cs → (n most s t : ℕ) → most ≤ 16 → t ≤ s + most * (length ids * n) → t ≤ s + 16 * (length cs * n)
+steps_named cs ids is n most s t less within =
+    let long : length ids ≡ length cs = ap (λ (l : List ℕ). length l) is ∙ length-map cs (λ (change : Change). change.id) in
+    let own = subst (λ (k : ℕ). t ≤ s + most * (k * n)) long within in
+    let all = mul-le most (length cs * n) 16 (length cs * n) less (omega arith) in
+    omega (arith, own, all)
+
 -- all identifiers pass where all rows are seen
 pub all_pass : (cs : List Change) → AllPass (passes All) cs
 all_pass [] = tt
 all_pass (c ∷ cs) = (refl, all_pass cs)
+
+-- a part has no rows but those that are seen
+part_seen : (sight : Sight) (tree : Tree) (s : State) → HasSeen sight (part (passes sight) tree s)
+part_seen sight tree s t = elim (is_in t tree.tables) as (λ b. rows_only (passes sight) (if b then rows_only (passes sight) (s.tables t) else []) ≡ (if b then rows_only (passes sight) (s.tables t) else [])) [ true ↦ rows_twice (passes sight) (s.tables t) | false ↦ refl ]
+
+-- a write of rows that are seen takes few steps, and makes no other rows
+module _ {O : Type 0} (meaning : O → Meaning) (es : List (Placed O)) (edges : AreEdges es) (set : ℕ) (tree : Tree) (walked : IsTree es set tree) (b : Before) (all : Written) (same : all.set ≡ set) where
+  path_is : walk (forest es) all.set ≡ walk (forest es) set
+  path_is = ap (λ (n : ℕ). walk (forest es) n) same
+
+  writes_within : (sight : Sight) → MaySee meaning es tree.operators sight → HasSeen sight (before_state b) → rows_only (passes sight) all.rows.rows ≡ all.rows.rows → (s t : ℕ) → WritesWithin meaning es b all s t → SeenWithin 6 sight (length tree.operators) s t
+  writes_within All sees before rows s t within = tt
+  writes_within (Of ids) sees before rows s t within =
+      let local = subst (λ (ps : List (Crossing O)). AreLocal meaning ps) (sym path_is) (walk_local es edges set tree walked meaning sees.1) in
+      let own = within ids.now sees.0 local before rows in
+      let long : length (walk (forest es) all.set) ≡ length tree.operators = ap (λ (ps : List (Crossing O)). length ps) path_is ∙ path_long es edges set tree walked in
+      subst (λ (n : ℕ). t ≤ s + 6 * (length ids.now * n)) long own
+
+  writes_seen : (sight : Sight) → MaySee meaning es tree.operators sight → HasSeen sight (before_state b) → rows_only (passes sight) all.rows.rows ≡ all.rows.rows → (made : Made) → WritesOnly meaning es b all made → HasSeen sight (made_state b made)
+  writes_seen All sees before rows made only = λ t. rows_all ((made_state b made).tables t)
+  writes_seen (Of ids) sees before rows made only =
+      only ids.now sees.0 (subst (λ (ps : List (Crossing O)). AreLocal meaning ps) (sym path_is) (walk_local es edges set tree walked meaning sees.1)) before rows
 
 module _ {O : Type 0} (meaning : O → Meaning) (laws : (o : O) → Laws (meaning o)) (d : Parts O) (good : IsDatabase meaning d) (tree : Tree) (w : RowWrite) (plans : MayPlan meaning d tree w) where
   abbrev es : List (Placed O)
@@ -155,6 +191,20 @@ module _ {O : Type 0} (meaning : O → Meaning) (laws : (o : O) → Laws (meanin
 
         made_is : (made : Made) → made_over (record { copies = copies; made = made }) ≡ made_state b made
         made_is made = state_is _ _ _ _ _ _ (ap (λ (l : List (Numbered TableState)). rows_now l made.tables) (sym tables)) (ap (λ (l : List (Numbered MemoryState)). pairs_now l made.memories) (sym memories)) refl
+
+        before_seen : HasSeen sight (before_state b)
+        before_seen = subst (λ (y : State). HasSeen sight y) (sym before_is) (part_seen sight tree s)
+
+        rows_seen : rows_only (passes sight) x.rows ≡ x.rows
+        rows_seen = subst (λ (y : Rows). rows_only (passes sight) y ≡ y) (sym (given ∙ rows_are)) (rows_twice (passes sight) rows)
+
+        -- what it takes
+        pub write_within : (s t : ℕ) → WritesWithin meaning es b all s t → SeenWithin 6 sight (length tree.operators) s t
+        write_within s t within = writes_within meaning es good.graph.edges w.set tree plans.walked b all refl sight sees before_seen rows_seen s t within
+
+        -- and that it makes no other rows
+        pub write_seen : (made : Made) → WritesOnly meaning es b all made → HasSeen sight (made_over (record { copies = copies; made = made }))
+        write_seen made only = subst (λ (y : State). HasSeen sight y) (sym (made_is made)) (writes_seen meaning es good.graph.edges w.set tree plans.walked b all refl sight sees before_seen rows_seen made only)
 
         -- where it was made
         pub making_is : (made : Made) → WritesRows meaning es b all (Ok made) → IsMaking meaning d tree w (passes sight) (record { copies = copies; made = made })

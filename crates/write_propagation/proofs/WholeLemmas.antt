@@ -8,16 +8,19 @@ use Rattle.version_graph.specs.Edges.{AreEdges, edge_of, working}
 use Rattle.version_graph.specs.Forest.{Crossing, Link, crossed, crossing, forest, step_told, tree as root_in, walk}
 use Rattle.version_graph.specs.declared.parts.Step.{Step}
 use Rattle.version_graph.proofs.TakenLaws.{map_map}
-use Rattle.std.proofs.lemmas.List.{append_assoc, append-nil, take_more}
+use Rattle.std.proofs.lemmas.List.{append_assoc, append-nil, length-map, take_more}
 use Rattle.version_graph.specs.declared.parts.Placed.{Placed}
 use Rattle.version_graph.proofs.SetLaws.{each_at, each_of, in_append, in_left, in_map, in_right, origin}
 use Rattle.version_graph.proofs.TreeLaws.{tree_in_walk, walk_in_tree}
 use Rattle.version_graph.proofs.WalkLaws.{is_forest, sets_linked, walk_in_order}
 use Rattle.layout_rules.proofs.ChangeLaws.{link_number}
-use Rattle.layout_rules.proofs.LinkLaws.{target_listed}
+use Rattle.layout_rules.proofs.LinkLaws.{same_link, target_listed}
+use Rattle.op_law.specs.Meaning.{Meaning}
+use Rattle.version_model.specs.Bounds.{AreLocal}
 use Rattle.version_model.specs.Calls.{IsCrossing}
 use Rattle.version_model.proofs.CrossingLaws.{GoesOver, crossings_live, targets_linked, walk_goes_over}
 use Rattle.version_model.proofs.TreeLaws.{MadeIn, one_tree, sources_in_tree, tables_in_tree, targets_in_tree, trees_together}
+use Rattle.db_state.specs.Parts.{AreLocalAt}
 use Rattle.write_propagation.specs.Trees.{IsBeside, IsTree, IsWhole, targets_at}
 use Rattle.write_propagation.specs.declared.tree.Tree.{Tree}
 
@@ -117,6 +120,39 @@ module _ {O : Type 0} (es : List (Placed O)) (edges : AreEdges es) (set : ℕ) (
       let over = each_at (GoesOver links) (walk links set) p i (walk_goes_over links set) in
       let here : In p.number tree.operators = subst (λ (l : List ℕ). In p.number l) (sym is.operators) (in_map (λ (q : Crossing O). q.number) p (walk links set) i) in
       subst (λ (q : Crossing O). IsInside tree q) (sym over.is) (over_inside over.over over.among over.back (subst (λ (q : Crossing O). In q.number tree.operators) over.is here)))
+
+  -- it crosses operators of the tree
+  pub walk_local : (meaning : O → Meaning) → AreLocalAt meaning es tree.operators → AreLocal meaning (walk links set)
+  walk_local meaning local =
+      each_of (λ (p : Crossing O). (meaning p.operator).is_local ≡ true) (walk links set) (λ p i.
+      let over = each_at (GoesOver links) (walk links set) p i (walk_goes_over links set) in
+      let here : In p.number tree.operators = subst (λ (l : List ℕ). In p.number l) (sym is.operators) (in_map (λ (q : Crossing O). q.number) p (walk links set) i) in
+      subst (λ (q : Crossing O). (meaning q.operator).is_local ≡ true) (sym over.is) (of_link over.over over.among over.back (subst (λ (q : Crossing O). In q.number tree.operators) over.is here)))
+    where
+      of_link : (e : Link O) → In e links → (back : Bool) → In (crossing back e).number tree.operators → (meaning (crossing back e).operator).is_local ≡ true
+      of_link e i true j = local e i j
+      of_link e i false j = local e i j
+
+  -- and all of them
+  pub tree_local : (meaning : O → Meaning) → AreLocal meaning (walk links set) → AreLocalAt meaning es tree.operators
+  tree_local meaning local e i j =
+      let o = origin (λ (p : Crossing O). p.number) e.number (walk links set) (subst (λ (l : List ℕ). In e.number l) is.operators j) in
+      let over = each_at (GoesOver links) (walk links set) o.0 o.1 (walk_goes_over links set) in
+      let here : (meaning o.0.operator).is_local ≡ true = each_at (λ (p : Crossing O). (meaning p.operator).is_local ≡ true) (walk links set) o.0 o.1 local in
+      let number : e.number ≡ over.over.number = o.2 ∙ ap (λ (p : Crossing O). p.number) over.is ∙ number_of over.over over.back in
+      let same : e ≡ over.over = same_link links e over.over (is_forest es edges) i over.among number in
+      subst (λ (f : Link O). (meaning f.operator).is_local ≡ true) (sym same) (of_crossing over.over over.back (subst (λ (p : Crossing O). (meaning p.operator).is_local ≡ true) over.is here))
+    where
+      number_of : (f : Link O) (back : Bool) → (crossing back f).number ≡ f.number
+      number_of f true = refl
+      number_of f false = refl
+
+      of_crossing : (f : Link O) (back : Bool) → (meaning (crossing back f).operator).is_local ≡ true → (meaning f.operator).is_local ≡ true
+      of_crossing f true h = h
+      of_crossing f false h = h
+
+  pub path_long : length (walk links set) ≡ length tree.operators
+  path_long = sym (ap (λ (l : List ℕ). length l) is.operators ∙ length-map (walk links set) (λ (p : Crossing O). p.number))
 
   -- it has the tables of its working set
   pub has_held : (t : ℕ) → In t (table_numbers (working es set)) → In t tree.tables

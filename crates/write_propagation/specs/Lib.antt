@@ -1,5 +1,7 @@
 pub mod Trees
 pub mod Plans
 pub mod Room
+pub mod Undo
 pub mod Calls
 pub mod Making
+pub mod Bounds

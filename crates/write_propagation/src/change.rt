@@ -1,75 +1,122 @@
-//! What a write puts into a database.
-ghost use Rattle.std.specs.Prelude.{◌≡◌, ℕ};
-ghost use Rattle.version_model.specs.Kept.{value_of, latest_of, renewed};
-ghost use Rattle.db_state.specs.Fields.{numbers_in, IsDatabase};
+//! What a write puts into a database, and how it is taken back.
+ghost use Rattle.std.specs.Prelude.{◌≡◌};
+ghost use Rattle.db_state.specs.Fields.{IsDatabase};
 ghost use Rattle.db_state.specs.declared.parts.Parts.{Parts as Fields};
-ghost use Rattle.write_propagation.specs.Plans.{Puts, PutsRows, PutsWhole};
+ghost use Rattle.write_propagation.specs.Plans.{IsSame, Puts, PutsRows, PutsWhole};
 ghost use Rattle.write_propagation.specs.Room.{ChangesRows, HasRoom, MayCommit};
+ghost use Rattle.write_propagation.specs.Undo.{UndoesRows, Undoes, IsRevertible, Restores};
 
+use crate::exchange::exchange_all;
 use crate::plans::{Plan, RowPlan, WholePlan};
+use crate::undo::{RowUndo, Undo};
 use db_state::{Db, Parts, put_parts, take_parts};
-use kept_changes::{change_auxes, change_tables};
+use kept_changes::{change_auxes, change_tables, undo_auxes, undo_tables};
 use op_law::Operator;
-use par_base::List;
 use std::alloc::Global;
-use version_model::{Numbered, replace_all};
 
-fn with_newer<T: Drop>(items: List<Numbered<T>>, newer: List<Numbered<T>>) -> List<Numbered<T>>
-    ensures values { (n : ℕ) → value_of result n ≡ renewed (value_of items n) (latest_of newer n) }
-    ensures numbers { numbers_in result ≡ numbers_in items }
-{
-    let mut renewed = items.into_vec();
-    replace_all(&mut renewed, newer);
-    List::from_vec(renewed)
-}
-
-fn commit_whole<O: Operator + Drop>(alloc: Global, db: &mut Db<O>, plan: WholePlan)
+// Gives the plan that puts the older values back.
+fn put_whole<O: Operator + Drop>(alloc: Global, db: &mut Db<O>, plan: WholePlan) -> WholePlan
     requires { (new : Fields _) → PutsWhole db.old plan new → IsDatabase O.meaning new }
-    ensures { PutsWhole db.old plan db.new }
+    ensures puts { PutsWhole db.old plan db.new }
+    ensures undoes { PutsWhole db.new result db.old }
+    ensures kept { IsDatabase O.meaning db.old }
 {
     let parts = take_parts(alloc, db);
+    let stored = exchange_all(parts.stored, plan.stored);
+    let auxes = exchange_all(parts.aux, plan.auxes);
+    let memories = exchange_all(parts.memories, plan.memories);
     put_parts(
         db,
         Parts {
             graph: parts.graph,
             layout: parts.layout,
-            stored: with_newer(parts.stored, plan.stored),
-            aux: with_newer(parts.aux, plan.auxes),
-            memories: with_newer(parts.memories, plan.memories),
+            stored: stored.values,
+            aux: auxes.values,
+            memories: memories.values,
             ids: plan.ids,
         },
     );
+    WholePlan {
+        stored: stored.older,
+        auxes: auxes.older,
+        memories: memories.older,
+        ids: parts.ids,
+    }
 }
 
-fn commit_rows<O: Operator + Drop>(alloc: Global, db: &mut Db<O>, plan: RowPlan)
+fn put_rows<O: Operator + Drop>(alloc: Global, db: &mut Db<O>, plan: RowPlan) -> RowUndo
     requires old { ChangesRows db.old plan }
     requires room { HasRoom db.old plan }
     requires leaves { (new : Fields _) → PutsRows db.old plan new → IsDatabase O.meaning new }
-    ensures { PutsRows db.old plan db.new }
+    ensures puts { PutsRows db.old plan db.new }
+    ensures undoes { UndoesRows db.old db.new result }
+    ensures kept { IsDatabase O.meaning db.old }
 {
     let parts = take_parts(alloc, db);
+    let stored = change_tables(parts.stored, plan.stored);
+    let auxes = change_auxes(alloc, parts.aux, plan.auxes);
     put_parts(
         db,
         Parts {
             graph: parts.graph,
             layout: parts.layout,
-            stored: change_tables(parts.stored, plan.stored),
-            aux: change_auxes(alloc, parts.aux, plan.auxes),
+            stored: stored.tables,
+            aux: auxes.auxes,
             memories: parts.memories,
             ids: plan.ids,
         },
     );
+    RowUndo {
+        stored: stored.back,
+        auxes: auxes.back,
+        ids: parts.ids,
+    }
 }
 
-/// Puts a plan into the database for which it was made. It takes no memory. Whole tables take time
-/// in the number of what is kept, for each value of the plan; changes take that for each table that
-/// changes, and for each change the time of a search.
-pub fn commit<O: Operator + Drop>(alloc: Global, db: &mut Db<O>, plan: Plan)
+/// Puts a plan into the database for which it was made, and gives what takes it back. It takes no
+/// memory. Whole tables take time in the number of what is kept, for each value of the plan; changes
+/// take that for each table that changes, and for each change the time of a search.
+pub fn commit<O: Operator + Drop>(alloc: Global, db: &mut Db<O>, plan: Plan) -> Undo
     requires { MayCommit O.meaning db.old plan }
-    ensures { Puts db.old plan db.new }
+    ensures puts { Puts db.old plan db.new }
+    ensures undoes { Undoes O.meaning db.old db.new result }
 {
     match plan {
-        Plan::ByRows(rows) => commit_rows(alloc, db, rows),
-        Plan::Whole(whole) => commit_whole(alloc, db, whole),
+        Plan::ByRows(rows) => Undo::ByRows(put_rows(alloc, db, rows)),
+        Plan::Whole(whole) => Undo::Whole(put_whole(alloc, db, whole)),
+    }
+}
+
+fn revert_rows<O: Operator + Drop>(alloc: Global, db: &mut Db<O>, undo: RowUndo)
+    requires { (before : Fields _) × IsDatabase O.meaning before × UndoesRows before db.old undo }
+    ensures { (before : Fields _) → UndoesRows before db.old undo → IsSame before db.new }
+{
+    let parts = take_parts(alloc, db);
+    let stored = undo_tables(parts.stored, undo.stored);
+    let aux = undo_auxes(alloc, parts.aux, undo.auxes);
+    put_parts(
+        db,
+        Parts {
+            graph: parts.graph,
+            layout: parts.layout,
+            stored,
+            aux,
+            memories: parts.memories,
+            ids: undo.ids,
+        },
+    );
+}
+
+/// Takes a plan back that was put in: the database is the one before `commit`, in which only the room
+/// of tables may differ. It takes no memory, and no more time than `commit`.
+pub fn revert<O: Operator + Drop>(alloc: Global, db: &mut Db<O>, undo: Undo)
+    requires { IsRevertible O.meaning db.old undo }
+    ensures { Restores O.meaning db.old undo db.new }
+{
+    match undo {
+        Undo::ByRows(rows) => revert_rows(alloc, db, rows),
+        Undo::Whole(whole) => {
+            let _ = put_whole(alloc, db, whole);
+        }
     }
 }

@@ -1,9 +1,10 @@
 //! Copies of the tables and memories of a tree.
 ghost use Rattle.std.specs.Prelude.{◌≡◌, filter, IfOk};
 ghost use Rattle.version_graph.specs.Edges.{is_in};
+ghost use Rattle.version_graph.specs.Forest.{forest};
 ghost use Rattle.version_model.specs.Kept.{rows_now, pairs_at};
 ghost use Rattle.db_state.specs.Fields.{numbers_in};
-ghost use Rattle.db_state.specs.Parts.{seen_of, Ascends, MaySee};
+ghost use Rattle.db_state.specs.Parts.{listed_in, seen_of, Ascends, MaySee, SeenWithin};
 ghost use Rattle.write_propagation.specs.Trees.{IsWhole};
 ghost use Rattle.write_propagation.specs.Calls.{beside, told_pairs, told_rows, CopiesTree};
 
@@ -106,7 +107,9 @@ pub fn copy_tree<O: Operator, L: Ledger>(
     requires whole { IsWhole db.now.graph.edges tree.now }
     requires may { MaySee O.meaning db.now.graph.edges tree.now.operators sight }
     requires ascends { Ascends sight }
-    ensures { IfOk result (CopiesTree O.meaning db.now tree.now sight.entry) }
+    ensures copies { IfOk result (CopiesTree O.meaning db.now tree.now sight.entry) }
+    ensures steps { SeenWithin 2 sight.entry (listed_in tree.now.operators
+        (forest db.now.graph.edges)) steps.old steps.new }
 {
     let read = read_over(alloc, db, tree.operators.as_slice(), sight, steps)?;
     let tables = copy_tables(

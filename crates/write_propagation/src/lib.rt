@@ -3,11 +3,12 @@
 //! It promises the crates above that a write leaves a database in canonical storage whose state is
 //! the one after the model's write (`specs/Plans.antt`), and that it is refused exactly where the
 //! model's is. `plan` makes everything that may fail and changes no contents; `commit` puts the plan
-//! into the database and takes no memory, so a write is made whole or not at all. A write reads,
-//! makes and puts tables of its own tree alone; where every operator of the tree treats each
-//! identifier by itself, it reads, makes and puts the rows of the identifiers that it names, and no
-//! others. The crate knows operators by their laws alone, and nothing of names in statements or of
-//! replies.
+//! into the database and takes no memory, so a write is made whole or not at all; `revert` takes it
+//! back with what `commit` gave, without memory too, and the old database is there again
+//! (`specs/Undo.antt`). A write reads, makes and puts tables of its own tree alone; where every
+//! operator of the tree treats each identifier by itself, it reads, makes and puts the rows of the
+//! identifiers that it names, and no others. The crate knows operators by their laws alone, and
+//! nothing of names in statements or of replies.
 //!
 //! Lemmas that crates above may use stand in proofs/: `PlanLaws`.
 #![tactic(auto)]
@@ -15,12 +16,15 @@
 mod change;
 mod copies;
 mod differing;
+mod exchange;
 mod making;
 mod planning;
 mod plans;
 mod room;
 mod tree;
+mod undo;
 
-pub use change::commit;
+pub use change::{commit, revert};
 pub use planning::plan;
 pub use plans::{Plan, RowPlan, RowWrite, WholePlan};
+pub use undo::{RowUndo, Undo};

@@ -1,12 +1,13 @@
 //! What a write makes of what is seen of its tree.
-ghost use Rattle.std.specs.Prelude.{◌≡◌, map, IfOk};
+ghost use Rattle.std.specs.Prelude.{◌≡◌, length, map, IfOk};
 ghost use Rattle.row_store.specs.Changes.{AreOld};
 ghost use Rattle.version_graph.specs.Sets.{Each};
 ghost use Rattle.row_changes.specs.Changed.{changed};
 ghost use Rattle.row_changes.specs.Touched.{AllPass};
 ghost use Rattle.version_model.specs.Kept.{rows_at};
-ghost use Rattle.db_state.specs.Calls.{AreAuxesOf, IsRelatedAt};
-ghost use Rattle.db_state.specs.Parts.{passes, MaySee};
+ghost use Rattle.db_state.specs.Calls.{AreAuxesOf, AuxesWithin, IsRelatedAt};
+ghost use Rattle.db_state.specs.Parts.{passes, MaySee, SeenWithin};
+ghost use Rattle.write_propagation.specs.Bounds.{HasSeen};
 ghost use Rattle.write_propagation.specs.Making.{made_over, MakesWrite, MayPlan};
 
 use crate::copies::{Copies, copy_tree};
@@ -57,7 +58,9 @@ pub(crate) fn make_write<O: Operator, L: Ledger>(
     requires may { MayPlan O.meaning db.now tree.now written }
     requires sees { MaySee O.meaning db.now.graph.edges tree.now.operators sight }
     requires named { AllPass (passes sight) written.changes }
-    ensures { MakesWrite O.meaning db.now tree.now written (passes sight.entry) result }
+    ensures makes { MakesWrite O.meaning db.now tree.now written (passes sight.entry) result }
+    ensures seen { IfOk result (λ making. HasSeen sight.entry (made_over making)) }
+    ensures steps { SeenWithin 8 sight.entry (length tree.now.operators) steps.old steps.new }
 {
     let copies = copy_tree(alloc, db, tree, sight, steps)?;
     let tables = copies.tables.as_slice();
@@ -87,8 +90,10 @@ pub(crate) fn make_auxes<O: Operator, L: Ledger>(
 ) -> Result<List<Numbered<Aux>>, Memory>
     requires { Each (IsRelatedAt O.meaning db.now.graph.edges (made_over making.now))
         tree.now.operators }
-    ensures { IfOk result (AreAuxesOf O.meaning db.now.graph.edges db.now.layout.operators
+    ensures auxes { IfOk result (AreAuxesOf O.meaning db.now.graph.edges db.now.layout.operators
         (made_over making.now) tree.now.operators) }
+    ensures steps { AuxesWithin O.meaning db.now.graph.edges (made_over making.now)
+        tree.now.operators steps.old steps.new }
 {
     let before = Before {
         tables: making.copies.tables.as_slice(),

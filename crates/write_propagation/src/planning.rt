@@ -1,5 +1,5 @@
 //! The plan of a write.
-ghost use Rattle.std.specs.Prelude.{◌≡◌, ◌≤◌, map, IfOk};
+ghost use Rattle.std.specs.Prelude.{◌≡◌, ◌+◌, ◌*◌, ◌≤◌, length, map, IfOk};
 ghost use Rattle.row_store.specs.Changes.{AreOld};
 ghost use Rattle.version_graph.specs.Sets.{In, Each};
 ghost use Rattle.version_graph.specs.Edges.{numbers};
@@ -8,7 +8,8 @@ ghost use Rattle.op_law.specs.Identifiers.{IdsRise};
 ghost use Rattle.version_model.specs.Writes.{MayWrite};
 ghost use Rattle.db_state.specs.Calls.{IsRelatedAt};
 ghost use Rattle.db_state.specs.Fields.{database_for, state_for};
-ghost use Rattle.db_state.specs.Parts.{passes, AreLocalAt, Ascends};
+ghost use Rattle.db_state.specs.Parts.{passes, AreLocalAt, Ascends, MaySee, SeenWithin};
+ghost use Rattle.write_propagation.specs.Bounds.{HasSeen, PlansWithin};
 ghost use Rattle.write_propagation.specs.Plans.{rows_written, IsSame, Plans, PlansBy, PutsRows, PutsWhole};
 ghost use Rattle.write_propagation.specs.Room.{ChangesRows, HasRoom, IsReadyFor};
 ghost use Rattle.write_propagation.specs.Making.{made_over, AreAsManyMade, AreRowsFor, IsMadeFor, MayPlan};
@@ -80,7 +81,10 @@ fn row_plan<O: Operator, L: Ledger>(
         tree.now.operators }
     requires ascends { Ascends sight }
     requires many { AreAsManyMade O.meaning db.now tree.now making }
-    ensures { IfOk result (AreRowsFor O.meaning db.now tree.now (passes sight.entry) making) }
+    requires may { MaySee O.meaning db.now.graph.edges tree.now.operators sight }
+    requires seen { HasSeen sight (made_over making) }
+    ensures rows { IfOk result (AreRowsFor O.meaning db.now tree.now (passes sight.entry) making) }
+    ensures steps { SeenWithin 8 sight.entry (length tree.now.operators) steps.old steps.new }
 {
     let newer = make_auxes(alloc, db, tree, &making, steps)?;
     let auxes = aux_changes(alloc, db.aux(), newer.as_slice(), sight)?;
@@ -128,6 +132,8 @@ fn plan_changes<O: Operator, L: Ledger>(
     ensures plans { PlansBy (PutsRows db.now) O.meaning db.now written.set written.table
         (rows_written O.meaning db.now written) written.ids.next result }
     ensures old { IfOk result (ChangesRows db.now) }
+    ensures steps { steps.new ≤ steps.old
+        + 16 * (length written.changes * length tree.now.operators) }
 {
     let ids = named_ids(alloc, &written.changes)?;
     let sight = Sight::Of(ids.as_slice());
@@ -149,6 +155,8 @@ fn plan_rows<O: Operator + Drop, L: Ledger>(
         (rows_written O.meaning db.old written) written.ids.next result }
     ensures ready { IfOk result (λ plan. ChangesRows db.new plan × HasRoom db.new plan) }
     ensures same { IsSame db.old db.new }
+    ensures steps { steps.new ≤ steps.old
+        + 16 * (length written.changes * length tree.now.operators) }
 {
     let plan = plan_changes(alloc, db, tree, written, steps)?;
     make_room(alloc, db, &plan)?;
@@ -159,8 +167,10 @@ fn plan_rows<O: Operator + Drop, L: Ledger>(
 /// tree. It changes no contents, and makes room for all that is to be put in.
 ///
 /// Where every operator of the tree treats each identifier by itself, it reads and makes the rows of
-/// the identifiers that the changes name, in each table of the tree, and no others. Else it reads
-/// and copies the tables of the tree, near and far for each operator.
+/// the identifiers that the changes name, in each table of the tree, and no others. Of the at most
+/// sixteen steps for each operator and identifier two are for reading, six for the mapping, and eight
+/// for the auxiliary tables. Else it reads and copies the tables of the tree, near and far for each
+/// operator.
 pub fn plan<O: Operator + Drop, L: Ledger>(
     alloc: Global,
     db: &mut Db<O>,
@@ -178,6 +188,8 @@ pub fn plan<O: Operator + Drop, L: Ledger>(
     ensures ready { IfOk result (IsReadyFor db.new) }
     ensures same { IsSame db.old db.new }
     ensures data { database_for O.meaning db.new ≡ database_for O.meaning db.old }
+    ensures steps { PlansWithin O.meaning db.old.graph.edges written.set written.changes steps.old
+        steps.new }
 {
     let tree = tree_of(alloc, db.graph(), written.set)?;
     if are_local(db.graph(), tree.operators.as_slice()) {

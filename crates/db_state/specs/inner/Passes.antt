@@ -1,5 +1,5 @@
 -- Two passes read tables: down over operators of the layout, the newest first, and then up over others, the oldest first.
-use Rattle.std.specs.Prelude.{◌≡◌, ◌&&◌, ℕ, Bool, true, cond, not, List, [], ◌∷◌, Option, Some, None, ⊤, slice_get}
+use Rattle.std.specs.Prelude.{◌≡◌, ◌&&◌, ◌+◌, ℕ, Bool, true, cond, not, List, [], ◌∷◌, Option, Some, None, ⊤, slice_get}
 use Rattle.par_base.specs.declared.value.Value.{Value}
 use Rattle.row_store.specs.Rows.{Rows}
 use Rattle.version_graph.specs.Sets.{In}
@@ -19,13 +19,18 @@ use Rattle.db_state.specs.declared.read.Pass.{Pass}
 use Rattle.db_state.specs.Fields.{state_for}
 use Rattle.layout_rules.specs.Layouts.{IsMade, IsStored}
 use Rattle.db_state.specs.Covered.{Covers}
-use Rattle.db_state.specs.Parts.{Ascends, MaySee, seen_of}
+use Rattle.db_state.specs.Parts.{Ascends, MaySee, SeenWithin, seen_of}
 use Rattle.db_state.specs.declared.sight.Sight.{Sight}
 use Rattle.db_state.specs.declared.sight.Sight.TheVariants.{All, Of}
 
 -- whether a pass goes over the operator: it is one of these, and is stored on the side from which the pass comes
 abbrev pub is_passed : List ℕ → List ℕ → Bool → ℕ → Bool
 is_passed layout ns back n = is_in n ns && cond back (is_in n layout) (not (is_in n layout))
+
+-- over how many of some operators a pass goes
+abbrev pub passed_in : {O : Type 0} → List ℕ → List ℕ → Bool → List (Link O) → ℕ
+passed_in layout ns back [] = 0
+passed_in layout ns back (f ∷ fs) = cond (is_passed layout ns back f.number) 1 0 + passed_in layout ns back fs
 
 -- what was right is, and so is each of these tables
 pub record Settles (tables : ℕ → Rows) (reached : List ℕ) (rows new : ℕ → Rows) : Type 0 where
@@ -86,3 +91,7 @@ pub record MayPass {O : Type 0} (meaning : O → Meaning) (p : Parts O) (pass : 
 abbrev pub Passes : {O : Type 0} → (O → Meaning) → Parts O → Pass → ℕ → List (Numbered TableState) → List (Numbered TableState) → Type 0
 Passes {O} meaning p pass place made new = (f : Link O) → slice_get (ascending p.graph.edges) place ≡ Some f
     → Settles (seen_of pass.sight (state_for meaning p).tables) (cond (is_passed p.layout.operators pass.operators.now pass.backward f.number) (crossing pass.backward f).far []) (seen_of pass.sight (rows_now p.stored made)) (seen_of pass.sight (rows_now p.stored new))
+
+-- it takes two steps for each identifier that is seen, where the pass goes over the operator at a place
+abbrev pub PassTakes : {O : Type 0} → Parts O → Pass → ℕ → ℕ → ℕ → Type 0
+PassTakes {O} p pass place old new = (f : Link O) → slice_get (ascending p.graph.edges) place ≡ Some f → SeenWithin 2 pass.sight (cond (is_passed p.layout.operators pass.operators.now pass.backward f.number) 1 0) old new

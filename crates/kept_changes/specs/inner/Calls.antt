@@ -1,8 +1,13 @@
 -- What the inner calls suppose and ensure.
-use Rattle.std.specs.Prelude.{ℕ, ◌≤◌, List, [], ◌∷◌, length}
+use Rattle.std.specs.Prelude.{◌≡◌, ℕ, ◌≤◌, ◌==◌, false, List, [], ◌∷◌, length}
 use Rattle.row_store.specs.States.{TableState}
 use Rattle.row_store.specs.Changes.{AreOld}
+use Rattle.op_law.specs.declared.side.Aux.{Aux}
 use Rattle.row_changes.specs.Changed.{TableChanges}
+use Rattle.version_model.specs.Kept.{rows_at}
+use Rattle.version_model.specs.declared.numbered.Numbered.{Numbered}
+use Rattle.db_state.specs.Fields.{auxes_at}
+use Rattle.kept_changes.specs.Room.{room_at, rooms_at}
 
 -- changes to the first tables, each with its old rows and with room for them
 abbrev pub Fit : List TableState → TableChanges → Type 0
@@ -16,3 +21,11 @@ AreAtLeast [] [] = Unit {0}
 AreAtLeast (r ∷ rs) (s ∷ ss) = (r ≤ s) × AreAtLeast rs ss
 AreAtLeast [] (s ∷ ss) = ⊥
 AreAtLeast (r ∷ rs) [] = ⊥
+
+-- the tables under other numbers keep their rows and their room
+abbrev pub OthersStay : ℕ → List (Numbered TableState) → List (Numbered TableState) → Type 0
+OthersStay k old new = (n : ℕ) → (n == k) ≡ false → (rows_at new n ≡ rows_at old n) × (room_at new n ≡ room_at old n)
+
+-- the auxiliary tables under other numbers do
+abbrev pub OtherSidesStay : ℕ → List (Numbered Aux) → List (Numbered Aux) → Type 0
+OtherSidesStay k old new = (n : ℕ) → (n == k) ≡ false → (auxes_at new n ≡ auxes_at old n) × (rooms_at new n ≡ rooms_at old n)

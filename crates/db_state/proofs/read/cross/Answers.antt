@@ -3,12 +3,14 @@ use Rattle.std.proofs.Common.{length, sym, ap, subst}
 use Rattle.version_graph.specs.Edges.{is_in}
 use Rattle.version_graph.specs.Forest.{Crossing}
 use Rattle.version_graph.specs.declared.parts.Step.{Step}
+use Rattle.op_law.specs.Calls.{tables_of}
 use Rattle.version_model.specs.Calls.{crossing_of}
 use Rattle.version_model.specs.Kept.{rows_now}
 use Rattle.storage_law.specs.Storage.{stored_way}
 use Rattle.db_state.specs.Fields.{state_for}
 use Rattle.db_state.specs.Parts.{seen_of}
-use Rattle.db_state.specs.inner.Passes.{Settles}
+use Rattle.db_state.specs.inner.Passes.{SeesOver, Settles}
+use Rattle.db_state.proofs.BoundLaws.{crossed_within, seen_none}
 use Rattle.db_state.proofs.CrossLemmas.{far_long, has_aux, has_memory, may_read, near_kept, near_within, none_kept, same_crossing, settles, some_kept}
 use Rattle.db_state.proofs.read.cross.Goals as goal
 
@@ -59,10 +61,10 @@ put_side-requires g c =
     far_long g.O.Operator.meaning g.met.O.Operator.laws p c.graph.ensures.kept c.args.sight e c.requires.lives c.requires.sees q over (rows_now p.stored c.args.made.now) c.requires.near
     c.in_ok-near.near c.args.step.operator (ap (λ (s : Step). s.operator) c.requires.tells) c.in-Some-value_of.aux.now c.in_ok-beside.beside c.in-Some-value_of-2.memory.now
     near aux c.in_ok-beside.ensures memory
-    c.in_ok-far.far c.in_ok-far.ensures
+    c.in_ok-far.far c.in_ok-far.ensures.far
 
-pub returns : goal.returns
-returns g c other crosses tells =
+pub returns-clause-passes : goal.returns-clause-passes
+returns-clause-passes g c other crosses tells =
     let p = c.args.db.now in
     let e = c.requires.over in
     let q = crossing_of c.in-Some.over in
@@ -75,4 +77,43 @@ returns g c other crosses tells =
     (settles g.O.Operator.meaning g.met.O.Operator.laws p c.graph.ensures.kept c.args.sight e c.requires.lives c.requires.sees q over (rows_now p.stored c.args.made.now) c.requires.near
     c.in_ok-near.near c.args.step.operator (ap (λ (s : Step). s.operator) c.requires.tells) c.in-Some-value_of.aux.now c.in_ok-beside.beside c.in-Some-value_of-2.memory.now
     near aux c.in_ok-beside.ensures memory
-    c.in_ok-far.far (rows_now p.stored c.put_side.new.made) c.in_ok-far.ensures (c.in_ok-put_side.ensures p.stored))
+    c.in_ok-far.far (rows_now p.stored c.put_side.new.made) c.in_ok-far.ensures.far (c.in_ok-put_side.ensures p.stored))
+
+pub returns-in_err-far-clause-steps : goal.returns-in_err-far-clause-steps
+returns-in_err-far-clause-steps g c =
+    let p = c.args.db.now in
+    let e = c.requires.over in
+    let q = crossing_of c.in-Some.over in
+    let over = same_crossing c.graph.result.now p.graph c.graph.ensures.graph c.args.step q (stored_way p.layout.operators e) c.in-Some.ensures c.requires.crosses c.requires.tells in
+    let near = near_kept c.args.sight c.stored.result.now p.stored c.as_slice.result.now c.args.made.now c.in_ok-near.near q.near c.in_ok-near.ensures c.stored.ensures c.as_slice.ensures in
+    let sees = subst (λ (x : Crossing _). SeesOver c.args.sight (g.O.Operator.meaning x.operator)) (sym over) c.requires.sees in
+    crossed_within c.args.sight (g.O.Operator.meaning q.operator) q.backward (rows_now p.stored c.args.made.now) q.near c.in_ok-near.near (tables_of c.in-Some-value_of.aux.now) (tables_of c.in_ok-beside.beside) c.args.steps.now c.read_far.new.steps c.requires.ascends sees
+    near c.in_ok-beside.ensures c.in_err-far.ensures.steps
+
+pub returns-in_err-put_side-clause-steps : goal.returns-in_err-put_side-clause-steps
+returns-in_err-put_side-clause-steps g c =
+    let p = c.args.db.now in
+    let e = c.requires.over in
+    let q = crossing_of c.in-Some.over in
+    let over = same_crossing c.graph.result.now p.graph c.graph.ensures.graph c.args.step q (stored_way p.layout.operators e) c.in-Some.ensures c.requires.crosses c.requires.tells in
+    let near = near_kept c.args.sight c.stored.result.now p.stored c.as_slice.result.now c.args.made.now c.in_ok-near.near q.near c.in_ok-near.ensures c.stored.ensures c.as_slice.ensures in
+    let sees = subst (λ (x : Crossing _). SeesOver c.args.sight (g.O.Operator.meaning x.operator)) (sym over) c.requires.sees in
+    crossed_within c.args.sight (g.O.Operator.meaning q.operator) q.backward (rows_now p.stored c.args.made.now) q.near c.in_ok-near.near (tables_of c.in-Some-value_of.aux.now) (tables_of c.in_ok-beside.beside) c.args.steps.now c.read_far.new.steps c.requires.ascends sees
+    near c.in_ok-beside.ensures c.in_ok-far.ensures.steps
+
+pub returns-clause-steps : goal.returns-clause-steps
+returns-clause-steps g c =
+    let p = c.args.db.now in
+    let e = c.requires.over in
+    let q = crossing_of c.in-Some.over in
+    let over = same_crossing c.graph.result.now p.graph c.graph.ensures.graph c.args.step q (stored_way p.layout.operators e) c.in-Some.ensures c.requires.crosses c.requires.tells in
+    let near = near_kept c.args.sight c.stored.result.now p.stored c.as_slice.result.now c.args.made.now c.in_ok-near.near q.near c.in_ok-near.ensures c.stored.ensures c.as_slice.ensures in
+    let sees = subst (λ (x : Crossing _). SeesOver c.args.sight (g.O.Operator.meaning x.operator)) (sym over) c.requires.sees in
+    crossed_within c.args.sight (g.O.Operator.meaning q.operator) q.backward (rows_now p.stored c.args.made.now) q.near c.in_ok-near.near (tables_of c.in-Some-value_of.aux.now) (tables_of c.in_ok-beside.beside) c.args.steps.now c.read_far.new.steps c.requires.ascends sees
+    near c.in_ok-beside.ensures c.in_ok-far.ensures.steps
+
+pub returns-in_err-near-clause-steps : goal.returns-in_err-near-clause-steps
+returns-in_err-near-clause-steps g c = seen_none 2 c.args.sight 1 c.args.steps.now
+
+pub returns-in_err-beside-clause-steps : goal.returns-in_err-beside-clause-steps
+returns-in_err-beside-clause-steps g c = seen_none 2 c.args.sight 1 c.args.steps.now

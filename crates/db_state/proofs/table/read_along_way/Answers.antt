@@ -28,7 +28,7 @@ returns g c =
     let P = passes c.args.sight in
     let Q = passes c.sight_over-wider.result in
     let got = c.take_latest.ensures ∙ sym (unstored_rows p.stored c.in_ok-read.read c.args.table c.requires.unstored) in
-    let read = c.in_ok-read.ensures c.args.table c.requires.lives covered in
+    let read = c.in_ok-read.ensures.read c.args.table c.requires.lives covered in
     let table = (state_for g.O.Operator.meaning p).tables c.args.table in
     let wider = c.sight_over-wider.ensures.seen in
     ap (λ (rows : Rows). rows_only P rows) got

@@ -27,11 +27,11 @@ pub returns-clause-writes : goal.returns-clause-writes
 returns-clause-writes g c =
     let w = c.args.written in
     let d = c.args.database.now in
-    let writes = plan_writes c.plan.new.db c.commit.new.db c.in_ok-plan.plan w.set w.table (rows_written any_meaning d w) w.ids.next c.in_ok-plan.ensures.plans c.commit.ensures in
+    let writes = plan_writes c.plan.new.db c.commit.new.db c.in_ok-plan.plan w.set w.table (rows_written any_meaning d w) w.ids.next c.in_ok-plan.ensures.plans c.commit.ensures.puts in
     subst (λ (x : AnyDatabase). Writes any_meaning x w.set w.table (rows_written any_meaning d w) w.ids.next (Ok tt) (database_for any_meaning c.commit.new.db)) c.in_ok-plan.ensures.data writes
 
 pub returns-in_err-plan-clause-layout : goal.returns-in_err-plan-clause-layout
 returns-in_err-plan-clause-layout g c = c.in_err-plan.ensures.same.layout
 
 pub returns-clause-layout : goal.returns-clause-layout
-returns-clause-layout g c = puts_layout c.plan.new.db c.commit.new.db c.in_ok-plan.plan c.commit.ensures ∙ c.in_ok-plan.ensures.same.layout
+returns-clause-layout g c = puts_layout c.plan.new.db c.commit.new.db c.in_ok-plan.plan c.commit.ensures.puts ∙ c.in_ok-plan.ensures.same.layout

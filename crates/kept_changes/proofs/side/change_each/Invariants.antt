@@ -1,14 +1,17 @@
-use Rattle.std.proofs.Common.{◌≡◌, vec_len}
+use Rattle.std.proofs.Common.{◌≡◌, ◌≤◌, length, take}
 use Rattle.op_law.specs.Tables.{contents}
 use Rattle.row_changes.specs.Changed.{changed_tables}
 use Rattle.kept_changes.specs.inner.Calls.{Fit}
+use Rattle.kept_changes.proofs.BackLemmas.{LeadsBackFrom}
 use Rattle.kept_changes.proofs.side.change_each.Given as goal
 
-abbrev pub invariant-loop-one : goal.invariant-loop-one
-invariant-loop-one l = record {
-  rows : changed_tables (contents l.tables.items) l.left.items ≡ changed_tables (contents l.fn.tables.items) l.fn.changes;
-  fit : Fit l.tables.items l.left.items;
+abbrev pub invariant-loop-at : goal.invariant-loop-at
+invariant-loop-at l = record {
+  within : l.at ≤ length l.changes.items;
+  rows : changed_tables (contents l.tables.items) (take l.at l.changes.items) ≡ changed_tables (contents l.fn.tables.items) l.fn.changes.items;
+  fit : Fit l.tables.items (take l.at l.changes.items);
+  back : LeadsBackFrom l.at (contents l.fn.tables.items) l.tables.items l.changes.items;
 }
 
-abbrev pub decreases-loop-one : goal.decreases-loop-one
-decreases-loop-one l = vec_len l.left
+abbrev pub decreases-loop-at : goal.decreases-loop-at
+decreases-loop-at l = l.at

@@ -20,7 +20,7 @@ auxes_in-requires g c =
     let same = changing_is c.graph-graph.result.now old.graph c.as_slice-layout.result.now old.layout.operators c.as_slice.result.now c.args.goal.operators c.graph-graph.ensures.graph sides c.as_slice.ensures in
     let b : Before = record { tables = c.stored-2.result; memories = c.memories.result; next = c.next.result } in
     let done : Made = record { tables = c.in_ok-read.read; memories = c.new.result; ids = c.copy.result } in
-    let whole = read_whole g.O.Operator.meaning old c.as_slice-2.result.now c.in_ok-read.read c.in_ok-read.ensures in
+    let whole = read_whole g.O.Operator.meaning old c.as_slice-2.result.now c.in_ok-read.read c.in_ok-read.ensures.read in
     may_make g.O.Operator.meaning old c.graph-graph.ensures.kept c.args.goal.operators c.requires.valid c.as_slice-2.result.now (c.as_slice-2.ensures ∙ c.in_ok-operators.ensures ∙ same)
     b done whole c.graph-graph.result.now c.graph-graph.ensures.graph c.stored-2.ensures c.memories.ensures c.new.ensures c.as_slice-4.result.now (c.as_slice-4.ensures ∙ c.in_ok-operators.ensures ∙ same)
 
@@ -31,8 +31,8 @@ returns-clause-leads g c =
     let same = changing_is c.graph-graph.result.now old.graph c.as_slice-layout.result.now old.layout.operators c.as_slice.result.now c.args.goal.operators c.graph-graph.ensures.graph sides c.as_slice.ensures in
     let b : Before = record { tables = c.stored-2.result; memories = c.memories.result; next = c.next.result } in
     let done : Made = record { tables = c.in_ok-read.read; memories = c.new.result; ids = c.copy.result } in
-    let whole = read_whole g.O.Operator.meaning old c.as_slice-2.result.now c.in_ok-read.read c.in_ok-read.ensures in
+    let whole = read_whole g.O.Operator.meaning old c.as_slice-2.result.now c.in_ok-read.read c.in_ok-read.ensures.read in
     let moved : Moved = record { layout = c.args.goal; stored = c.in_ok-stored.stored; auxes = c.in_ok-auxes.auxes; flips = c.len.result } in
     prepared g.O.Operator.meaning old c.graph-graph.ensures.kept c.args.goal.operators c.requires.valid c.as_slice-2.result.now (c.as_slice-2.ensures ∙ c.in_ok-operators.ensures ∙ same)
     b done whole c.graph-graph.result.now c.graph-graph.ensures.graph c.stored-2.ensures c.memories.ensures c.new.ensures
-    g.met.O.Operator.laws moved refl c.requires.ascending c.stored.result.now c.as_slice-3.result.now c.stored.ensures c.as_slice-3.ensures c.in_ok-stored.ensures c.as_slice-4.result.now (c.as_slice-4.ensures ∙ c.in_ok-operators.ensures ∙ same) c.in_ok-auxes.ensures
+    g.met.O.Operator.laws moved refl c.requires.ascending c.stored.result.now c.as_slice-3.result.now c.stored.ensures c.as_slice-3.ensures c.in_ok-stored.ensures c.as_slice-4.result.now (c.as_slice-4.ensures ∙ c.in_ok-operators.ensures ∙ same) c.in_ok-auxes.ensures.auxes

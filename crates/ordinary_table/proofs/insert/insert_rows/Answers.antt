@@ -6,7 +6,7 @@ use Rattle.row_store.specs.Changes.{IsAbove, AreOld}
 use Rattle.row_changes.specs.Changed.{changed}
 use Rattle.ordinary_table.specs.Written.{numbered}
 use Rattle.ordinary_table.specs.inner.Told.{added_changes}
-use Rattle.ordinary_table.proofs.ToldLemmas.{above_added, added_more, changed_inserted, old_added}
+use Rattle.ordinary_table.proofs.ToldLemmas.{above_added, added_more, changed_inserted, length_added, old_added}
 use Rattle.ordinary_table.proofs.insert.insert_rows.Goals as goal
 
 pub loop-at-init : goal.loop-at-init
@@ -31,6 +31,11 @@ pub returns-clause-rows : goal.returns-clause-rows
 returns-clause-rows c table rise below =
     ap (changed table) (ended c.args.rows.now c.args.next c.loop-at.at c.loop-at.made c.loop-at.invariant (omega (arith, c.loop-at-test.false)))
     ∙ changed_inserted table c.args.rows.now c.args.next rise below
+
+pub returns-clause-count : goal.returns-clause-count
+returns-clause-count c =
+    ap (λ (l : List Change). length l) (ended c.args.rows.now c.args.next c.loop-at.at c.loop-at.made c.loop-at.invariant (omega (arith, c.loop-at-test.false)))
+    ∙ length_added c.args.rows.now c.args.next
 
 pub returns-clause-old : goal.returns-clause-old
 returns-clause-old c table below =

@@ -1,8 +1,10 @@
-use Rattle.std.proofs.Common.{◌≤◌, false, sym, ◌∙◌, subst}
+use Rattle.std.proofs.Common.{◌≤◌, false, sym, ◌∙◌, subst, arith}
 use Rattle.std.proofs.lemmas.Result.{err_from_is_err_and}
+use Rattle.version_graph.specs.Forest.{forest, walk}
 use Rattle.op_law.specs.Calls.{first_refused}
 use Rattle.version_model.specs.States.{State}
-use Rattle.version_model.proofs.CarryLaws.{may_step, step_at, crosses_at, step_made, step_refused, walk_made, no_more}
+use Rattle.version_model.proofs.BoundLaws.{all_within, carried_more, carried_within}
+use Rattle.version_model.proofs.CarryLaws.{may_map, may_step, step_at, crosses_at, step_made, step_refused, walk_made, no_more}
 use Rattle.version_model.proofs.carry.carry.Goals as goal
 
 pub make_step-requires : goal.make_step-requires
@@ -17,8 +19,8 @@ make_step-requires g c =
     let at = step_at meaning laws es b made c.args.set may c.as_slice-step-items.result.now i (record { operator = 0; backward = false }) (c.as_slice-step-items.ensures ∙ c.in_ok-walk.ensures) c.loop-step-test.true in
     may_step meaning laws es b made c.args.set may c.loop-step.made i at.0 _ at.1 c.loop-step.invariant.so_far at.2
 
-pub returns-in_err-make_step : goal.returns-in_err-make_step
-returns-in_err-make_step g c =
+pub returns-in_err-make_step-clause-carries : goal.returns-in_err-make_step-clause-carries
+returns-in_err-make_step-clause-carries g c =
     let es = c.args.graph.now.edges in
     let b = c.args.before in
     let made = c.args.made.now in
@@ -28,9 +30,31 @@ returns-in_err-make_step g c =
     let i = c.loop-step.step-index in
     let inv = c.loop-step.invariant in
     let at = step_at meaning laws es b made c.args.set may c.as_slice-step-items.result.now i (record { operator = 0; backward = false }) (c.as_slice-step-items.ensures ∙ c.in_ok-walk.ensures) c.loop-step-test.true in
-    let crossed = c.in_err-make_step.ensures _ (crosses_at meaning laws es b made c.args.set may i at.0 at.1) (sym at.2) in
+    let crossed = c.in_err-make_step.ensures.crosses _ (crosses_at meaning laws es b made c.args.set may i at.0 at.1) (sym at.2) in
     let p = err_from_is_err_and c.from_residual-in_err-make_step.result c.from_residual-in_err-make_step.ensures.1 in
     rw (p.1, p.2) (step_refused meaning laws es b made c.args.set may c.loop-step.made c.make_step.new.made i at.0 c.in_err-make_step.field-0.0 at.1 inv.so_far inv.within inv.limit crossed)
+
+pub returns-in_err-make_step-clause-steps : goal.returns-in_err-make_step-clause-steps
+returns-in_err-make_step-clause-steps g c =
+    let es = c.args.graph.now.edges in
+    let b = c.args.before in
+    let made = c.args.made.now in
+    let laws = g.met.O.Operator.laws in
+    let meaning = g.O.Operator.meaning in
+    let may = c.requires in
+    let i = c.loop-step.step-index in
+    let inv = c.loop-step.invariant in
+    let at = step_at meaning laws es b made c.args.set may c.as_slice-step-items.result.now i (record { operator = 0; backward = false }) (c.as_slice-step-items.ensures ∙ c.in_ok-walk.ensures) c.loop-step-test.true in
+    let took = c.in_err-make_step.ensures.steps _ (crosses_at meaning laws es b made c.args.set may i at.0 at.1) (sym at.2) in
+    carried_within meaning laws (walk (forest es) c.args.set) b made c.loop-step.made i at.0 at.1 c.args.steps.now c.loop-step.steps c.make_step.new.steps inv.bound took
+
+pub returns-clause-only : goal.returns-clause-only
+returns-clause-only g c ids rise local before first = (c.loop-step.invariant.bound ids rise local before first).0
+
+pub returns-clause-steps : goal.returns-clause-steps
+returns-clause-steps g c =
+    let es = c.args.graph.now.edges in
+    all_within g.O.Operator.meaning (walk (forest es) c.args.set) c.args.before c.args.made.now c.loop-step.made c.loop-step.step-index c.args.steps.now c.loop-step.steps c.loop-step.invariant.inside c.loop-step.invariant.bound
 
 pub loop-step-preserved : goal.loop-step-preserved
 loop-step-preserved g c =
@@ -43,12 +67,20 @@ loop-step-preserved g c =
     let i = c.loop-step.step-index in
     let inv = c.loop-step.invariant in
     let at = step_at meaning laws es b made c.args.set may c.as_slice-step-items.result.now i (record { operator = 0; backward = false }) (c.as_slice-step-items.ensures ∙ c.in_ok-walk.ensures) c.loop-step-test.true in
-    let crossed = c.in_ok-make_step.ensures _ (crosses_at meaning laws es b made c.args.set may i at.0 at.1) (sym at.2) in
+    let crossed = c.in_ok-make_step.ensures.crosses _ (crosses_at meaning laws es b made c.args.set may i at.0 at.1) (sym at.2) in
     let next = step_made meaning laws es b made c.args.set may c.loop-step.made c.make_step.new.made i at.0 at.1 inv.so_far inv.within inv.limit crossed in
-    record { so_far = next.0; within = next.1; limit = next.2 }
+    let some = may_map meaning laws es b made c.args.set may c.loop-step.made i at.0 at.1 inv.so_far in
+    let took = c.in_ok-make_step.ensures.steps _ (crosses_at meaning laws es b made c.args.set may i at.0 at.1) (sym at.2) in
+    record {
+      so_far = next.0;
+      within = next.1;
+      limit = next.2;
+      inside = omega (arith, at.1);
+      bound = carried_more meaning laws (walk (forest es) c.args.set) b made c.loop-step.made i at.0 at.1 c.args.steps.now c.loop-step.steps c.make_step.new.steps inv.bound took c.make_step.new.made some crossed;
+    }
 
-pub returns : goal.returns
-returns g c =
+pub returns-clause-carries : goal.returns-clause-carries
+returns-clause-carries g c =
     let es = c.args.graph.now.edges in
     let b = c.args.before in
     let made = c.args.made.now in

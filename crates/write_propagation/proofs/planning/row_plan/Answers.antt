@@ -6,11 +6,13 @@ use Rattle.version_graph.specs.Edges.{is_in}
 use Rattle.version_model.specs.declared.numbered.Numbered.{Numbered}
 use Rattle.db_state.specs.Fields.{numbers_in}
 use Rattle.db_state.specs.Parts.{passes}
+use Rattle.db_state.proofs.BoundLaws.{auxes_seen}
+use Rattle.write_propagation.specs.Making.{made_over}
 use Rattle.write_propagation.specs.Calls.{AreAuxChanges, AreTableChanges}
 use Rattle.write_propagation.proofs.planning.row_plan.Goals as goal
 
-pub returns : goal.returns
-returns g c =
+pub returns-clause-rows : goal.returns-clause-rows
+returns-clause-rows g c =
     let d = c.args.db.now in
     let tree = c.args.tree.now in
     let m = c.args.making in
@@ -21,8 +23,23 @@ returns g c =
           (subst (λ (l : List (Numbered TableState)). AreTableChanges m.copies.tables l c.as_slice-5.result.now c.in_ok-stored.stored) c.as_slice-4.ensures
           (subst (λ (l : List (Numbered TableState)). AreTableChanges l c.as_slice-4.result.now c.as_slice-5.result.now c.in_ok-stored.stored) c.as_slice-3.ensures c.in_ok-stored.ensures));
       newer = c.in_ok-newer.newer;
-      made = c.in_ok-newer.ensures;
+      made = c.in_ok-newer.ensures.auxes;
       auxes = subst (λ (l : List (Numbered Aux)). AreAuxChanges d.aux (passes c.args.sight) l c.in_ok-auxes.auxes) c.as_slice.ensures
           (subst (λ (l : List (Numbered Aux)). AreAuxChanges l (passes c.args.sight) c.as_slice.result.now c.in_ok-auxes.auxes) c.aux.ensures c.in_ok-auxes.ensures);
       ids = refl;
     }
+
+pub returns-in_err-newer-clause-steps : goal.returns-in_err-newer-clause-steps
+returns-in_err-newer-clause-steps g c = auxes_seen g.O.Operator.meaning c.args.db.now.graph.edges (made_over c.args.making) c.args.sight c.args.tree.now.operators c.args.steps.now c.make_auxes.new.steps c.requires.may c.requires.seen c.in_err-newer.ensures.steps
+
+pub returns-in_err-auxes-clause-steps : goal.returns-in_err-auxes-clause-steps
+returns-in_err-auxes-clause-steps g c = auxes_seen g.O.Operator.meaning c.args.db.now.graph.edges (made_over c.args.making) c.args.sight c.args.tree.now.operators c.args.steps.now c.make_auxes.new.steps c.requires.may c.requires.seen c.in_ok-newer.ensures.steps
+
+pub returns-in_err-numbers-clause-steps : goal.returns-in_err-numbers-clause-steps
+returns-in_err-numbers-clause-steps g c = auxes_seen g.O.Operator.meaning c.args.db.now.graph.edges (made_over c.args.making) c.args.sight c.args.tree.now.operators c.args.steps.now c.make_auxes.new.steps c.requires.may c.requires.seen c.in_ok-newer.ensures.steps
+
+pub returns-in_err-stored-clause-steps : goal.returns-in_err-stored-clause-steps
+returns-in_err-stored-clause-steps g c = auxes_seen g.O.Operator.meaning c.args.db.now.graph.edges (made_over c.args.making) c.args.sight c.args.tree.now.operators c.args.steps.now c.make_auxes.new.steps c.requires.may c.requires.seen c.in_ok-newer.ensures.steps
+
+pub returns-clause-steps : goal.returns-clause-steps
+returns-clause-steps g c = auxes_seen g.O.Operator.meaning c.args.db.now.graph.edges (made_over c.args.making) c.args.sight c.args.tree.now.operators c.args.steps.now c.make_auxes.new.steps c.requires.may c.requires.seen c.in_ok-newer.ensures.steps

@@ -29,4 +29,5 @@ returns-in_default g c =
       same = same_laid old new c.change_data.result c.versions_always_agree.ensures.stored made.same made.layout;
       reply = made.reply;
       ordinary = made.ordinary;
+      steps = made.steps;
     }

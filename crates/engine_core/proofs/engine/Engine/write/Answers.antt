@@ -1,4 +1,4 @@
-use Rattle.std.proofs.Common.{◌≡◌, ◌<◌, Ok, refl, subst, ap}
+use Rattle.std.proofs.Common.{◌≡◌, ◌<◌, Ok, refl, subst, ap, arith}
 use Rattle.std.proofs.lemmas.Result.{err_from_is_err_and}
 use Rattle.par_base.specs.declared.fault.Fault.TheVariants.{Refused}
 use Rattle.par_base.specs.declared.refusal.Refusal.TheVariants.{IdsSpent}
@@ -9,6 +9,7 @@ use Rattle.db_state.specs.Fields.{database_for}
 use Rattle.db_state.specs.declared.parts.Parts.{Parts}
 use Rattle.version_model.specs.Databases.{Writes}
 use Rattle.engine_statements.specs.Calls.{rows_after}
+use Rattle.write_propagation.specs.Bounds.{PlansWithin}
 use Rattle.engine_core.proofs.WriteLemmas.{above_already, both_stay, ordinary_then, write_follows, written_then}
 use Rattle.engine_core.proofs.engine.Engine.write.Goals as goal
 
@@ -68,3 +69,15 @@ returns-clause-layout g c =
     let writes = subst (λ (x : Parts AnyView). Writes any_meaning (database_for any_meaning x) w.set w.table (rows_after x w) n c.write_through.result (database_for any_meaning new)) c.self.view_is c.write_through.ensures.writes in
     let layout = subst (λ (x : Parts AnyView). new.layout ≡ x.layout) c.self.view_is c.write_through.ensures.layout in
     write_follows c.args.self.now new w.set w.table (rows_after c.args.self.now w) n c.write_through.result c.versions_always_agree.ensures.stored writes layout
+
+pub returns-in_err-ids-clause-steps : goal.returns-in_err-ids-clause-steps
+returns-in_err-ids-clause-steps g c local = omega arith
+
+pub returns-in-Ok-clause-steps : goal.returns-in-Ok-clause-steps
+returns-in-Ok-clause-steps g c = subst (λ (x : Parts AnyView). PlansWithin any_meaning x.graph.edges c.args.plan.set c.args.plan.changes c.args.steps.now c.write_through.new.steps) c.self.view_is c.write_through.ensures.steps
+
+pub returns-in-Err-Refused-clause-steps : goal.returns-in-Err-Refused-clause-steps
+returns-in-Err-Refused-clause-steps g c = subst (λ (x : Parts AnyView). PlansWithin any_meaning x.graph.edges c.args.plan.set c.args.plan.changes c.args.steps.now c.write_through.new.steps) c.self.view_is c.write_through.ensures.steps
+
+pub returns-clause-steps : goal.returns-clause-steps
+returns-clause-steps g c = subst (λ (x : Parts AnyView). PlansWithin any_meaning x.graph.edges c.args.plan.set c.args.plan.changes c.args.steps.now c.write_through.new.steps) c.self.view_is c.write_through.ensures.steps

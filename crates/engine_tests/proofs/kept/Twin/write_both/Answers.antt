@@ -24,10 +24,10 @@ commit-requires g c =
 
 pub returns-clause-twin : goal.returns-clause-twin
 returns-clause-twin g c =
-    both_written c.args.self.now c.args.first c.args.second c.requires.twin c.requires.taken c.write.new.self c.plan.new.db c.commit.new.db c.in_ok-write.ensures c.in_ok-made.ensures.data (c.in_ok-made.ensures.plans.1 c.commit.new.db c.commit.ensures).1
+    both_written c.args.self.now c.args.first c.args.second c.requires.twin c.requires.taken c.write.new.self c.plan.new.db c.commit.new.db c.in_ok-write.ensures c.in_ok-made.ensures.data (c.in_ok-made.ensures.plans.1 c.commit.new.db c.commit.ensures.puts).1
 
 pub returns-clause-writes : goal.returns-clause-writes
 returns-clause-writes g c =
     let w = c.args.first in
     let d = c.args.self.now in
-    plan_writes (moved_state d) c.plan.new.db c.commit.new.db c.in_ok-made.made w.set w.table (rows_written any_meaning d.moved w) w.ids.next c.in_ok-made.ensures.plans c.in_ok-made.ensures.data c.commit.ensures
+    plan_writes (moved_state d) c.plan.new.db c.commit.new.db c.in_ok-made.made w.set w.table (rows_written any_meaning d.moved w) w.ids.next c.in_ok-made.ensures.plans c.in_ok-made.ensures.data c.commit.ensures.puts

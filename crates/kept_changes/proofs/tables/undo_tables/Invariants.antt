@@ -1,0 +1,16 @@
+use Rattle.std.proofs.Common.{◌≡◌, List, vec_len}
+use Rattle.row_store.specs.States.{TableState}
+use Rattle.version_model.specs.declared.numbered.Numbered.{Numbered}
+use Rattle.db_state.specs.Fields.{numbers_in}
+use Rattle.kept_changes.specs.Undo.{TablesLeadBack, TablesUndoable}
+use Rattle.kept_changes.proofs.tables.undo_tables.Given as goal
+
+abbrev pub invariant-loop-item : goal.invariant-loop-item
+invariant-loop-item l = record {
+  some : TablesUndoable l.made.items l.left.items;
+  all : (before : List (Numbered TableState)) → TablesLeadBack before l.fn.tables l.fn.back → TablesLeadBack before l.made.items l.left.items;
+  numbers : numbers_in l.made.items ≡ numbers_in l.fn.tables;
+}
+
+abbrev pub decreases-loop-item : goal.decreases-loop-item
+decreases-loop-item l = vec_len l.left
