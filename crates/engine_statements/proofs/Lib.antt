@@ -8,3 +8,4 @@ mod TakenLemmas
 mod ItemLemmas
 mod ChosenLemmas
 mod PlannedLemmas
+mod ReadLemmas

@@ -1,32 +1,59 @@
 //! DELETE.
-ghost use Rattle.std.specs.Prelude.{◌≡◌, IfOk};
+ghost use Rattle.std.specs.Prelude.{◌≡◌, ◌+◌, true, length, IfOk};
+ghost use Rattle.row_store.specs.Changes.{AreOld};
+ghost use Rattle.row_changes.specs.Changed.{changed};
 ghost use Rattle.statements.specs.Views.{filter_view};
 ghost use Rattle.par_base.specs.Checked.{Gives};
 ghost use Rattle.op_kinds.specs.Operators.{any_meaning};
 ghost use Rattle.db_state.specs.Fields.{database_for};
 ghost use Rattle.engine_statements.specs.Statements.{planned_delete};
-ghost use Rattle.engine_statements.specs.Calls.{planned_view, TakesWrite};
+ghost use Rattle.ordinary_table.specs.Fits.{condition_fits};
+ghost use Rattle.ordinary_table.specs.Shown.{condition_of};
+ghost use Rattle.ordinary_table.specs.Written.{chosen_count, deleted};
+ghost use Rattle.engine_statements.specs.Calls.{planned_view, rows_in, IsTableOf, TakesWrite};
 
-use crate::WritePlan;
 use crate::expressions::{find_condition, shown_names};
 use crate::found::find_table;
 use crate::ids::check_condition_ids;
-use crate::read::read_named;
+use crate::read::read_chosen;
+use crate::{FoundTable, WritePlan};
 use db_state::Db;
 use engine_state::Reply;
-use expr_lang::{ExprText, Steps};
+use expr_lang::{Expr, ExprText, Steps};
 use op_any::AnyOp;
 use ordinary_table::{Changed, delete_rows};
-use par_base::{Fault, Refusal};
+use par_base::{Fault, Memory, Refusal};
 use statements::TableName;
 use std::alloc::Global;
 use std::sync::ledger::Ledger;
 
+// The changes of a table that was found which leave out the rows that meet the condition.
+fn delete_found<L: Ledger>(
+    alloc: Global,
+    database: &Db<AnyOp>,
+    found: &FoundTable<'_>,
+    condition: Option<&Expr>,
+    steps: &mut Steps<L>,
+) -> Result<Changed, Memory>
+    requires found { IsTableOf database.now found.now }
+    requires reads { condition_fits (condition_of condition)
+        (length found.now.heading.now.columns + 1) ≡ true }
+    ensures rows { IfOk result (λ made. changed (rows_in database.now found.now.number) made.changes
+        ≡ deleted (rows_in database.now found.now.number) (condition_of condition.entry)) }
+    ensures old { IfOk result (λ made. AreOld (rows_in database.now found.now.number)
+        made.changes) }
+    ensures chosen { IfOk result (λ made. made.chosen
+        ≡ chosen_count (rows_in database.now found.now.number) (condition_of condition.entry)) }
+{
+    let read = read_chosen(alloc, database, found, condition, steps)?;
+    delete_rows(alloc, read.table(), condition, steps)
+}
+
 /// What a DELETE makes of its table, or the first of its checks that refuses it.
 ///
-/// It takes the time of reading the table, where it isn't stored, and time in the number of values of
-/// the table where there is a condition. The rows that it chooses are copied, and no row where it is
-/// refused.
+/// A condition that pins an identifier, by `p = #n`, reads its row alone. Else it takes the time of
+/// reading the table, where it isn't stored, and time in the number of values of the table where
+/// there is a condition. The rows that it chooses are copied, and no row where it is refused.
 pub fn plan_delete<L: Ledger>(
     alloc: Global,
     database: &Db<AnyOp>,
@@ -43,8 +70,7 @@ pub fn plan_delete<L: Ledger>(
     let shown = shown_names(alloc, found.heading.columns.as_slice())?;
     let condition = find_condition(alloc, shown.as_slice(), filter)?;
     check_condition_ids(filter, next)?;
-    let read = read_named(alloc, database, &found, steps)?;
-    let changed = delete_rows(alloc, read.table(), condition.as_ref(), steps)?;
+    let changed = delete_found(alloc, database, &found, condition.as_ref(), steps)?;
     let Changed { changes, chosen } = changed;
     Ok(WritePlan {
         set: found.set,

@@ -26,7 +26,7 @@ pub use delete::plan_delete;
 pub use found::{FoundTable, find_table};
 pub use insert::plan_insert;
 pub use laws::{each_version_is_ordinary, writes_are_by_identifier};
-pub use read::{ReadTable, read_named};
+pub use read::{ReadTable, read_chosen};
 pub use select::select_rows;
 pub use update::plan_update;
 pub use write_plan::WritePlan;

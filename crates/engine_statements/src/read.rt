@@ -1,11 +1,16 @@
 //! The rows of a table that was found.
-ghost use Rattle.std.specs.Prelude.{◌≡◌, IfOk};
+ghost use Rattle.std.specs.Prelude.{◌≡◌, length, IfOk};
+ghost use Rattle.std.specs.Option.{option_and_then};
+ghost use Rattle.op_law.specs.Tables.{RowsWide};
+ghost use Rattle.ordinary_table.specs.Pinned.{pinned};
+ghost use Rattle.ordinary_table.specs.Shown.{condition_of, row_alone, HasChosen};
 ghost use Rattle.engine_statements.specs.Calls.{rows_in, rows_read, IsTableOf};
 
 use crate::FoundTable;
-use db_state::{Db, read_table};
-use expr_lang::Steps;
+use db_state::{Db, read_table, row_at};
+use expr_lang::{Expr, Steps};
 use op_any::AnyOp;
+use ordinary_table::pinned_id;
 use par_base::Memory;
 use row_store::Table;
 use std::alloc::Global;
@@ -32,9 +37,37 @@ impl ReadTable<'_> {
     }
 }
 
-/// Reads a table that was found. Of a stored table nothing is copied; any other is made from what
-/// is stored on its way.
-pub fn read_named<'a, L: Ledger>(
+// The identifier that a condition pins, where there is one.
+fn pinned_in(condition: Option<&Expr>) -> Option<u64>
+    ensures { result ≡ option_and_then pinned (condition_of condition.entry) }
+{
+    match condition {
+        Some(condition) => pinned_id(condition),
+        None => None,
+    }
+}
+
+// The row of one identifier alone. It is looked up by itself where each operator on the way to
+// storage treats each identifier by itself.
+fn read_row<L: Ledger>(
+    alloc: Global,
+    database: &Db<AnyOp>,
+    found: &FoundTable<'_>,
+    id: u64,
+    steps: &mut Steps<L>,
+) -> Result<Table, Memory>
+    requires { IsTableOf database.now found.now }
+    ensures { IfOk result (λ read. read.rows
+        ≡ row_alone (rows_in database.now found.now.number) id) }
+{
+    let mut alone = Table::new(alloc);
+    if let Some(row) = row_at(alloc, database, found.number, id, steps)? {
+        alone.push(id, row)?;
+    }
+    Ok(alone)
+}
+
+fn read_all<'a, L: Ledger>(
     alloc: Global,
     database: &'a Db<AnyOp>,
     found: &FoundTable<'_>,
@@ -46,5 +79,27 @@ pub fn read_named<'a, L: Ledger>(
     match database.stored_table(found.number) {
         Some(stored) => Ok(ReadTable::Stored(stored)),
         None => Ok(ReadTable::Made(read_table(alloc, database, found.number, steps)?)),
+    }
+}
+
+/// Reads of a table that was found what a condition may choose: the row of the identifier that it
+/// pins, or else all rows. Of a stored table no more than that row is copied; any other is made from
+/// what is stored on its way.
+pub fn read_chosen<'a, L: Ledger>(
+    alloc: Global,
+    database: &'a Db<AnyOp>,
+    found: &FoundTable<'_>,
+    condition: Option<&Expr>,
+    steps: &mut Steps<L>,
+) -> Result<ReadTable<'a>, Memory>
+    requires { IsTableOf database.now found.now }
+    ensures chosen { IfOk result (λ read. HasChosen (condition_of condition.entry)
+        (rows_in database.entry.now found.now.number) (rows_read read)) }
+    ensures wide { IfOk result (λ read. RowsWide (length found.now.heading.now.columns)
+        (rows_read read)) }
+{
+    match pinned_in(condition) {
+        Some(id) => Ok(ReadTable::Made(read_row(alloc, database, found, id, steps)?)),
+        None => read_all(alloc, database, found, steps),
     }
 }

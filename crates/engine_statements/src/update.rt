@@ -1,34 +1,66 @@
 //! UPDATE.
-ghost use Rattle.std.specs.Prelude.{◌≡◌, IfOk, map};
+ghost use Rattle.std.specs.Prelude.{◌≡◌, ◌+◌, true, length, IfOk, map};
+ghost use Rattle.row_store.specs.Changes.{AreOld};
+ghost use Rattle.row_changes.specs.Changed.{changed};
 ghost use Rattle.std.specs.List.{All};
 ghost use Rattle.statements.specs.Views.{assignment_view, filter_view};
 ghost use Rattle.par_base.specs.Checked.{Gives};
 ghost use Rattle.op_kinds.specs.Operators.{any_meaning};
 ghost use Rattle.db_state.specs.Fields.{database_for};
 ghost use Rattle.engine_statements.specs.Statements.{planned_update};
-ghost use Rattle.engine_statements.specs.Calls.{planned_view, AssignmentFits, TakesWrite};
+ghost use Rattle.ordinary_table.specs.Fits.{condition_fits, SetFits};
+ghost use Rattle.ordinary_table.specs.Shown.{condition_of};
+ghost use Rattle.ordinary_table.specs.Written.{chosen_count, sets_of, updated};
+ghost use Rattle.engine_statements.specs.Calls.{planned_view, rows_in, AssignmentFits, IsTableOf, TakesWrite};
 
-use crate::WritePlan;
 use crate::expressions::{check_set_once, find_condition, find_sets, shown_names};
 use crate::found::find_table;
 use crate::ids::check_update_ids;
-use crate::read::read_named;
+use crate::read::read_chosen;
+use crate::{FoundTable, WritePlan};
 use db_state::Db;
 use engine_state::Reply;
-use expr_lang::{ExprText, Steps};
+use expr_lang::{Expr, ExprText, Steps};
 use op_any::AnyOp;
-use ordinary_table::{Changed, update_rows};
-use par_base::{Fault, Refusal};
+use ordinary_table::{Changed, SetTo, update_rows};
+use par_base::{Fault, Memory, Refusal};
 use statements::{Assignment, TableName};
 use std::alloc::Global;
 use std::sync::ledger::Ledger;
 
+// The changes of a table that was found which give the rows that meet the condition the values of
+// the SETs.
+fn update_found<L: Ledger>(
+    alloc: Global,
+    database: &Db<AnyOp>,
+    found: &FoundTable<'_>,
+    sets: &[SetTo],
+    condition: Option<&Expr>,
+    steps: &mut Steps<L>,
+) -> Result<Changed, Memory>
+    requires found { IsTableOf database.now found.now }
+    requires sets { All (SetFits (length found.now.heading.now.columns)) (sets_of sets.now) }
+    requires reads { condition_fits (condition_of condition)
+        (length found.now.heading.now.columns + 1) ≡ true }
+    ensures rows { IfOk result (λ made. changed (rows_in database.now found.now.number) made.changes
+        ≡ updated (rows_in database.now found.now.number) (sets_of sets.now)
+        (condition_of condition.entry)) }
+    ensures old { IfOk result (λ made. AreOld (rows_in database.now found.now.number)
+        made.changes) }
+    ensures chosen { IfOk result (λ made. made.chosen
+        ≡ chosen_count (rows_in database.now found.now.number) (condition_of condition.entry)) }
+{
+    let read = read_chosen(alloc, database, found, condition, steps)?;
+    update_rows(alloc, read.table(), sets, condition, steps)
+}
+
 /// What an UPDATE makes of its table, or the first of its checks that refuses it. All SETs see the
 /// row as it was.
 ///
-/// It takes the time of reading the table, where it isn't stored, and time in the number of values of
-/// the table and, for each row that it chooses, of SETs, and in the number of pairs of SETs. It gives
-/// copies of the rows that it chooses, and reads no row where it is refused.
+/// A condition that pins an identifier, by `p = #n`, reads its row alone. Else it takes the time of
+/// reading the table, where it isn't stored, and time in the number of values of the table and, for
+/// each row that it chooses, of SETs; besides in the number of pairs of SETs. It gives copies of the
+/// rows that it chooses, and reads no row where it is refused.
 pub fn plan_update<L: Ledger>(
     alloc: Global,
     database: &Db<AnyOp>,
@@ -51,14 +83,8 @@ pub fn plan_update<L: Ledger>(
     let condition = find_condition(alloc, shown.as_slice(), filter)?;
     check_set_once(alloc, assignments)?;
     check_update_ids(assignments, filter, next)?;
-    let read = read_named(alloc, database, &found, steps)?;
-    let changed = update_rows(
-        alloc,
-        read.table(),
-        sets.as_slice(),
-        condition.as_ref(),
-        steps,
-    )?;
+    let sets = sets.as_slice();
+    let changed = update_found(alloc, database, &found, sets, condition.as_ref(), steps)?;
     let Changed { changes, chosen } = changed;
     Ok(WritePlan {
         set: found.set,

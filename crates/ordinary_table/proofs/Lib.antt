@@ -2,6 +2,7 @@ mod RowLemmas
 pub mod KeptLaws
 pub mod RowOfLaws
 pub mod ColumnLaws
+pub mod PinnedLaws
 mod SetLemmas
 mod StepLemmas
 mod ToldLemmas

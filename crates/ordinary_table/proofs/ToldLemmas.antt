@@ -15,7 +15,7 @@ use Rattle.row_store.specs.Changes.{IsAbove, AreOld, after}
 use Rattle.row_store.specs.inner.SameTables.{eq_self, apart_below, none_under}
 use Rattle.row_changes.specs.Changed.{changed}
 use Rattle.row_changes.proofs.ChangedLaws.{changed_is}
-use Rattle.ordinary_table.specs.Shown.{meets}
+use Rattle.ordinary_table.specs.Shown.{HasChosen, meets}
 use Rattle.ordinary_table.specs.Written.{SetTerm, numbered, inserted, set_row, updated_row, updated, deleted, chosen_count}
 use Rattle.ordinary_table.specs.inner.Told.{Renewal, set_to, gone, change_to, chosen_change, chosen_changes, added, added_changes}
 use Rattle.ordinary_table.proofs.KeptLaws.{rises_numbered, rises_inserted, rises_updated, rises_deleted}
@@ -102,6 +102,10 @@ numbered_long (row ∷ rows) next = ap suc (numbered_long rows (next + 1))
 -- as many as new rows
 pub length_added : (new : List (List Value)) (next : ℕ) → length (added_changes next new) ≡ length new
 length_added new next = length-map (numbered next new) added ∙ numbered_long new next
+
+-- a part with the rows that are chosen of a whole table tells the same changes
+pub changes_same : (condition : Option (Term ℕ)) (now : Renewal) (whole part : Rows) → HasChosen condition whole part → chosen_changes condition now part ≡ chosen_changes condition now whole
+changes_same condition now whole part has = ap (map (change_to now)) (sym has.same)
 
 -- there are as many changes as rows that meet the condition
 pub changes_count : (rows : Rows) (condition : Option (Term ℕ)) (now : Renewal) → length (chosen_changes condition now rows) ≡ chosen_count rows condition

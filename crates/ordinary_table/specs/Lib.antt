@@ -1,5 +1,6 @@
 pub mod Shown
 pub mod Selected
+pub mod Pinned
 pub mod Written
 pub mod Fits
 pub mod Laws

@@ -1,8 +1,9 @@
 //! DELETE.
 ghost use Rattle.std.specs.Prelude.{◌≡◌, ◌+◌, ◌≤◌, IfOk, length};
 ghost use Rattle.row_store.specs.Changes.{AreOld};
+ghost use Rattle.row_store.specs.Rows.{Rows};
 ghost use Rattle.row_changes.specs.Changed.{changed};
-ghost use Rattle.ordinary_table.specs.Shown.{condition_of};
+ghost use Rattle.ordinary_table.specs.Shown.{condition_of, HasChosen};
 ghost use Rattle.ordinary_table.specs.Written.{deleted, chosen_count};
 ghost use Rattle.ordinary_table.specs.Fits.{DeleteFits};
 
@@ -14,7 +15,8 @@ use row_store::{Change, Changes, Table};
 use std::alloc::Global;
 use std::sync::ledger::Ledger;
 
-/// The changes that leave the rows that meet the condition no more, and how many these are.
+/// The changes that leave the rows that meet the condition no more, and how many these are: in the
+/// table, and in any of which it has the rows that meet the condition.
 ///
 /// It takes time in the number of values of the table: for a condition each row is copied with its
 /// reference, and evaluated once. What it gives has the rows that meet the condition alone.
@@ -25,11 +27,15 @@ pub fn delete_rows<L: Ledger>(
     steps: &mut Steps<L>,
 ) -> Result<Changed, Memory>
     requires { DeleteFits table.now.rows (condition_of filter) }
-    ensures rows { IfOk result (λ made. changed table.now.rows made.changes
-        ≡ deleted table.now.rows (condition_of filter.entry)) }
-    ensures old { IfOk result (λ made. AreOld table.now.rows made.changes) }
-    ensures chosen { IfOk result (λ made. made.chosen
-        ≡ chosen_count table.now.rows (condition_of filter.entry)) }
+    ensures rows { IfOk result (λ made. (whole : Rows)
+        → HasChosen (condition_of filter.entry) whole table.now.rows
+        → changed whole made.changes ≡ deleted whole (condition_of filter.entry)) }
+    ensures old { IfOk result (λ made. (whole : Rows)
+        → HasChosen (condition_of filter.entry) whole table.now.rows
+        → AreOld whole made.changes) }
+    ensures chosen { IfOk result (λ made. (whole : Rows)
+        → HasChosen (condition_of filter.entry) whole table.now.rows
+        → made.chosen ≡ chosen_count whole (condition_of filter.entry)) }
     ensures steps { steps.new ≤ steps.old + length table.now.rows }
 {
     let mut changes = Changes::new(alloc);

@@ -1,4 +1,5 @@
 //! Laws of what statements make of a table. The functions do nothing: their contracts are the laws.
+ghost use Rattle.ordinary_table.specs.Pinned.{PinnedStandAlone};
 ghost use Rattle.ordinary_table.specs.Laws.{InsertsBehind, UpdatesRows, DeletesRows, SetsColumns, KeepsColumns, InsertKeepsTables, UpdateKeepsTables, DeleteKeepsTables, SelectIsWide};
 
 /// What a statement leaves at each identifier.
@@ -24,4 +25,9 @@ pub fn writes_keep_tables()
 /// Each row that a SELECT gives has a value for each place.
 pub fn selected_rows_are_wide()
     ensures { SelectIsWide }
+{}
+
+/// Of a table the row of the identifier that a condition pins is all that may meet it.
+pub fn pinned_rows_stand_alone()
+    ensures { PinnedStandAlone }
 {}

@@ -2,8 +2,9 @@
 ghost use Rattle.std.specs.Prelude.{◌≡◌, ◌+◌, ◌*◌, ◌≤◌, IfOk, true, length};
 ghost use Rattle.std.specs.List.{All};
 ghost use Rattle.row_store.specs.Changes.{AreOld};
+ghost use Rattle.row_store.specs.Rows.{Rows};
 ghost use Rattle.row_changes.specs.Changed.{changed};
-ghost use Rattle.ordinary_table.specs.Shown.{shown, condition_of};
+ghost use Rattle.ordinary_table.specs.Shown.{shown, condition_of, HasChosen};
 ghost use Rattle.ordinary_table.specs.Written.{sets_of, set_row, updated, chosen_count};
 ghost use Rattle.ordinary_table.specs.Fits.{SetFits, condition_fits, UpdateFits};
 ghost use Rattle.ordinary_table.specs.inner.Told.{chosen_change, set_to};
@@ -70,7 +71,8 @@ fn change_of<L: Ledger>(
 }
 
 /// The changes that give the rows that meet the condition the values of the SETs, and how many rows
-/// meet it. All expressions see the row as it was; where a place comes twice, its last SET counts.
+/// meet it: in the table, and in any of which it has the rows that meet the condition. All
+/// expressions see the row as it was; where a place comes twice, its last SET counts.
 ///
 /// It takes time in the number of values of the table and, for each row that meets the condition,
 /// of SETs: each row is copied with its reference and evaluated once for the condition, and those
@@ -83,11 +85,16 @@ pub fn update_rows<L: Ledger>(
     steps: &mut Steps<L>,
 ) -> Result<Changed, Memory>
     requires { UpdateFits table.now.rows (sets_of sets.now) (condition_of filter) }
-    ensures rows { IfOk result (λ made. changed table.now.rows made.changes
-        ≡ updated table.now.rows (sets_of sets.now) (condition_of filter.entry)) }
-    ensures old { IfOk result (λ made. AreOld table.now.rows made.changes) }
-    ensures chosen { IfOk result (λ made. made.chosen
-        ≡ chosen_count table.now.rows (condition_of filter.entry)) }
+    ensures rows { IfOk result (λ made. (whole : Rows)
+        → HasChosen (condition_of filter.entry) whole table.now.rows
+        → changed whole made.changes
+        ≡ updated whole (sets_of sets.now) (condition_of filter.entry)) }
+    ensures old { IfOk result (λ made. (whole : Rows)
+        → HasChosen (condition_of filter.entry) whole table.now.rows
+        → AreOld whole made.changes) }
+    ensures chosen { IfOk result (λ made. (whole : Rows)
+        → HasChosen (condition_of filter.entry) whole table.now.rows
+        → made.chosen ≡ chosen_count whole (condition_of filter.entry)) }
     ensures steps { steps.new ≤ steps.old + length table.now.rows * (1 + length sets.now) }
 {
     let mut changes = Changes::new(alloc);

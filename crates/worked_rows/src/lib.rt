@@ -10,6 +10,8 @@ mod column_refusals;
 #[cfg(test)]
 mod evolutions;
 #[cfg(test)]
+mod pinned;
+#[cfg(test)]
 mod references;
 #[cfg(test)]
 mod refusals;

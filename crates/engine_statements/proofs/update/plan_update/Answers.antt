@@ -19,19 +19,18 @@ use Rattle.engine_statements.proofs.TakenLemmas.{update_taken}
 use Rattle.engine_statements.proofs.PlannedLemmas.{update_planned}
 use Rattle.engine_statements.proofs.update.plan_update.Goals as goal
 
-pub update_rows-requires : goal.update_rows-requires
-update_rows-requires g c =
+pub update_found-requires-clause-sets : goal.update_found-requires-clause-sets
+update_found-requires-clause-sets g c =
     let columns = c.in_ok-found.found.heading.now.columns in
     let assignments = map assignment_view c.args.assignments.now in
-    let shown = c.as_slice-2.ensures ∙ c.in_ok-shown.ensures ∙ ap shown_names c.as_slice-columns.ensures in
     let known = subst (λ (names : List (List ℕ)). known_sets names assignments ≡ Ok (sets_of c.in_ok-sets.sets)) c.as_slice-columns.ensures c.in_ok-sets.ensures in
-    let same = c.table.ensures ∙ c.in_ok-read.ensures in
-    record {
-      width = length columns;
-      wide = subst (RowsWide (length columns)) (sym same) c.in_ok-found.ensures.there.stands.wide;
-      set = subst (λ (sets : List SetTo). All (SetFits (length columns)) (sets_of sets)) (sym c.as_slice-3.ensures) (sets_fit columns assignments (sets_of c.in_ok-sets.sets) known);
-      reads = lent_reads columns (filter_view c.args.filter.now) c.as_ref.result c.in_ok-condition.condition c.as_ref.ensures.value (c.in_ok-condition.ensures columns shown);
-    }
+    subst (λ (sets : List SetTo). All (SetFits (length columns)) (sets_of sets)) (sym c.as_slice-sets.ensures) (sets_fit columns assignments (sets_of c.in_ok-sets.sets) known)
+
+pub update_found-requires-clause-reads : goal.update_found-requires-clause-reads
+update_found-requires-clause-reads g c =
+    let columns = c.in_ok-found.found.heading.now.columns in
+    let shown = c.as_slice-2.ensures ∙ c.in_ok-shown.ensures ∙ ap shown_names c.as_slice-columns.ensures in
+    lent_reads columns (filter_view c.args.filter.now) c.as_ref.result c.in_ok-condition.condition c.as_ref.ensures.value (c.in_ok-condition.ensures columns shown)
 
 pub returns-clause-taken : goal.returns-clause-taken
 returns-clause-taken g c =
@@ -42,14 +41,13 @@ returns-clause-taken g c =
     let table = c.in_ok-found.ensures.there in
     let next = c.next-next.ensures.value ∙ ap (λ (i : CounterState). i.next) c.ids.ensures in
     let known = subst (λ (names : List (List ℕ)). known_sets names assignments ≡ Ok (sets_of c.in_ok-sets.sets)) c.as_slice-columns.ensures c.in_ok-sets.ensures in
-    let same = c.table.ensures ∙ c.in_ok-read.ensures in
     let changes = c.in_ok-changed.changed.changes in
-    let given = subst (λ (rs : Rows). changed rs changes ≡ updated rs (sets_of c.as_slice-3.result.now) condition) same c.in_ok-changed.ensures.rows in
-    let rows = given ∙ ap (λ (sets : List SetTo). updated (rows_in k f.number) (sets_of sets) condition) c.as_slice-3.ensures in
+    let given = c.in_ok-changed.ensures.rows in
+    let rows = given ∙ ap (λ (sets : List SetTo). updated (rows_in k f.number) (sets_of sets) condition) c.as_slice-sets.ensures in
     record {
       lives = table.lives;
       may = update_taken k f assignments (condition_list (filter_view c.args.filter.now)) (sets_of c.in_ok-sets.sets) condition c.next-next.result (changed (rows_in k f.number) changes) tt table next known c.in_ok-check_update_ids.ensures c.requires rows;
-      old = subst (λ (rs : Rows). AreOld rs changes) same c.in_ok-changed.ensures.old;
+      old = c.in_ok-changed.ensures.old;
     }
 
 pub returns-clause-gives : goal.returns-clause-gives
@@ -63,10 +61,9 @@ returns-clause-gives g c =
     let known = subst (λ (names : List (List ℕ)). known_sets names assignments ≡ Ok (sets_of c.in_ok-sets.sets)) c.as_slice-columns.ensures c.in_ok-sets.ensures in
     let lent = lent_term c.as_ref.result ∙ ap condition_term c.as_ref.ensures.value in
     let knows = c.in_ok-condition.ensures f.heading.now.columns shown ∙ ap (λ (t : Option (Term ℕ)). Ok t) (sym lent) in
-    let same = c.table.ensures ∙ c.in_ok-read.ensures in
     let changes = c.in_ok-changed.changed.changes in
-    let given = subst (λ (rs : Rows). changed rs changes ≡ updated rs (sets_of c.as_slice-3.result.now) condition) same c.in_ok-changed.ensures.rows in
-    let rows = given ∙ ap (λ (sets : List SetTo). updated (rows_in k f.number) (sets_of sets) condition) c.as_slice-3.ensures in
-    let many = subst (λ (rs : Rows). c.in_ok-changed.changed.chosen ≡ chosen_count rs condition) same c.in_ok-changed.ensures.chosen in
+    let given = c.in_ok-changed.ensures.rows in
+    let rows = given ∙ ap (λ (sets : List SetTo). updated (rows_in k f.number) (sets_of sets) condition) c.as_slice-sets.ensures in
+    let many = c.in_ok-changed.ensures.chosen in
     update_planned k c.args.name.now assignments (filter_view c.args.filter.now) f (sets_of c.in_ok-sets.sets) condition (changed (rows_in k f.number) changes) c.next-next.result
     c.in_ok-changed.changed.chosen tt tt c.in_ok-found.ensures.gives c.in_ok-found.ensures.there next known knows c.in_ok-check_set_once.ensures c.in_ok-check_update_ids.ensures rows many

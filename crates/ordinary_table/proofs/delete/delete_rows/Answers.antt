@@ -8,7 +8,7 @@ use Rattle.row_changes.specs.Changed.{changed}
 use Rattle.ordinary_table.specs.Shown.{condition_of}
 use Rattle.ordinary_table.specs.inner.Told.{chosen_changes, gone}
 use Rattle.ordinary_table.proofs.RowLemmas.{row_at, condition_row, below_row}
-use Rattle.ordinary_table.proofs.ToldLemmas.{above_chosen, changes_met, changes_unmet, changes_count, changed_deleted, old_chosen}
+use Rattle.ordinary_table.proofs.ToldLemmas.{above_chosen, changes_met, changes_unmet, changes_count, changes_same, changed_deleted, old_chosen}
 use Rattle.ordinary_table.proofs.delete.delete_rows.Goals as goal
 
 pub is_chosen-requires : goal.is_chosen-requires
@@ -71,22 +71,22 @@ ended : (rows before : Rows) (changes : List Change) (condition : Option (Term �
 ended rows before changes condition is none = is ∙ ap (chosen_changes condition gone) (take_passed rows before none)
 
 pub returns-clause-rows : goal.returns-clause-rows
-returns-clause-rows g c =
+returns-clause-rows g c whole has =
     let rows = c.args.table.now.rows in
     let condition = condition_of c.args.filter in
-    let is = ended rows c.loop-row.row-iterator c.loop-row.changes condition c.loop-row.invariant.told c.in-None.ensures.steps.0 in
-    ap (changed rows) is ∙ changed_deleted rows condition c.iter-row-items.ensures.rise
+    let is = ended rows c.loop-row.row-iterator c.loop-row.changes condition c.loop-row.invariant.told c.in-None.ensures.steps.0 ∙ changes_same condition gone whole rows has in
+    ap (changed whole) is ∙ changed_deleted whole condition has.rises
 
 pub returns-clause-old : goal.returns-clause-old
-returns-clause-old g c =
+returns-clause-old g c whole has =
     let rows = c.args.table.now.rows in
     let condition = condition_of c.args.filter in
-    let is = ended rows c.loop-row.row-iterator c.loop-row.changes condition c.loop-row.invariant.told c.in-None.ensures.steps.0 in
-    subst (AreOld rows) (sym is) (old_chosen condition gone rows c.iter-row-items.ensures.rise)
+    let is = ended rows c.loop-row.row-iterator c.loop-row.changes condition c.loop-row.invariant.told c.in-None.ensures.steps.0 ∙ changes_same condition gone whole rows has in
+    subst (AreOld whole) (sym is) (old_chosen condition gone whole has.rises)
 
 pub returns-clause-chosen : goal.returns-clause-chosen
-returns-clause-chosen g c =
+returns-clause-chosen g c whole has =
     let rows = c.args.table.now.rows in
     let condition = condition_of c.args.filter in
-    let is = ended rows c.loop-row.row-iterator c.loop-row.changes condition c.loop-row.invariant.told c.in-None.ensures.steps.0 in
-    c.len-chosen.ensures ∙ ap length is ∙ changes_count rows condition gone
+    let is = ended rows c.loop-row.row-iterator c.loop-row.changes condition c.loop-row.invariant.told c.in-None.ensures.steps.0 ∙ changes_same condition gone whole rows has in
+    c.len-chosen.ensures ∙ ap length is ∙ changes_count whole condition gone

@@ -10,7 +10,7 @@ use Rattle.ordinary_table.specs.Written.{SetTerm, sets_of}
 use Rattle.ordinary_table.specs.inner.Told.{chosen_changes, set_to}
 use Rattle.ordinary_table.proofs.RowLemmas.{row_at, wide_row, condition_row, below_row}
 use Rattle.ordinary_table.proofs.StepLemmas.{steps_more}
-use Rattle.ordinary_table.proofs.ToldLemmas.{above_chosen, some_id, changes_some, changes_none, changes_count, changed_updated, old_chosen}
+use Rattle.ordinary_table.proofs.ToldLemmas.{above_chosen, some_id, changes_some, changes_none, changes_count, changes_same, changed_updated, old_chosen}
 use Rattle.ordinary_table.proofs.update.update_rows.Goals as goal
 
 pub change_of-requires-clause-sets : goal.change_of-requires-clause-sets
@@ -85,25 +85,25 @@ ended : (rows before : Rows) (changes : List Change) (sets : List SetTerm) (cond
 ended rows before changes sets condition is none = is ∙ ap (chosen_changes condition (set_to sets)) (take_passed rows before none)
 
 pub returns-clause-rows : goal.returns-clause-rows
-returns-clause-rows g c =
+returns-clause-rows g c whole has =
     let rows = c.args.table.now.rows in
     let sets = sets_of c.args.sets.now in
     let condition = condition_of c.args.filter in
-    let is = ended rows c.loop-row.row-iterator c.loop-row.changes sets condition c.loop-row.invariant.told c.in-None.ensures.steps.0 in
-    ap (changed rows) is ∙ changed_updated rows sets condition c.iter-row-items.ensures.rise
+    let is = ended rows c.loop-row.row-iterator c.loop-row.changes sets condition c.loop-row.invariant.told c.in-None.ensures.steps.0 ∙ changes_same condition (set_to sets) whole rows has in
+    ap (changed whole) is ∙ changed_updated whole sets condition has.rises
 
 pub returns-clause-old : goal.returns-clause-old
-returns-clause-old g c =
+returns-clause-old g c whole has =
     let rows = c.args.table.now.rows in
     let sets = sets_of c.args.sets.now in
     let condition = condition_of c.args.filter in
-    let is = ended rows c.loop-row.row-iterator c.loop-row.changes sets condition c.loop-row.invariant.told c.in-None.ensures.steps.0 in
-    subst (AreOld rows) (sym is) (old_chosen condition (set_to sets) rows c.iter-row-items.ensures.rise)
+    let is = ended rows c.loop-row.row-iterator c.loop-row.changes sets condition c.loop-row.invariant.told c.in-None.ensures.steps.0 ∙ changes_same condition (set_to sets) whole rows has in
+    subst (AreOld whole) (sym is) (old_chosen condition (set_to sets) whole has.rises)
 
 pub returns-clause-chosen : goal.returns-clause-chosen
-returns-clause-chosen g c =
+returns-clause-chosen g c whole has =
     let rows = c.args.table.now.rows in
     let sets = sets_of c.args.sets.now in
     let condition = condition_of c.args.filter in
-    let is = ended rows c.loop-row.row-iterator c.loop-row.changes sets condition c.loop-row.invariant.told c.in-None.ensures.steps.0 in
-    c.len-chosen.ensures ∙ ap length is ∙ changes_count rows condition (set_to sets)
+    let is = ended rows c.loop-row.row-iterator c.loop-row.changes sets condition c.loop-row.invariant.told c.in-None.ensures.steps.0 ∙ changes_same condition (set_to sets) whole rows has in
+    c.len-chosen.ensures ∙ ap length is ∙ changes_count whole condition (set_to sets)
