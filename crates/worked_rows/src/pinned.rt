@@ -81,7 +81,7 @@ fn a_pinned_row_is_written_alone(rt: HostRuntime) -> Result<(), Fail> {
             ),
             (
                 "MATERIALIZE w; UPDATE v.t SET a = 0 WHERE p = #1; SELECT * FROM w.r;",
-                "moved 1\np|a|b\n#1|0|2\nrows 1",
+                "moved 1\nupdated 1\np|a|b\n#1|0|2\nrows 1",
             ),
         ],
     )
