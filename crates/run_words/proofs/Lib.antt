@@ -1,0 +1,10 @@
+mod ClapLemmas
+mod FormLemmas
+mod RowLemmas
+mod SpellLemmas
+mod FineLemmas
+mod WordsLemmas
+mod NumberLemmas
+mod ReadLemmas
+mod FairLemmas
+mod OneLemmas
