@@ -1,0 +1,7 @@
+mod BuildingLemmas
+mod GraphLemmas
+mod NamingLemmas
+mod OneLemmas
+mod PlacingLemmas
+mod TextLemmas
+mod ToldLemmas

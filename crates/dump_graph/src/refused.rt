@@ -1,0 +1,5 @@
+//! The refusal of a dump.
+
+/// The bytes are no dump of a valid database.
+#[derive(Clone, Copy, Debug, PartialEq, Eq, Drop)]
+pub struct DumpRefused;
