@@ -1,0 +1,49 @@
+-- A database stands for its own dump.
+use Rattle.std.proofs.Common.{◌≡◌, ℕ, List, [], false, ap, ◌∙◌, subst, sym}
+use Rattle.serde_json.specs.Data.{Data}
+use Rattle.version_graph.specs.Forest.{Link, crossing, forest}
+use Rattle.version_graph.proofs.SetLaws.{each_at, each_of}
+use Rattle.id_memory.specs.States.{MemoryState}
+use Rattle.op_kinds.specs.Operators.{AnyView, any_meaning}
+use Rattle.layout_rules.proofs.ChangeLaws.{number_lives}
+use Rattle.version_model.specs.Kept.{pairs_at}
+use Rattle.version_model.specs.States.{headings}
+use Rattle.version_model.specs.Steps.{IsRelated}
+use Rattle.version_model.specs.declared.numbered.Numbered.{Numbered}
+use Rattle.db_state.specs.Fields.{IsDatabase, state_for}
+use Rattle.db_state.specs.declared.parts.Parts.{Parts}
+use Rattle.dump_graph.specs.Graphs.{AreNames}
+use Rattle.dump_graph.specs.Texts.{AreFromTexts}
+use Rattle.dump_values.specs.Laws.{DumpFits, DumpsReadBack}
+use Rattle.dump_file.specs.Laws.{DumpStands, OthersForget}
+use Rattle.dump_file.specs.Stands.{IsDumpOf, Spells}
+use Rattle.dump_file.specs.Told.{database_json, dump_told, remembers}
+use Rattle.dump_file.proofs.FitLemmas.{memory_lives, memory_there}
+use Rattle.dump_file.proofs.MemoryLemmas.{link_unkept, no_pairs}
+
+-- what isn't on a condition remembers nothing
+pub others_forget : OthersForget
+others_forget p is built =
+    each_of (λ (i : Numbered MemoryState). remembers p.graph.edges i.number ≡ false → i.value.entries ≡ []) p.memories (λ i at out.
+    let es = p.graph.edges in
+    let l = number_lives es i.number (memory_lives p is i at) in
+    let pair = each_at (λ (f : Link AnyView). IsRelated any_meaning (headings es) (state_for any_meaning p) (crossing false f)) (forest es) l.0 l.1 is.sound.related in
+    let plain = link_unkept p.ids.next es is.graph.edges built l.0 l.1 (ap (remembers es) (sym l.2) ∙ out) in
+    sym (memory_there p is i at) ∙ ap (pairs_at p.memories) l.2 ∙ no_pairs l.0.operator.operator plain _ _ _ pair.related)
+
+pub dump_stands : DumpsReadBack → DumpStands
+dump_stands back p is = record {
+  told = back (dump_told p) is.fits;
+  texts = is.texts;
+  names = is.names;
+  others = others_forget p is.database is.texts.1;
+  database = is.database;
+}
+
+-- bytes that spell what is dumped, said of equal ones
+pub spelled : (bytes text : List ℕ) (d e : Data) → bytes ≡ text → d ≡ e → Spells text d → Spells bytes e
+spelled bytes text d e same is spells = subst (λ (b : List ℕ). Spells b e) (sym same) (subst (λ (x : Data). Spells text x) is spells)
+
+-- what spells the dump of a database is a dump of it
+pub is_dump : DumpStands → (p : Parts AnyView) (bytes : List ℕ) → IsDatabase any_meaning p → AreNames p.graph.versions → DumpFits (dump_told p) → Spells bytes (database_json p) → AreFromTexts p.ids.next p.graph.edges → IsDumpOf bytes p
+is_dump stands p bytes database names fits spells texts = (database_json p, spells, stands p (record { database = database; texts = texts; names = names; fits = fits }))

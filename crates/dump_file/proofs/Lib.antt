@@ -1,0 +1,17 @@
+mod ListLemmas
+mod ListedLemmas
+mod HoldLemmas
+mod JsonLemmas
+mod DepthLemmas
+mod AuxLemmas
+mod MemoryLemmas
+mod FitLemmas
+mod DumpLemmas
+mod OneLemmas
+mod BuiltLemmas
+mod FillLemmas
+mod KeptLemmas
+mod LoadLemmas
+mod NumberLemmas
+mod ReadLemmas
+mod SameLemmas

@@ -1,0 +1,44 @@
+-- When a database stands for a dump.
+use Rattle.std.specs.Prelude.{◌≡◌, ℕ, List, [], ◌∷◌, true, false, Some, Result, Ok, Err, ⊤, IsUtf8}
+use Rattle.par_base.specs.declared.fault.Fault.{Fault}
+use Rattle.par_base.specs.declared.fault.Fault.TheVariants.{Refused, Memory}
+use Rattle.id_memory.specs.States.{MemoryState}
+use Rattle.serde_json.specs.Data.{Data}
+use Rattle.serde_json.specs.Read.{read}
+use Rattle.version_graph.specs.Sets.{Each}
+use Rattle.version_graph.specs.declared.parts.Placed.{Placed}
+use Rattle.op_kinds.specs.Operators.{AnyView, any_meaning}
+use Rattle.version_model.specs.declared.numbered.Numbered.{Numbered}
+use Rattle.db_state.specs.Fields.{IsDatabase}
+use Rattle.db_state.specs.declared.parts.Parts.{Parts}
+use Rattle.dump_values.specs.Dumps.{dump_of}
+use Rattle.dump_graph.specs.Texts.{AreFromTexts}
+use Rattle.dump_graph.specs.Graphs.{AreNames}
+use Rattle.dump_graph.specs.declared.refused.DumpRefused.{DumpRefused}
+use Rattle.dump_file.specs.Told.{dump_told, remembers}
+
+-- operators whose memories a dump leaves out have none
+abbrev pub HasNoOther : List (Placed AnyView) → List (Numbered MemoryState) → Type 0
+HasNoOther es memories = Each (λ (i : Numbered MemoryState). remembers es i.number ≡ false → i.value.entries ≡ []) memories
+
+-- A DATABASE STANDS FOR A DUMP: it is valid, its operators are built from their texts, and the dump tells just what it is
+pub record Stands (d : Data) (p : Parts AnyView) : Type 0 where
+  pub told : dump_of d ≡ Some (dump_told p)
+  pub texts : AreFromTexts p.ids.next p.graph.edges
+  pub names : AreNames p.graph.versions
+  pub others : HasNoOther p.graph.edges p.memories
+  pub database : IsDatabase any_meaning p
+
+-- the bytes are some spelling of this JSON
+abbrev pub Spells : List ℕ → Data → Type 0
+Spells bytes d = IsUtf8 bytes × (read bytes ≡ Some d)
+
+-- the bytes are a dump of the database
+abbrev pub IsDumpOf : List ℕ → Parts AnyView → Type 0
+IsDumpOf bytes p = (d : Data) × Spells bytes d × Stands d p
+
+-- what loading answers: the database of the dump, with the limit that was given, or a refusal exactly where the bytes are no dump of one
+abbrev pub Loads : List ℕ → ℕ → Result (Parts AnyView) (Fault DumpRefused) → Type 0
+Loads bytes limit (Ok db) = IsDumpOf bytes db × (db.ids.limit ≡ limit)
+Loads bytes limit (Err (Refused r)) = (p : Parts AnyView) → IsDumpOf bytes p → ⊥
+Loads bytes limit (Err (Memory memory)) = ⊤

@@ -1,0 +1,84 @@
+//! Dumping a database.
+ghost use Rattle.std.specs.Prelude.{◌≡◌, ◌≤◌, false, string_bytes, IfOk};
+ghost use Rattle.serde_json.specs.Data.{depth};
+ghost use Rattle.serde_json.specs.Read.{max_depth};
+ghost use Rattle.serde_json.specs.View.{view};
+ghost use Rattle.serde_json.specs.Written.{compact_text, has_float};
+ghost use Rattle.dump_values.specs.Laws.{DumpFits};
+ghost use Rattle.dump_graph.specs.Graphs.{AreNames};
+ghost use Rattle.dump_graph.specs.Texts.{AreFromTexts};
+ghost use Rattle.dump_file.specs.Stands.{IsDumpOf, Spells};
+ghost use Rattle.dump_file.specs.Told.{database_json, dump_told};
+
+use crate::fitting::look_at_numbers;
+use crate::laws::databases_stand_for_their_dumps;
+use crate::writing::{
+    write_all_stored, write_auxes, write_memories, write_operators, write_versions,
+};
+use db_state::Db;
+use dump_values::{WrittenLines, write_dump, write_numbers};
+use op_any::AnyOp;
+use par_base::{Memory, Text};
+use serde_json::Value as Json;
+use std::alloc::Global;
+
+/// The dump as JSON.
+fn write_database(alloc: Global, db: &Db<AnyOp>) -> Result<Json, Memory>
+    ensures value { IfOk result (λ json. view json ≡ database_json db.now) }
+    ensures names { IfOk result (λ _. AreNames db.now.graph.versions) }
+{
+    let graph = db.graph();
+    let (last_operator, last_table) = graph.last_numbers();
+    let lines = WrittenLines {
+        auxes: write_auxes(alloc, db.aux())?,
+        last_operator,
+        last_table,
+        layout: write_numbers(alloc, db.layout().operators.as_slice())?,
+        memories: write_memories(alloc, graph, db.memories())?,
+        next: db.ids().next(),
+        operators: write_operators(alloc, graph)?,
+        stored: write_all_stored(alloc, db.stored())?,
+        versions: write_versions(alloc, graph)?,
+    };
+    write_dump(alloc, lines)
+}
+
+/// The compact text of JSON without floats, which nests no deeper than may be read.
+fn text_of(alloc: Global, json: &Json) -> Result<String, Memory>
+    requires whole { has_float (view json.now) ≡ false }
+    requires shallow { depth (view json.now) ≤ max_depth }
+    ensures text { IfOk result (λ text. string_bytes text ≡ compact_text (view json.now)) }
+    ensures read { IfOk result (λ text. Spells (string_bytes text) (view json.now)) }
+{
+    let text = json.to_string(alloc)?;
+    Ok(text)
+}
+
+/// That a dump tells the numbers of this database as they are.
+fn look_at(db: &Db<AnyOp>)
+    ensures { DumpFits (dump_told db.now) }
+{
+    // What the fields promise rests on this call.
+    let _graph = db.graph();
+    look_at_numbers(db);
+}
+
+/// The text of a database's dump: compact JSON with sorted keys, and no line feed at the end. It
+/// takes time in the number of stored values, and in the logarithm of the number of live operators
+/// for each of them.
+pub fn dump(alloc: Global, db: &Db<AnyOp>) -> Result<Text, Memory>
+    ensures text { IfOk result (λ text. text ≡ compact_text (database_json db.now)) }
+    ensures read { IfOk result (λ text. Spells text (database_json db.now)) }
+    ensures fits { DumpFits (dump_told db.now) }
+    ensures names { IfOk result (λ _. AreNames db.now.graph.versions) }
+    ensures stands { IfOk result (λ text. AreFromTexts db.now.ids.next db.now.graph.edges
+        → IsDumpOf text db.now) }
+{
+    look_at(db);
+    // That it is a dump of the database rests on this law, and on what the fields promise.
+    databases_stand_for_their_dumps();
+    let _graph = db.graph();
+    let json = write_database(alloc, db)?;
+    let text = text_of(alloc, &json)?;
+    Ok(Text::from_string(text))
+}

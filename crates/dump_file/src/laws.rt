@@ -1,0 +1,26 @@
+//! The laws of dumps. The functions do nothing: their contracts are the laws.
+ghost use Rattle.dump_file.specs.Laws.{DumpStands, DumpsAreOfOneDatabase, OthersForget};
+
+use dump_graph::told_graphs_are_one;
+use dump_values::dumps_are_read_back;
+
+/// In a valid database an operator that isn't on a condition has no memory, if it is built from its
+/// text.
+pub fn others_remember_nothing()
+    ensures { OthersForget }
+{}
+
+/// A valid database whose operators are built from their texts stands for its own dump.
+pub fn databases_stand_for_their_dumps()
+    ensures { DumpStands }
+{
+    dumps_are_read_back();
+}
+
+/// Two databases that stand for one dump are one database of the model, with one layout, where the
+/// same greatest identifier may be drawn.
+pub fn dumps_are_of_one_database()
+    ensures { DumpsAreOfOneDatabase }
+{
+    told_graphs_are_one();
+}

@@ -1,0 +1,24 @@
+//! Dumps: a whole database as the text of one JSON value, and back.
+//!
+//! `specs/Told.antt` says what the dump of a database tells: its operators as canonical texts with
+//! their numbers, its versions, its layout, and what is stored; of auxiliary tables and memories
+//! only those that an operator has. `dump` writes just that, as compact text with sorted keys.
+//! `specs/Stands.antt` says when a database stands for such a value: it is valid, its operators are
+//! built from their texts, and the dump tells just what it is. `load` gives a database that stands
+//! for the value that the bytes spell, and refuses exactly where there is none; the greatest
+//! identifier that may be drawn is no part of a dump, and is given.
+#![tactic(auto)]
+
+mod dumping;
+mod filling;
+mod fitting;
+mod laws;
+mod loading;
+mod taking;
+mod writing;
+
+pub use dumping::dump;
+pub use laws::{
+    databases_stand_for_their_dumps, dumps_are_of_one_database, others_remember_nothing,
+};
+pub use loading::load;
