@@ -5,3 +5,4 @@ mod LaidLemmas
 mod LineLemmas
 mod MoveLemmas
 mod BoundLemmas
+mod LeftLemmas

@@ -6,6 +6,7 @@ ghost use Rattle.statements.specs.Views.{op_view, statement_view};
 ghost use Rattle.statements.specs.Texts.{OpTexts, TextsWithin};
 ghost use Rattle.version_graph.specs.Edges.{IsGraph};
 ghost use Rattle.par_base.specs.Checked.{◌then◌, Gives};
+ghost use Rattle.op_any.specs.BuiltOn.{AreBuiltOn};
 ghost use Rattle.op_kinds.specs.Operators.{any_meaning};
 ghost use Rattle.version_model.specs.Sound.{IsSound};
 ghost use Rattle.storage_law.specs.Canonical.{SameStored};
@@ -20,6 +21,7 @@ ghost use Rattle.engine_layouts.specs.Laid.{materialized};
 ghost use Rattle.engine_core.specs.Act.{act, acted, acted_data, are_built, is_built as is_built_statement, planned_write, IsOrdinary};
 ghost use Rattle.engine_core.specs.Bounds.{InsertTakes, PlansInsert};
 ghost use Rattle.engine_core.specs.Kept.{data_of, empty_state, state_of, Answers, Follows};
+ghost use Rattle.engine_core.specs.Spoken.{TextsCome};
 
 use crate::built::is_built;
 use crate::spent::counter_at;
@@ -49,12 +51,15 @@ impl Model for Engine {
     ghost use Rattle.op_kinds.specs.Codes.{coded_any};
     ghost use Rattle.std.specs.Coded.{codes};
     ghost use Rattle.db_state.specs.declared.parts.Parts.{Parts};
+    ghost use Rattle.op_any.specs.BuiltOn.{AreBuiltOn};
 
     ghost Value = { Parts AnyView };
 
     ghost coded = { Prim.hlevel (codes, coded_any) };
 
     ghost view = { λ it. it.database };
+
+    ghost invariant = { λ it. AreBuiltOn it.database.ids.next it.database.graph.edges };
 }
 
 impl Engine {
@@ -67,10 +72,28 @@ impl Engine {
         }
     }
 
+    /// The engine of a database whose operators are each what its own text builds, as those are that
+    /// an engine has made. It takes no memory.
+    pub fn over(database: Db<AnyOp>) -> Engine
+        requires { AreBuiltOn database.ids.next database.graph.edges }
+        ensures { result ≡ database }
+    {
+        Engine { database }
+    }
+
+    /// The database with its layout, whose operators may be told by their texts alone: each is what
+    /// its text builds on the working set on which it stands. It does no work.
+    pub fn database(&self) -> &Db<AnyOp>
+        ensures database { result.now ≡ self.now }
+        ensures built { AreBuiltOn self.now.ids.next self.now.graph.edges }
+    {
+        &self.database
+    }
+
     /// Carries out one statement of a session, whose texts have at most 65,536 bytes, and answers the
     /// model's reply or refusal. After an error the state is as it was. Whatever brings back a state
-    /// with its layout brings back every stored table, auxiliary table and memory. Each evaluation of
-    /// an expression is a step.
+    /// with its layout brings back every stored table, auxiliary table and memory. Operators come from
+    /// statements alone. Each evaluation of an expression is a step.
     ///
     /// Where every operator of its tree treats each identifier by itself, an INSERT takes time in the
     /// number of its values, for each table of the tree, and an UPDATE or DELETE besides in the number
@@ -96,6 +119,9 @@ impl Engine {
             (statement_view statement) ≡ Ok p
             → OnOk result (IsOrdinary (data_of self.old) p (data_of self.new)) }
         ensures restores { IsRestored any_meaning self.new }
+        ensures texts { TextsCome (statement_view statement) self.old.graph.edges
+            self.new.graph.edges }
+        ensures limit { self.new.ids.limit ≡ self.old.ids.limit }
         ensures steps { InsertTakes (data_of self.old) (statement_view statement) steps.old
             steps.new }
     {

@@ -4,7 +4,9 @@
 //! leaves exactly what the model does (`specs/Act.antt`), whose data has no layout: the reply and
 //! the next state, or the refusal in its order; that a refused or starved call leaves the state as
 //! it was; that each version is an ordinary database for its own writes; that engines of one state
-//! store the same; and that `reply_text` and `refusal_text` give the lines of replies and refusals.
+//! store the same; that each live operator is what its own text builds, and its text comes from a
+//! statement (`specs/Spoken.antt`), so that an engine may be told by texts and begun again over what
+//! they build; and that `reply_text` and `refusal_text` give the lines of replies and refusals.
 //! By the laws of `specs/Laws.antt` a MATERIALIZE changes no data and stores what it names, moves
 //! there and back restore what was stored, and each answer ends its line.
 //! A statement whose form isn't carried out yet is refused as not built before every other check.

@@ -82,10 +82,12 @@ module _ (es : List (Placed AnyView)) (w operator table : ℕ) (e : Edge AnyView
       let sources = subst (λ hs. (any_meaning e.operator).Fits hs (map as_seen e.targets)) (sym sources_seen) fits in
       subst (λ hs. (any_meaning e.operator).Fits (map (headings (new ∷ es)) (table_numbers (taken (working es w) e.sources))) hs) (sym targets_seen) sources
 
-  pub headings_then : headings_of (working (new ∷ es) (operator + 1)) ≡ headings_after (headings_of (working es w)) e
-  headings_then =
-      ap (λ (s : List TableVersion). headings_of s) (cond-true ((operator + 1) == (operator + 1)) (set_after (working es w) new) (working es (operator + 1)) (eq-eqb (operator + 1) (operator + 1) refl))
-      ∙ headings_next (working es w) new counted
+-- the tables that the next edge leaves
+pub headings_then : (es : List (Placed AnyView)) (w operator table : ℕ) (e : Edge AnyView) → headings_of (working (placed_next w operator table e ∷ es) (operator + 1)) ≡ headings_after (headings_of (working es w)) e
+headings_then es w operator table e =
+    let new : Placed AnyView = placed_next w operator table e in
+    ap (λ (s : List TableVersion). headings_of s) (cond-true ((operator + 1) == (operator + 1)) (set_after (working es w) new) (working es (operator + 1)) (eq-eqb (operator + 1) (operator + 1) refl))
+    ∙ headings_next (working es w) new (length_after table e.targets)
 
 pub are_built : (es : List (Placed AnyView)) (w operator table next : ℕ) (counts : Counts) (texts : List OpView) (edges : List (Edge AnyView))
     → edges_on (headings_of (working es w)) counts next texts ≡ Ok edges → CanGrow es w operator table edges → Each TextsFit texts
@@ -99,7 +101,7 @@ are_built es w operator table next counts (text ∷ texts) edges h can fit =
     let new : Placed AnyView = placed_next w operator table s.edge in
     let more = with_one counts (target_count text) in
     let then_on : edges_on (headings_of (working (new ∷ es) (operator + 1))) more next texts ≡ Ok s.rest =
-    subst (λ hs. edges_on hs more next texts ≡ Ok s.rest) (sym (headings_then es w operator table s.edge s.rest can_both)) s.others in
+    subst (λ hs. edges_on hs more next texts ≡ Ok s.rest) (sym (headings_then es w operator table s.edge)) s.others in
     rw s.are (
       fits_seen es w operator table s.edge s.rest can_both (here.fits (headings_well es can.edges w)),
       here.closed fit.0,

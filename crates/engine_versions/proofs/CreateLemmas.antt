@@ -14,11 +14,14 @@ use Rattle.version_graph.specs.Evolve.{limit_passed, refusal_of, start_of, MayEv
 use Rattle.version_graph.specs.Calls.{CanGrow}
 use Rattle.version_graph.specs.declared.parts.Edge.{Edge}
 use Rattle.version_graph.proofs.EvolveLaws.{can_evolve, no_refusal}
+use Rattle.version_graph.proofs.GrowLaws.{grown_can}
 use Rattle.op_law.specs.Calls.{first_refused}
 use Rattle.par_base.specs.Checked.{◌then◌, Gives}
-use Rattle.op_kinds.specs.Operators.{AnyView, any_meaning}
+use Rattle.op_kinds.specs.Operators.{AnyView, any_laws, any_meaning}
 use Rattle.op_any.specs.Texts.{TextsFit}
+use Rattle.version_model.specs.Sound.{IsSound}
 use Rattle.version_model.specs.Evolving.{AreBuilt, grown_state}
+use Rattle.version_model.proofs.EvolveLaws.{MayGrow, evolution_keeps}
 use Rattle.version_model.specs.Databases.{counter_of, evolved_state, start_in, Evolves, MayEvolveTo, RefusesEvolution}
 use Rattle.engine_state.specs.AnyDatabase.{AnyDatabase}
 use Rattle.engine_state.specs.SharedChecks.{known_version, enough_ids}
@@ -44,7 +47,7 @@ some_one : (m n : ℕ) → Some m ≡ Some n → m ≡ n
 some_one m n e = cc
 
 -- all checks but the last one have passed, while `next` is the next identifier
-record Passes (g : Drawn AnyView) (next : ℕ) (name : List ℕ) (from : Option (List ℕ)) (texts : List OpView) (set : ℕ) (edges : List (Edge AnyView)) : Type 0 where
+pub record Passes (g : Drawn AnyView) (next : ℕ) (name : List ℕ) (from : Option (List ℕ)) (texts : List OpView) (set : ℕ) (edges : List (Edge AnyView)) : Type 0 where
   pub start : start_at g.versions from ≡ Ok set
   pub free : unused name (set_named g.versions name) ≡ Ok tt
   pub built : edges_on (headings_of (working g.edges set)) (counts_of g) next texts ≡ Ok edges
@@ -93,6 +96,17 @@ module _ (d : AnyDatabase) (name : List ℕ) (from : Option (List ℕ)) (texts :
           subst (λ (n : ℕ). AreBuilt any_meaning d.graph.edges n d.graph.last_operator d.graph.last_table edges d.state.next) (some_one set w (sym starts_there ∙ e))
           (are_built d.graph.edges set d.graph.last_operator d.graph.last_table d.state.next (counts_of d.graph) texts edges built can fit);
     }
+
+    -- no identifier is free again
+    pub next_rises : IsSound any_meaning d.graph.edges d.state → d.state.next ≤ (state_after d name set edges).state.next
+    next_rises sound =
+        let grows : MayGrow any_meaning d.graph.edges set d.graph.last_operator d.graph.last_table edges d.state d.state.next = record {
+          all = (grown_can d.graph.edges set d.graph.last_operator d.graph.last_table edges can).1.edges;
+          sound = sound;
+          built = are_built d.graph.edges set d.graph.last_operator d.graph.last_table d.state.next (counts_of d.graph) texts edges built can fit;
+          drawn = omega arith;
+        } in
+        (evolution_keeps any_meaning any_laws d.graph.edges set d.graph.last_operator d.graph.last_table edges d.state d.state.next grows).rises
 
     start_is : start_in d from ≡ set
     start_is = ap (λ (o : Option ℕ). unwrap_or o 0) starts_there

@@ -4,3 +4,5 @@ mod EdgeLemmas
 mod BuiltLemmas
 mod CreateLemmas
 mod LayoutLemmas
+pub mod BuiltOnLaws
+pub mod KeptTextLaws

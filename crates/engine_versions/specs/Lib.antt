@@ -1,2 +1,3 @@
 pub mod Evolve
 pub mod Plans
+pub mod KeptTexts

@@ -5,6 +5,7 @@ ghost use Rattle.statements.specs.Views.{op_view};
 ghost use Rattle.version_graph.specs.Sets.{Each};
 ghost use Rattle.version_graph.specs.Edges.{set_named};
 ghost use Rattle.par_base.specs.Checked.{Gives};
+ghost use Rattle.op_any.specs.BuiltOn.{AreBuiltOn};
 ghost use Rattle.op_any.specs.Texts.{TextsFit};
 ghost use Rattle.op_kinds.specs.Operators.{any_meaning};
 ghost use Rattle.layout_rules.specs.Changes.{layout_after};
@@ -99,6 +100,8 @@ pub fn create_version<L: Ledger>(
         (database_for any_meaning database.new ≡ database_for any_meaning database.old) }
     ensures layout { database.new.layout.operators
         ≡ layout_after database.old.layout.operators database.old.graph database.new.graph }
+    ensures built { AreBuiltOn database.old.ids.next database.old.graph.edges
+        → AreBuiltOn database.new.ids.next database.new.graph.edges }
 {
     let graph = database.graph();
     let edges = plan_edges(alloc, graph, database.ids().next(), &name, from, texts)?;

@@ -1,6 +1,7 @@
 //! DROP SCHEMA VERSION.
 ghost use Rattle.std.specs.Prelude.{◌≡◌, OnErr};
 ghost use Rattle.par_base.specs.Checked.{Gives};
+ghost use Rattle.op_any.specs.BuiltOn.{AreBuiltOn};
 ghost use Rattle.op_kinds.specs.Operators.{any_meaning};
 ghost use Rattle.layout_rules.specs.Changes.{layout_after};
 ghost use Rattle.db_state.specs.Fields.{database_for};
@@ -32,6 +33,8 @@ pub fn drop_version<L: Ledger>(
         (database_for any_meaning database.new ≡ database_for any_meaning database.old) }
     ensures layout { database.new.layout.operators
         ≡ layout_after database.old.layout.operators database.old.graph database.new.graph }
+    ensures built { AreBuiltOn database.old.ids.next database.old.graph.edges
+        → AreBuiltOn database.new.ids.next database.new.graph.edges }
 {
     // That the layout follows the graph rests on it.
     let _graph = database.graph();

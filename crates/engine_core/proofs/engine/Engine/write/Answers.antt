@@ -1,15 +1,18 @@
-use Rattle.std.proofs.Common.{◌≡◌, ◌<◌, Ok, refl, subst, ap, arith}
+use Rattle.std.proofs.Common.{◌≡◌, ◌<◌, ℕ, Ok, refl, sym, subst, ap, arith}
 use Rattle.std.proofs.lemmas.Result.{err_from_is_err_and}
 use Rattle.par_base.specs.declared.fault.Fault.TheVariants.{Refused}
 use Rattle.par_base.specs.declared.refusal.Refusal.TheVariants.{IdsSpent}
 use Rattle.op_law.specs.Calls.{first_refused}
+use Rattle.op_any.specs.BuiltOn.{AreBuiltOn}
 use Rattle.id_memory.specs.States.{CounterState}
 use Rattle.op_kinds.specs.Operators.{AnyView, any_meaning}
-use Rattle.db_state.specs.Fields.{database_for}
+use Rattle.db_state.specs.Fields.{database_for, state_for}
 use Rattle.db_state.specs.declared.parts.Parts.{Parts}
+use Rattle.version_model.specs.Writes.{MayWrite}
 use Rattle.version_model.specs.Databases.{Writes}
 use Rattle.engine_statements.specs.Calls.{rows_after}
 use Rattle.write_propagation.specs.Bounds.{PlansWithin}
+use Rattle.engine_core.proofs.LeftLemmas.{built_written}
 use Rattle.engine_core.proofs.WriteLemmas.{above_already, both_stay, ordinary_then, write_follows, written_then}
 use Rattle.engine_core.proofs.engine.Engine.write.Goals as goal
 
@@ -81,3 +84,15 @@ returns-in-Err-Refused-clause-steps g c = subst (λ (x : Parts AnyView). PlansWi
 
 pub returns-clause-steps : goal.returns-clause-steps
 returns-clause-steps g c = subst (λ (x : Parts AnyView). PlansWithin any_meaning x.graph.edges c.args.plan.set c.args.plan.changes c.args.steps.now c.write_through.new.steps) c.self.view_is c.write_through.ensures.steps
+
+pub invariant_of-self : goal.invariant_of-self
+invariant_of-self g c =
+    let k = c.args.self.now in
+    let w = c.args.plan in
+    let rows = rows_after k w in
+    let n = c.in_ok-ids.ids.next in
+    let next : n ≡ w.next = ap (λ i. i.next) c.in_ok-ids.ensures.ok.0 in
+    let may = subst (λ (m : ℕ). MayWrite k.graph.edges (state_for any_meaning k) w.set w.table rows m) (sym next) c.requires.may in
+    let new = c.write_through.new.database in
+    let writes = subst (λ (x : Parts AnyView). Writes any_meaning (database_for any_meaning x) w.set w.table (rows_after x w) n c.write_through.result (database_for any_meaning new)) c.self.view_is c.write_through.ensures.writes in
+    built_written k new w.set w.table rows n c.write_through.result c.versions_always_agree.ensures.graph.edges c.versions_always_agree.ensures.agree may writes (subst (λ (x : Parts AnyView). AreBuiltOn x.ids.next x.graph.edges) c.self.view_is c.self.invariant)
