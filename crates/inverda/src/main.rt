@@ -1,11 +1,12 @@
-//! The program: `inverda` over standard input and standard output.
+//! The program: `inverda` over standard input, standard output and real files.
 #![tactic(auto)]
 
 mod adapters;
+mod disk;
 
 use adapters::{Input, Output};
+use disk::Disk;
 use inverda_run::inverda;
-use outside::SureFiles;
 use std::alloc::Global;
 use std::process::ExitCode;
 use std::rt::Env;
@@ -37,6 +38,6 @@ fn main(rt: HostRuntime) -> ExitCode {
     };
     let mut script = Input::new(rt.stdin());
     let mut out = Output::new(rt.stdout());
-    let mut files = SureFiles::new(alloc);
+    let mut files = Disk::new(alloc, &rt);
     ExitCode::from(inverda(alloc, words.as_slice(), &mut script, &mut out, &mut files))
 }

@@ -1,7 +1,10 @@
-mod OutputLemmas
-mod FrontLemmas
-mod RunLemmas
+mod DumpLemmas
+mod TwoRunLemmas
+mod FileLemmas
+mod StartedLemmas
+mod FinishLemmas
+mod StartLemmas
+mod BegunLemmas
 mod EndLemmas
-mod TextLemmas
-mod MoveLemmas
-mod CutLemmas
+mod RunLemmas
+mod TopLemmas

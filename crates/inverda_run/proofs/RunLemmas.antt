@@ -1,92 +1,60 @@
--- The statements that were run so far.
-use Rattle.std.proofs.Common.{◌≡◌, ◌+◌, ◌≤◌, ℕ, List, [], ◌∷◌, ◌++◌, Option, refl, sym, ap, subst, ◌∙◌, drop, length, arith, length-drop}
-use Rattle.std.specs.Io.KnownBytes.{Appends}
-use Rattle.std.proofs.KnownBytes.{Appends-nil, Appends-trans}
-use Rattle.bidel_lex.specs.declared.tokens.Token.{Token}
-use Rattle.statements.specs.Views.{StatementView}
-use Rattle.bidel_script.specs.declared.tokens.Tail.{Tail}
-use Rattle.bidel_script.specs.Script.{Leads, Outcome, StandsBehind}
-use Rattle.bidel_script.proofs.ScriptLaws.{front_within, leads_more, stands_up}
+-- The parts of a run, one after the other.
+use Rattle.std.specs.Prelude.{◌⊎◌, Option}
+use Rattle.std.proofs.Common.{◌≡◌, ℕ, List, sym, subst, ◌∙◌, inl, inr}
+use Rattle.outside.specs.Causes.{Rose}
 use Rattle.engine_layouts.specs.Laid.{Laid}
-use Rattle.engine_core.specs.Kept.{empty_state}
-use Rattle.engine_core.specs.Act.{act}
-use Rattle.inverda_run.specs.Output.{out, replies, out_of, text_of, next_state, max_id}
-use Rattle.inverda_run.specs.Statuses.{PutsFront}
-use Rattle.inverda_run.specs.Calls.{RunsOne, RunsTo, RunsPart, RunsFront}
-use Rattle.inverda_run.proofs.FrontLemmas.{puts_all, puts_behind}
-use Rattle.inverda_run.proofs.OutputLemmas.{state_behind, state_behind-more, out-more}
+use Rattle.run_words.specs.Words.{Asked, Says}
+use Rattle.run_words.specs.Laws.{SayOneThing}
+use Rattle.script_run.specs.Statuses.{Done}
+use Rattle.script_run.specs.Calls.{EndStays as ScriptStays}
+use Rattle.script_run.specs.declared.end.End.{End as ScriptEnd}
+use Rattle.script_run.specs.declared.end.End.TheVariants as script
+use Rattle.inverda_run.specs.Starts.{Told}
+use Rattle.inverda_run.specs.Statuses.{Starts, StaysBut}
+use Rattle.inverda_run.specs.Calls.{EndStays, Ends, Finishes, PutsLast, WritesTo, ended}
+use Rattle.inverda_run.specs.Laws.{OneDump, OneStart}
+use Rattle.inverda_run.specs.declared.end.End.{End}
+use Rattle.inverda_run.specs.declared.end.End.TheVariants as end
+use Rattle.inverda_run.proofs.EndLemmas.{finish_ends}
 
--- so many first tokens are statements, which brought the state about, and their lines were put
-pub record RanSoFar (bytes : List ℕ) (tail : Tail) (tokens : List Token) (held held' : Option (List ℕ)) (s : Laid) (done : ℕ) : Type 0 where
-  pub statements : List StatementView
-  pub leads : Leads bytes tail tokens statements done
-  pub within : done ≤ length tokens
-  pub put : Appends held held' (out_of statements)
-  pub state : s ≡ state_behind (empty_state max_id) statements
+-- ---- the sink
 
--- before the first statement
-pub ran_none : (bytes : List ℕ) (tail : Tail) (tokens : List Token) (held : Option (List ℕ)) (s : Laid) → s ≡ empty_state max_id
-    → RanSoFar bytes tail tokens held held s 0
-unfolding state_behind replies
-ran_none bytes tail tokens held s h = record {
-  statements = [];
-  leads = refl;
-  within = omega arith;
-  put = Appends-nil held;
-  state = h;
-}
+-- a last line
+pub last_stays : (due : End) (text : List ℕ) (held held' : Option (List ℕ)) (was is : ℕ) (e : End) → (is ≡ was → EndStays was is due) → PutsLast due text held held' was is e → EndStays was is e
+last_stays due text held held' was is e f (inl p) = subst (EndStays was is) (sym p.0) (f p.2)
+last_stays due text held held' was is e f (inr p) = subst (EndStays was is) (sym p.0) tt
 
--- after one more
-pub ran_more : (bytes : List ℕ) (tail : Tail) (tokens : List Token) (held mid held' : Option (List ℕ)) (s s' : Laid) (done used : ℕ)
-    → RanSoFar bytes tail tokens held mid s done → RunsOne bytes tail (drop done tokens) mid held' s s' used
-    → RanSoFar bytes tail tokens held held' s' (done + used)
-ran_more bytes tail tokens held mid held' s s' done used r one =
-    let sts = r.statements in
-    let st = one.statement in
-    let s0 = empty_state max_id in
-    let text : text_of (act s st) ≡ text_of (act (state_behind s0 sts) st) = ap (λ (x : Laid). text_of (act x st)) r.state in
-    record {
-      statements = sts ++ st ∷ [];
-      leads = leads_more bytes tail tokens sts done st used r.leads one.front one.short;
-      within = omega (arith, r.within, front_within bytes _ (drop done tokens) st used one.front, length-drop done tokens);
-      put = subst (Appends held held') (ap (λ (l : List ℕ). out s0 sts ++ l) text ∙ sym (out-more s0 sts st))
-          (Appends-trans held mid held' (out s0 sts) (text_of (act s st)) r.put one.put);
-      state = one.next ∙ ap (λ (x : Laid). next_state x (act x st)) r.state ∙ sym (state_behind-more s0 sts st);
-    }
+-- a script
+pub script_stays : (was is : ℕ) (e : ScriptEnd) → ScriptStays was is e → EndStays was is (ended e)
+script_stays was is script.Done h = h
+script_stays was is script.Memory h = h
+script_stays was is script.Syntax h = h
+script_stays was is script.Unread h = h
+script_stays was is script.Unwritten h = tt
+script_stays was is script.TooLong h = h
 
--- at what is no statement that is known to end
-pub ran_stops : (bytes : List ℕ) (tail : Tail) (tokens : List Token) (held mid held' : Option (List ℕ)) (s : Laid) (done : ℕ) (o : Outcome)
-    → RanSoFar bytes tail tokens held mid s done → StandsBehind bytes tail (drop done tokens) 0 o × (held' ≡ mid) → RunsTo bytes tail tokens held held' o
-ran_stops bytes tail tokens held mid held' s done o r stop = record {
-  statements = r.statements;
-  used = done;
-  leads = r.leads;
-  behind = stands_up bytes tail tokens r.statements done o r.within r.leads stop.0;
-  put = subst (λ (h : Option (List ℕ)). Appends held h (out_of r.statements)) (sym stop.1) r.put;
-}
+-- from a count that is the same
+pub stays_from : (old was is : ℕ) (e : End) → was ≡ old → EndStays was is e → EndStays old is e
+stays_from old was is e same h = subst (λ (n : ℕ). EndStays n is e) same h
 
--- where memory ran out
-pub ran_front : (bytes : List ℕ) (tail : Tail) (tokens : List Token) (held mid held' : Option (List ℕ)) (s : Laid) (done : ℕ)
-    → RanSoFar bytes tail tokens held mid s done → held' ≡ mid → RunsFront bytes tail tokens held held'
-ran_front bytes tail tokens held mid held' s done r same = record {
-  statements = r.statements;
-  used = done;
-  leads = r.leads;
-  put = puts_all held held' (out_of r.statements) (subst (λ (h : Option (List ℕ)). Appends held h (out_of r.statements)) (sym same) r.put);
-}
+-- ---- files
 
--- where the sink failed
-pub ran_part : (bytes : List ℕ) (tail : Tail) (tokens : List Token) (held mid held' : Option (List ℕ)) (s : Laid) (done : ℕ)
-    → RanSoFar bytes tail tokens held mid s done → RunsPart bytes tail (drop done tokens) mid held' s → RunsFront bytes tail tokens held held'
-ran_part bytes tail tokens held mid held' s done r part =
-    let sts = r.statements in
-    let st = part.statement in
-    let s0 = empty_state max_id in
-    let text : text_of (act s st) ≡ text_of (act (state_behind s0 sts) st) = ap (λ (x : Laid). text_of (act x st)) r.state in
-    record {
-      statements = sts ++ st ∷ [];
-      used = done + part.used;
-      leads = leads_more bytes tail tokens sts done st part.used r.leads part.front part.short;
-      put = subst (PutsFront held held') (ap (λ (l : List ℕ). out s0 sts ++ l) text ∙ sym (out-more s0 sts st))
-          (puts_behind held mid held' (out s0 sts) (text_of (act s st)) r.put part.put);
-    }
+pub files_stay : (words : List (List ℕ)) (told told' : Told) (P : Type 0) → ((file : List ℕ) → told' file ≡ told file) → StaysBut words told told' P
+files_stay words told told' P same file = inl (same file)
+
+pub files_finished : (words : List (List ℕ)) (told mid told' : Told) (asked : Asked) (filed was is : ℕ) (e : End) → Says words asked → was ≡ filed → ((file : List ℕ) → mid file ≡ told file)
+    → ((file : List ℕ) → WritesTo asked.dump mid told' was is e file) → StaysBut words told told' ((e ≡ end.Done) ⊎ Rose filed is)
+files_finished words told mid told' asked filed was is e says same stay writes file = elim (writes file) [
+  | inl here ↦ inl (here ∙ stay file)
+  | inr d ↦ inr (record { asked = asked; says = says; dump = d.0 }, subst (λ (n : ℕ). (e ≡ end.Done) ⊎ Rose n is) same d.1)
+]
+
+-- ---- the end
+
+pub finished : (words : List (List ℕ)) (told told' : Told) (left left' : Option (List ℕ)) (read read' : ℕ) (held between held' : Option (List ℕ)) (put was put' filed was_filed filed' : ℕ)
+    → SayOneThing → OneStart → OneDump → (asked : Asked) (from to : Laid) → Starts words told asked from → Done from to left left' held between → read' ≡ read → was ≡ put → was_filed ≡ filed
+    → (e : End) → Finishes to asked.dump told' between held' was put' was_filed filed' e → Ends words told told' left left' read read' held held' put put' filed filed' e
+finished words told told' left left' read read' held between held' put was put' filed was_filed filed' one start dump asked from to starts done same put_is filed_is e finishes =
+    subst (λ (n : ℕ). Ends words told told' left left' read read' held held' n put' filed filed' e) put_is
+    (subst (λ (n : ℕ). Ends words told told' left left' read read' held held' was put' n filed' e) filed_is
+    (finish_ends words told told' left left' read read' held was was_filed filed' one start asked from to starts dump between held' put' done same e finishes))

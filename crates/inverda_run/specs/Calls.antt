@@ -1,157 +1,144 @@
 -- What the inner calls give.
-use Rattle.std.specs.Prelude.{◌≡◌, ◌≢◌, ◌≤◌, ◌++◌, ℕ, Bool, true, false, List, [], take, length, Option, codes, ⊤}
+use Rattle.std.specs.Prelude.{◌≡◌, ◌≢◌, ◌⊎◌, ◌≤◌, ◌<◌, ℕ, List, length, Option, Some, None, codes, Result, Ok, Err, ⊤}
 use Rattle.std.specs.Io.KnownBytes.{Appends}
 use Rattle.outside.specs.Causes.{Rose}
-use Rattle.bidel_lex.specs.declared.tokens.Token.{Token}
-use Rattle.bidel_expr.specs.Lexemes.{lexemes}
-use Rattle.statements.specs.Views.{StatementView}
-use Rattle.bidel_parser.specs.Parsing.{IsFront}
-use Rattle.bidel_script.specs.Tails.{is_over}
-use Rattle.bidel_script.specs.Lengths.{IsLong}
-use Rattle.bidel_script.specs.Script.{Leads, Comes, Outcome, StandsBehind}
-use Rattle.bidel_script.specs.Calls.{outcome_of}
-use Rattle.bidel_script.specs.declared.tokens.Tail.{Tail}
-use Rattle.bidel_script.specs.declared.front.Stop.{Stop}
-use Rattle.bidel_script.specs.declared.front.Stop.TheVariants as stop
+use Rattle.outside.specs.FileTold.{IsMissing, ToldAs}
+use Rattle.op_kinds.specs.Operators.{AnyView}
+use Rattle.db_state.specs.declared.parts.Parts.{Parts}
 use Rattle.engine_layouts.specs.Laid.{Laid}
-use Rattle.engine_core.specs.Act.{act}
+use Rattle.engine_core.specs.Kept.{state_of}
 use Rattle.engine_core.specs.Texts.{line}
-use Rattle.inverda_run.specs.Output.{text_of, next_state, out_of}
-use Rattle.inverda_run.specs.Statuses.{Done, Stopped, Unread, Passed, PutsFront, WritesScript, Begun, BegunTaken, last_line, limit}
-use Rattle.inverda_run.specs.declared.turn.Turn.{Turn}
-use Rattle.inverda_run.specs.declared.turn.Turn.TheVariants as turn
-use Rattle.inverda_run.specs.declared.run.Ran.{Ran}
-use Rattle.inverda_run.specs.declared.run.Ran.TheVariants as ran
-use Rattle.outside.specs.declared.all.ReadAll.{ReadAll}
-use Rattle.outside.specs.declared.all.ReadAll.TheVariants as read
-use Rattle.inverda_run.specs.declared.top.Counted.{Counted}
+use Rattle.dump_graph.specs.Texts.{AreSpelled}
+use Rattle.dump_file.specs.Stands.{IsDumpOf}
+use Rattle.script_run.specs.Statuses.{BegunTaken, Passed, PutsFront, Stopped, Unread, limit}
+use Rattle.script_run.specs.declared.end.End.{End as ScriptEnd}
+use Rattle.script_run.specs.declared.end.End.TheVariants as script
+use Rattle.inverda_run.specs.Files.{IsLonger}
+use Rattle.inverda_run.specs.Starts.{IsDumpText, Loaded, StartsBy, Told}
+use Rattle.inverda_run.specs.Statuses.{LongDump, LongLoad, NoDump, OfStart, Ran, RefusedDump, SayNothing, UnreadLoad, UnwrittenDump, Written}
+use Rattle.inverda_run.specs.Decided.{Begun}
+use Rattle.inverda_run.specs.declared.begin.NotBegun.{NotBegun}
+use Rattle.inverda_run.specs.declared.begin.NotBegun.TheVariants as begins
 use Rattle.inverda_run.specs.declared.end.End.{End}
 use Rattle.inverda_run.specs.declared.end.End.TheVariants as end
 
--- a statement at the front of the tokens was carried out, and the lines that answer it were put
-pub record RunsOne (bytes : List ℕ) (tail : Tail) (tokens : List Token) (held held' : Option (List ℕ)) (s s' : Laid) (used : ℕ) : Type 0 where
-  pub statement : StatementView
-  pub front : IsFront (is_over tail.last) (lexemes bytes tokens) statement used
-  pub short : ¬ IsLong bytes tail tokens
-  pub put : Appends held held' (text_of (act s statement))
-  pub next : s' ≡ next_state s (act s statement)
+-- ---- the start
 
--- a statement at the front of the tokens was carried out, and a front of the lines that answer it was put
-pub record RunsPart (bytes : List ℕ) (tail : Tail) (tokens : List Token) (held held' : Option (List ℕ)) (s : Laid) : Type 0 where
-  pub statement : StatementView
-  pub used : ℕ
-  pub front : IsFront (is_over tail.last) (lexemes bytes tokens) statement used
-  pub short : ¬ IsLong bytes tail tokens
-  pub put : PutsFront held held' (text_of (act s statement))
+-- the file holds bytes within the limit that are no dump
+pub record HoldsNoDump (file : Option (Option (List ℕ))) : Type 0 where
+  pub bytes : List ℕ
+  pub within : length bytes ≤ limit
+  pub holds : ToldAs file bytes
+  pub none : NoDump bytes
 
--- what a turn behind so many tokens leaves: the sink's bytes and count of faults, and the engine's state, before and now; behind no
--- tokens at all, it finds what stands there
-abbrev pub Turns : List ℕ → Tail → List Token → Option (List ℕ) → Option (List ℕ) → ℕ → ℕ → Laid → Laid → Turn → Type 0
-Turns bytes tail tokens held held' was is s s' (turn.Ran used) = RunsOne bytes tail tokens held held' s s' used
-Turns bytes tail tokens held held' was is s s' (turn.Stops stop) = StandsBehind bytes tail tokens 0 (outcome_of stop) × (held' ≡ held)
-Turns bytes tail tokens held held' was is s s' turn.Memory = held' ≡ held
-Turns bytes tail tokens held held' was is s s' turn.Unwritten = Rose was is × RunsPart bytes tail tokens held held' s
+-- the engine with which a run starts, or why there is none: the file that is loaded holds no dump, is too long, or couldn't be read
+abbrev pub Begins : Told → Option (List ℕ) → ℕ → ℕ → ℕ → Result (Parts AnyView) NotBegun → Type 0
+Begins told load max_id was is (Ok engine) = StartsBy told load max_id (state_of engine) × AreSpelled engine.graph.edges × (is ≡ was)
+Begins told load max_id was is (Err begins.Memory) = is ≡ was
+Begins told load max_id was is (Err begins.Refused) = (name : List ℕ) × (load ≡ Some name) × HoldsNoDump (told name) × (is ≡ was)
+Begins told load max_id was is (Err begins.TooLong) = (name : List ℕ) × (load ≡ Some name) × IsLonger limit (told name) × (is ≡ was)
+Begins told load max_id was is (Err begins.Fault) = (name : List ℕ) × (load ≡ Some name) × Rose was is
 
--- a turn counts no fault of the sink where it isn't the sink that failed
-abbrev pub TurnStays : ℕ → ℕ → Turn → Type 0
-TurnStays was is turn.Unwritten = ⊤
-TurnStays was is _ = is ≡ was
+-- the engine over the database whose dump the bytes are, or that they are none
+abbrev pub LoadsEngine : List ℕ → ℕ → Result (Parts AnyView) NotBegun → Type 0
+LoadsEngine bytes max_id (Ok engine) = IsDumpOf bytes engine × (engine.ids.limit ≡ max_id)
+LoadsEngine bytes max_id (Err begins.Memory) = ⊤
+LoadsEngine bytes max_id (Err begins.Refused) = NoDump bytes
+LoadsEngine bytes max_id (Err _) = ⊥
 
--- statements were carried out and answered, and this stands behind them
-pub record RunsTo (bytes : List ℕ) (tail : Tail) (tokens : List Token) (held held' : Option (List ℕ)) (outcome : Outcome) : Type 0 where
-  pub statements : List StatementView
-  pub used : ℕ
-  pub leads : Leads bytes tail tokens statements used
-  pub behind : StandsBehind bytes tail tokens used outcome
-  pub put : Appends held held' (out_of statements)
+-- the engine over the database whose dump the file holds, or why there is none
+abbrev pub BeginsLoaded : Option (Option (List ℕ)) → ℕ → ℕ → ℕ → Result (Parts AnyView) NotBegun → Type 0
+BeginsLoaded file max_id was is (Ok engine) = Loaded file max_id (state_of engine) × AreSpelled engine.graph.edges × (is ≡ was)
+BeginsLoaded file max_id was is (Err begins.Memory) = is ≡ was
+BeginsLoaded file max_id was is (Err begins.Refused) = HoldsNoDump file × (is ≡ was)
+BeginsLoaded file max_id was is (Err begins.TooLong) = IsLonger limit file × (is ≡ was)
+BeginsLoaded file max_id was is (Err begins.Fault) = Rose was is
 
--- statements were carried out, and a front of the lines that answer them was put
-pub record RunsFront (bytes : List ℕ) (tail : Tail) (tokens : List Token) (held held' : Option (List ℕ)) : Type 0 where
-  pub statements : List StatementView
-  pub used : ℕ
-  pub leads : Leads bytes tail tokens statements used
-  pub put : PutsFront held held' (out_of statements)
+-- the count of missing names stays, or a file is loaded of which it isn't told that it is there
+abbrev pub MissesLoad : Told → Option (List ℕ) → ℕ → ℕ → Type 0
+MissesLoad told load was is = (is ≡ was) ⊎ ((name : List ℕ) × (load ≡ Some name) × IsMissing (told name))
 
--- what the turns leave, by the sink's bytes and count of faults before and now
-abbrev pub Runs : List ℕ → Tail → List Token → Option (List ℕ) → Option (List ℕ) → ℕ → ℕ → Ran → Type 0
-Runs bytes tail tokens held held' was is (ran.Stops stop) = RunsTo bytes tail tokens held held' (outcome_of stop)
-Runs bytes tail tokens held held' was is ran.Memory = RunsFront bytes tail tokens held held'
-Runs bytes tail tokens held held' was is ran.Unwritten = Rose was is × RunsFront bytes tail tokens held held'
+-- ---- the last line
 
--- the turns count no fault of the sink where it isn't the sink that failed
-abbrev pub RunStays : ℕ → ℕ → Ran → Type 0
-RunStays was is ran.Unwritten = ⊤
-RunStays was is _ = is ≡ was
+-- the line was put, or a front of it where the sink failed
+abbrev pub PutsLast : End → List ℕ → Option (List ℕ) → Option (List ℕ) → ℕ → ℕ → End → Type 0
+PutsLast due text held held' was is result =
+    ((result ≡ due) × Appends held held' text × (is ≡ was)) ⊎ ((result ≡ end.Unwritten) × Rose was is × PutsFront held held' text)
 
--- a fault is at one of the bytes, or behind the last one
-abbrev pub AtWithin : List ℕ → Stop → Type 0
-AtWithin bytes (stop.Fault at) = at ≤ length bytes
-AtWithin bytes _ = ⊤
+-- ---- the end
 
--- the lines that answer the statements that the bytes fix were put, and this stands behind them
-pub record RunsBytes (bytes : List ℕ) (ended : Bool) (held held' : Option (List ℕ)) (stop : Stop) : Type 0 where
-  pub statements : List StatementView
-  pub comes : Comes bytes ended statements (outcome_of stop)
-  pub within : AtWithin bytes stop
-  pub put : Appends held held' (out_of statements)
+-- how a run ends that has carried out its script
+abbrev pub ended : ScriptEnd → End
+ended script.Done = end.Done
+ended script.Memory = end.Memory
+ended script.Syntax = end.Syntax
+ended script.Unread = end.Unread
+ended script.Unwritten = end.Unwritten
+ended script.TooLong = end.LongScript
 
--- a front was put of what the run of the bytes puts where nothing fails
-abbrev pub BeginsRun : List ℕ → Bool → List ℕ → Option (List ℕ) → Option (List ℕ) → Type 0
-BeginsRun bytes ended stopped held held' = (text : List ℕ) → WritesScript bytes ended stopped text → PutsFront held held' text
+-- the dump of this state has more bytes than the limit
+pub record IsLongDump (to : Laid) : Type 0 where
+  pub text : List ℕ
+  pub dump : IsDumpText to text
+  pub above : limit < length text
 
--- what the run of the bytes leaves before its last line
-abbrev pub RunsScript : List ℕ → Bool → Option (List ℕ) → Option (List ℕ) → ℕ → ℕ → Ran → Type 0
-RunsScript bytes ended held held' was is (ran.Stops stop) = RunsBytes bytes ended held held' stop
-RunsScript bytes ended held held' was is ran.Memory = (stopped : List ℕ) → BeginsRun bytes ended stopped held held'
-RunsScript bytes ended held held' was is ran.Unwritten = Rose was is × ((stopped : List ℕ) → BeginsRun bytes ended stopped held held')
+-- the file holds the dump of this state, within the limit
+pub record HoldsDump (file : Option (Option (List ℕ))) (to : Laid) : Type 0 where
+  pub text : List ℕ
+  pub dump : IsDumpText to text
+  pub within : length text ≤ limit
+  pub holds : ToldAs file text
 
--- the lines that answer the statements that the bytes fix were put, and the last line of what stands behind them
-pub record PutsAll (bytes : List ℕ) (ended : Bool) (stopped : List ℕ) (held held' : Option (List ℕ)) (outcome : Outcome) : Type 0 where
-  pub statements : List StatementView
-  pub comes : Comes bytes ended statements outcome
-  pub put : Appends held held' (out_of statements ++ last_line bytes stopped outcome)
+-- how a run ends that dumps the state to a file
+abbrev pub DumpsTo : Laid → Option (Option (List ℕ)) → Option (List ℕ) → Option (List ℕ) → ℕ → ℕ → ℕ → ℕ → End → Type 0
+DumpsTo to file held held' put put' filed filed' end.Done = HoldsDump file to × (held' ≡ held) × (put' ≡ put) × (filed' ≡ filed)
+DumpsTo to file held held' put put' filed filed' end.Memory = (held' ≡ held) × (put' ≡ put) × (filed' ≡ filed)
+DumpsTo to file held held' put put' filed filed' end.LongDump = IsLongDump to × Appends held held' (line (codes "too long")) × (put' ≡ put) × (filed' ≡ filed)
+DumpsTo to file held held' put put' filed filed' end.UnwrittenDump = Rose filed filed' × Appends held held' (line (codes "file fault")) × (put' ≡ put)
+DumpsTo to file held held' put put' filed filed' end.Unwritten =
+    Rose put put' × ((IsLongDump to × PutsFront held held' (line (codes "too long"))) ⊎ Rose filed filed')
+DumpsTo to file held held' put put' filed filed' _ = ⊥
 
--- a line was put, or a front of it
-abbrev pub PutsLine : Stop → List ℕ → Option (List ℕ) → Option (List ℕ) → ℕ → ℕ → Ran → Type 0
-PutsLine stop text held held' was is (ran.Stops same) = (same ≡ stop) × Appends held held' text
-PutsLine stop text held held' was is ran.Memory = held' ≡ held
-PutsLine stop text held held' was is ran.Unwritten = Rose was is × PutsFront held held' text
+-- how a run ends that has carried out its script
+abbrev pub Finishes : Laid → Option (List ℕ) → Told → Option (List ℕ) → Option (List ℕ) → ℕ → ℕ → ℕ → ℕ → End → Type 0
+Finishes to None told held held' put put' filed filed' e = (e ≡ end.Done) × (held' ≡ held) × (put' ≡ put) × (filed' ≡ filed)
+Finishes to (Some name) told held held' put put' filed filed' e = DumpsTo to (told name) held held' put put' filed filed' e
 
--- what the run of the bytes leaves, with its last line
-abbrev pub EndsScript : List ℕ → Bool → List ℕ → Option (List ℕ) → Option (List ℕ) → ℕ → ℕ → Ran → Type 0
-EndsScript bytes ended stopped held held' was is (ran.Stops stop) = PutsAll bytes ended stopped held held' (outcome_of stop)
-EndsScript bytes ended stopped held held' was is ran.Memory = BeginsRun bytes ended stopped held held'
-EndsScript bytes ended stopped held held' was is ran.Unwritten = Rose was is × BeginsRun bytes ended stopped held held'
+-- a file is as it was, or it is the one that is written, and the run is done or a call on the files failed
+abbrev pub WritesBut : List ℕ → Told → Told → ℕ → ℕ → End → List ℕ → Type 0
+WritesBut name told told' filed filed' e file = (told' file ≡ told file) ⊎ ((file ≡ name) × ((e ≡ end.Done) ⊎ Rose filed filed'))
 
--- of what was read these bytes count, and this ends the run where they leave a statement open
-abbrev pub Counts : ReadAll → Counted → Type 0
-Counts (read.Whole bytes) c = (c.bytes.now ≡ bytes.items) × (c.ended ≡ true) × (c.end ≡ end.Done)
-Counts (read.TooLong bytes) c = (c.bytes.now ≡ take limit bytes.items) × (c.ended ≡ false) × (c.stopped.now ≡ line (codes "too long")) × (c.end ≡ end.TooLong)
-Counts (read.Fault bytes) c = (c.bytes.now ≡ bytes.items) × (c.ended ≡ false) × (c.stopped.now ≡ line (codes "read fault")) × (c.end ≡ end.Unread)
+abbrev pub WritesTo : Option (List ℕ) → Told → Told → ℕ → ℕ → End → List ℕ → Type 0
+WritesTo dump told told' filed filed' e file = (told' file ≡ told file) ⊎ ((dump ≡ Some file) × ((e ≡ end.Done) ⊎ Rose filed filed'))
 
--- how a run ends, where `stopped` ends it when a statement is still open
-abbrev pub ended_by : End → Ran → End
-ended_by stopped (ran.Stops stop.Over) = end.Done
-ended_by stopped (ran.Stops (stop.Fault at)) = end.Syntax
-ended_by stopped (ran.Stops stop.Long) = end.TooLong
-ended_by stopped (ran.Stops stop.Open) = stopped
-ended_by stopped ran.Memory = end.Memory
-ended_by stopped ran.Unwritten = end.Unwritten
+-- nothing was taken from the source
+abbrev pub Untouched : Option (List ℕ) → Option (List ℕ) → ℕ → ℕ → Type 0
+Untouched left left' read read' = (left' ≡ left) × (read' ≡ read)
+
+-- where memory ran out or the sink failed, a front was put of what would be otherwise
+pub record Early (words : List (List ℕ)) (told : Told) (left left' : Option (List ℕ)) (read read' : ℕ) (held held' : Option (List ℕ)) (filed filed' : ℕ) : Type 0 where
+  pub begun : ¬ Rose read read' → ¬ Rose filed filed' → Begun words told left held held'
+  pub taken : read' ≢ read → OfStart words told (λ from. BegunTaken from left left' held held')
+
+-- what a run leaves: of the files what is told, of the source what is left, of the sink its bytes, and their counts of faults, before and
+-- now
+abbrev pub Ends : List (List ℕ) → Told → Told → Option (List ℕ) → Option (List ℕ) → ℕ → ℕ → Option (List ℕ) → Option (List ℕ) → ℕ → ℕ → ℕ → ℕ → End → Type 0
+Ends words told told' left left' read read' held held' put put' filed filed' end.Done = Ran words told told' left left' held held' × (read' ≡ read) × (filed' ≡ filed)
+Ends words told told' left left' read read' held held' put put' filed filed' end.Memory = Early words told left left' read read' held held' filed filed'
+Ends words told told' left left' read read' held held' put put' filed filed' end.BadWords =
+    SayNothing words × Appends held held' (line (codes "bad words")) × Untouched left left' read read'
+Ends words told told' left left' read read' held held' put put' filed filed' end.Syntax = OfStart words told (λ from. Stopped from left left' read read' held held')
+Ends words told told' left left' read read' held held' put put' filed filed' end.Refused = RefusedDump words told held held' × Untouched left left' read read'
+Ends words told told' left left' read read' held held' put put' filed filed' end.Unread = OfStart words told (λ from. Unread from left left' read read' held held')
+Ends words told told' left left' read read' held held' put put' filed filed' end.Unwritten = Rose put put' × Early words told left left' read read' held held' filed filed'
+Ends words told told' left left' read read' held held' put put' filed filed' end.LongScript = OfStart words told (λ from. Passed from left left' read read' held held')
+Ends words told told' left left' read read' held held' put put' filed filed' end.LongLoad = LongLoad words told held held' × Untouched left left' read read'
+Ends words told told' left left' read read' held held' put put' filed filed' end.LongDump = LongDump words told left left' held held'
+Ends words told told' left left' read read' held held' put put' filed filed' end.UnreadLoad =
+    Rose filed filed' × UnreadLoad words held held' × Untouched left left' read read'
+Ends words told told' left left' read read' held held' put put' filed filed' end.UnwrittenDump = Rose filed filed' × UnwrittenDump words told left left' held held'
 
 -- the run counts no fault of the sink where it isn't the sink that failed
 abbrev pub EndStays : ℕ → ℕ → End → Type 0
 EndStays was is end.Unwritten = ⊤
 EndStays was is _ = is ≡ was
-
--- what a run leaves: of the source what is left and its count of faults, and of the sink its bytes and its count, before and now
-abbrev pub Ends : {W : Type 0} → List W → Option (List ℕ) → Option (List ℕ) → ℕ → ℕ → Option (List ℕ) → Option (List ℕ) → ℕ → ℕ → End → Type 0
-Ends words left left' read read' held held' was is end.Done = (words ≡ []) × Done left left' held held' × (read' ≡ read)
-Ends words left left' read read' held held' was is end.Memory =
-    (words ≡ []) × (¬ Rose read read' → Begun left held held') × (read' ≢ read → BegunTaken left left' held held')
-Ends words left left' read read' held held' was is end.BadWords = (words ≢ []) × Appends held held' (line (codes "bad words"))
-Ends words left left' read read' held held' was is end.Syntax = (words ≡ []) × Stopped left left' read read' held held'
-Ends words left left' read read' held held' was is end.Unread = (words ≡ []) × Unread left left' read read' held held'
-Ends words left left' read read' held held' was is end.Unwritten =
-    Rose was is × (words ≡ [] → ¬ Rose read read' → Begun left held held') × (words ≡ [] → read' ≢ read → BegunTaken left left' held held')
-    × (words ≢ [] → PutsFront held held' (line (codes "bad words")))
-Ends words left left' read read' held held' was is end.TooLong = (words ≡ []) × Passed left left' read read' held held'

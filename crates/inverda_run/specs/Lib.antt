@@ -1,4 +1,6 @@
-pub mod Output
-pub mod Moves
+pub mod Files
+pub mod Starts
 pub mod Statuses
+pub mod Decided
+pub mod Laws
 pub mod Calls

@@ -1,151 +1,119 @@
--- What the statuses of a run say. Source and sink tell their bytes before and now, where they know them.
-use Rattle.std.specs.Prelude.{◌≡◌, ◌++◌, ◌≤◌, ◌<◌, ◌⊎◌, ℕ, nat_le, Bool, true, false, List, [], length, take, Option, Some, None, codes, decimal, ⊤}
-use Rattle.std.specs.Io.KnownBytes.{Consumes, Appends, IsAtEnd}
-use Rattle.outside.specs.Causes.{Rose}
-use Rattle.statements.specs.Views.{StatementView}
-use Rattle.bidel_script.specs.Places.{Place, place_of}
-use Rattle.bidel_script.specs.Script.{IsScript, Comes, Outcome, Over, Fault, Long, Open}
+-- What the statuses of a run say. Source and sink tell their bytes, and files what they hold, before and now, where they know it.
+use Rattle.std.specs.Prelude.{◌≡◌, ◌≤◌, ◌<◌, ◌⊎◌, ℕ, List, length, Option, Some, None, codes, ⊤}
+use Rattle.std.specs.Io.KnownBytes.{Appends}
+use Rattle.outside.specs.FileTold.{IsMissing, ToldAs}
+use Rattle.op_kinds.specs.Operators.{AnyView}
+use Rattle.db_state.specs.declared.parts.Parts.{Parts}
+use Rattle.engine_layouts.specs.Laid.{Laid}
 use Rattle.engine_core.specs.Texts.{line}
-use Rattle.inverda_run.specs.Output.{out_of}
+use Rattle.dump_file.specs.Stands.{IsDumpOf}
+use Rattle.run_words.specs.Words.{Asked, Says}
+use Rattle.script_run.specs.Statuses.{Done, limit}
+use Rattle.inverda_run.specs.Files.{IsLonger}
+use Rattle.inverda_run.specs.Starts.{IsDumpText, StartsBy, Told}
 
--- the greatest number of bytes of a script
-abbrev pub limit : ℕ
-limit = 268435456
+-- ---- the words and the start
 
--- ---- what was taken from the source
+-- the words say nothing
+abbrev pub SayNothing : List (List ℕ) → Type 0
+SayNothing words = (asked : Asked) → Says words asked → ⊥
 
--- the bytes that were taken and count, and whether the input ended behind them, by the source's count of faults before and now: it was
--- read to its end, or a call failed, or the limit was passed, whose first bytes count
-pub data Taken (left left' : Option (List ℕ)) (was is : ℕ) (bytes : List ℕ) (ended : Bool) : Type 0 where
-  whole : Consumes left left' bytes → IsAtEnd left' → length bytes ≤ limit → ended ≡ true → Taken left left' was is bytes ended
-  failed : Consumes left left' bytes → length bytes ≤ limit → Rose was is → ended ≡ false → Taken left left' was is bytes ended
-  above : (taken : List ℕ) → Consumes left left' taken → limit < length taken → bytes ≡ take limit taken → ended ≡ false → Taken left left' was is bytes ended
+-- the words name this file to be loaded
+pub record Loads (words : List (List ℕ)) (name : List ℕ) : Type 0 where
+  pub asked : Asked
+  pub says : Says words asked
+  pub load : asked.load ≡ Some name
 
--- ---- what was put
+-- the words name this file to be written
+pub record Dumps (words : List (List ℕ)) (name : List ℕ) : Type 0 where
+  pub asked : Asked
+  pub says : Says words asked
+  pub dump : asked.dump ≡ Some name
 
--- the last line of a run that found a fault
-abbrev pub fault_line : Place → List ℕ
-fault_line place = line (codes "syntax " ++ decimal place.line ++ codes ":" ++ decimal place.column)
+-- a run of the words starts from this state
+pub record Starts (words : List (List ℕ)) (told : Told) (asked : Asked) (from : Laid) : Type 0 where
+  pub says : Says words asked
+  pub start : StartsBy told asked.load asked.max_id from
 
--- the last line of a run; where a statement is still open it is the line of what stopped the reading
-abbrev pub last_line : List ℕ → List ℕ → Outcome → List ℕ
-last_line bytes stopped Over = []
-last_line bytes stopped (Fault at) = fault_line (place_of bytes at)
-last_line bytes stopped Long = line (codes "too long")
-last_line bytes stopped Open = stopped
+-- it holds of the state from which the run starts
+abbrev pub OfStart : List (List ℕ) → Told → (Laid → Type 0) → Type 0
+OfStart words told P = (asked : Asked) × (from : Laid) × Starts words told asked from × P from
 
--- the lines that answer the statements that these bytes fix, and the last line
-pub record WritesScript (bytes : List ℕ) (ended : Bool) (stopped text : List ℕ) : Type 0 where
-  pub statements : List StatementView
-  pub outcome : Outcome
-  pub comes : Comes bytes ended statements outcome
-  pub same : text ≡ out_of statements ++ last_line bytes stopped outcome
+-- the bytes are no dump of a database
+abbrev pub NoDump : List ℕ → Type 0
+NoDump bytes = (parts : Parts AnyView) → IsDumpOf bytes parts → ⊥
 
--- the source was read to its end, its bytes are a script, and the sink was given the lines that answer its statements
-pub record Done (left left' held held' : Option (List ℕ)) : Type 0 where
+-- ---- the statuses
+
+-- the file that the words name holds the dump of this state, within the limit
+abbrev pub Written : Option (List ℕ) → Told → Laid → Type 0
+Written None told to = ⊤
+Written (Some name) told to = (text : List ℕ) × IsDumpText to text × (length text ≤ limit) × ToldAs (told name) text
+
+-- the script was carried out from the start to its end, and the dump was written
+pub record Ran (words : List (List ℕ)) (told told' : Told) (left left' held held' : Option (List ℕ)) : Type 0 where
+  pub asked : Asked
+  pub from : Laid
+  pub to : Laid
+  pub starts : Starts words told asked from
+  pub done : Done from to left left' held held'
+  pub written : Written asked.dump told' to
+
+-- the loaded bytes are no dump
+pub record RefusedDump (words : List (List ℕ)) (told : Told) (held held' : Option (List ℕ)) : Type 0 where
+  pub name : List ℕ
+  pub loads : Loads words name
   pub bytes : List ℕ
-  pub statements : List StatementView
-  pub taken : Consumes left left' bytes
-  pub whole : IsAtEnd left'
   pub within : length bytes ≤ limit
-  pub script : IsScript bytes statements
-  pub comes : Comes bytes true statements Over
-  pub put : Appends held held' (out_of statements)
+  pub holds : ToldAs (told name) bytes
+  pub none : NoDump bytes
+  pub put : Appends held held' (line (codes "dump refused"))
 
--- where the source told its bytes, they are a script, and the sink was given the lines that answer its statements
-abbrev pub AnswersScript : Option (List ℕ) → Option (List ℕ) → Option (List ℕ) → Type 0
-AnswersScript None held held' = ⊤
-AnswersScript (Some bytes) held held' = (statements : List StatementView) × IsScript bytes statements × Appends held held' (out_of statements)
+-- the loaded file is longer than the limit
+pub record LongLoad (words : List (List ℕ)) (told : Told) (held held' : Option (List ℕ)) : Type 0 where
+  pub name : List ℕ
+  pub loads : Loads words name
+  pub longer : IsLonger limit (told name)
+  pub put : Appends held held' (line (codes "too long"))
 
--- the bytes that were taken have a fault, and the sink was given the lines that answer the statements before it, and the line
--- with its place
-pub record Stopped (left left' : Option (List ℕ)) (was is : ℕ) (held held' : Option (List ℕ)) : Type 0 where
-  pub bytes : List ℕ
-  pub ended : Bool
-  pub before : List StatementView
-  pub at : ℕ
-  pub taken : Taken left left' was is bytes ended
-  pub fault : Comes bytes ended before (Fault at)
-  pub put : Appends held held' (out_of before ++ fault_line (place_of bytes at))
+-- the script was carried out from the start to its end, and this line stands behind its replies instead of a dump
+pub record RanBefore (words : List (List ℕ)) (told : Told) (left left' held held' : Option (List ℕ)) (last : List ℕ) (to : Laid) : Type 0 where
+  pub asked : Asked
+  pub from : Laid
+  pub starts : Starts words told asked from
+  pub between : Option (List ℕ)
+  pub done : Done from to left left' held between
+  pub put : Appends between held' (line last)
 
--- a call of the source failed, the bytes that were taken have no fault and no statement that is too long, and the sink was given the
--- lines that answer the statements whose end they fix, and this line
-pub record Unread (left left' : Option (List ℕ)) (was is : ℕ) (held held' : Option (List ℕ)) : Type 0 where
-  pub bytes : List ℕ
-  pub before : List StatementView
-  pub taken : Consumes left left' bytes
-  pub within : length bytes ≤ limit
-  pub cause : Rose was is
-  pub rest : Comes bytes false before Open
-  pub put : Appends held held' (out_of before ++ line (codes "read fault"))
+-- the dump would be longer than the limit
+pub record LongDump (words : List (List ℕ)) (told : Told) (left left' held held' : Option (List ℕ)) : Type 0 where
+  pub to : Laid
+  pub ran : RanBefore words told left left' held held' (codes "too long") to
+  pub name : List ℕ
+  pub dumps : Dumps words name
+  pub text : List ℕ
+  pub dump : IsDumpText to text
+  pub above : limit < length text
 
--- a statement is too long, or more bytes than the limit were taken and those within it have no fault; the sink was given the lines that
--- answer the statements before, and this line
-pub record Passed (left left' : Option (List ℕ)) (was is : ℕ) (held held' : Option (List ℕ)) : Type 0 where
-  pub bytes : List ℕ
-  pub ended : Bool
-  pub before : List StatementView
-  pub taken : Taken left left' was is bytes ended
-  pub long : Comes bytes ended before Long ⊎ (Comes bytes false before Open × (more : List ℕ) × Consumes left left' more × (limit < length more) × (bytes ≡ take limit more))
-  pub put : Appends held held' (out_of before ++ line (codes "too long"))
+-- the loaded file couldn't be read
+pub record UnreadLoad (words : List (List ℕ)) (held held' : Option (List ℕ)) : Type 0 where
+  pub name : List ℕ
+  pub loads : Loads words name
+  pub put : Appends held held' (line (codes "file fault"))
 
--- ---- what a source told
+-- the dump couldn't be written
+pub record UnwrittenDump (words : List (List ℕ)) (told : Told) (left left' held held' : Option (List ℕ)) : Type 0 where
+  pub to : Laid
+  pub ran : RanBefore words told left left' held held' (codes "file fault") to
+  pub name : List ℕ
+  pub dumps : Dumps words name
 
--- of the bytes that the source told those count that are within the limit, and it ends there where there are no more; and this comes of them
-pub record Had (left : Option (List ℕ)) (outcome : Outcome) : Type 0 where
-  pub bytes : List ℕ
-  pub statements : List StatementView
-  pub told : left ≡ Some bytes
-  pub comes : Comes (take limit bytes) (nat_le (length bytes) limit) statements outcome
+-- ---- files
 
--- a script within the limits
-abbrev pub HadScript : Option (List ℕ) → Type 0
-HadScript left = Had left Over
+-- the count of missing names stays, or the words load a file of which it isn't told that it is there
+abbrev pub Misses : List (List ℕ) → Told → ℕ → ℕ → Type 0
+Misses words told was is = (is ≡ was) ⊎ ((name : List ℕ) × Loads words name × IsMissing (told name))
 
--- bytes with a first fault
-abbrev pub HadFault : Option (List ℕ) → Type 0
-HadFault left = (at : ℕ) × Had left (Fault at)
-
--- bytes with a statement that is too long, or more than the limit and without a fault in those within it
-abbrev pub HadMore : Option (List ℕ) → Type 0
-HadMore left = Had left Long ⊎ Had left Open
-
--- ---- fronts
-
--- the sink was given a front of these bytes
-abbrev pub PutsFront : Option (List ℕ) → Option (List ℕ) → List ℕ → Type 0
-PutsFront held held' bytes = (n : ℕ) × Appends held held' (take n bytes)
-
--- where the source told its bytes, the sink was given a front of what their run puts where nothing fails
-abbrev pub Begun : Option (List ℕ) → Option (List ℕ) → Option (List ℕ) → Type 0
-Begun None held held' = ⊤
-Begun (Some bytes) held held' = (text : List ℕ) → WritesScript (take limit bytes) (nat_le (length bytes) limit) (line (codes "too long")) text → PutsFront held held' text
-
--- where the source told its bytes, the sink was given a front of what the run of those that were taken puts where the source failed
--- behind them and nothing else fails
-abbrev pub BegunTaken : Option (List ℕ) → Option (List ℕ) → Option (List ℕ) → Option (List ℕ) → Type 0
-BegunTaken None left' held held' = ⊤
-BegunTaken (Some told) left' held held' =
-    (bytes text : List ℕ) → Consumes (Some told) left' bytes → WritesScript bytes false (line (codes "read fault")) text → PutsFront held held' text
-
--- ---- what was cut off
-
--- where the source told its bytes, the fault is the first one of all of them that count, and the sink was given what their run puts
-abbrev pub StoppedOfAll : Option (List ℕ) → Option (List ℕ) → Option (List ℕ) → Type 0
-StoppedOfAll None held held' = ⊤
-StoppedOfAll (Some bytes) held held' =
-    (before : List StatementView) × (at : ℕ) × Comes (take limit bytes) (nat_le (length bytes) limit) before (Fault at)
-    × Appends held held' (out_of before ++ fault_line (place_of (take limit bytes) at))
-
--- where the source told its bytes, the sink was given the replies to first ones of the statements that all of them fix that count, and
--- this line
-abbrev pub FirstReplies : Option (List ℕ) → Option (List ℕ) → Option (List ℕ) → List ℕ → Type 0
-FirstReplies None held held' last = ⊤
-FirstReplies (Some bytes) held held' last =
-    (before : List StatementView) × (rest : List StatementView) × (outcome : Outcome)
-    × Comes (take limit bytes) (nat_le (length bytes) limit) (before ++ rest) outcome × Appends held held' (out_of before ++ line last)
-
--- the run of any bytes puts one text where nothing fails
-abbrev pub OneText : Type 0
-OneText = (bytes : List ℕ) (ended : Bool) (stopped : List ℕ) → (text : List ℕ) × WritesScript bytes ended stopped text
-    × ((other : List ℕ) → WritesScript bytes ended stopped other → other ≡ text)
+-- a file is as it was, or the words name it to be written and P holds
+abbrev pub StaysBut : List (List ℕ) → Told → Told → Type 0 → Type 0
+StaysBut words told told' P = (file : List ℕ) → (told' file ≡ told file) ⊎ (Dumps words file × P)

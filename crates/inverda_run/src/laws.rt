@@ -1,14 +1,19 @@
 //! Laws of runs, each the contract of a function that does nothing.
-ghost use Rattle.inverda_run.specs.Moves.{MovesChangeNoReply};
-ghost use Rattle.inverda_run.specs.Statuses.{OneText};
+ghost use Rattle.inverda_run.specs.Laws.{LoadsTheDumped, OneDump, OneStart, TwoRuns};
 
-/// Where nothing fails, the run of any bytes puts one text.
-pub fn text_is_one()
-    ensures { OneText }
-{}
+use db_state::states_are_stored_once;
+use dump_file::dumps_are_of_one_database;
+use op_any::AnyOp;
 
-/// With every MATERIALIZE struck out of a script, all other statements but SHOW LAYOUT are answered
-/// the same, from any layout of the same data on.
-pub fn moves_change_no_reply()
-    ensures { MovesChangeNoReply }
-{}
+/// A run that loads what another one dumped goes on in the state in which that one ended, where both
+/// have the same greatest identifier: together they put what one run of both scripts puts. The dump
+/// of a state is one text, and a file that is loaded stands for one state.
+pub fn two_runs_are_one()
+    ensures dump { OneDump }
+    ensures start { OneStart }
+    ensures loads { LoadsTheDumped }
+    ensures runs { TwoRuns }
+{
+    states_are_stored_once::<AnyOp>();
+    dumps_are_of_one_database();
+}

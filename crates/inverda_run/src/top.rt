@@ -1,129 +1,105 @@
 //! The call that a program makes.
-ghost use Rattle.std.specs.Prelude.{◌≡◌, ◌≢◌, ◌⊎◌, ◌≤◌, ℕ, List, [], codes, take};
+ghost use Rattle.std.specs.Prelude.{◌≡◌, ◌≢◌, ◌⊎◌, ◌≤◌, ℕ, List, codes, map, string_bytes};
 ghost use Rattle.std.specs.Io.KnownBytes.{Appends};
+ghost use Rattle.bidel_script.specs.Script.{Fault as Misspelled, Long, Open};
 ghost use Rattle.outside.specs.Causes.{Rose};
 ghost use Rattle.engine_core.specs.Texts.{line};
-ghost use Rattle.inverda_run.specs.Moves.{MovesUnseen};
-ghost use Rattle.inverda_run.specs.Statuses.{Done, AnswersScript, Begun, BegunTaken, PutsFront, Stopped, Unread, Passed};
-ghost use Rattle.inverda_run.specs.Statuses.{FirstReplies, HadFault, HadMore, HadScript, StoppedOfAll, limit};
-ghost use Rattle.inverda_run.specs.Calls.{Counts, EndStays, Ends, ended_by};
+ghost use Rattle.script_run.specs.Moves.{MovesUnseen};
+ghost use Rattle.script_run.specs.Statuses.{AnswersScript, BegunTaken, FirstReplies, Passed, Stopped, StoppedOfAll, Unread};
+ghost use Rattle.inverda_run.specs.Statuses.{LongDump, LongLoad, Misses, OfStart, Ran, RefusedDump, SayNothing, StaysBut, UnreadLoad, UnwrittenDump};
+ghost use Rattle.inverda_run.specs.Decided.{Begun, Told', ToldLonger, ToldNoDump, ToldWhole};
+ghost use Rattle.inverda_run.specs.Calls.{EndStays, Ends, ended as ended_lem};
+ghost use Rattle.inverda_run.specs.declared.end.End.TheVariants as end;
 
+use crate::begin::{NotBegun, begin};
 use crate::end::End;
-use crate::run::Ran;
-use crate::script::end_script;
-use bidel_script::Stop;
-use outside::{Failed, Files, ReadAll, Sink, Source, read_all, write_all};
-use par_base::Memory;
+use crate::finish::finish;
+use crate::last::put_last;
+use crate::laws::two_runs_are_one;
+use outside::{Files, Sink, Source};
+use par_base::{Fault, Limits};
+use run_words::{read_words, words_say_one_thing};
+use script_run::{End as ScriptEnd, run_source};
 use std::alloc::Global;
-use std::marker::Brand;
-use std::sync::ledger::Blank;
 
-// The greatest number of bytes of a script.
-const LIMIT: u32 = 268_435_456;
-
-/// The bytes that were taken and count, and what ends the run where they leave a statement open.
-#[derive(Clone, Copy)]
-struct Counted<'a> {
-    bytes: &'a [u8],
-    ended: bool,
-    stopped: &'a [u8],
-    end: End,
-}
-
-// The bytes that are within the limit.
-fn first_bytes(bytes: &[u8]) -> &[u8]
-    ensures { result.now ≡ take limit bytes.now }
+// How a run ends that has carried out its script, but for a dump.
+fn ended(end: ScriptEnd) -> End
+    ensures { result ≡ ended_lem end }
 {
-    &bytes[..bytes.len().min(LIMIT as usize)]
-}
-
-fn what_counts(read: &ReadAll) -> Counted<'_>
-    ensures { Counts read.now result }
-{
-    match read {
-        ReadAll::Whole(bytes) => Counted {
-            bytes: bytes.as_slice(),
-            ended: true,
-            stopped: b"",
-            end: End::Done,
-        },
-        ReadAll::TooLong(bytes) => Counted {
-            bytes: first_bytes(bytes.as_slice()),
-            ended: false,
-            stopped: b"too long\n",
-            end: End::TooLong,
-        },
-        ReadAll::Fault(bytes) => Counted {
-            bytes: bytes.as_slice(),
-            ended: false,
-            stopped: b"read fault\n",
-            end: End::Unread,
-        },
+    match end {
+        ScriptEnd::Done => End::Done,
+        ScriptEnd::Memory => End::Memory,
+        ScriptEnd::Syntax => End::Syntax,
+        ScriptEnd::Unread => End::Unread,
+        ScriptEnd::Unwritten => End::Unwritten,
+        ScriptEnd::TooLong => End::LongScript,
     }
 }
 
-// How the run ends, where `stopped` ends it when a statement is still open.
-fn end_of(ran: Ran, stopped: End) -> End
-    ensures { result ≡ ended_by stopped ran }
-{
-    match ran {
-        Ran::Stops(Stop::Over) => End::Done,
-        Ran::Stops(Stop::Fault { .. }) => End::Syntax,
-        Ran::Stops(Stop::Long) => End::TooLong,
-        Ran::Stops(Stop::Open) => stopped,
-        Ran::Memory => End::Memory,
-        Ran::Unwritten => End::Unwritten,
-    }
-}
-
-// Reads the script to its end and runs it.
-fn run<S: Source, K: Sink>(alloc: Global, words: &[String], script: &mut S, out: &mut K) -> End
-    ensures ends { Ends words.now (S.left script.old) (S.left script.new) (S.faults script.old)
-        (S.faults script.new) (K.held out.old) (K.held out.new) (K.faults out.old)
-        (K.faults out.new)
-        result }
-    ensures untouched { words.now ≢ [] → (S.left script.new ≡ S.left script.old)
-        × (S.faults script.new ≡ S.faults script.old) }
+// Reads the words, begins from the database that they load, runs the script and dumps at the end.
+fn run<S: Source, K: Sink, F: Files>(
+    alloc: Global,
+    words: &[String],
+    script: &mut S,
+    out: &mut K,
+    files: &mut F,
+) -> End
+    ensures ends { Ends (map string_bytes words.now) (F.told files.old) (F.told files.new)
+        (S.left script.old) (S.left script.new) (S.faults script.old) (S.faults script.new)
+        (K.held out.old) (K.held out.new) (K.faults out.old) (K.faults out.new)
+        (F.faults files.old) (F.faults files.new) result }
     ensures stays { EndStays (K.faults out.old) (K.faults out.new) result }
+    ensures files { StaysBut (map string_bytes words.now) (F.told files.old) (F.told files.new)
+        ((result ≡ end.Done) ⊎ Rose (F.faults files.old) (F.faults files.new)) }
+    ensures misses { Misses (map string_bytes words.now) (F.told files.old) (F.missing files.old)
+        (F.missing files.new) }
     ensures later_read { S.faults script.old ≤ S.faults script.new }
     ensures later_write { K.faults out.old ≤ K.faults out.new }
+    ensures later_file { F.faults files.old ≤ F.faults files.new }
 {
-    if !words.is_empty() {
-        return match write_all(out, b"bad words\n") {
-            Ok(()) => End::BadWords,
-            Err(Failed) => End::Unwritten,
-        };
-    }
-    let read = match read_all(alloc, script, LIMIT) {
-        Ok(read) => read,
-        Err(_) => return End::Memory,
+    // That a run has one start, and a state one dump, rests on these.
+    words_say_one_thing();
+    two_runs_are_one();
+    let asked = match read_words(alloc, words) {
+        Ok(asked) => asked,
+        Err(Fault::Refused(_)) => return put_last(End::BadWords, b"bad words\n", out),
+        Err(Fault::Memory(_)) => return End::Memory,
     };
-    let taken = what_counts(&read);
-    let ran = end_script::<K, Brand>(
-        alloc,
-        taken.bytes,
-        taken.ended,
-        taken.stopped,
-        out,
-        Blank::new(1),
-    );
-    end_of(ran, taken.end)
+    let limits = Limits {
+        max_id: asked.max_id,
+    };
+    let mut engine = match begin(alloc, asked.load, limits, files) {
+        Ok(engine) => engine,
+        Err(NotBegun::Memory) => return End::Memory,
+        Err(NotBegun::Refused) => return put_last(End::Refused, b"dump refused\n", out),
+        Err(NotBegun::TooLong) => return put_last(End::LongLoad, b"too long\n", out),
+        Err(NotBegun::Fault) => return put_last(End::UnreadLoad, b"file fault\n", out),
+    };
+    match run_source(alloc, &mut engine, script, out) {
+        ScriptEnd::Done => finish(alloc, &engine, asked.dump, out, files),
+        end => ended(end),
+    }
 }
 
-/// Runs the script that the source gives, and puts the lines that answer its statements. The answer
-/// is a status:
+/// Runs the script that the source gives, and puts the lines that answer its statements. The words are
+/// those after the program's name: `--load FILE` begins from the database whose dump the file holds,
+/// `--dump FILE` dumps the database to a file at the end, and `--max-ids N` sets the greatest
+/// identifier that is drawn. The answer is a status:
 ///
-/// - 0: all statements were carried out and answered
+/// - 0: all statements were carried out and answered, and the dump was written where there is one
 /// - 1: memory ran out
-/// - 2: there were words; the last line is `bad words`
+/// - 2: the words say nothing; the last line is `bad words`
 /// - 3: the bytes are no script; the last line is `syntax` with line and column of the first fault
+/// - 4: the loaded bytes are no dump of a valid database; the last line is `dump refused`
 /// - 5: the source failed; the last line is `read fault`
 /// - 6: the sink failed
-/// - 7: a statement has more than 65,536 bytes from its first one to its last semicolon, or the script
-///   more than 268,435,456; the last line is `too long`
+/// - 7: a statement has more than 65,536 bytes from its first one to its last semicolon, or the script,
+///   the loaded file or the dump has more than 268,435,456; the last line is `too long`
+/// - 8: the loaded file couldn't be read, or the dump not be written; the last line is `file fault`
 ///
-/// Before the last line of 3, 5 and 7 stand the replies to the statements that were known to end.
-/// Takes memory in the number of bytes and tokens.
+/// Before the last line of 3, 5, of 7 on the script or the dump, and of 8 on the dump stand the replies
+/// to the statements that were known to end. After 2 and 4 nothing was taken from the source.
+/// Takes memory in the number of bytes and tokens, and in that of a dump's values.
 pub fn inverda<S: Source, K: Sink, F: Files>(
     alloc: Global,
     words: &[String],
@@ -131,77 +107,121 @@ pub fn inverda<S: Source, K: Sink, F: Files>(
     out: &mut K,
     files: &mut F,
 ) -> u8
-    ensures statuses { (result ≡ 0) ⊎ (result ≡ 1) ⊎ (result ≡ 2) ⊎ (result ≡ 3) ⊎ (result ≡ 5)
-        ⊎ (result ≡ 6) ⊎ (result ≡ 7) }
+    ensures statuses { (result ≡ 0) ⊎ (result ≡ 1) ⊎ (result ≡ 2) ⊎ (result ≡ 3) ⊎ (result ≡ 4)
+        ⊎ (result ≡ 5) ⊎ (result ≡ 6) ⊎ (result ≡ 7) ⊎ (result ≡ 8) }
 
-    // A script is answered as its statements say. Where nothing fails, the bytes decide the status.
-    ensures done { result ≡ 0 → (words.now ≡ [])
-        × Done (S.left script.old) (S.left script.new) (K.held out.old) (K.held out.new) }
-    ensures answers { result ≡ 0 → AnswersScript (S.left script.old) (K.held out.old)
+    // A script is answered as its statements say, from the empty or the loaded database on, and the
+    // dump is that of the state behind them.
+    ensures done { result ≡ 0 → Ran (map string_bytes words.now) (F.told files.old)
+        (F.told files.new) (S.left script.old) (S.left script.new) (K.held out.old)
         (K.held out.new) }
-    ensures unseen { result ≡ 0
-        → MovesUnseen (S.left script.old) (S.left script.new) (K.held out.old) (K.held out.new) }
+    ensures answers { result ≡ 0 → OfStart (map string_bytes words.now) (F.told files.old)
+        (λ from. AnswersScript from (S.left script.old) (K.held out.old) (K.held out.new)) }
+    ensures unseen { result ≡ 0 → OfStart (map string_bytes words.now) (F.told files.old)
+        (λ from. MovesUnseen from (S.left script.old) (S.left script.new) (K.held out.old)
+        (K.held out.new)) }
     ensures calm { result ≡ 0 → (S.faults script.new ≡ S.faults script.old)
-        × (K.faults out.new ≡ K.faults out.old) }
-    ensures complete { words.now ≡ [] → HadScript (S.left script.old)
+        × (K.faults out.new ≡ K.faults out.old) × (F.faults files.new ≡ F.faults files.old) }
+
+    // Where nothing fails, the words, what is told of files, and the bytes decide the status.
+    ensures complete { ToldWhole (map string_bytes words.now) (F.told files.old)
+        (S.left script.old) → ¬ Rose (S.faults script.old) (S.faults script.new)
+        → ¬ Rose (K.faults out.old) (K.faults out.new)
+        → ¬ Rose (F.faults files.old) (F.faults files.new) → (result ≡ 0) ⊎ (result ≡ 1) }
+    ensures stops { (at : ℕ) → Told' (map string_bytes words.now) (F.told files.old)
+        (S.left script.old) (Misspelled at) → ¬ Rose (S.faults script.old) (S.faults script.new)
+        → ¬ Rose (K.faults out.old) (K.faults out.new)
+        → ¬ Rose (F.faults files.old) (F.faults files.new) → (result ≡ 3) ⊎ (result ≡ 1) }
+    ensures passes { Told' (map string_bytes words.now) (F.told files.old) (S.left script.old) Long
+        ⊎ Told' (map string_bytes words.now) (F.told files.old) (S.left script.old) Open
         → ¬ Rose (S.faults script.old) (S.faults script.new)
-        → ¬ Rose (K.faults out.old) (K.faults out.new) → (result ≡ 0) ⊎ (result ≡ 1) }
-    ensures stops { words.now ≡ [] → HadFault (S.left script.old)
-        → ¬ Rose (S.faults script.old) (S.faults script.new)
-        → ¬ Rose (K.faults out.old) (K.faults out.new) → (result ≡ 3) ⊎ (result ≡ 1) }
-    ensures passes { words.now ≡ [] → HadMore (S.left script.old)
-        → ¬ Rose (S.faults script.old) (S.faults script.new)
-        → ¬ Rose (K.faults out.old) (K.faults out.new) → (result ≡ 7) ⊎ (result ≡ 1) }
+        → ¬ Rose (K.faults out.old) (K.faults out.new)
+        → ¬ Rose (F.faults files.old) (F.faults files.new) → (result ≡ 7) ⊎ (result ≡ 1) }
+    ensures refuses { ToldNoDump (map string_bytes words.now) (F.told files.old)
+        → ¬ Rose (K.faults out.old) (K.faults out.new)
+        → ¬ Rose (F.faults files.old) (F.faults files.new) → (result ≡ 4) ⊎ (result ≡ 1) }
+    ensures longer { ToldLonger (map string_bytes words.now) (F.told files.old)
+        → ¬ Rose (K.faults out.old) (K.faults out.new)
+        → ¬ Rose (F.faults files.old) (F.faults files.new) → (result ≡ 7) ⊎ (result ≡ 1) }
 
     // Every other end has its cause.
-    ensures words { result ≡ 2 → (words.now ≢ [])
+    ensures words { result ≡ 2 → SayNothing (map string_bytes words.now)
         × Appends (K.held out.old) (K.held out.new) (line (codes "bad words")) }
-    ensures words_only { words.now ≢ [] → (result ≡ 2) ⊎ (result ≡ 6) }
-    ensures untouched { words.now ≢ [] → (S.left script.new ≡ S.left script.old)
+    ensures words_only { SayNothing (map string_bytes words.now)
+        → (result ≡ 2) ⊎ (result ≡ 1) ⊎ (result ≡ 6) }
+    ensures untouched { (result ≡ 2) ⊎ (result ≡ 4) → (S.left script.new ≡ S.left script.old)
         × (S.faults script.new ≡ S.faults script.old) }
-    ensures syntax { result ≡ 3 → (words.now ≡ []) × Stopped (S.left script.old) (S.left script.new)
-        (S.faults script.old) (S.faults script.new) (K.held out.old) (K.held out.new) }
-    ensures read { result ≡ 5 → (words.now ≡ []) × Unread (S.left script.old) (S.left script.new)
-        (S.faults script.old) (S.faults script.new) (K.held out.old) (K.held out.new) }
+    ensures syntax { result ≡ 3 → OfStart (map string_bytes words.now) (F.told files.old)
+        (λ from. Stopped from (S.left script.old) (S.left script.new) (S.faults script.old)
+        (S.faults script.new) (K.held out.old) (K.held out.new)) }
+    ensures refused { result ≡ 4 → RefusedDump (map string_bytes words.now) (F.told files.old)
+        (K.held out.old) (K.held out.new) }
+    ensures read { result ≡ 5 → OfStart (map string_bytes words.now) (F.told files.old)
+        (λ from. Unread from (S.left script.old) (S.left script.new) (S.faults script.old)
+        (S.faults script.new) (K.held out.old) (K.held out.new)) }
     ensures write { result ≡ 6 → Rose (K.faults out.old) (K.faults out.new) }
     ensures sink { K.faults out.new ≢ K.faults out.old → result ≡ 6 }
-    ensures long { result ≡ 7 → (words.now ≡ []) × Passed (S.left script.old) (S.left script.new)
-        (S.faults script.old) (S.faults script.new) (K.held out.old) (K.held out.new) }
+    ensures long { result ≡ 7 → OfStart (map string_bytes words.now) (F.told files.old)
+        (λ from. Passed from (S.left script.old) (S.left script.new) (S.faults script.old)
+        (S.faults script.new) (K.held out.old) (K.held out.new))
+        ⊎ LongLoad (map string_bytes words.now) (F.told files.old) (K.held out.old)
+        (K.held out.new)
+        ⊎ LongDump (map string_bytes words.now) (F.told files.old) (S.left script.old)
+        (S.left script.new) (K.held out.old) (K.held out.new) }
+    ensures fault { result ≡ 8 → Rose (F.faults files.old) (F.faults files.new)
+        × (UnreadLoad (map string_bytes words.now) (K.held out.old) (K.held out.new)
+        ⊎ UnwrittenDump (map string_bytes words.now) (F.told files.old) (S.left script.old)
+        (S.left script.new) (K.held out.old) (K.held out.new)) }
 
     // The replies after 3, 5 and 7 are those of all bytes that the source told, up to their first fault
     // or to where they were cut off.
-    ensures cut_syntax { result ≡ 3
-        → StoppedOfAll (S.left script.old) (K.held out.old) (K.held out.new) }
-    ensures cut_read { result ≡ 5 → FirstReplies (S.left script.old) (K.held out.old)
-        (K.held out.new) (codes "read fault") }
-    ensures cut_long { result ≡ 7 → FirstReplies (S.left script.old) (K.held out.old)
-        (K.held out.new) (codes "too long") }
+    ensures cut_syntax { result ≡ 3 → OfStart (map string_bytes words.now) (F.told files.old)
+        (λ from. StoppedOfAll from (S.left script.old) (K.held out.old) (K.held out.new)) }
+    ensures cut_read { result ≡ 5 → OfStart (map string_bytes words.now) (F.told files.old)
+        (λ from. FirstReplies from (S.left script.old) (K.held out.old) (K.held out.new)
+        (codes "read fault")) }
+    ensures cut_long { result ≡ 7 → OfStart (map string_bytes words.now) (F.told files.old)
+        (λ from. FirstReplies from (S.left script.old) (K.held out.old) (K.held out.new)
+        (codes "too long"))
+        ⊎ LongLoad (map string_bytes words.now) (F.told files.old) (K.held out.old)
+        (K.held out.new)
+        ⊎ LongDump (map string_bytes words.now) (F.told files.old) (S.left script.old)
+        (S.left script.new) (K.held out.old) (K.held out.new) }
 
     // Where memory ran out or the sink failed, a front was put of what would be otherwise.
-    ensures begun { (result ≡ 1) ⊎ (result ≡ 6) → words.now ≡ []
+    ensures begun { (result ≡ 1) ⊎ (result ≡ 6)
         → ¬ Rose (S.faults script.old) (S.faults script.new)
-        → Begun (S.left script.old) (K.held out.old) (K.held out.new) }
-
-    ensures begun_taken { (result ≡ 1) ⊎ (result ≡ 6) → words.now ≡ []
+        → ¬ Rose (F.faults files.old) (F.faults files.new)
+        → Begun (map string_bytes words.now) (F.told files.old) (S.left script.old)
+        (K.held out.old) (K.held out.new) }
+    ensures begun_taken { (result ≡ 1) ⊎ (result ≡ 6)
         → S.faults script.new ≢ S.faults script.old
-        → BegunTaken (S.left script.old) (S.left script.new) (K.held out.old) (K.held out.new) }
-    ensures begun_words { result ≡ 6 → words.now ≢ []
-        → PutsFront (K.held out.old) (K.held out.new) (line (codes "bad words")) }
+        → OfStart (map string_bytes words.now) (F.told files.old) (λ from. BegunTaken from
+        (S.left script.old) (S.left script.new) (K.held out.old) (K.held out.new)) }
 
-    // No count falls, and the files stay as they were.
+    // No count falls, and a file stays as it was, but for the one that the words name to be written.
+    ensures files { StaysBut (map string_bytes words.now) (F.told files.old) (F.told files.new)
+        ((result ≡ 0) ⊎ Rose (F.faults files.old) (F.faults files.new)) }
+    ensures misses { Misses (map string_bytes words.now) (F.told files.old) (F.missing files.old)
+        (F.missing files.new) }
     ensures later_read { S.faults script.old ≤ S.faults script.new }
     ensures later_write { K.faults out.old ≤ K.faults out.new }
-    ensures same { (file : List ℕ) → F.told files.new file ≡ F.told files.old file }
-    ensures same_faults { (F.faults files.new ≡ F.faults files.old)
-        × (F.missing files.new ≡ F.missing files.old) }
+    ensures later_file { F.faults files.old ≤ F.faults files.new }
 {
-    match run(alloc, words, script, out) {
+    // That words say one thing, and so a run has one start, rests on it.
+    words_say_one_thing();
+    match run(alloc, words, script, out, files) {
         End::Done => 0,
         End::Memory => 1,
         End::BadWords => 2,
         End::Syntax => 3,
+        End::Refused => 4,
         End::Unread => 5,
         End::Unwritten => 6,
-        End::TooLong => 7,
+        End::LongScript => 7,
+        End::LongLoad => 7,
+        End::LongDump => 7,
+        End::UnreadLoad => 8,
+        End::UnwrittenDump => 8,
     }
 }

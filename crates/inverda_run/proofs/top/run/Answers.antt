@@ -1,19 +1,77 @@
-use Rattle.std.proofs.Common.{sym, subst}
+use Rattle.std.proofs.Common.{map, string_bytes, sym, subst, inl}
+use Rattle.engine_core.specs.Kept.{state_of}
+use Rattle.run_words.specs.Calls.{asked_of}
+use Rattle.inverda_run.specs.Statuses.{Starts}
+use Rattle.inverda_run.specs.Calls.{EndStays, Ends}
 use Rattle.inverda_run.specs.declared.end.End.{End}
-use Rattle.inverda_run.specs.Calls.{Ends, EndStays}
-use Rattle.inverda_run.proofs.EndLemmas.{ends_run, ends_stay, no_words}
+use Rattle.inverda_run.proofs.EndLemmas.{bad_ends, longer_ends, refused_ends, script_ends}
+use Rattle.inverda_run.proofs.RunLemmas.{finished, script_stays}
+use Rattle.inverda_run.proofs.StartedLemmas.{misses_loaded}
 use Rattle.inverda_run.proofs.top.run.Goals as goal
 
-pub returns-clause-ends : goal.returns-clause-ends
-returns-clause-ends g c =
-    subst (λ (e : End). Ends c.args.words.now (g.S.Source.left c.args.script.now) (g.S.Source.left c.read_all.new.source) (g.S.Source.faults c.args.script.now) (g.S.Source.faults c.read_all.new.source)
-    (g.K.Sink.held c.args.out.now) (g.K.Sink.held c.end_script-ran.new.out) (g.K.Sink.faults c.args.out.now) (g.K.Sink.faults c.end_script-ran.new.out) e) (sym c.end_of.ensures)
-    (ends_run c.args.words.now (g.S.Source.left c.args.script.now) (g.S.Source.left c.read_all.new.source) (g.S.Source.faults c.args.script.now) (g.S.Source.faults c.read_all.new.source)
-    (g.K.Sink.held c.args.out.now) (g.K.Sink.held c.end_script-ran.new.out) (g.K.Sink.faults c.args.out.now) (g.K.Sink.faults c.end_script-ran.new.out)
-    c.in-Ok-read_all.read c.what_counts-taken.result c.end_script-ran.result (no_words c.args.words.now c.if-not-is_empty.ensures)
-    c.in-Ok-read_all.ensures.reads c.what_counts-taken.ensures c.end_script-ran.ensures.ends)
+pub returns-in-Err-Refused-clause-ends : goal.returns-in-Err-Refused-clause-ends
+returns-in-Err-Refused-clause-ends g c =
+    let told = g.F.Files.told c.args.files.now in
+    let filed = g.F.Files.faults c.args.files.now in
+    bad_ends (map string_bytes c.args.words.now) told told (g.S.Source.left c.args.script.now) (g.S.Source.faults c.args.script.now) (g.K.Sink.held c.args.out.now) (g.K.Sink.held c.put_last.new.out)
+    (g.K.Sink.faults c.args.out.now) (g.K.Sink.faults c.put_last.new.out) filed filed (rw c.in-Err-Refused.field-0-is at c.in-Err-Refused.ensures) c.put_last.result c.put_last.ensures.puts
 
-pub returns-clause-stays : goal.returns-clause-stays
-returns-clause-stays g c =
-    subst (EndStays (g.K.Sink.faults c.args.out.now) (g.K.Sink.faults c.end_script-ran.new.out)) (sym c.end_of.ensures)
-    (ends_stay (g.K.Sink.faults c.args.out.now) (g.K.Sink.faults c.end_script-ran.new.out) c.what_counts-taken.result.end c.end_script-ran.result c.end_script-ran.ensures.stays)
+pub returns-in-Err-Refused-begin-clause-ends : goal.returns-in-Err-Refused-begin-clause-ends
+returns-in-Err-Refused-begin-clause-ends g c =
+    let last = c.put_last-in-Err-Refused-begin in
+    let begun = rw c.in-Err-Refused-begin.field-0-is at c.in-Err-Refused-begin.ensures.begins in
+    refused_ends (map string_bytes c.args.words.now) (g.F.Files.told c.args.files.now) (g.F.Files.told c.begin.new.files) (g.S.Source.left c.args.script.now) (g.S.Source.faults c.args.script.now)
+    (g.K.Sink.held c.args.out.now) (g.K.Sink.held last.new.out) (g.K.Sink.faults c.args.out.now) (g.K.Sink.faults last.new.out) (g.F.Files.faults c.args.files.now) (g.F.Files.faults c.begin.new.files)
+    c.words_say_one_thing.ensures (asked_of c.in-Ok.asked) c.in-Ok.ensures begun.0 begun.1 begun.2 last.result last.ensures.puts
+
+pub returns-in-Err-TooLong-clause-ends : goal.returns-in-Err-TooLong-clause-ends
+returns-in-Err-TooLong-clause-ends g c =
+    let last = c.put_last-in-Err-TooLong in
+    let begun = rw c.in-Err-TooLong.field-0-is at c.in-Err-TooLong.ensures.begins in
+    longer_ends (map string_bytes c.args.words.now) (g.F.Files.told c.args.files.now) (g.F.Files.told c.begin.new.files) (g.S.Source.left c.args.script.now) (g.S.Source.faults c.args.script.now)
+    (g.K.Sink.held c.args.out.now) (g.K.Sink.held last.new.out) (g.K.Sink.faults c.args.out.now) (g.K.Sink.faults last.new.out) (g.F.Files.faults c.args.files.now) (g.F.Files.faults c.begin.new.files)
+    c.words_say_one_thing.ensures (asked_of c.in-Ok.asked) c.in-Ok.ensures begun.0 begun.1 begun.2 last.result last.ensures.puts
+
+pub returns-in-Done-clause-ends : goal.returns-in-Done-clause-ends
+returns-in-Done-clause-ends g c =
+    let words = map string_bytes c.args.words.now in
+    let told = g.F.Files.told c.args.files.now in
+    let asked = asked_of c.in-Ok.asked in
+    let begun = c.in-Ok-begin.ensures.begins in
+    let from = state_of c.in-Ok-begin.engine in
+    let starts : Starts words told asked from = record { says = c.in-Ok.ensures; start = begun.0 } in
+    finished words told (g.F.Files.told c.finish.new.files) (g.S.Source.left c.args.script.now) (g.S.Source.left c.run_source.new.script) (g.S.Source.faults c.args.script.now) (g.S.Source.faults c.run_source.new.script)
+    (g.K.Sink.held c.args.out.now) (g.K.Sink.held c.run_source.new.out) (g.K.Sink.held c.finish.new.out) (g.K.Sink.faults c.args.out.now) (g.K.Sink.faults c.run_source.new.out) (g.K.Sink.faults c.finish.new.out)
+    (g.F.Files.faults c.args.files.now) (g.F.Files.faults c.begin.new.files) (g.F.Files.faults c.finish.new.files)
+    c.words_say_one_thing.ensures c.two_runs_are_one.ensures.start c.two_runs_are_one.ensures.dump asked from (state_of c.run_source.new.engine) starts
+    c.in-Done.ensures.ends.0 c.in-Done.ensures.ends.1 c.in-Done.ensures.stays begun.2 c.finish.result c.finish.ensures.finishes
+
+pub returns : goal.returns
+returns g c =
+    let words = map string_bytes c.args.words.now in
+    let told = g.F.Files.told c.args.files.now in
+    let told' = g.F.Files.told c.begin.new.files in
+    let left = g.S.Source.left c.args.script.now in
+    let left' = g.S.Source.left c.run_source.new.script in
+    let read = g.S.Source.faults c.args.script.now in
+    let read' = g.S.Source.faults c.run_source.new.script in
+    let held = g.K.Sink.held c.args.out.now in
+    let held' = g.K.Sink.held c.run_source.new.out in
+    let put = g.K.Sink.faults c.args.out.now in
+    let put' = g.K.Sink.faults c.run_source.new.out in
+    let filed = g.F.Files.faults c.args.files.now in
+    let filed' = g.F.Files.faults c.begin.new.files in
+    let asked = asked_of c.in-Ok.asked in
+    let from = state_of c.in-Ok-begin.engine in
+    let starts : Starts words told asked from = record { says = c.in-Ok.ensures; start = c.in-Ok-begin.ensures.begins.0 } in
+    record {
+      ends = subst (λ (e : End). Ends words told told' left left' read read' held held' put put' filed filed' e) (sym c.ended.ensures)
+          (script_ends words told told' left left' read read' held put filed filed' c.words_say_one_thing.ensures c.two_runs_are_one.ensures.start asked from (state_of c.run_source.new.engine) starts
+          held' put' c.run_source.result c.in_default.not-Done c.run_source.ensures.ends);
+      stays = subst (λ (e : End). EndStays put put' e) (sym c.ended.ensures) (script_stays put put' c.run_source.result c.run_source.ensures.stays);
+      files = λ file. inl (c.begin.ensures.same file);
+      misses = misses_loaded words told asked (g.F.Files.missing c.args.files.now) (g.F.Files.missing c.begin.new.files) c.in-Ok.ensures c.begin.ensures.missing;
+      later_read = c.run_source.ensures.later_read;
+      later_write = c.run_source.ensures.later_write;
+      later_file = c.begin.ensures.later;
+    }

@@ -1,0 +1,121 @@
+-- Fronts of what a run puts.
+use Rattle.std.specs.Prelude.{nat_le, Option, Some, None}
+use Rattle.std.proofs.Common.{◌≡◌, ℕ, List, [], ◌++◌, length, take, codes, refl, sym, ap, subst, ◌∙◌, inl, inr, arith, append-nil}
+use Rattle.std.specs.Io.KnownBytes.{Appends}
+use Rattle.bidel_script.specs.Script.{Over}
+use Rattle.bidel_script.proofs.UniqueLaws.{one_comes}
+use Rattle.engine_core.specs.Texts.{line}
+use Rattle.engine_layouts.specs.Laid.{Laid}
+use Rattle.run_words.specs.Words.{Asked, Says}
+use Rattle.run_words.specs.Laws.{SayOneThing}
+use Rattle.script_run.specs.Output.{out, state_after}
+use Rattle.script_run.specs.Statuses.{Done, PutsFront, WritesScript, last_line, limit}
+use Rattle.script_run.specs.Statuses as script
+use Rattle.script_run.proofs.EndLaws.{done_told}
+use Rattle.script_run.proofs.FrontLaws.{puts_all, puts_behind, puts_more, puts_none}
+use Rattle.inverda_run.specs.Files.{IsLonger}
+use Rattle.inverda_run.specs.Starts.{IsDumpText, Told}
+use Rattle.inverda_run.specs.Statuses.{SayNothing, Starts}
+use Rattle.inverda_run.specs.Decided.{Begun, Behind, PutsScript, bad, refused, longer, script as runs}
+use Rattle.inverda_run.specs.Calls.{HoldsNoDump, IsLongDump}
+use Rattle.inverda_run.specs.Laws.{OneDump, OneStart}
+use Rattle.inverda_run.proofs.StartLemmas.{longer_no_start, longer_not_refused, nothing_longer, nothing_refused, nothing_starts, one_start, refused_no_start, refused_not_longer, start_not_longer, start_not_refused}
+
+module _ (words : List (List ℕ)) (told : Told) (left held held' : Option (List ℕ)) where
+  -- nothing was put
+  pub none_begun : held' ≡ held → Begun words told left held held'
+  none_begun same text p = puts_none held held' text same
+
+  -- a front of the line that says that the words are bad
+  pub bad_begun : SayNothing words → PutsFront held held' (line (codes "bad words")) → Begun words told left held held'
+  bad_begun none put text (bad other is) = subst (PutsFront held held') (sym is) put
+  bad_begun none put text (refused d is) = absurd (nothing_refused words told none d)
+  bad_begun none put text (longer d is) = absurd (nothing_longer words told none d)
+  bad_begun none put text (runs p) = absurd (nothing_starts words told p.asked p.from none p.starts)
+
+  module _ (one : SayOneThing) (asked : Asked) (says : Says words asked) where
+    -- a front of the line that says that the dump is refused
+    pub refused_begun : (name : List ℕ) → asked.load ≡ Some name → HoldsNoDump (told name) → PutsFront held held' (line (codes "dump refused")) → Begun words told left held held'
+    refused_begun name load holds put text (bad none is) = absurd (none asked says)
+    refused_begun name load holds put text (refused d is) = subst (PutsFront held held') (sym is) put
+    refused_begun name load holds put text (longer d is) = absurd (refused_not_longer words told one asked name says load holds d)
+    refused_begun name load holds put text (runs p) = absurd (refused_no_start words told one asked name p.from says load holds p.asked p.starts p.load)
+
+    -- a front of the line that says that the file is too long
+    pub longer_begun : (name : List ℕ) → asked.load ≡ Some name → IsLonger limit (told name) → PutsFront held held' (line (codes "too long")) → Begun words told left held held'
+    longer_begun name load long put text (bad none is) = absurd (none asked says)
+    longer_begun name load long put text (refused d is) = absurd (longer_not_refused words told one asked name says load long d)
+    longer_begun name load long put text (longer d is) = subst (PutsFront held held') (sym is) put
+    longer_begun name load long put text (runs p) = absurd (longer_no_start words told one asked name p.from says load long p.asked p.starts p.load)
+
+  -- ---- behind the start
+
+  module _ (one : SayOneThing) (start : OneStart) (asked : Asked) (from : Laid) (starts : Starts words told asked from) where
+    -- it is enough to look at what runs of the script put
+    by_script : ((text : List ℕ) → PutsScript words told left text → PutsFront held held' text) → Begun words told left held held'
+    by_script f text (bad none is) = absurd (none asked starts.says)
+    by_script f text (refused d is) = absurd (start_not_refused words told one asked from starts d)
+    by_script f text (longer d is) = absurd (start_not_longer words told one asked from starts d)
+    by_script f text (runs p) = f text p
+
+    same_start : (text : List ℕ) (p : PutsScript words told left text) → from ≡ p.from
+    same_start text p = one_start words told one start p.asked asked p.from from p.starts starts p.load
+
+    -- a front of what the run of the script puts
+    pub script_begun : script.Begun from left held held' → Begun words told left held held'
+    script_begun begun = by_script go
+      where
+        go : (text : List ℕ) → PutsScript words told left text → PutsFront held held' text
+        go text p =
+            let known : script.Begun from (Some p.bytes) held held' = subst (λ (l : Option (List ℕ)). script.Begun from l held held') p.source begun in
+            let writes : WritesScript from (take limit p.bytes) (nat_le (length p.bytes) limit) (line (codes "too long")) p.script =
+            subst (λ (s : Laid). WritesScript s (take limit p.bytes) (nat_le (length p.bytes) limit) (line (codes "too long")) p.script) (sym (same_start text p)) p.writes in
+            subst (PutsFront held held') (sym p.text_is) (puts_more held held' p.script p.last (known p.script writes))
+
+    module _ (dump : OneDump) (left' between : Option (List ℕ)) (to : Laid) (done : Done from to left left' held between) where
+      -- what the script put before the end is all that its run puts
+      whole : (text : List ℕ) (p : PutsScript words told left text) → (p.writes.outcome ≡ Over) × (p.script ≡ out from done.statements) × (to ≡ state_after p.from p.writes.statements)
+      whole text p =
+          let t = done_told from to left left' held between p.bytes p.source done in
+          let same = one_comes (take limit p.bytes) (nat_le (length p.bytes) limit) p.writes.statements done.statements p.writes.outcome Over p.writes.comes t in
+          let outcome_is : last_line (take limit p.bytes) (line (codes "too long")) p.writes.outcome ≡ [] =
+          ap (last_line (take limit p.bytes) (line (codes "too long"))) same.1 in (
+            same.1,
+            p.writes.same ∙ ap (λ (l : List ℕ). out p.from p.writes.statements ++ l) outcome_is ∙ append-nil (out p.from p.writes.statements)
+                ∙ ap (out p.from) same.0 ∙ ap (λ (s : Laid). out s done.statements) (sym (same_start text p)),
+            done.next ∙ ap (λ (s : Laid). state_after s done.statements) (same_start text p) ∙ ap (state_after p.from) (sym same.0),
+          )
+
+      -- nothing was put behind the replies
+      pub done_begun : held' ≡ between → Begun words told left held held'
+      done_begun same = by_script go
+        where
+          go : (text : List ℕ) → PutsScript words told left text → PutsFront held held' text
+          go text p =
+              let w = whole text p in
+              subst (PutsFront held held') (sym p.text_is)
+              (puts_more held held' p.script p.last (subst (PutsFront held held') (sym w.1)
+              (puts_all held held' (out from done.statements) (subst (λ (h : Option (List ℕ)). Appends held h (out from done.statements)) (sym same) done.put))))
+
+      -- a front was put of the line that says that the dump is too long
+      pub long_begun : (name : List ℕ) → asked.dump ≡ Some name → IsLongDump to → PutsFront between held' (line (codes "too long")) → Begun words told left held held'
+      long_begun name is long put = by_script go
+        where
+          last_is : (text : List ℕ) (p : PutsScript words told left text) (d : Option (List ℕ)) → p.asked.dump ≡ d → d ≡ Some name → Behind d (state_after p.from p.writes.statements) p.last
+              → to ≡ state_after p.from p.writes.statements → p.last ≡ line (codes "too long")
+          last_is text p None e d behind same = cc
+          last_is text p (Some other) e d behind same = elim behind.2 [
+            | inr above ↦ above.1
+            | inl within ↦ (let text_is = dump to long.text behind.0 long.dump (subst (λ (s : Laid). IsDumpText s behind.0) (sym same) behind.1) in
+                let above = long.above in
+                let least = within.0 in
+                absurd (omega (arith, ap length text_is)))
+          ]
+
+          go : (text : List ℕ) → PutsScript words told left text → PutsFront held held' text
+          go text p =
+              let w = whole text p in
+              let d : p.asked.dump ≡ Some name = ap (λ (a : Asked). a.dump) (one words p.asked asked p.starts.says starts.says) ∙ is in
+              let last = last_is text p p.asked.dump refl d (p.behind w.0) w.2 in
+              subst (PutsFront held held') (sym (p.text_is ∙ ap (λ (s : List ℕ). s ++ p.last) w.1 ∙ ap (λ (l : List ℕ). out from done.statements ++ l) last))
+              (puts_behind held between held' (out from done.statements) (line (codes "too long")) done.put put)

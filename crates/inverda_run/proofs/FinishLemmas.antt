@@ -1,0 +1,83 @@
+-- What dumping leaves.
+use Rattle.std.specs.Prelude.{◌≢◌, ◌⊎◌, Bool, true, false, Option, Some, None}
+use Rattle.std.specs.Bool.{Decides}
+use Rattle.std.specs.Str.{bytes_eq}
+use Rattle.std.proofs.Common.{◌≡◌, ℕ, List, codes, refl, sym, ap, subst, ◌∙◌, inl, inr}
+use Rattle.std.proofs.lemmas.Bool.{false≢true}
+use Rattle.std.proofs.lemmas.Slice.Eq.{bytes_eq-Decides}
+use Rattle.outside.specs.Causes.{Rose}
+use Rattle.serde_json.specs.Written.{compact_text}
+use Rattle.op_kinds.specs.Operators.{AnyView}
+use Rattle.op_any.specs.BuiltOn.{AreBuiltOn}
+use Rattle.db_state.specs.declared.parts.Parts.{Parts}
+use Rattle.engine_layouts.specs.Laid.{Laid}
+use Rattle.engine_core.specs.Kept.{state_of}
+use Rattle.engine_core.specs.Texts.{line}
+use Rattle.dump_graph.specs.Texts.{AreFromTexts, AreSpelled}
+use Rattle.dump_file.specs.Told.{database_json}
+use Rattle.dump_file.specs.Stands.{IsDumpOf}
+use Rattle.inverda_run.specs.Starts.{IsDumpText, Told}
+use Rattle.inverda_run.specs.Calls.{DumpsTo, EndStays, Finishes, IsLongDump, PutsLast, WritesBut, WritesTo}
+use Rattle.inverda_run.specs.declared.end.End.{End}
+use Rattle.inverda_run.specs.declared.end.End.TheVariants as end
+
+-- the bytes that are written are the dump of the engine's state
+pub dump_text : (k found : Parts AnyView) (bytes text : List ℕ) → found ≡ k → bytes ≡ text → text ≡ compact_text (database_json found)
+    → (AreFromTexts found.ids.next found.graph.edges → IsDumpOf text found) → AreSpelled k.graph.edges → AreBuiltOn k.ids.next k.graph.edges → IsDumpText (state_of k) bytes
+dump_text k found bytes text same is written stands spelled built =
+    let texts : AreFromTexts found.ids.next found.graph.edges = subst (λ (p : Parts AnyView). AreFromTexts p.ids.next p.graph.edges) (sym same) (spelled, built) in
+    record {
+      parts = found;
+      state = ap (λ (p : Parts AnyView). state_of p) (sym same);
+      written = is ∙ written;
+      dump = subst (λ (b : List ℕ). IsDumpOf b found) (sym is) (stands texts);
+    }
+
+module _ (to : Laid) (file : Option (Option (List ℕ))) (held held' : Option (List ℕ)) (put put' filed filed' : ℕ) where
+  -- it is too long
+  pub long_dumped : IsLongDump to → filed' ≡ filed → (e : End) → PutsLast end.LongDump (line (codes "too long")) held held' put put' e → DumpsTo to file held held' put put' filed filed' e
+  long_dumped long same e (inl p) = subst (DumpsTo to file held held' put put' filed filed') (sym p.0) (long, p.1, p.2, same)
+  long_dumped long same e (inr p) = subst (DumpsTo to file held held' put put' filed filed') (sym p.0) (p.1, inl (long, p.2))
+
+  -- it couldn't be written
+  pub unwritten_dumped : Rose filed filed' → (e : End) → PutsLast end.UnwrittenDump (line (codes "file fault")) held held' put put' e → DumpsTo to file held held' put put' filed filed' e
+  unwritten_dumped rose e (inl p) = subst (DumpsTo to file held held' put put' filed filed') (sym p.0) (rose, p.1, p.2)
+  unwritten_dumped rose e (inr p) = subst (DumpsTo to file held held' put put' filed filed') (sym p.0) (p.1, inr rose)
+
+  -- the sink failed only where that ends the run
+  dump_stays : (e : End) → DumpsTo to file held held' put put' filed filed' e → EndStays put put' e
+  dump_stays end.Done h = h.2
+  dump_stays end.Memory h = h.1
+  dump_stays end.LongDump h = h.2
+  dump_stays end.UnwrittenDump h = h.2
+  dump_stays end.Unwritten h = tt
+  dump_stays end.BadWords h = absurd h
+  dump_stays end.Syntax h = absurd h
+  dump_stays end.Refused h = absurd h
+  dump_stays end.Unread h = absurd h
+  dump_stays end.LongScript h = absurd h
+  dump_stays end.LongLoad h = absurd h
+  dump_stays end.UnreadLoad h = absurd h
+
+pub finish_stays : (to : Laid) (dump : Option (List ℕ)) (told : Told) (held held' : Option (List ℕ)) (put put' filed filed' : ℕ) (e : End)
+    → Finishes to dump told held held' put put' filed filed' e → EndStays put put' e
+finish_stays to None told held held' put put' filed filed' e f = subst (EndStays put put') (sym f.0) f.2
+finish_stays to (Some name) told held held' put put' filed filed' e f = dump_stays to (told name) held held' put put' filed filed' e f
+
+-- ---- files
+
+by_name : (file name : List ℕ) (b : Bool) → Decides b (file ≡ name) → (file ≡ name) ⊎ (file ≢ name)
+by_name file name true d = inl (d.0 refl)
+by_name file name false d = inr (λ same. false≢true (d.1 same))
+
+-- no other file was written
+pub writes_but : (name : List ℕ) (told told' : Told) (filed filed' : ℕ) (e : End) → ((file : List ℕ) → file ≢ name → told' file ≡ told file) → (e ≡ end.Done) ⊎ Rose filed filed'
+    → (file : List ℕ) → WritesBut name told told' filed filed' e file
+writes_but name told told' filed filed' e others wrote file = elim (by_name file name (bytes_eq file name) (bytes_eq-Decides file name)) [
+  | inl same ↦ inr (same, wrote)
+  | inr differs ↦ inl (others file differs)
+]
+
+pub writes_named : (name : List ℕ) (told told' : Told) (filed filed' : ℕ) (e : End) (file : List ℕ) → WritesBut name told told' filed filed' e file → WritesTo (Some name) told told' filed filed' e file
+writes_named name told told' filed filed' e file (inl same) = inl same
+writes_named name told told' filed filed' e file (inr w) = inr (ap Some (sym w.0), w.1)

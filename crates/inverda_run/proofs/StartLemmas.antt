@@ -1,0 +1,125 @@
+-- One start of a run, whatever tells of it.
+use Rattle.std.specs.Prelude.{◌<◌, Option, Some, None}
+use Rattle.std.proofs.Common.{◌≡◌, ℕ, List, length, refl, sym, ap, subst, ◌∙◌, arith}
+use Rattle.outside.specs.FileTold.{ToldAs}
+use Rattle.dump_file.specs.Stands.{IsDumpOf}
+use Rattle.engine_layouts.specs.Laid.{Laid}
+use Rattle.run_words.specs.Words.{Asked, Says}
+use Rattle.run_words.specs.Laws.{SayOneThing}
+use Rattle.script_run.specs.Statuses.{limit}
+use Rattle.inverda_run.specs.Files.{IsLonger}
+use Rattle.inverda_run.specs.Starts.{Loaded, StartsBy, Told}
+use Rattle.inverda_run.specs.Statuses.{Loads, NoDump, SayNothing, Starts}
+use Rattle.inverda_run.specs.Decided.{IsTold, ToldLonger, ToldNoDump}
+use Rattle.inverda_run.specs.Calls.{HoldsNoDump}
+use Rattle.inverda_run.specs.Laws.{OneStart}
+
+some_same : {A : Type 0} (a b : A) → Some a ≡ Some b → a ≡ b
+some_same a b e = cc
+
+-- a file that is told to be there holds its bytes
+told_bytes : (told : Option (Option (List ℕ))) (file bytes : List ℕ) → told ≡ Some (Some file) → ToldAs told bytes → file ≡ bytes
+told_bytes None file bytes is holds = cc
+told_bytes (Some None) file bytes is holds = absurd holds
+told_bytes (Some (Some other)) file bytes is holds = let same : other ≡ file = cc in sym same ∙ holds
+
+told_longer : (told : Option (Option (List ℕ))) (file : List ℕ) → told ≡ Some (Some file) → IsLonger limit told → limit < length file
+told_longer None file is longer = cc
+told_longer (Some None) file is longer = absurd longer
+told_longer (Some (Some other)) file is longer = let same : other ≡ file = cc in subst (λ (f : List ℕ). limit < length f) same longer
+
+-- ---- what is loaded
+
+-- a loaded dump is a dump within the limit
+no_loaded : (told : Option (Option (List ℕ))) (file : List ℕ) (max_id : ℕ) (from : Laid) → told ≡ Some (Some file) → NoDump file → Loaded told max_id from → ⊥
+no_loaded told file max_id from is none l = none l.parts (subst (λ (b : List ℕ). IsDumpOf b l.parts) (sym (told_bytes told file l.bytes is l.holds)) l.dump)
+
+not_longer : (told : Option (Option (List ℕ))) (file : List ℕ) (max_id : ℕ) (from : Laid) → told ≡ Some (Some file) → limit < length file → Loaded told max_id from → ⊥
+not_longer told file max_id from is above l = let same = told_bytes told file l.bytes is l.holds in let within = l.within in omega (arith, ap length same)
+
+-- ---- one start
+
+module _ (words : List (List ℕ)) (told : Told) (one : SayOneThing) where
+  -- the words load one file
+  one_name : (asked : Asked) (name other : List ℕ) → Says words asked → asked.load ≡ Some name → Loads words other → other ≡ name
+  one_name asked name other says load l = some_same other name (sym l.load ∙ ap (λ (a : Asked). a.load) (one words l.asked asked l.says says) ∙ load)
+
+  -- a start is no refusal
+  pub start_not_refused : (asked : Asked) (from : Laid) → Starts words told asked from → ToldNoDump words told → ⊥
+  start_not_refused asked from s d = go asked.load refl s.start
+    where
+      go : (load : Option (List ℕ)) → asked.load ≡ load → StartsBy told load asked.max_id from → ⊥
+      go None is start = let clash : Some d.name ≡ None = sym d.loads.load ∙ ap (λ (a : Asked). a.load) (one words d.loads.asked asked d.loads.says s.says) ∙ is in cc
+      go (Some name) is start =
+          let same = one_name asked name d.name s.says is d.loads in
+          no_loaded (told name) d.file asked.max_id from (ap told (sym same) ∙ d.holds) d.none start
+
+  -- nor is it too long
+  pub start_not_longer : (asked : Asked) (from : Laid) → Starts words told asked from → ToldLonger words told → ⊥
+  start_not_longer asked from s d = go asked.load refl s.start
+    where
+      go : (load : Option (List ℕ)) → asked.load ≡ load → StartsBy told load asked.max_id from → ⊥
+      go None is start = let clash : Some d.name ≡ None = sym d.loads.load ∙ ap (λ (a : Asked). a.load) (one words d.loads.asked asked d.loads.says s.says) ∙ is in cc
+      go (Some name) is start =
+          let same = one_name asked name d.name s.says is d.loads in
+          not_longer (told name) d.file asked.max_id from (ap told (sym same) ∙ d.holds) d.above start
+
+  -- a file that holds no dump gives no start that is told
+  pub refused_no_start : (asked : Asked) (name : List ℕ) (from : Laid) → Says words asked → asked.load ≡ Some name → HoldsNoDump (told name)
+      → (other : Asked) → Starts words told other from → IsTold told other.load → ⊥
+  refused_no_start asked name from says load holds other s t = go other.load (ap (λ (a : Asked). a.load) (one words asked other says s.says)) t s.start
+    where
+      go : (l : Option (List ℕ)) → asked.load ≡ l → IsTold told l → StartsBy told l other.max_id from → ⊥
+      go None is k start = let clash : Some name ≡ None = sym load ∙ is in cc
+      go (Some found) is k start =
+          let same : found ≡ name = some_same found name (sym is ∙ load) in
+          let file_is : k.0 ≡ holds.bytes = told_bytes (told name) k.0 holds.bytes (ap told (sym same) ∙ k.1) holds.holds in
+          no_loaded (told found) k.0 other.max_id from k.1 (subst NoDump (sym file_is) holds.none) start
+
+  pub longer_no_start : (asked : Asked) (name : List ℕ) (from : Laid) → Says words asked → asked.load ≡ Some name → IsLonger limit (told name)
+      → (other : Asked) → Starts words told other from → IsTold told other.load → ⊥
+  longer_no_start asked name from says load longer other s t = go other.load (ap (λ (a : Asked). a.load) (one words asked other says s.says)) t s.start
+    where
+      go : (l : Option (List ℕ)) → asked.load ≡ l → IsTold told l → StartsBy told l other.max_id from → ⊥
+      go None is k start = let clash : Some name ≡ None = sym load ∙ is in cc
+      go (Some found) is k start =
+          let same : found ≡ name = some_same found name (sym is ∙ load) in
+          not_longer (told found) k.0 other.max_id from k.1 (told_longer (told name) k.0 (ap told (sym same) ∙ k.1) longer) start
+
+  -- a file that is told isn't both too long and a dump or none
+  pub refused_not_longer : (asked : Asked) (name : List ℕ) → Says words asked → asked.load ≡ Some name → HoldsNoDump (told name) → ToldLonger words told → ⊥
+  refused_not_longer asked name says load holds d =
+      let same = one_name asked name d.name says load d.loads in
+      let file_is = told_bytes (told name) d.file holds.bytes (ap told (sym same) ∙ d.holds) holds.holds in
+      let within = holds.within in
+      let above = d.above in
+      omega (arith, ap length file_is)
+
+  pub longer_not_refused : (asked : Asked) (name : List ℕ) → Says words asked → asked.load ≡ Some name → IsLonger limit (told name) → ToldNoDump words told → ⊥
+  longer_not_refused asked name says load longer d =
+      let same = one_name asked name d.name says load d.loads in
+      let more = told_longer (told name) d.file (ap told (sym same) ∙ d.holds) longer in
+      let within = d.within in
+      omega arith
+
+  -- two starts of one run are one, where the loaded file is told
+  pub one_start : OneStart → (asked other : Asked) (from to : Laid) → Starts words told asked from → Starts words told other to → IsTold told asked.load → to ≡ from
+  one_start law asked other from to s t k =
+      let same = one words other asked t.says s.says in
+      go asked.load k s.start (subst (λ (a : Asked). StartsBy told a.load a.max_id to) same t.start)
+    where
+      go : (l : Option (List ℕ)) → IsTold told l → StartsBy told l asked.max_id from → StartsBy told l asked.max_id to → to ≡ from
+      go None k first second = second ∙ sym first
+      go (Some name) k first second =
+          law k.0 asked.max_id to from (subst (λ (f : Option (Option (List ℕ))). Loaded f asked.max_id to) k.1 second)
+          (subst (λ (f : Option (Option (List ℕ))). Loaded f asked.max_id from) k.1 first)
+
+-- words that say nothing load nothing and start nothing
+pub nothing_refused : (words : List (List ℕ)) (told : Told) → SayNothing words → ToldNoDump words told → ⊥
+nothing_refused words told none d = none d.loads.asked d.loads.says
+
+pub nothing_longer : (words : List (List ℕ)) (told : Told) → SayNothing words → ToldLonger words told → ⊥
+nothing_longer words told none d = none d.loads.asked d.loads.says
+
+pub nothing_starts : (words : List (List ℕ)) (told : Told) (asked : Asked) (from : Laid) → SayNothing words → Starts words told asked from → ⊥
+nothing_starts words told asked from none s = none asked s.says

@@ -1,0 +1,121 @@
+-- What the statuses say, by how a run ends.
+use Rattle.std.specs.Prelude.{◌⊎◌, ◌≤◌, nat_le, Option, Some}
+use Rattle.std.proofs.Common.{◌≡◌, ℕ, List, length, take, codes, sym, ap, subst, ◌∙◌, inl, inr, arith}
+use Rattle.outside.specs.Causes.{Rose}
+use Rattle.bidel_script.specs.Script.{Outcome, Over, Fault, Long, Open}
+use Rattle.bidel_script.proofs.UniqueLaws.{one_comes}
+use Rattle.engine_layouts.specs.Laid.{Laid}
+use Rattle.run_words.specs.Words.{Asked}
+use Rattle.run_words.specs.Laws.{SayOneThing}
+use Rattle.script_run.specs.Moves.{MovesUnseen}
+use Rattle.script_run.specs.Output.{state_after}
+use Rattle.script_run.specs.Statuses.{AnswersScript, Done, FirstReplies, Had, Passed, Stopped, StoppedOfAll, Unread, limit}
+use Rattle.script_run.proofs.EndLaws.{done_answers, done_told, had_done, had_passed, had_stopped}
+use Rattle.script_run.proofs.CutLaws.{passed_first, stopped_of_all, unread_first}
+use Rattle.script_run.proofs.MoveLaws.{moves_unseen}
+use Rattle.inverda_run.specs.Starts.{IsDumpText, Told}
+use Rattle.inverda_run.specs.Statuses.{LongDump, LongLoad, OfStart, Ran, RefusedDump, SayNothing, Starts, StaysBut}
+use Rattle.inverda_run.specs.Decided.{DumpFits, Told', ToldLonger, ToldNoDump, ToldWhole}
+use Rattle.inverda_run.specs.Calls.{HoldsNoDump}
+use Rattle.inverda_run.proofs.StartLemmas.{longer_no_start, longer_not_refused, nothing_starts, refused_no_start, refused_not_longer, start_not_longer, start_not_refused}
+
+-- ---- a run that is done
+
+pub ran_answers : {words : List (List ℕ)} {told told' : Told} {left left' held held' : Option (List ℕ)} → Ran words told told' left left' held held' → OfStart words told (λ from. AnswersScript from left held held')
+ran_answers {words} {told} {told'} {left} {left'} {held} {held'} r = (r.asked, r.from, r.starts, done_answers r.from r.to left left' held held' r.done)
+
+pub ran_unseen : {words : List (List ℕ)} {told told' : Told} {left left' held held' : Option (List ℕ)} → Ran words told told' left left' held held' → OfStart words told (λ from. MovesUnseen from left left' held held')
+ran_unseen {words} {told} {told'} {left} {left'} {held} {held'} r = (r.asked, r.from, r.starts, moves_unseen r.from r.to left left' held held' r.done)
+
+-- the source told a script, where the script was carried out
+pub done_is_over : (read read' : ℕ) → {left left' held : Option (List ℕ)} {from to : Laid} {between : Option (List ℕ)} {o : Outcome} → Done from to left left' held between → ¬ Rose read read' → Had left o → o ≡ Over
+done_is_over read read' {left} {left'} {held} {from} {to} {between} {o} d safe had = had_done from to left left' held between read read' o had safe d
+
+pub ran_is_over : (read read' : ℕ) → {words : List (List ℕ)} {told told' : Told} {left left' held held' : Option (List ℕ)} {o : Outcome} → Ran words told told' left left' held held' → ¬ Rose read read' → Told' words told left o → o ≡ Over
+ran_is_over read read' {words} {told} {told'} {left} {left'} {held} {held'} r safe t = done_is_over read read' r.done safe t.had
+
+-- ---- a run that a fault ended
+
+pub stopped_is_fault : {words : List (List ℕ)} {told : Told} {left left' held held' : Option (List ℕ)} {read read' : ℕ} {o : Outcome} → OfStart words told (λ from. Stopped from left left' read read' held held') → ¬ Rose read read' → Told' words told left o → (at : ℕ) × (o ≡ Fault at)
+stopped_is_fault {words} {told} {left} {left'} {held} {held'} {read} {read'} {o} s safe t = had_stopped s.1 s.1 left left' held held' read read' o t.had safe s.3
+
+pub stopped_cut : {words : List (List ℕ)} {told : Told} {left left' held held' : Option (List ℕ)} {read read' : ℕ} → OfStart words told (λ from. Stopped from left left' read read' held held') → OfStart words told (λ from. StoppedOfAll from left held held')
+stopped_cut {words} {told} {left} {left'} {held} {held'} {read} {read'} s = (s.0, s.1, s.2, stopped_of_all s.1 left left' held held' read read' s.3)
+
+pub unread_rose : {words : List (List ℕ)} {told : Told} {left left' held held' : Option (List ℕ)} {read read' : ℕ} → OfStart words told (λ from. Unread from left left' read read' held held') → Rose read read'
+unread_rose {words} {told} {left} {left'} {held} {held'} {read} {read'} s = s.3.cause
+
+pub unread_cut : {words : List (List ℕ)} {told : Told} {left left' held held' : Option (List ℕ)} {read read' : ℕ} → OfStart words told (λ from. Unread from left left' read read' held held') → OfStart words told (λ from. FirstReplies from left held held' (codes "read fault"))
+unread_cut {words} {told} {left} {left'} {held} {held'} {read} {read'} s = (s.0, s.1, s.2, unread_first s.1 left left' held held' read read' s.3)
+
+pub passed_is_long : {words : List (List ℕ)} {told : Told} {left left' held held' : Option (List ℕ)} {read read' : ℕ} {o : Outcome} → OfStart words told (λ from. Passed from left left' read read' held held') → ¬ Rose read read' → Told' words told left o → (o ≡ Long) ⊎ (o ≡ Open)
+passed_is_long {words} {told} {left} {left'} {held} {held'} {read} {read'} {o} s safe t = had_passed s.1 s.1 left left' held held' read read' o t.had safe s.3
+
+pub passed_cut : {words : List (List ℕ)} {told : Told} {left left' held held' : Option (List ℕ)} {read read' : ℕ} → OfStart words told (λ from. Passed from left left' read read' held held') → OfStart words told (λ from. FirstReplies from left held held' (codes "too long"))
+passed_cut {words} {told} {left} {left'} {held} {held'} {read} {read'} s = (s.0, s.1, s.2, passed_first s.1 left left' held held' read read' s.3)
+
+-- ---- a run that started
+
+module _ (one : SayOneThing) where
+  pub started_not_refused : {words : List (List ℕ)} {told : Told} {P : Laid → Type 0} → OfStart words told P → ToldNoDump words told → ⊥
+  started_not_refused {words} {told} s d = start_not_refused words told one s.0 s.1 s.2 d
+
+  pub started_not_longer : {words : List (List ℕ)} {told : Told} {P : Laid → Type 0} → OfStart words told P → ToldLonger words told → ⊥
+  started_not_longer {words} {told} s d = start_not_longer words told one s.0 s.1 s.2 d
+
+  pub ran_not_refused : {words : List (List ℕ)} {told told' : Told} {left left' held held' : Option (List ℕ)} → Ran words told told' left left' held held' → ToldNoDump words told → ⊥
+  ran_not_refused {words} {told} {told'} {left} {left'} {held} {held'} r d = start_not_refused words told one r.asked r.from r.starts d
+
+  pub ran_not_longer : {words : List (List ℕ)} {told told' : Told} {left left' held held' : Option (List ℕ)} → Ran words told told' left left' held held' → ToldLonger words told → ⊥
+  ran_not_longer {words} {told} {told'} {left} {left'} {held} {held'} r d = start_not_longer words told one r.asked r.from r.starts d
+
+  -- ---- a run that didn't
+
+  holds_none : {words : List (List ℕ)} {told : Told} {held held' : Option (List ℕ)} → (r : RefusedDump words told held held') → HoldsNoDump (told r.name)
+  holds_none {words} {told} {held} {held'} r = record { bytes = r.bytes; within = r.within; holds = r.holds; none = r.none }
+
+  pub refused_not_told : {words : List (List ℕ)} {told : Told} {left held held' : Option (List ℕ)} {o : Outcome} → RefusedDump words told held held' → Told' words told left o → ⊥
+  refused_not_told {words} {told} {left} {held} {held'} r t = refused_no_start words told one r.loads.asked r.name t.from r.loads.says r.loads.load (holds_none r) t.asked t.starts t.load
+
+  pub refused_is_not_longer : {words : List (List ℕ)} {told : Told} {held held' : Option (List ℕ)} → RefusedDump words told held held' → ToldLonger words told → ⊥
+  refused_is_not_longer {words} {told} {held} {held'} r d = refused_not_longer words told one r.loads.asked r.name r.loads.says r.loads.load (holds_none r) d
+
+  pub long_not_told : {words : List (List ℕ)} {told : Told} {left held held' : Option (List ℕ)} {o : Outcome} → LongLoad words told held held' → Told' words told left o → ⊥
+  long_not_told {words} {told} {left} {held} {held'} r t = longer_no_start words told one r.loads.asked r.name t.from r.loads.says r.loads.load r.longer t.asked t.starts t.load
+
+  pub long_is_not_refused : {words : List (List ℕ)} {told : Told} {held held' : Option (List ℕ)} → LongLoad words told held held' → ToldNoDump words told → ⊥
+  long_is_not_refused {words} {told} {held} {held'} r d = longer_not_refused words told one r.loads.asked r.name r.loads.says r.loads.load r.longer d
+
+  -- ---- a dump that is too long
+
+  pub long_dump_not_refused : {words : List (List ℕ)} {told : Told} {left left' held held' : Option (List ℕ)} → LongDump words told left left' held held' → ToldNoDump words told → ⊥
+  long_dump_not_refused {words} {told} {left} {left'} {held} {held'} r d = start_not_refused words told one r.ran.asked r.ran.from r.ran.starts d
+
+  pub long_dump_is_over : (read read' : ℕ) → {words : List (List ℕ)} {told : Told} {left left' held held' : Option (List ℕ)} {o : Outcome} → LongDump words told left left' held held' → ¬ Rose read read' → Told' words told left o → o ≡ Over
+  long_dump_is_over read read' {words} {told} {left} {left'} {held} {held'} r safe t = done_is_over read read' r.ran.done safe t.had
+
+  -- a run whose dump fits has none that is too long
+  pub long_dump_not_whole : {words : List (List ℕ)} {told : Told} {left left' held held' : Option (List ℕ)} → LongDump words told left left' held held' → ToldWhole words told left → ⊥
+  long_dump_not_whole {words} {told} {left} {left'} {held} {held'} r w =
+      let had = w.script.had in
+      let comes = done_told r.ran.from r.to left left' held r.ran.between had.bytes had.told r.ran.done in
+      let same = one_comes (take limit had.bytes) (nat_le (length had.bytes) limit) had.statements r.ran.done.statements Over Over had.comes comes in
+      let asked : r.ran.asked ≡ w.script.asked = one words r.ran.asked w.script.asked r.ran.starts.says w.script.starts.says in
+      let fits : DumpFits w.script.asked.dump (state_after r.ran.from had.statements) =
+      w.fits r.ran.from (subst (λ (a : Asked). Starts words told a r.ran.from) asked r.ran.starts) in
+      let dump_is : w.script.asked.dump ≡ Some r.name = ap (λ (a : Asked). a.dump) (one words w.script.asked r.dumps.asked w.script.starts.says r.dumps.says) ∙ r.dumps.dump in
+      let to_is : r.to ≡ state_after r.ran.from had.statements = r.ran.done.next ∙ ap (state_after r.ran.from) (sym same.0) in
+      let least : length r.text ≤ limit = subst (λ (d : Option (List ℕ)). DumpFits d (state_after r.ran.from had.statements)) dump_is fits r.text (subst (λ (s : Laid). IsDumpText s r.text) to_is r.dump) in
+      let above = r.above in
+      omega arith
+
+-- words that say nothing start nothing
+pub nothing_told : {words : List (List ℕ)} {told : Told} {left : Option (List ℕ)} {o : Outcome} → SayNothing words → Told' words told left o → ⊥
+nothing_told {words} {told} none t = nothing_starts words told t.asked t.from none t.starts
+
+pub nothing_started : {words : List (List ℕ)} {told : Told} {P : Laid → Type 0} → SayNothing words → OfStart words told P → ⊥
+nothing_started {words} {told} none s = nothing_starts words told s.0 s.1 none s.2
+
+-- a file stays where one condition holds, and so where a weaker one does
+pub stays_for : {words : List (List ℕ)} {told told' : Told} {P Q : Type 0} → (P → Q) → StaysBut words told told' P → StaysBut words told told' Q
+stays_for f stays file = elim (stays file) [ inl same ↦ inl same | inr dumped ↦ inr (dumped.0, f dumped.1) ]

@@ -1,0 +1,21 @@
+use Rattle.std.proofs.Common.{◌∙◌, refl, inl, inr}
+use Rattle.engine_core.specs.Kept.{state_of}
+use Rattle.inverda_run.specs.declared.end.End.TheVariants as end
+use Rattle.inverda_run.proofs.FinishLemmas.{dump_text, long_dumped, writes_but}
+use Rattle.inverda_run.proofs.finish.dump_to.Goals as goal
+
+pub returns-then-bytes-clause-dumps : goal.returns-then-bytes-clause-dumps
+returns-then-bytes-clause-dumps g c =
+    let k = c.args.engine.now in
+    let is = c.as_bytes-bytes.ensures.value ∙ c.as_str.ensures in
+    let dump = dump_text k c.database.result.now c.as_bytes-bytes.result.now c.in-Ok.text c.database.ensures.database is c.in-Ok.ensures.text c.in-Ok.ensures.stands c.requires c.database.ensures.built in
+    long_dumped (state_of k) (g.F.Files.told c.args.files.now c.args.name.now) (g.K.Sink.held c.args.out.now) (g.K.Sink.held c.put_last.new.out) (g.K.Sink.faults c.args.out.now) (g.K.Sink.faults c.put_last.new.out) (g.F.Files.faults c.args.files.now) (g.F.Files.faults c.args.files.now)
+    (record { text = c.as_bytes-bytes.result.now; dump = dump; above = c.if-bytes.true }) refl c.put_last.result c.put_last.ensures.puts
+
+pub returns-in-Ok-replace-clause-others : goal.returns-in-Ok-replace-clause-others
+returns-in-Ok-replace-clause-others g c =
+    writes_but c.args.name.now (g.F.Files.told c.args.files.now) (g.F.Files.told c.replace.new.self) (g.F.Files.faults c.args.files.now) (g.F.Files.faults c.replace.new.self) end.Done c.replace.ensures.others (inl refl)
+
+pub returns-clause-others : goal.returns-clause-others
+returns-clause-others g c =
+    writes_but c.args.name.now (g.F.Files.told c.args.files.now) (g.F.Files.told c.replace.new.self) (g.F.Files.faults c.args.files.now) (g.F.Files.faults c.replace.new.self) c.put_last-in-Err.result c.replace.ensures.others (inr c.in-Err.ensures.cause.failed)

@@ -1,5 +1,0 @@
-use Rattle.inverda_run.proofs.MoveLemmas.{same_replies}
-use Rattle.inverda_run.proofs.laws.moves_change_no_reply.Goals as goal
-
-pub returns : goal.returns
-returns c s t is statements = same_replies statements s t is

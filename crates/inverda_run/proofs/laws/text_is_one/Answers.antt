@@ -1,5 +1,0 @@
-use Rattle.inverda_run.proofs.TextLemmas.{one_text}
-use Rattle.inverda_run.proofs.laws.text_is_one.Goals as goal
-
-pub returns : goal.returns
-returns c = one_text

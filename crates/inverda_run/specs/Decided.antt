@@ -1,0 +1,85 @@
+-- What words, files and the source tell decides a run, where no call fails and memory suffices.
+use Rattle.std.specs.Prelude.{◌≡◌, ◌++◌, ◌≤◌, ◌<◌, ◌⊎◌, ℕ, nat_le, List, [], take, length, Option, Some, None, codes, ⊤}
+use Rattle.statements.specs.Views.{StatementView}
+use Rattle.bidel_script.specs.Script.{Outcome, Over}
+use Rattle.engine_layouts.specs.Laid.{Laid}
+use Rattle.engine_core.specs.Texts.{line}
+use Rattle.run_words.specs.Words.{Asked, Says}
+use Rattle.script_run.specs.Output.{state_after}
+use Rattle.script_run.specs.Statuses.{Had, PutsFront, WritesScript, limit}
+use Rattle.inverda_run.specs.Starts.{IsDumpText, Told}
+use Rattle.inverda_run.specs.Statuses.{Loads, NoDump, SayNothing, Starts}
+
+-- the file that is loaded is told, where there is one
+abbrev pub IsTold : Told → Option (List ℕ) → Type 0
+IsTold told None = ⊤
+IsTold told (Some name) = (file : List ℕ) × (told name ≡ Some (Some file))
+
+-- a run of the words starts from a state that is told, and this comes of the bytes that the source told
+pub record Told' (words : List (List ℕ)) (told : Told) (left : Option (List ℕ)) (outcome : Outcome) : Type 0 where
+  pub asked : Asked
+  pub from : Laid
+  pub starts : Starts words told asked from
+  pub load : IsTold told asked.load
+  pub had : Had left outcome
+
+-- the dump at the end is within the limit, where there is one
+abbrev pub DumpFits : Option (List ℕ) → Laid → Type 0
+DumpFits None to = ⊤
+DumpFits (Some name) to = (text : List ℕ) → IsDumpText to text → length text ≤ limit
+
+-- a script within the limits, and a dump within them
+pub record ToldWhole (words : List (List ℕ)) (told : Told) (left : Option (List ℕ)) : Type 0 where
+  pub script : Told' words told left Over
+  pub fits : (from : Laid) → Starts words told script.asked from → DumpFits script.asked.dump (state_after from script.had.statements)
+
+-- the file that the words load is told, and its bytes are no dump
+pub record ToldNoDump (words : List (List ℕ)) (told : Told) : Type 0 where
+  pub name : List ℕ
+  pub loads : Loads words name
+  pub file : List ℕ
+  pub holds : told name ≡ Some (Some file)
+  pub within : length file ≤ limit
+  pub none : NoDump file
+
+-- the file that the words load is told, and it is longer than the limit
+pub record ToldLonger (words : List (List ℕ)) (told : Told) : Type 0 where
+  pub name : List ℕ
+  pub loads : Loads words name
+  pub file : List ℕ
+  pub holds : told name ≡ Some (Some file)
+  pub above : limit < length file
+
+-- ---- what is put
+
+-- what stands behind the replies of a script: nothing, or that the dump is too long
+abbrev pub Behind : Option (List ℕ) → Laid → List ℕ → Type 0
+Behind None to last = last ≡ []
+Behind (Some name) to last = (text : List ℕ) × IsDumpText to text
+    × (((length text ≤ limit) × (last ≡ [])) ⊎ ((limit < length text) × (last ≡ line (codes "too long"))))
+
+-- what a run of the script puts, from a start that is told
+pub record PutsScript (words : List (List ℕ)) (told : Told) (left : Option (List ℕ)) (text : List ℕ) : Type 0 where
+  pub asked : Asked
+  pub from : Laid
+  pub starts : Starts words told asked from
+  pub load : IsTold told asked.load
+  pub bytes : List ℕ
+  pub source : left ≡ Some bytes
+  pub script : List ℕ
+  pub writes : WritesScript from (take limit bytes) (nat_le (length bytes) limit) (line (codes "too long")) script
+  pub last : List ℕ
+  pub behind : writes.outcome ≡ Over → Behind asked.dump (state_after from writes.statements) last
+  pub other : (writes.outcome ≡ Over → ⊥) → last ≡ []
+  pub text_is : text ≡ script ++ last
+
+-- what a run puts where no call fails and memory suffices
+pub data Puts (words : List (List ℕ)) (told : Told) (left : Option (List ℕ)) (text : List ℕ) : Type 0 where
+  bad : SayNothing words → text ≡ line (codes "bad words") → Puts words told left text
+  refused : ToldNoDump words told → text ≡ line (codes "dump refused") → Puts words told left text
+  longer : ToldLonger words told → text ≡ line (codes "too long") → Puts words told left text
+  script : PutsScript words told left text → Puts words told left text
+
+-- a front of it was put
+abbrev pub Begun : List (List ℕ) → Told → Option (List ℕ) → Option (List ℕ) → Option (List ℕ) → Type 0
+Begun words told left held held' = (text : List ℕ) → Puts words told left text → PutsFront held held' text

@@ -1,0 +1,9 @@
+pub mod OutputLaws
+pub mod FrontLaws
+mod RunLemmas
+mod ToldLemmas
+pub mod EndLaws
+mod TextLemmas
+pub mod MoveLaws
+pub mod CutLaws
+mod SpelledLemmas

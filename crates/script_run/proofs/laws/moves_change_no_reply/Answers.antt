@@ -1,0 +1,5 @@
+use Rattle.script_run.proofs.MoveLaws.{same_replies}
+use Rattle.script_run.proofs.laws.moves_change_no_reply.Goals as goal
+
+pub returns : goal.returns
+returns c s t is statements = same_replies statements s t is

@@ -1,0 +1,5 @@
+pub mod Output
+pub mod Moves
+pub mod Statuses
+pub mod Calls
+pub mod Kept

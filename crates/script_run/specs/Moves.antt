@@ -1,0 +1,37 @@
+-- What a MATERIALIZE changes for its script: no reply but its own and those of SHOW LAYOUT.
+use Rattle.std.specs.Prelude.{◌≡◌, ℕ, Bool, true, false, not, cond, List, [], ◌∷◌, filter, Option}
+use Rattle.std.specs.Io.KnownBytes.{Consumes, Appends}
+use Rattle.statements.specs.Views.{StatementView, Materialize}
+use Rattle.bidel_script.specs.Script.{IsScript}
+use Rattle.engine_core.specs.Act.{tells_layout}
+use Rattle.engine_layouts.specs.Laid.{Laid}
+use Rattle.script_run.specs.Output.{replies, joined}
+
+abbrev pub is_move : StatementView → Bool
+is_move (Materialize named in_steps) = true
+is_move _ = false
+
+-- of the replies to these statements, those that don't tell of the layout
+unfoldable pub heard : List StatementView → List (List ℕ) → List (List ℕ)
+heard [] texts = []
+heard (statement ∷ statements) [] = []
+heard (statement ∷ statements) (text ∷ texts) = cond (tells_layout statement) (heard statements texts) (text ∷ heard statements texts)
+
+-- the script with every MATERIALIZE struck out
+abbrev pub without_moves : List StatementView → List StatementView
+without_moves statements = filter (λ statement. not (is_move statement)) statements
+
+-- NOBODY NOTICES: all other statements are answered the same, from any layout of the same data on
+abbrev pub MovesChangeNoReply : Type 0
+MovesChangeNoReply = (s t : Laid) → s.database ≡ t.database → (statements : List StatementView)
+    → heard statements (replies s statements) ≡ heard (without_moves statements) (replies t (without_moves statements))
+
+-- the source gave a script, and the sink was given the replies to its statements; with every MATERIALIZE struck out all statements but
+-- SHOW LAYOUT have the same replies
+pub record MovesUnseen (from : Laid) (left left' held held' : Option (List ℕ)) : Type 0 where
+  pub bytes : List ℕ
+  pub statements : List StatementView
+  pub taken : Consumes left left' bytes
+  pub script : IsScript bytes statements
+  pub put : Appends held held' (joined (replies from statements))
+  pub same : heard statements (replies from statements) ≡ heard (without_moves statements) (replies from (without_moves statements))

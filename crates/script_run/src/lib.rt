@@ -1,0 +1,30 @@
+//! The run of a script: its bytes in, the lines that answer its statements out, from any database on.
+//!
+//! It takes the whole script, has it cut into tokens, and then takes one statement after the other: each is found at the front,
+//! carried out by the engine and answered at once. Which statements some bytes fix, and what stands behind them, is said by
+//! `bidel_script`. `specs/Output.antt` says which lines answer statements, and which state is behind them;
+//! `specs/Statuses.antt` says how a run ends.
+//!
+//! The crates above are promised that a run that is done took a script, put exactly the lines that
+//! answer its statements and left the state behind them (`Done`); that a run which a fault, a failed
+//! read or too many bytes ended put the lines of the statements that are known to end before that,
+//! and its last line (`Stopped`, `Unread`, `Passed`); and that a run which memory or the sink ends has
+//! put a front of what it puts otherwise (`Begun`). The laws say that the run of any bytes puts one
+//! text where nothing fails, and that with every MATERIALIZE struck out all other statements but
+//! SHOW LAYOUT have the same lines (`specs/Moves.antt`). The crate knows nothing of how statements are
+//! written, nor of files or options.
+//!
+//! Lemmas that the crate above may use stand in proofs/: `EndLaws`, `CutLaws`, `FrontLaws` and `MoveLaws`.
+#![tactic(auto)]
+
+mod end;
+mod laws;
+mod lines;
+mod run;
+mod script;
+mod source;
+mod turn;
+
+pub use end::End;
+pub use laws::{moves_change_no_reply, text_is_one};
+pub use source::run_source;
