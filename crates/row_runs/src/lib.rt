@@ -6,10 +6,14 @@
 #![tactic(auto)]
 
 mod dialogs;
+mod file_runs;
 mod runs;
 mod texts;
 
 pub use dialogs::{Given, expect_everywhere, expect_script};
+pub use file_runs::{
+    dumped, expect_continued, expect_over, file_with, no_files, room_for, run_over,
+};
 pub use runs::{
     Ends, Repeated, SURE, answered, expect_bytes, expect_cut, expect_each, expect_repeated,
     expect_replies, expect_run, run,
