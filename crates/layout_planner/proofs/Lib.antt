@@ -1,0 +1,6 @@
+mod ListLemmas
+mod WayLemmas
+mod StoreLemmas
+mod CostLemmas
+mod BestLemmas
+mod MoveLemmas

@@ -1,0 +1,4 @@
+pub mod Costs
+pub mod Best
+pub mod Laws
+pub mod inner
