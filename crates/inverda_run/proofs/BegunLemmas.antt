@@ -5,7 +5,7 @@ use Rattle.std.specs.Io.KnownBytes.{Appends}
 use Rattle.bidel_script.specs.Script.{Over}
 use Rattle.bidel_script.proofs.UniqueLaws.{one_comes}
 use Rattle.engine_core.specs.Texts.{line}
-use Rattle.engine_layouts.specs.Laid.{Laid}
+use Rattle.engine_sessions.specs.Standing.{Standing}
 use Rattle.run_words.specs.Words.{Asked, Says}
 use Rattle.run_words.specs.Laws.{SayOneThing}
 use Rattle.script_run.specs.Output.{out, state_after}
@@ -50,7 +50,7 @@ module _ (words : List (List ℕ)) (told : Told) (left held held' : Option (List
 
   -- ---- behind the start
 
-  module _ (one : SayOneThing) (start : OneStart) (asked : Asked) (from : Laid) (starts : Starts words told asked from) where
+  module _ (one : SayOneThing) (start : OneStart) (asked : Asked) (from : Standing) (starts : Starts words told asked from) where
     -- it is enough to look at what runs of the script put
     by_script : ((text : List ℕ) → PutsScript words told left text → PutsFront held held' text) → Begun words told left held held'
     by_script f text (bad none is) = absurd (none asked starts.says)
@@ -69,10 +69,10 @@ module _ (words : List (List ℕ)) (told : Told) (left held held' : Option (List
         go text p =
             let known : script.Begun from (Some p.bytes) held held' = subst (λ (l : Option (List ℕ)). script.Begun from l held held') p.source begun in
             let writes : WritesScript from (take limit p.bytes) (nat_le (length p.bytes) limit) (line (codes "too long")) p.script =
-            subst (λ (s : Laid). WritesScript s (take limit p.bytes) (nat_le (length p.bytes) limit) (line (codes "too long")) p.script) (sym (same_start text p)) p.writes in
+            subst (λ (s : Standing). WritesScript s (take limit p.bytes) (nat_le (length p.bytes) limit) (line (codes "too long")) p.script) (sym (same_start text p)) p.writes in
             subst (PutsFront held held') (sym p.text_is) (puts_more held held' p.script p.last (known p.script writes))
 
-    module _ (dump : OneDump) (left' between : Option (List ℕ)) (to : Laid) (done : Done from to left left' held between) where
+    module _ (dump : OneDump) (left' between : Option (List ℕ)) (to : Standing) (done : Done from to left left' held between) where
       -- what the script put before the end is all that its run puts
       whole : (text : List ℕ) (p : PutsScript words told left text) → (p.writes.outcome ≡ Over) × (p.script ≡ out from done.statements) × (to ≡ state_after p.from p.writes.statements)
       whole text p =
@@ -82,8 +82,8 @@ module _ (words : List (List ℕ)) (told : Told) (left held held' : Option (List
           ap (last_line (take limit p.bytes) (line (codes "too long"))) same.1 in (
             same.1,
             p.writes.same ∙ ap (λ (l : List ℕ). out p.from p.writes.statements ++ l) outcome_is ∙ append-nil (out p.from p.writes.statements)
-                ∙ ap (out p.from) same.0 ∙ ap (λ (s : Laid). out s done.statements) (sym (same_start text p)),
-            done.next ∙ ap (λ (s : Laid). state_after s done.statements) (same_start text p) ∙ ap (state_after p.from) (sym same.0),
+                ∙ ap (out p.from) same.0 ∙ ap (λ (s : Standing). out s done.statements) (sym (same_start text p)),
+            done.next ∙ ap (λ (s : Standing). state_after s done.statements) (same_start text p) ∙ ap (state_after p.from) (sym same.0),
           )
 
       -- nothing was put behind the replies
@@ -98,15 +98,15 @@ module _ (words : List (List ℕ)) (told : Told) (left held held' : Option (List
               (puts_all held held' (out from done.statements) (subst (λ (h : Option (List ℕ)). Appends held h (out from done.statements)) (sym same) done.put))))
 
       -- a front was put of the line that says that the dump is too long
-      pub long_begun : (name : List ℕ) → asked.dump ≡ Some name → IsLongDump to → PutsFront between held' (line (codes "too long")) → Begun words told left held held'
+      pub long_begun : (name : List ℕ) → asked.dump ≡ Some name → IsLongDump to.laid → PutsFront between held' (line (codes "too long")) → Begun words told left held held'
       long_begun name is long put = by_script go
         where
-          last_is : (text : List ℕ) (p : PutsScript words told left text) (d : Option (List ℕ)) → p.asked.dump ≡ d → d ≡ Some name → Behind d (state_after p.from p.writes.statements) p.last
+          last_is : (text : List ℕ) (p : PutsScript words told left text) (d : Option (List ℕ)) → p.asked.dump ≡ d → d ≡ Some name → Behind d (state_after p.from p.writes.statements).laid p.last
               → to ≡ state_after p.from p.writes.statements → p.last ≡ line (codes "too long")
           last_is text p None e d behind same = cc
           last_is text p (Some other) e d behind same = elim behind.2 [
             | inr above ↦ above.1
-            | inl within ↦ (let text_is = dump to long.text behind.0 long.dump (subst (λ (s : Laid). IsDumpText s behind.0) (sym same) behind.1) in
+            | inl within ↦ (let text_is = dump to.laid long.text behind.0 long.dump (subst (λ (s : Standing). IsDumpText s.laid behind.0) (sym same) behind.1) in
                 let above = long.above in
                 let least = within.0 in
                 absurd (omega (arith, ap length text_is)))

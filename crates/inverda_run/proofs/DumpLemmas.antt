@@ -26,6 +26,7 @@ use Rattle.db_state.specs.Laws.{StoredOnce}
 use Rattle.db_state.specs.declared.parts.Parts.{Parts}
 use Rattle.kept_changes.proofs.ChangesLaws.{value_listed}
 use Rattle.engine_layouts.specs.Laid.{Laid, laid_of}
+use Rattle.engine_sessions.specs.Standing.{begun}
 use Rattle.dump_values.specs.Dumps.{Dump, dump_json}
 use Rattle.dump_graph.specs.Told.{graph_told}
 use Rattle.dump_file.specs.Laws.{DumpsAreOfOneDatabase}
@@ -159,11 +160,11 @@ one_start one file max_id s t a b =
     let bytes : a.bytes ≡ b.bytes = sym a.holds ∙ b.holds in
     let same_json : a.dump.0 ≡ b.dump.0 = some_same a.dump.0 b.dump.0 (sym a.dump.1.1 ∙ ap read bytes ∙ b.dump.1.1) in
     let same = one a.dump.0 a.parts b.parts a.dump.2 (subst (λ (d : Data). Stands d b.parts) (sym same_json) b.dump.2) (a.limit_is ∙ sym b.limit_is) in
-    a.state ∙ (λ i. record { database = same.model i; layout = same.layout i }) ∙ sym b.state
+    a.state ∙ (λ i. begun (record { database = same.model i; layout = same.layout i })) ∙ sym b.state
 
 pub loads_dumped : OneStart → LoadsTheDumped
 loads_dumped one s t text dump within loaded =
-    one text s.database.limit t s loaded
+    one text s.database.limit t (begun s) loaded
     (record {
       bytes = text;
       within = within;
@@ -171,5 +172,5 @@ loads_dumped one s t text dump within loaded =
       parts = dump.parts;
       dump = dump.dump;
       limit_is = sym (ap (λ (l : Laid). l.database.limit) dump.state);
-      state = dump.state;
+      state = ap begun dump.state;
     })

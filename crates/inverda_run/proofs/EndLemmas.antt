@@ -3,7 +3,7 @@ use Rattle.std.specs.Prelude.{Option, Some, None}
 use Rattle.std.proofs.Common.{◌≡◌, ℕ, List, codes, refl, sym, subst, inl, inr}
 use Rattle.outside.specs.Causes.{Rose}
 use Rattle.engine_core.specs.Texts.{line}
-use Rattle.engine_layouts.specs.Laid.{Laid}
+use Rattle.engine_sessions.specs.Standing.{Standing}
 use Rattle.run_words.specs.Words.{Asked, Says}
 use Rattle.run_words.specs.Laws.{SayOneThing}
 use Rattle.script_run.specs.Statuses.{Done, limit}
@@ -58,8 +58,8 @@ module _ (words : List (List ℕ)) (told told' : Told) (left : Option (List ℕ)
 
 -- the script was run
 module _ (words : List (List ℕ)) (told told' : Told) (left left' : Option (List ℕ)) (read read' : ℕ) (held : Option (List ℕ)) (put filed filed' : ℕ)
-    (one : SayOneThing) (start : OneStart) (asked : Asked) (from to : Laid) (starts : Starts words told asked from) where
-  ofStart : {P : Laid → Type 0} → P from → OfStart words told P
+    (one : SayOneThing) (start : OneStart) (asked : Asked) (from to : Standing) (starts : Starts words told asked from) where
+  ofStart : {P : Standing → Type 0} → P from → OfStart words told P
   ofStart p = (asked, from, starts, p)
 
   -- it came to no end of its own
@@ -89,7 +89,7 @@ module _ (words : List (List ℕ)) (told told' : Told) (left left' : Option (Lis
     early_done : ((¬ Rose filed filed') → Rattle.inverda_run.specs.Decided.Begun words told left held held') → Early words told left left' read read' held held' filed filed'
     early_done begun = record { begun = λ source files. begun files; taken = λ differs. absurd (differs same) }
 
-    ran : held' ≡ between → Written asked.dump told' to → filed' ≡ filed → There end.Done
+    ran : held' ≡ between → Written asked.dump told' to.laid → filed' ≡ filed → There end.Done
     ran is written files = (
       record {
         asked = asked;
@@ -103,9 +103,9 @@ module _ (words : List (List ℕ)) (told told' : Told) (left left' : Option (Lis
       files,
     )
 
-    dumped : (name : List ℕ) → asked.dump ≡ Some name → (e : End) → DumpsTo to (told' name) between held' put put' filed filed' e → There e
+    dumped : (name : List ℕ) → asked.dump ≡ Some name → (e : End) → DumpsTo to.laid (told' name) between held' put put' filed filed' e → There e
     dumped name is end.Done h =
-        ran h.1 (subst (λ (d : Option (List ℕ)). Written d told' to) (sym is) (h.0.text, h.0.dump, h.0.within, h.0.holds)) h.3
+        ran h.1 (subst (λ (d : Option (List ℕ)). Written d told' to.laid) (sym is) (h.0.text, h.0.dump, h.0.within, h.0.holds)) h.3
     dumped name is end.Memory h = early_done (λ files. done_begun words told left held held' one start asked from starts dump left' between to done h.0)
     dumped name is end.LongDump h = record {
       to = to;
@@ -140,9 +140,9 @@ module _ (words : List (List ℕ)) (told told' : Told) (left left' : Option (Lis
     dumped name is end.LongLoad h = absurd h
     dumped name is end.UnreadLoad h = absurd h
 
-    pub finish_ends : (e : End) → Finishes to asked.dump told' between held' put put' filed filed' e → There e
+    pub finish_ends : (e : End) → Finishes to.laid asked.dump told' between held' put put' filed filed' e → There e
     finish_ends e h = go asked.dump refl h
       where
-        go : (d : Option (List ℕ)) → asked.dump ≡ d → Finishes to d told' between held' put put' filed filed' e → There e
-        go None is f = subst There (sym f.0) (ran f.1 (subst (λ (d : Option (List ℕ)). Written d told' to) (sym is) tt) f.3)
+        go : (d : Option (List ℕ)) → asked.dump ≡ d → Finishes to.laid d told' between held' put put' filed filed' e → There e
+        go None is f = subst There (sym f.0) (ran f.1 (subst (λ (d : Option (List ℕ)). Written d told' to.laid) (sym is) tt) f.3)
         go (Some name) is f = dumped name is e f

@@ -2,7 +2,7 @@
 use Rattle.std.specs.Prelude.{◌⊎◌, Option}
 use Rattle.std.proofs.Common.{◌≡◌, ℕ, List, sym, subst, ◌∙◌, inl, inr}
 use Rattle.outside.specs.Causes.{Rose}
-use Rattle.engine_layouts.specs.Laid.{Laid}
+use Rattle.engine_sessions.specs.Standing.{Standing}
 use Rattle.run_words.specs.Words.{Asked, Says}
 use Rattle.run_words.specs.Laws.{SayOneThing}
 use Rattle.script_run.specs.Statuses.{Done}
@@ -52,8 +52,8 @@ files_finished words told mid told' asked filed was is e says same stay writes f
 -- ---- the end
 
 pub finished : (words : List (List ℕ)) (told told' : Told) (left left' : Option (List ℕ)) (read read' : ℕ) (held between held' : Option (List ℕ)) (put was put' filed was_filed filed' : ℕ)
-    → SayOneThing → OneStart → OneDump → (asked : Asked) (from to : Laid) → Starts words told asked from → Done from to left left' held between → read' ≡ read → was ≡ put → was_filed ≡ filed
-    → (e : End) → Finishes to asked.dump told' between held' was put' was_filed filed' e → Ends words told told' left left' read read' held held' put put' filed filed' e
+    → SayOneThing → OneStart → OneDump → (asked : Asked) (from to : Standing) → Starts words told asked from → Done from to left left' held between → read' ≡ read → was ≡ put → was_filed ≡ filed
+    → (e : End) → Finishes to.laid asked.dump told' between held' was put' was_filed filed' e → Ends words told told' left left' read read' held held' put put' filed filed' e
 finished words told told' left left' read read' held between held' put was put' filed was_filed filed' one start dump asked from to starts done same put_is filed_is e finishes =
     subst (λ (n : ℕ). Ends words told told' left left' read read' held held' n put' filed filed' e) put_is
     (subst (λ (n : ℕ). Ends words told told' left left' read read' held held' was put' n filed' e) filed_is

@@ -3,7 +3,7 @@ use Rattle.std.specs.Prelude.{◌<◌, Option, Some, None}
 use Rattle.std.proofs.Common.{◌≡◌, ℕ, List, length, refl, sym, ap, subst, ◌∙◌, arith}
 use Rattle.outside.specs.FileTold.{ToldAs}
 use Rattle.dump_file.specs.Stands.{IsDumpOf}
-use Rattle.engine_layouts.specs.Laid.{Laid}
+use Rattle.engine_sessions.specs.Standing.{Standing}
 use Rattle.run_words.specs.Words.{Asked, Says}
 use Rattle.run_words.specs.Laws.{SayOneThing}
 use Rattle.script_run.specs.Statuses.{limit}
@@ -31,10 +31,10 @@ told_longer (Some (Some other)) file is longer = let same : other ≡ file = cc 
 -- ---- what is loaded
 
 -- a loaded dump is a dump within the limit
-no_loaded : (told : Option (Option (List ℕ))) (file : List ℕ) (max_id : ℕ) (from : Laid) → told ≡ Some (Some file) → NoDump file → Loaded told max_id from → ⊥
+no_loaded : (told : Option (Option (List ℕ))) (file : List ℕ) (max_id : ℕ) (from : Standing) → told ≡ Some (Some file) → NoDump file → Loaded told max_id from → ⊥
 no_loaded told file max_id from is none l = none l.parts (subst (λ (b : List ℕ). IsDumpOf b l.parts) (sym (told_bytes told file l.bytes is l.holds)) l.dump)
 
-not_longer : (told : Option (Option (List ℕ))) (file : List ℕ) (max_id : ℕ) (from : Laid) → told ≡ Some (Some file) → limit < length file → Loaded told max_id from → ⊥
+not_longer : (told : Option (Option (List ℕ))) (file : List ℕ) (max_id : ℕ) (from : Standing) → told ≡ Some (Some file) → limit < length file → Loaded told max_id from → ⊥
 not_longer told file max_id from is above l = let same = told_bytes told file l.bytes is l.holds in let within = l.within in omega (arith, ap length same)
 
 -- ---- one start
@@ -45,7 +45,7 @@ module _ (words : List (List ℕ)) (told : Told) (one : SayOneThing) where
   one_name asked name other says load l = some_same other name (sym l.load ∙ ap (λ (a : Asked). a.load) (one words l.asked asked l.says says) ∙ load)
 
   -- a start is no refusal
-  pub start_not_refused : (asked : Asked) (from : Laid) → Starts words told asked from → ToldNoDump words told → ⊥
+  pub start_not_refused : (asked : Asked) (from : Standing) → Starts words told asked from → ToldNoDump words told → ⊥
   start_not_refused asked from s d = go asked.load refl s.start
     where
       go : (load : Option (List ℕ)) → asked.load ≡ load → StartsBy told load asked.max_id from → ⊥
@@ -55,7 +55,7 @@ module _ (words : List (List ℕ)) (told : Told) (one : SayOneThing) where
           no_loaded (told name) d.file asked.max_id from (ap told (sym same) ∙ d.holds) d.none start
 
   -- nor is it too long
-  pub start_not_longer : (asked : Asked) (from : Laid) → Starts words told asked from → ToldLonger words told → ⊥
+  pub start_not_longer : (asked : Asked) (from : Standing) → Starts words told asked from → ToldLonger words told → ⊥
   start_not_longer asked from s d = go asked.load refl s.start
     where
       go : (load : Option (List ℕ)) → asked.load ≡ load → StartsBy told load asked.max_id from → ⊥
@@ -65,7 +65,7 @@ module _ (words : List (List ℕ)) (told : Told) (one : SayOneThing) where
           not_longer (told name) d.file asked.max_id from (ap told (sym same) ∙ d.holds) d.above start
 
   -- a file that holds no dump gives no start that is told
-  pub refused_no_start : (asked : Asked) (name : List ℕ) (from : Laid) → Says words asked → asked.load ≡ Some name → HoldsNoDump (told name)
+  pub refused_no_start : (asked : Asked) (name : List ℕ) (from : Standing) → Says words asked → asked.load ≡ Some name → HoldsNoDump (told name)
       → (other : Asked) → Starts words told other from → IsTold told other.load → ⊥
   refused_no_start asked name from says load holds other s t = go other.load (ap (λ (a : Asked). a.load) (one words asked other says s.says)) t s.start
     where
@@ -76,7 +76,7 @@ module _ (words : List (List ℕ)) (told : Told) (one : SayOneThing) where
           let file_is : k.0 ≡ holds.bytes = told_bytes (told name) k.0 holds.bytes (ap told (sym same) ∙ k.1) holds.holds in
           no_loaded (told found) k.0 other.max_id from k.1 (subst NoDump (sym file_is) holds.none) start
 
-  pub longer_no_start : (asked : Asked) (name : List ℕ) (from : Laid) → Says words asked → asked.load ≡ Some name → IsLonger limit (told name)
+  pub longer_no_start : (asked : Asked) (name : List ℕ) (from : Standing) → Says words asked → asked.load ≡ Some name → IsLonger limit (told name)
       → (other : Asked) → Starts words told other from → IsTold told other.load → ⊥
   longer_no_start asked name from says load longer other s t = go other.load (ap (λ (a : Asked). a.load) (one words asked other says s.says)) t s.start
     where
@@ -103,7 +103,7 @@ module _ (words : List (List ℕ)) (told : Told) (one : SayOneThing) where
       omega arith
 
   -- two starts of one run are one, where the loaded file is told
-  pub one_start : OneStart → (asked other : Asked) (from to : Laid) → Starts words told asked from → Starts words told other to → IsTold told asked.load → to ≡ from
+  pub one_start : OneStart → (asked other : Asked) (from to : Standing) → Starts words told asked from → Starts words told other to → IsTold told asked.load → to ≡ from
   one_start law asked other from to s t k =
       let same = one words other asked t.says s.says in
       go asked.load k s.start (subst (λ (a : Asked). StartsBy told a.load a.max_id to) same t.start)
@@ -121,5 +121,5 @@ nothing_refused words told none d = none d.loads.asked d.loads.says
 pub nothing_longer : (words : List (List ℕ)) (told : Told) → SayNothing words → ToldLonger words told → ⊥
 nothing_longer words told none d = none d.loads.asked d.loads.says
 
-pub nothing_starts : (words : List (List ℕ)) (told : Told) (asked : Asked) (from : Laid) → SayNothing words → Starts words told asked from → ⊥
+pub nothing_starts : (words : List (List ℕ)) (told : Told) (asked : Asked) (from : Standing) → SayNothing words → Starts words told asked from → ⊥
 nothing_starts words told asked from none s = none asked s.says

@@ -1,12 +1,13 @@
 -- What a run begins from.
 use Rattle.std.specs.Prelude.{◌≤◌, ◌<◌, ◌^◌, ◌-◌, Option, Some, None, Result, Ok, Err}
-use Rattle.std.proofs.Common.{◌≡◌, ℕ, List, length, codes, refl, sym, subst, inl, inr, arith}
+use Rattle.std.proofs.Common.{◌≡◌, ℕ, List, length, codes, refl, sym, ap, subst, inl, inr, arith}
 use Rattle.outside.specs.FileTold.{ToldAs}
 use Rattle.op_kinds.specs.Operators.{AnyView}
 use Rattle.op_any.specs.BuiltOn.{AreBuiltOn}
 use Rattle.db_state.specs.declared.parts.Parts.{Parts}
-use Rattle.engine_layouts.specs.Laid.{Laid}
 use Rattle.engine_core.specs.Kept.{empty_state, state_of}
+use Rattle.engine_layouts.specs.Laid.{Laid}
+use Rattle.engine_sessions.specs.Standing.{begun}
 use Rattle.dump_graph.specs.Texts.{AreSpelled}
 use Rattle.dump_file.specs.Stands.{IsDumpOf}
 use Rattle.run_words.specs.Words.{Asked, IsLimit, Says, value_of}
@@ -49,7 +50,7 @@ misses_named told name was is (inr missing) = inr (name, refl, missing)
 
 -- none was
 pub begins_empty : (told : Told) (max_id was : ℕ) (k : Parts AnyView) → state_of k ≡ empty_state max_id → Begins told None max_id was was (Ok k)
-begins_empty told max_id was k empty = (empty, subst (λ (s : Laid). AreSpelled s.database.graph.edges) (sym empty) tt, refl)
+begins_empty told max_id was k empty = (ap begun empty, subst (λ (s : Laid). AreSpelled s.database.graph.edges) (sym empty) tt, refl)
 
 -- ---- the words
 

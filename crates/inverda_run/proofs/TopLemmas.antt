@@ -4,7 +4,7 @@ use Rattle.std.proofs.Common.{◌≡◌, ℕ, List, length, take, codes, sym, ap
 use Rattle.outside.specs.Causes.{Rose}
 use Rattle.bidel_script.specs.Script.{Outcome, Over, Fault, Long, Open}
 use Rattle.bidel_script.proofs.UniqueLaws.{one_comes}
-use Rattle.engine_layouts.specs.Laid.{Laid}
+use Rattle.engine_sessions.specs.Standing.{Standing}
 use Rattle.run_words.specs.Words.{Asked}
 use Rattle.run_words.specs.Laws.{SayOneThing}
 use Rattle.script_run.specs.Moves.{MovesUnseen}
@@ -28,7 +28,7 @@ pub ran_unseen : {words : List (List ℕ)} {told told' : Told} {left left' held 
 ran_unseen {words} {told} {told'} {left} {left'} {held} {held'} r = (r.asked, r.from, r.starts, moves_unseen r.from r.to left left' held held' r.done)
 
 -- the source told a script, where the script was carried out
-pub done_is_over : (read read' : ℕ) → {left left' held : Option (List ℕ)} {from to : Laid} {between : Option (List ℕ)} {o : Outcome} → Done from to left left' held between → ¬ Rose read read' → Had left o → o ≡ Over
+pub done_is_over : (read read' : ℕ) → {left left' held : Option (List ℕ)} {from to : Standing} {between : Option (List ℕ)} {o : Outcome} → Done from to left left' held between → ¬ Rose read read' → Had left o → o ≡ Over
 done_is_over read read' {left} {left'} {held} {from} {to} {between} {o} d safe had = had_done from to left left' held between read read' o had safe d
 
 pub ran_is_over : (read read' : ℕ) → {words : List (List ℕ)} {told told' : Told} {left left' held held' : Option (List ℕ)} {o : Outcome} → Ran words told told' left left' held held' → ¬ Rose read read' → Told' words told left o → o ≡ Over
@@ -57,10 +57,10 @@ passed_cut {words} {told} {left} {left'} {held} {held'} {read} {read'} s = (s.0,
 -- ---- a run that started
 
 module _ (one : SayOneThing) where
-  pub started_not_refused : {words : List (List ℕ)} {told : Told} {P : Laid → Type 0} → OfStart words told P → ToldNoDump words told → ⊥
+  pub started_not_refused : {words : List (List ℕ)} {told : Told} {P : Standing → Type 0} → OfStart words told P → ToldNoDump words told → ⊥
   started_not_refused {words} {told} s d = start_not_refused words told one s.0 s.1 s.2 d
 
-  pub started_not_longer : {words : List (List ℕ)} {told : Told} {P : Laid → Type 0} → OfStart words told P → ToldLonger words told → ⊥
+  pub started_not_longer : {words : List (List ℕ)} {told : Told} {P : Standing → Type 0} → OfStart words told P → ToldLonger words told → ⊥
   started_not_longer {words} {told} s d = start_not_longer words told one s.0 s.1 s.2 d
 
   pub ran_not_refused : {words : List (List ℕ)} {told told' : Told} {left left' held held' : Option (List ℕ)} → Ran words told told' left left' held held' → ToldNoDump words told → ⊥
@@ -101,11 +101,11 @@ module _ (one : SayOneThing) where
       let comes = done_told r.ran.from r.to left left' held r.ran.between had.bytes had.told r.ran.done in
       let same = one_comes (take limit had.bytes) (nat_le (length had.bytes) limit) had.statements r.ran.done.statements Over Over had.comes comes in
       let asked : r.ran.asked ≡ w.script.asked = one words r.ran.asked w.script.asked r.ran.starts.says w.script.starts.says in
-      let fits : DumpFits w.script.asked.dump (state_after r.ran.from had.statements) =
+      let fits : DumpFits w.script.asked.dump (state_after r.ran.from had.statements).laid =
       w.fits r.ran.from (subst (λ (a : Asked). Starts words told a r.ran.from) asked r.ran.starts) in
       let dump_is : w.script.asked.dump ≡ Some r.name = ap (λ (a : Asked). a.dump) (one words w.script.asked r.dumps.asked w.script.starts.says r.dumps.says) ∙ r.dumps.dump in
       let to_is : r.to ≡ state_after r.ran.from had.statements = r.ran.done.next ∙ ap (state_after r.ran.from) (sym same.0) in
-      let least : length r.text ≤ limit = subst (λ (d : Option (List ℕ)). DumpFits d (state_after r.ran.from had.statements)) dump_is fits r.text (subst (λ (s : Laid). IsDumpText s r.text) to_is r.dump) in
+      let least : length r.text ≤ limit = subst (λ (d : Option (List ℕ)). DumpFits d (state_after r.ran.from had.statements).laid) dump_is fits r.text (subst (λ (s : Standing). IsDumpText s.laid r.text) to_is r.dump) in
       let above = r.above in
       omega arith
 
@@ -113,7 +113,7 @@ module _ (one : SayOneThing) where
 pub nothing_told : {words : List (List ℕ)} {told : Told} {left : Option (List ℕ)} {o : Outcome} → SayNothing words → Told' words told left o → ⊥
 nothing_told {words} {told} none t = nothing_starts words told t.asked t.from none t.starts
 
-pub nothing_started : {words : List (List ℕ)} {told : Told} {P : Laid → Type 0} → SayNothing words → OfStart words told P → ⊥
+pub nothing_started : {words : List (List ℕ)} {told : Told} {P : Standing → Type 0} → SayNothing words → OfStart words told P → ⊥
 nothing_started {words} {told} none s = nothing_starts words told s.0 s.1 none s.2
 
 -- a file stays where one condition holds, and so where a weaker one does

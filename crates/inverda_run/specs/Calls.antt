@@ -6,6 +6,7 @@ use Rattle.outside.specs.FileTold.{IsMissing, ToldAs}
 use Rattle.op_kinds.specs.Operators.{AnyView}
 use Rattle.db_state.specs.declared.parts.Parts.{Parts}
 use Rattle.engine_layouts.specs.Laid.{Laid}
+use Rattle.engine_sessions.specs.Standing.{begun}
 use Rattle.engine_core.specs.Kept.{state_of}
 use Rattle.engine_core.specs.Texts.{line}
 use Rattle.dump_graph.specs.Texts.{AreSpelled}
@@ -15,7 +16,7 @@ use Rattle.script_run.specs.declared.end.End.{End as ScriptEnd}
 use Rattle.script_run.specs.declared.end.End.TheVariants as script
 use Rattle.inverda_run.specs.Files.{IsLonger}
 use Rattle.inverda_run.specs.Starts.{IsDumpText, Loaded, StartsBy, Told}
-use Rattle.inverda_run.specs.Statuses.{LongDump, LongLoad, NoDump, OfStart, Ran, RefusedDump, SayNothing, UnreadLoad, UnwrittenDump, Written}
+use Rattle.inverda_run.specs.Statuses.{LongDump, LongLoad, NoDump, OfStart, Ran, RefusedDump, SayNothing, UnreadLoad, UnwrittenDump}
 use Rattle.inverda_run.specs.Decided.{Begun}
 use Rattle.inverda_run.specs.declared.begin.NotBegun.{NotBegun}
 use Rattle.inverda_run.specs.declared.begin.NotBegun.TheVariants as begins
@@ -33,7 +34,7 @@ pub record HoldsNoDump (file : Option (Option (List ℕ))) : Type 0 where
 
 -- the engine with which a run starts, or why there is none: the file that is loaded holds no dump, is too long, or couldn't be read
 abbrev pub Begins : Told → Option (List ℕ) → ℕ → ℕ → ℕ → Result (Parts AnyView) NotBegun → Type 0
-Begins told load max_id was is (Ok engine) = StartsBy told load max_id (state_of engine) × AreSpelled engine.graph.edges × (is ≡ was)
+Begins told load max_id was is (Ok engine) = StartsBy told load max_id (begun (state_of engine)) × AreSpelled engine.graph.edges × (is ≡ was)
 Begins told load max_id was is (Err begins.Memory) = is ≡ was
 Begins told load max_id was is (Err begins.Refused) = (name : List ℕ) × (load ≡ Some name) × HoldsNoDump (told name) × (is ≡ was)
 Begins told load max_id was is (Err begins.TooLong) = (name : List ℕ) × (load ≡ Some name) × IsLonger limit (told name) × (is ≡ was)
@@ -48,7 +49,7 @@ LoadsEngine bytes max_id (Err _) = ⊥
 
 -- the engine over the database whose dump the file holds, or why there is none
 abbrev pub BeginsLoaded : Option (Option (List ℕ)) → ℕ → ℕ → ℕ → Result (Parts AnyView) NotBegun → Type 0
-BeginsLoaded file max_id was is (Ok engine) = Loaded file max_id (state_of engine) × AreSpelled engine.graph.edges × (is ≡ was)
+BeginsLoaded file max_id was is (Ok engine) = Loaded file max_id (begun (state_of engine)) × AreSpelled engine.graph.edges × (is ≡ was)
 BeginsLoaded file max_id was is (Err begins.Memory) = is ≡ was
 BeginsLoaded file max_id was is (Err begins.Refused) = HoldsNoDump file × (is ≡ was)
 BeginsLoaded file max_id was is (Err begins.TooLong) = IsLonger limit file × (is ≡ was)

@@ -1,10 +1,10 @@
 -- What words, files and the source tell decides a run, where no call fails and memory suffices.
 use Rattle.std.specs.Prelude.{◌≡◌, ◌++◌, ◌≤◌, ◌<◌, ◌⊎◌, ℕ, nat_le, List, [], take, length, Option, Some, None, codes, ⊤}
-use Rattle.statements.specs.Views.{StatementView}
 use Rattle.bidel_script.specs.Script.{Outcome, Over}
 use Rattle.engine_layouts.specs.Laid.{Laid}
+use Rattle.engine_sessions.specs.Standing.{Standing}
 use Rattle.engine_core.specs.Texts.{line}
-use Rattle.run_words.specs.Words.{Asked, Says}
+use Rattle.run_words.specs.Words.{Asked}
 use Rattle.script_run.specs.Output.{state_after}
 use Rattle.script_run.specs.Statuses.{Had, PutsFront, WritesScript, limit}
 use Rattle.inverda_run.specs.Starts.{IsDumpText, Told}
@@ -15,10 +15,10 @@ abbrev pub IsTold : Told → Option (List ℕ) → Type 0
 IsTold told None = ⊤
 IsTold told (Some name) = (file : List ℕ) × (told name ≡ Some (Some file))
 
--- a run of the words starts from a state that is told, and this comes of the bytes that the source told
+-- a run of the words starts from where it is told, and this comes of the bytes that the source told
 pub record Told' (words : List (List ℕ)) (told : Told) (left : Option (List ℕ)) (outcome : Outcome) : Type 0 where
   pub asked : Asked
-  pub from : Laid
+  pub from : Standing
   pub starts : Starts words told asked from
   pub load : IsTold told asked.load
   pub had : Had left outcome
@@ -31,7 +31,7 @@ DumpFits (Some name) to = (text : List ℕ) → IsDumpText to text → length te
 -- a script within the limits, and a dump within them
 pub record ToldWhole (words : List (List ℕ)) (told : Told) (left : Option (List ℕ)) : Type 0 where
   pub script : Told' words told left Over
-  pub fits : (from : Laid) → Starts words told script.asked from → DumpFits script.asked.dump (state_after from script.had.statements)
+  pub fits : (from : Standing) → Starts words told script.asked from → DumpFits script.asked.dump (state_after from script.had.statements).laid
 
 -- the file that the words load is told, and its bytes are no dump
 pub record ToldNoDump (words : List (List ℕ)) (told : Told) : Type 0 where
@@ -61,7 +61,7 @@ Behind (Some name) to last = (text : List ℕ) × IsDumpText to text
 -- what a run of the script puts, from a start that is told
 pub record PutsScript (words : List (List ℕ)) (told : Told) (left : Option (List ℕ)) (text : List ℕ) : Type 0 where
   pub asked : Asked
-  pub from : Laid
+  pub from : Standing
   pub starts : Starts words told asked from
   pub load : IsTold told asked.load
   pub bytes : List ℕ
@@ -69,7 +69,7 @@ pub record PutsScript (words : List (List ℕ)) (told : Told) (left : Option (Li
   pub script : List ℕ
   pub writes : WritesScript from (take limit bytes) (nat_le (length bytes) limit) (line (codes "too long")) script
   pub last : List ℕ
-  pub behind : writes.outcome ≡ Over → Behind asked.dump (state_after from writes.statements) last
+  pub behind : writes.outcome ≡ Over → Behind asked.dump (state_after from writes.statements).laid last
   pub other : (writes.outcome ≡ Over → ⊥) → last ≡ []
   pub text_is : text ≡ script ++ last
 

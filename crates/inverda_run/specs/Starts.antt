@@ -1,11 +1,12 @@
--- From which state a run starts, and what the dump of a state is.
+-- From where a run starts, and what the dump of a state is.
 use Rattle.std.specs.Prelude.{◌≡◌, ◌≤◌, ℕ, List, length, Option, Some, None}
 use Rattle.outside.specs.FileTold.{ToldAs}
 use Rattle.serde_json.specs.Written.{compact_text}
 use Rattle.op_kinds.specs.Operators.{AnyView}
 use Rattle.db_state.specs.declared.parts.Parts.{Parts}
 use Rattle.engine_layouts.specs.Laid.{Laid}
-use Rattle.engine_core.specs.Kept.{empty_state, state_of}
+use Rattle.engine_core.specs.Kept.{state_of}
+use Rattle.engine_sessions.specs.Standing.{Standing, begun, empty_standing}
 use Rattle.dump_file.specs.Told.{database_json}
 use Rattle.dump_file.specs.Stands.{IsDumpOf}
 use Rattle.script_run.specs.Statuses.{limit}
@@ -14,19 +15,19 @@ use Rattle.script_run.specs.Statuses.{limit}
 abbrev pub Told : Type 0
 Told = List ℕ → Option (Option (List ℕ))
 
--- the file holds the dump of a database in this state, within the limit of bytes
-pub record Loaded (file : Option (Option (List ℕ))) (max_id : ℕ) (from : Laid) : Type 0 where
+-- the file holds the dump of a database, within the limit of bytes, and this is the beginning over it
+pub record Loaded (file : Option (Option (List ℕ))) (max_id : ℕ) (from : Standing) : Type 0 where
   pub bytes : List ℕ
   pub within : length bytes ≤ limit
   pub holds : ToldAs file bytes
   pub parts : Parts AnyView
   pub dump : IsDumpOf bytes parts
   pub limit_is : parts.ids.limit ≡ max_id
-  pub state : from ≡ state_of parts
+  pub state : from ≡ begun (state_of parts)
 
--- the state from which a run starts: that of the loaded dump, or else the empty one
-abbrev pub StartsBy : Told → Option (List ℕ) → ℕ → Laid → Type 0
-StartsBy told None max_id from = from ≡ empty_state max_id
+-- from where a run starts: the beginning over the loaded dump, or else over an empty database
+abbrev pub StartsBy : Told → Option (List ℕ) → ℕ → Standing → Type 0
+StartsBy told None max_id from = from ≡ empty_standing max_id
 StartsBy told (Some name) max_id from = Loaded (told name) max_id from
 
 -- the dump of a database in this state, as text

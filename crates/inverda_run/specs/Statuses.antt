@@ -5,6 +5,7 @@ use Rattle.outside.specs.FileTold.{IsMissing, ToldAs}
 use Rattle.op_kinds.specs.Operators.{AnyView}
 use Rattle.db_state.specs.declared.parts.Parts.{Parts}
 use Rattle.engine_layouts.specs.Laid.{Laid}
+use Rattle.engine_sessions.specs.Standing.{Standing}
 use Rattle.engine_core.specs.Texts.{line}
 use Rattle.dump_file.specs.Stands.{IsDumpOf}
 use Rattle.run_words.specs.Words.{Asked, Says}
@@ -30,14 +31,14 @@ pub record Dumps (words : List (List ℕ)) (name : List ℕ) : Type 0 where
   pub says : Says words asked
   pub dump : asked.dump ≡ Some name
 
--- a run of the words starts from this state
-pub record Starts (words : List (List ℕ)) (told : Told) (asked : Asked) (from : Laid) : Type 0 where
+-- a run of the words starts from here
+pub record Starts (words : List (List ℕ)) (told : Told) (asked : Asked) (from : Standing) : Type 0 where
   pub says : Says words asked
   pub start : StartsBy told asked.load asked.max_id from
 
--- it holds of the state from which the run starts
-abbrev pub OfStart : List (List ℕ) → Told → (Laid → Type 0) → Type 0
-OfStart words told P = (asked : Asked) × (from : Laid) × Starts words told asked from × P from
+-- it holds of where the run starts
+abbrev pub OfStart : List (List ℕ) → Told → (Standing → Type 0) → Type 0
+OfStart words told P = (asked : Asked) × (from : Standing) × Starts words told asked from × P from
 
 -- the bytes are no dump of a database
 abbrev pub NoDump : List ℕ → Type 0
@@ -53,11 +54,11 @@ Written (Some name) told to = (text : List ℕ) × IsDumpText to text × (length
 -- the script was carried out from the start to its end, and the dump was written
 pub record Ran (words : List (List ℕ)) (told told' : Told) (left left' held held' : Option (List ℕ)) : Type 0 where
   pub asked : Asked
-  pub from : Laid
-  pub to : Laid
+  pub from : Standing
+  pub to : Standing
   pub starts : Starts words told asked from
   pub done : Done from to left left' held held'
-  pub written : Written asked.dump told' to
+  pub written : Written asked.dump told' to.laid
 
 -- the loaded bytes are no dump
 pub record RefusedDump (words : List (List ℕ)) (told : Told) (held held' : Option (List ℕ)) : Type 0 where
@@ -77,9 +78,9 @@ pub record LongLoad (words : List (List ℕ)) (told : Told) (held held' : Option
   pub put : Appends held held' (line (codes "too long"))
 
 -- the script was carried out from the start to its end, and this line stands behind its replies instead of a dump
-pub record RanBefore (words : List (List ℕ)) (told : Told) (left left' held held' : Option (List ℕ)) (last : List ℕ) (to : Laid) : Type 0 where
+pub record RanBefore (words : List (List ℕ)) (told : Told) (left left' held held' : Option (List ℕ)) (last : List ℕ) (to : Standing) : Type 0 where
   pub asked : Asked
-  pub from : Laid
+  pub from : Standing
   pub starts : Starts words told asked from
   pub between : Option (List ℕ)
   pub done : Done from to left left' held between
@@ -87,12 +88,12 @@ pub record RanBefore (words : List (List ℕ)) (told : Told) (left left' held he
 
 -- the dump would be longer than the limit
 pub record LongDump (words : List (List ℕ)) (told : Told) (left left' held held' : Option (List ℕ)) : Type 0 where
-  pub to : Laid
+  pub to : Standing
   pub ran : RanBefore words told left left' held held' (codes "too long") to
   pub name : List ℕ
   pub dumps : Dumps words name
   pub text : List ℕ
-  pub dump : IsDumpText to text
+  pub dump : IsDumpText to.laid text
   pub above : limit < length text
 
 -- the loaded file couldn't be read
@@ -103,7 +104,7 @@ pub record UnreadLoad (words : List (List ℕ)) (held held' : Option (List ℕ))
 
 -- the dump couldn't be written
 pub record UnwrittenDump (words : List (List ℕ)) (told : Told) (left left' held held' : Option (List ℕ)) : Type 0 where
-  pub to : Laid
+  pub to : Standing
   pub ran : RanBefore words told left left' held held' (codes "file fault") to
   pub name : List ℕ
   pub dumps : Dumps words name

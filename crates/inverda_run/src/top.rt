@@ -16,6 +16,7 @@ use crate::end::End;
 use crate::finish::finish;
 use crate::last::put_last;
 use crate::laws::two_runs_are_one;
+use engine_sessions::Sessions;
 use outside::{Files, Sink, Source};
 use par_base::{Fault, Limits};
 use run_words::{read_words, words_say_one_thing};
@@ -68,15 +69,16 @@ fn run<S: Source, K: Sink, F: Files>(
     let limits = Limits {
         max_id: asked.max_id,
     };
-    let mut engine = match begin(alloc, asked.load, limits, files) {
+    let engine = match begin(alloc, asked.load, limits, files) {
         Ok(engine) => engine,
         Err(NotBegun::Memory) => return End::Memory,
         Err(NotBegun::Refused) => return put_last(End::Refused, b"dump refused\n", out),
         Err(NotBegun::TooLong) => return put_last(End::LongLoad, b"too long\n", out),
         Err(NotBegun::Fault) => return put_last(End::UnreadLoad, b"file fault\n", out),
     };
-    match run_source(alloc, &mut engine, script, out) {
-        ScriptEnd::Done => finish(alloc, &engine, asked.dump, out, files),
+    let mut sessions = Sessions::over(alloc, engine);
+    match run_source(alloc, &mut sessions, script, out) {
+        ScriptEnd::Done => finish(alloc, sessions.engine(), asked.dump, out, files),
         end => ended(end),
     }
 }

@@ -13,7 +13,7 @@ use Rattle.bidel_script.proofs.ScriptLaws.{at_within}
 use Rattle.bidel_script.proofs.ComesLaws.{something_comes}
 use Rattle.bidel_script.proofs.CutLaws.{faults_stay, fronts_come_first}
 use Rattle.engine_core.specs.Texts.{line}
-use Rattle.engine_layouts.specs.Laid.{Laid}
+use Rattle.engine_sessions.specs.Standing.{Standing}
 use Rattle.script_run.specs.Output.{out}
 use Rattle.script_run.specs.Statuses.{limit, Taken, whole, failed, above, Stopped, Unread, Passed, StoppedOfAll, FirstReplies, fault_line}
 use Rattle.script_run.proofs.ToldLemmas.{whole_told, above_told}
@@ -72,7 +72,7 @@ place_stays told bytes ended before at cut c =
 
 -- ---- the statuses
 
-module _ (from : Laid) where
+module _ (from : Standing) where
   pub stopped_of_all : (left left' held held' : Option (List ℕ)) (was is : ℕ) → Stopped from left left' was is held held' → StoppedOfAll from left held held'
   stopped_of_all None left' held held' was is s = tt
   stopped_of_all (Some told) left' held held' was is s =

@@ -1,10 +1,9 @@
 -- How the run of a script ends.
-use Rattle.std.proofs.Common.{◌≡◌, ◌≢◌, ◌≤◌, ◌<◌, ◌==◌, ◌⊎◌, ℕ, List, [], ◌∷◌, ◌++◌, Option, None, Some, Bool, true, false, inl, inr, refl, sym, ap, subst, ◌∙◌, append-nil, take, length, arith, length-append}
-use Rattle.std.specs.Prelude.{nat_le, min, codes}
-use Rattle.std.proofs.lemmas.List.{append_cancel_right, take_all, take-append-le}
-use Rattle.std.proofs.lemmas.Bool.{le-leb, lt-leb}
-use Rattle.std.proofs.lemmas.Bool.Decides.{eqb_tells, leb_tells}
-use Rattle.std.specs.Io.KnownBytes.{Appends, Consumes, IsAtEnd}
+use Rattle.std.proofs.Common.{◌≡◌, ◌≢◌, ◌≤◌, ◌⊎◌, ℕ, List, [], ◌++◌, Option, None, Some, Bool, true, false, inl, inr, refl, sym, ap, subst, ◌∙◌, append-nil, take, length, arith}
+use Rattle.std.specs.Prelude.{nat_le, codes}
+use Rattle.std.proofs.lemmas.List.{append_cancel_right, take_all}
+use Rattle.std.proofs.lemmas.Bool.{le-leb}
+use Rattle.std.specs.Io.KnownBytes.{Appends, Consumes}
 use Rattle.std.proofs.KnownBytes.{Appends-nil, Appends-trans}
 use Rattle.outside.specs.Causes.{Rose}
 use Rattle.outside.specs.Reading.{ReadsAll}
@@ -34,9 +33,9 @@ use Rattle.script_run.specs.declared.end.End.{End}
 use Rattle.script_run.specs.declared.end.End.TheVariants as end
 use Rattle.script_run.proofs.FrontLaws.{puts_none, puts_behind, begins_run}
 use Rattle.script_run.proofs.ToldLemmas.{counts_told, whole_told}
-use Rattle.engine_layouts.specs.Laid.{Laid}
+use Rattle.engine_sessions.specs.Standing.{Standing}
 
-module _ (from to : Laid) where
+module _ (from to : Standing) where
   -- ---- the run of the bytes
 
   stop_within : (bytes : List ℕ) (tail : Tail) (tokens : List Token) (held held' : Option (List ℕ)) (s : Stop) → AreTokens bytes tokens → RunsTo from to bytes tail tokens held held' (outcome_of s)

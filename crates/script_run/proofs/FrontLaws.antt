@@ -12,7 +12,7 @@ use Rattle.bidel_script.specs.Tails.{AreAll}
 use Rattle.bidel_script.specs.Script.{Leads, StandsBehind}
 use Rattle.bidel_script.proofs.TokenLaws.{all_are_one}
 use Rattle.bidel_script.proofs.UniqueLaws.{leads_first, blocked}
-use Rattle.engine_layouts.specs.Laid.{Laid}
+use Rattle.engine_sessions.specs.Standing.{Standing}
 use Rattle.script_run.specs.Output.{out, state_after}
 use Rattle.script_run.specs.Statuses.{PutsFront, last_line}
 use Rattle.script_run.specs.Calls.{RunsFront, BeginsRun}
@@ -42,7 +42,7 @@ puts_none held held' xs same = (0, subst (λ (h : Option (List ℕ)). Appends he
 
 -- ---- fronts of runs
 
-module _ (from : Laid) where
+module _ (from : Standing) where
   -- what the statements put begins what those put that begin with them
   out_more : (held held' : Option (List ℕ)) (sts all rest : List StatementView) → all ≡ sts ++ rest → PutsFront held held' (out from sts) → PutsFront held held' (out from all)
   out_more held held' sts all rest same p =

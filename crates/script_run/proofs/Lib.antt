@@ -6,4 +6,4 @@ pub mod EndLaws
 mod TextLemmas
 pub mod MoveLaws
 pub mod CutLaws
-mod SpelledLemmas
+pub mod SpelledLaws

@@ -4,7 +4,7 @@ use Rattle.std.specs.Io.KnownBytes.{Consumes, Appends}
 use Rattle.statements.specs.Views.{StatementView, Materialize}
 use Rattle.bidel_script.specs.Script.{IsScript}
 use Rattle.engine_core.specs.Act.{tells_layout}
-use Rattle.engine_layouts.specs.Laid.{Laid}
+use Rattle.engine_sessions.specs.Standing.{Standing}
 use Rattle.script_run.specs.Output.{replies, joined}
 
 abbrev pub is_move : StatementView → Bool
@@ -21,14 +21,18 @@ heard (statement ∷ statements) (text ∷ texts) = cond (tells_layout statement
 abbrev pub without_moves : List StatementView → List StatementView
 without_moves statements = filter (λ statement. not (is_move statement)) statements
 
+-- the same data, and all that is kept beside them, under another layout
+abbrev pub with_layout : Standing → List ℕ → Standing
+with_layout s layout = record s { laid = record s.laid { layout = layout } }
+
 -- NOBODY NOTICES: all other statements are answered the same, from any layout of the same data on
 abbrev pub MovesChangeNoReply : Type 0
-MovesChangeNoReply = (s t : Laid) → s.database ≡ t.database → (statements : List StatementView)
-    → heard statements (replies s statements) ≡ heard (without_moves statements) (replies t (without_moves statements))
+MovesChangeNoReply = (s : Standing) (layout : List ℕ) (statements : List StatementView)
+    → heard statements (replies s statements) ≡ heard (without_moves statements) (replies (with_layout s layout) (without_moves statements))
 
 -- the source gave a script, and the sink was given the replies to its statements; with every MATERIALIZE struck out all statements but
 -- SHOW LAYOUT have the same replies
-pub record MovesUnseen (from : Laid) (left left' held held' : Option (List ℕ)) : Type 0 where
+pub record MovesUnseen (from : Standing) (left left' held held' : Option (List ℕ)) : Type 0 where
   pub bytes : List ℕ
   pub statements : List StatementView
   pub taken : Consumes left left' bytes

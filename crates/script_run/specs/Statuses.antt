@@ -6,7 +6,7 @@ use Rattle.statements.specs.Views.{StatementView}
 use Rattle.bidel_script.specs.Places.{Place, place_of}
 use Rattle.bidel_script.specs.Script.{IsScript, Comes, Outcome, Over, Fault, Long, Open}
 use Rattle.engine_core.specs.Texts.{line}
-use Rattle.engine_layouts.specs.Laid.{Laid}
+use Rattle.engine_sessions.specs.Standing.{Standing}
 use Rattle.script_run.specs.Output.{out, state_after}
 
 -- the greatest number of bytes of a script
@@ -36,14 +36,14 @@ last_line bytes stopped Long = line (codes "too long")
 last_line bytes stopped Open = stopped
 
 -- the lines that answer the statements that these bytes fix, and the last line
-pub record WritesScript (from : Laid) (bytes : List ℕ) (ended : Bool) (stopped text : List ℕ) : Type 0 where
+pub record WritesScript (from : Standing) (bytes : List ℕ) (ended : Bool) (stopped text : List ℕ) : Type 0 where
   pub statements : List StatementView
   pub outcome : Outcome
   pub comes : Comes bytes ended statements outcome
   pub same : text ≡ out from statements ++ last_line bytes stopped outcome
 
 -- the source was read to its end, its bytes are a script, the sink was given the lines that answer its statements, and this is the state behind them
-pub record Done (from to : Laid) (left left' held held' : Option (List ℕ)) : Type 0 where
+pub record Done (from to : Standing) (left left' held held' : Option (List ℕ)) : Type 0 where
   pub bytes : List ℕ
   pub statements : List StatementView
   pub taken : Consumes left left' bytes
@@ -55,13 +55,13 @@ pub record Done (from to : Laid) (left left' held held' : Option (List ℕ)) : T
   pub next : to ≡ state_after from statements
 
 -- where the source told its bytes, they are a script, and the sink was given the lines that answer its statements
-abbrev pub AnswersScript : Laid → Option (List ℕ) → Option (List ℕ) → Option (List ℕ) → Type 0
+abbrev pub AnswersScript : Standing → Option (List ℕ) → Option (List ℕ) → Option (List ℕ) → Type 0
 AnswersScript from None held held' = ⊤
 AnswersScript from (Some bytes) held held' = (statements : List StatementView) × IsScript bytes statements × Appends held held' (out from statements)
 
 -- the bytes that were taken have a fault, and the sink was given the lines that answer the statements before it, and the line
 -- with its place
-pub record Stopped (from : Laid) (left left' : Option (List ℕ)) (was is : ℕ) (held held' : Option (List ℕ)) : Type 0 where
+pub record Stopped (from : Standing) (left left' : Option (List ℕ)) (was is : ℕ) (held held' : Option (List ℕ)) : Type 0 where
   pub bytes : List ℕ
   pub ended : Bool
   pub before : List StatementView
@@ -72,7 +72,7 @@ pub record Stopped (from : Laid) (left left' : Option (List ℕ)) (was is : ℕ)
 
 -- a call of the source failed, the bytes that were taken have no fault and no statement that is too long, and the sink was given the
 -- lines that answer the statements whose end they fix, and this line
-pub record Unread (from : Laid) (left left' : Option (List ℕ)) (was is : ℕ) (held held' : Option (List ℕ)) : Type 0 where
+pub record Unread (from : Standing) (left left' : Option (List ℕ)) (was is : ℕ) (held held' : Option (List ℕ)) : Type 0 where
   pub bytes : List ℕ
   pub before : List StatementView
   pub taken : Consumes left left' bytes
@@ -83,7 +83,7 @@ pub record Unread (from : Laid) (left left' : Option (List ℕ)) (was is : ℕ) 
 
 -- a statement is too long, or more bytes than the limit were taken and those within it have no fault; the sink was given the lines that
 -- answer the statements before, and this line
-pub record Passed (from : Laid) (left left' : Option (List ℕ)) (was is : ℕ) (held held' : Option (List ℕ)) : Type 0 where
+pub record Passed (from : Standing) (left left' : Option (List ℕ)) (was is : ℕ) (held held' : Option (List ℕ)) : Type 0 where
   pub bytes : List ℕ
   pub ended : Bool
   pub before : List StatementView
@@ -119,13 +119,13 @@ abbrev pub PutsFront : Option (List ℕ) → Option (List ℕ) → List ℕ → 
 PutsFront held held' bytes = (n : ℕ) × Appends held held' (take n bytes)
 
 -- where the source told its bytes, the sink was given a front of what their run puts where nothing fails
-abbrev pub Begun : Laid → Option (List ℕ) → Option (List ℕ) → Option (List ℕ) → Type 0
+abbrev pub Begun : Standing → Option (List ℕ) → Option (List ℕ) → Option (List ℕ) → Type 0
 Begun from None held held' = ⊤
 Begun from (Some bytes) held held' = (text : List ℕ) → WritesScript from (take limit bytes) (nat_le (length bytes) limit) (line (codes "too long")) text → PutsFront held held' text
 
 -- where the source told its bytes, the sink was given a front of what the run of those that were taken puts where the source failed
 -- behind them and nothing else fails
-abbrev pub BegunTaken : Laid → Option (List ℕ) → Option (List ℕ) → Option (List ℕ) → Option (List ℕ) → Type 0
+abbrev pub BegunTaken : Standing → Option (List ℕ) → Option (List ℕ) → Option (List ℕ) → Option (List ℕ) → Type 0
 BegunTaken from None left' held held' = ⊤
 BegunTaken from (Some told) left' held held' =
     (bytes text : List ℕ) → Consumes (Some told) left' bytes → WritesScript from bytes false (line (codes "read fault")) text → PutsFront held held' text
@@ -133,7 +133,7 @@ BegunTaken from (Some told) left' held held' =
 -- ---- what was cut off
 
 -- where the source told its bytes, the fault is the first one of all of them that count, and the sink was given what their run puts
-abbrev pub StoppedOfAll : Laid → Option (List ℕ) → Option (List ℕ) → Option (List ℕ) → Type 0
+abbrev pub StoppedOfAll : Standing → Option (List ℕ) → Option (List ℕ) → Option (List ℕ) → Type 0
 StoppedOfAll from None held held' = ⊤
 StoppedOfAll from (Some bytes) held held' =
     (before : List StatementView) × (at : ℕ) × Comes (take limit bytes) (nat_le (length bytes) limit) before (Fault at)
@@ -141,7 +141,7 @@ StoppedOfAll from (Some bytes) held held' =
 
 -- where the source told its bytes, the sink was given the replies to first ones of the statements that all of them fix that count, and
 -- this line
-abbrev pub FirstReplies : Laid → Option (List ℕ) → Option (List ℕ) → Option (List ℕ) → List ℕ → Type 0
+abbrev pub FirstReplies : Standing → Option (List ℕ) → Option (List ℕ) → Option (List ℕ) → List ℕ → Type 0
 FirstReplies from None held held' last = ⊤
 FirstReplies from (Some bytes) held held' last =
     (before : List StatementView) × (rest : List StatementView) × (outcome : Outcome)
@@ -149,5 +149,5 @@ FirstReplies from (Some bytes) held held' last =
 
 -- the run of any bytes puts one text where nothing fails
 abbrev pub OneText : Type 0
-OneText = (from : Laid) (bytes : List ℕ) (ended : Bool) (stopped : List ℕ) → (text : List ℕ) × WritesScript from bytes ended stopped text
+OneText = (from : Standing) (bytes : List ℕ) (ended : Bool) (stopped : List ℕ) → (text : List ℕ) × WritesScript from bytes ended stopped text
     × ((other : List ℕ) → WritesScript from bytes ended stopped other → other ≡ text)

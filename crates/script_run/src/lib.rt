@@ -1,4 +1,4 @@
-//! The run of a script: its bytes in, the lines that answer its statements out, from any database on.
+//! The run of a script: its bytes in, the lines that answer its statements out, from any standing on.
 //!
 //! It takes the whole script, has it cut into tokens, and then takes one statement after the other: each is found at the front,
 //! carried out by the engine and answered at once. Which statements some bytes fix, and what stands behind them, is said by
@@ -14,7 +14,8 @@
 //! SHOW LAYOUT have the same lines (`specs/Moves.antt`). The crate knows nothing of how statements are
 //! written, nor of files or options.
 //!
-//! Lemmas that the crate above may use stand in proofs/: `EndLaws`, `CutLaws`, `FrontLaws` and `MoveLaws`.
+//! Lemmas that the crate above may use stand in proofs/: `EndLaws`, `CutLaws`, `FrontLaws`,
+//! `OutputLaws`, `SpelledLaws` and `MoveLaws`.
 #![tactic(auto)]
 
 mod end;

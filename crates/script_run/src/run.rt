@@ -2,14 +2,14 @@
 ghost use Rattle.std.specs.Prelude.{◌≤◌};
 ghost use Rattle.bidel_lex.specs.Tokens.{AreTokens};
 ghost use Rattle.bidel_script.specs.Tails.{Fits};
-ghost use Rattle.engine_core.specs.Kept.{state_of};
+ghost use Rattle.engine_sessions.specs.Standing.{kept_in, standing_of};
 ghost use Rattle.script_run.specs.Kept.{Keeps};
 ghost use Rattle.script_run.specs.Calls.{RunStays, Runs};
 
 use crate::turn::{Turn, take_turn};
 use bidel_lex::Token;
 use bidel_script::{Stop, Tail};
-use engine_core::Engine;
+use engine_sessions::Sessions;
 use expr_lang::Steps;
 use outside::Sink;
 use std::alloc::Global;
@@ -26,10 +26,10 @@ pub enum Ran {
     Unwritten,
 }
 
-/// Carries out and answers each statement of the tokens, from the engine's database on.
+/// Carries out and answers each statement of the tokens, from where the sessions stand.
 pub fn run_tokens<K: Sink, L: Ledger>(
     alloc: Global,
-    engine: &mut Engine,
+    sessions: &mut Sessions,
     bytes: &[u8],
     tail: Tail,
     tokens: &[Token],
@@ -38,15 +38,15 @@ pub fn run_tokens<K: Sink, L: Ledger>(
 ) -> Ran
     requires tokens { AreTokens bytes.now tokens.now }
     requires fits { Fits bytes.now tail }
-    ensures runs { Runs (state_of engine.old) (state_of engine.new) bytes.now tail tokens.now
-        (K.held out.old) (K.held out.new) (K.faults out.old) (K.faults out.new) result }
+    ensures runs { Runs (standing_of sessions.old) (standing_of sessions.new) bytes.now tail
+        tokens.now (K.held out.old) (K.held out.new) (K.faults out.old) (K.faults out.new) result }
     ensures stays { RunStays (K.faults out.old) (K.faults out.new) result }
-    ensures keeps { Keeps engine.old engine.new }
+    ensures keeps { Keeps (kept_in sessions.old) (kept_in sessions.new) }
     ensures later { K.faults out.old ≤ K.faults out.new }
 {
     let mut done = 0;
     loop {
-        match take_turn(alloc, engine, bytes, tail, &tokens[done..], out, steps) {
+        match take_turn(alloc, sessions, bytes, tail, &tokens[done..], out, steps) {
             Turn::Ran { used } => done += used,
             Turn::Stops(stop) => return Ran::Stops(stop),
             Turn::Memory => return Ran::Memory,

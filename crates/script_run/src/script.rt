@@ -1,7 +1,7 @@
 //! The bytes of a script, and the last line.
 ghost use Rattle.std.specs.Prelude.{◌≡◌, ◌≤◌};
 ghost use Rattle.bidel_script.specs.Calls.{outcome_of};
-ghost use Rattle.engine_core.specs.Kept.{state_of};
+ghost use Rattle.engine_sessions.specs.Standing.{kept_in, standing_of};
 ghost use Rattle.script_run.specs.Statuses.{last_line};
 ghost use Rattle.script_run.specs.Kept.{Keeps};
 ghost use Rattle.script_run.specs.Calls.{EndsScript, AtWithin, PutsLine, RunStays, RunsScript};
@@ -9,7 +9,7 @@ ghost use Rattle.script_run.specs.Calls.{EndsScript, AtWithin, PutsLine, RunStay
 use crate::lines::syntax_line;
 use crate::run::{Ran, run_tokens};
 use bidel_script::{Stop, all_tokens};
-use engine_core::Engine;
+use engine_sessions::Sessions;
 use expr_lang::Steps;
 use outside::{Failed, Sink, write_all};
 use par_base::Memory;
@@ -20,7 +20,7 @@ use std::sync::ledger::{Blank, Ledger};
 /// behind them.
 pub fn run_script<K: Sink, L: Ledger>(
     alloc: Global,
-    engine: &mut Engine,
+    sessions: &mut Sessions,
     bytes: &[u8],
     ended: bool,
     out: &mut K,
@@ -29,17 +29,17 @@ pub fn run_script<K: Sink, L: Ledger>(
     requires name { blank.name ≡ L.name }
     requires parts { blank.parts ≡ L.parts }
     requires one { blank.parts ≡ 1 }
-    ensures runs { RunsScript (state_of engine.old) (state_of engine.new) bytes.now ended
+    ensures runs { RunsScript (standing_of sessions.old) (standing_of sessions.new) bytes.now ended
         (K.held out.old) (K.held out.new) (K.faults out.old) (K.faults out.new) result }
     ensures stays { RunStays (K.faults out.old) (K.faults out.new) result }
-    ensures keeps { Keeps engine.old engine.new }
+    ensures keeps { Keeps (kept_in sessions.old) (kept_in sessions.new) }
     ensures later { K.faults out.old ≤ K.faults out.new }
 {
     let mut steps = Steps::<L>::new(blank);
     match all_tokens(alloc, bytes, ended) {
         Ok(all) => run_tokens(
             alloc,
-            engine,
+            sessions,
             bytes,
             all.tail,
             all.tokens.as_slice(),
@@ -87,7 +87,7 @@ fn put_last<K: Sink>(alloc: Global, bytes: &[u8], stopped: &[u8], stop: Stop, ou
 /// line where a statement is still open.
 pub fn end_script<K: Sink, L: Ledger>(
     alloc: Global,
-    engine: &mut Engine,
+    sessions: &mut Sessions,
     bytes: &[u8],
     ended: bool,
     stopped: &[u8],
@@ -97,13 +97,13 @@ pub fn end_script<K: Sink, L: Ledger>(
     requires name { blank.name ≡ L.name }
     requires parts { blank.parts ≡ L.parts }
     requires one { blank.parts ≡ 1 }
-    ensures ends { EndsScript (state_of engine.old) (state_of engine.new) bytes.now ended
+    ensures ends { EndsScript (standing_of sessions.old) (standing_of sessions.new) bytes.now ended
         stopped.now (K.held out.old) (K.held out.new) (K.faults out.old) (K.faults out.new) result }
     ensures stays { RunStays (K.faults out.old) (K.faults out.new) result }
-    ensures keeps { Keeps engine.old engine.new }
+    ensures keeps { Keeps (kept_in sessions.old) (kept_in sessions.new) }
     ensures later { K.faults out.old ≤ K.faults out.new }
 {
-    match run_script::<K, L>(alloc, engine, bytes, ended, out, blank) {
+    match run_script::<K, L>(alloc, sessions, bytes, ended, out, blank) {
         Ran::Stops(stop) => put_last(alloc, bytes, stopped, stop, out),
         ran => ran,
     }

@@ -1,6 +1,6 @@
 //! The run of a source.
 ghost use Rattle.std.specs.Prelude.{◌≡◌, ◌≤◌, take};
-ghost use Rattle.engine_core.specs.Kept.{state_of};
+ghost use Rattle.engine_sessions.specs.Standing.{kept_in, standing_of};
 ghost use Rattle.script_run.specs.Statuses.{limit};
 ghost use Rattle.script_run.specs.Kept.{Keeps};
 ghost use Rattle.script_run.specs.Calls.{Counts, EndStays, Ends, ended_by};
@@ -9,7 +9,7 @@ use crate::end::End;
 use crate::run::Ran;
 use crate::script::end_script;
 use bidel_script::Stop;
-use engine_core::Engine;
+use engine_sessions::Sessions;
 use outside::{ReadAll, Sink, Source, read_all};
 use std::alloc::Global;
 use std::marker::Brand;
@@ -73,22 +73,22 @@ fn end_of(ran: Ran, stopped: End) -> End
     }
 }
 
-/// Reads the source to its end, and carries out and answers each statement of it, from the engine's
+/// Reads the source to its end, and carries out and answers each statement of it, from the sessions'
 /// database on; then the last line is put, where there is one. Before the last line of a fault, a
 /// failed read or too many bytes stand the replies to the statements that were known to end.
 ///
 /// The whole script is in memory, with its tokens. Besides, it takes the time of its statements.
 pub fn run_source<S: Source, K: Sink>(
     alloc: Global,
-    engine: &mut Engine,
+    sessions: &mut Sessions,
     script: &mut S,
     out: &mut K,
 ) -> End
-    ensures ends { Ends (state_of engine.old) (state_of engine.new) (S.left script.old)
+    ensures ends { Ends (standing_of sessions.old) (standing_of sessions.new) (S.left script.old)
         (S.left script.new) (S.faults script.old) (S.faults script.new) (K.held out.old)
         (K.held out.new) (K.faults out.old) (K.faults out.new) result }
     ensures stays { EndStays (K.faults out.old) (K.faults out.new) result }
-    ensures keeps { Keeps engine.old engine.new }
+    ensures keeps { Keeps (kept_in sessions.old) (kept_in sessions.new) }
     ensures later_read { S.faults script.old ≤ S.faults script.new }
     ensures later_write { K.faults out.old ≤ K.faults out.new }
 {
@@ -99,7 +99,7 @@ pub fn run_source<S: Source, K: Sink>(
     let taken = what_counts(&read);
     let ran = end_script::<K, Brand>(
         alloc,
-        engine,
+        sessions,
         taken.bytes,
         taken.ended,
         taken.stopped,

@@ -5,25 +5,23 @@ ghost use Rattle.expr_lang.specs.Operations.{text_limit};
 ghost use Rattle.statements.specs.Views.{statement_view};
 ghost use Rattle.statements.specs.Texts.{TextsWithin};
 ghost use Rattle.bidel_script.specs.Tails.{Fits};
-ghost use Rattle.engine_core.specs.Act.{act};
-ghost use Rattle.engine_core.specs.Kept.{state_of};
 ghost use Rattle.engine_core.specs.Spoken.{TextsCome};
+ghost use Rattle.engine_sessions.specs.Standing.{kept_in, standing_of};
+ghost use Rattle.engine_sessions.specs.Act.{act};
 ghost use Rattle.script_run.specs.Output.{next_state, text_of};
 ghost use Rattle.script_run.specs.Kept.{Keeps};
 ghost use Rattle.script_run.specs.Calls.{TurnStays, Turns};
 
 use bidel_lex::Token;
 use bidel_script::{Found, Stop, Tail, find_front};
-use engine_core::{Engine, refusal_text, reply_text};
+use engine_core::refusal_text;
+use engine_sessions::{Sessions, answer_text};
 use expr_lang::Steps;
 use outside::{Failed, Sink, write_all};
 use par_base::{Fault, Memory, Text};
 use statements::Statement;
 use std::alloc::Global;
 use std::sync::ledger::Ledger;
-
-// There is one session.
-const SESSION: u8 = 0;
 
 /// What became of the tokens that are left.
 #[derive(Clone, Copy, Debug)]
@@ -41,21 +39,21 @@ pub enum Turn {
 // Carries out a statement, and gives the lines that answer it.
 fn answer<L: Ledger>(
     alloc: Global,
-    engine: &mut Engine,
+    sessions: &mut Sessions,
     statement: Statement,
     steps: &mut Steps<L>,
 ) -> Result<Text, Memory>
     requires { TextsWithin text_limit (statement_view statement) }
     ensures text { IfOk result (λ text.
-        text ≡ text_of (act (state_of engine.old) (statement_view statement))) }
-    ensures next { OnOk result (state_of engine.new
-        ≡ next_state (state_of engine.old) (act (state_of engine.old) (statement_view statement))) }
-    ensures texts { TextsCome (statement_view statement) engine.old.graph.edges
-        engine.new.graph.edges }
-    ensures limit { engine.new.ids.limit ≡ engine.old.ids.limit }
+        text ≡ text_of (act (standing_of sessions.old) (statement_view statement))) }
+    ensures next { OnOk result (standing_of sessions.new ≡ next_state (standing_of sessions.old)
+        (act (standing_of sessions.old) (statement_view statement))) }
+    ensures texts { TextsCome (statement_view statement) (kept_in sessions.old).graph.edges
+        (kept_in sessions.new).graph.edges }
+    ensures limit { (kept_in sessions.new).ids.limit ≡ (kept_in sessions.old).ids.limit }
 {
-    match engine.event(alloc, SESSION, statement, steps) {
-        Ok(reply) => reply_text(alloc, &reply),
+    match sessions.event(alloc, statement, steps) {
+        Ok(answer) => answer_text(alloc, &answer),
         Err(Fault::Refused(refusal)) => refusal_text(alloc, &refusal),
         Err(Fault::Memory(memory)) => Err(memory),
     }
@@ -65,7 +63,7 @@ fn answer<L: Ledger>(
 /// it.
 pub fn take_turn<K: Sink, L: Ledger>(
     alloc: Global,
-    engine: &mut Engine,
+    sessions: &mut Sessions,
     bytes: &[u8],
     tail: Tail,
     tokens: &[Token],
@@ -76,13 +74,13 @@ pub fn take_turn<K: Sink, L: Ledger>(
     requires fits { Fits bytes.now tail }
     ensures turns { Turns bytes.now tail tokens.now (K.held out.old) (K.held out.new)
         (K.faults out.old)
-        (K.faults out.new) (state_of engine.old) (state_of engine.new) result }
+        (K.faults out.new) (standing_of sessions.old) (standing_of sessions.new) result }
     ensures stays { TurnStays (K.faults out.old) (K.faults out.new) result }
-    ensures keeps { Keeps engine.old engine.new }
+    ensures keeps { Keeps (kept_in sessions.old) (kept_in sessions.new) }
     ensures later { K.faults out.old ≤ K.faults out.new }
 {
     match find_front(alloc, bytes, tail, tokens) {
-        Ok(Found::Whole { statement, used }) => match answer(alloc, engine, statement, steps) {
+        Ok(Found::Whole { statement, used }) => match answer(alloc, sessions, statement, steps) {
             Ok(text) => match write_all(out, text.as_str().as_bytes()) {
                 Ok(()) => Turn::Ran { used },
                 Err(Failed) => Turn::Unwritten,

@@ -1,5 +1,5 @@
 use Rattle.inverda_run.proofs.DumpLemmas.{loads_dumped, one_dump, one_start}
-use Rattle.inverda_run.proofs.TwoRunLemmas.{two_runs}
+use Rattle.inverda_run.proofs.TwoRunLemmas.{begins_again, two_runs}
 use Rattle.inverda_run.proofs.laws.two_runs_are_one.Goals as goal
 
 pub returns-clause-dump : goal.returns-clause-dump
@@ -13,3 +13,6 @@ returns-clause-loads c = loads_dumped (one_start c.dumps_are_of_one_database.ens
 
 pub returns-clause-runs : goal.returns-clause-runs
 returns-clause-runs c = two_runs
+
+pub returns-clause-again : goal.returns-clause-again
+returns-clause-again c = begins_again c.full_statements_need_the_data_alone.ensures

@@ -1,11 +1,16 @@
 use Rattle.std.proofs.Common.{map, string_bytes, sym, subst, inl}
+use Rattle.op_kinds.specs.Operators.{AnyView}
+use Rattle.db_state.specs.declared.parts.Parts.{Parts}
 use Rattle.engine_core.specs.Kept.{state_of}
+use Rattle.engine_sessions.specs.Standing.{Standing, standing_of}
 use Rattle.run_words.specs.Calls.{asked_of}
+use Rattle.inverda_run.specs.Starts.{StartsBy}
 use Rattle.inverda_run.specs.Statuses.{Starts}
-use Rattle.inverda_run.specs.Calls.{EndStays, Ends}
+use Rattle.inverda_run.specs.Calls.{EndStays, Ends, Finishes}
 use Rattle.inverda_run.specs.declared.end.End.{End}
 use Rattle.inverda_run.proofs.EndLemmas.{bad_ends, longer_ends, refused_ends, script_ends}
-use Rattle.inverda_run.proofs.RunLemmas.{finished, script_stays}
+use Rattle.inverda_run.proofs.FinishLemmas.{finish_stays}
+use Rattle.inverda_run.proofs.RunLemmas.{finished, script_stays, stays_from}
 use Rattle.inverda_run.proofs.StartedLemmas.{misses_loaded}
 use Rattle.inverda_run.proofs.top.run.Goals as goal
 
@@ -37,14 +42,16 @@ returns-in-Done-clause-ends g c =
     let words = map string_bytes c.args.words.now in
     let told = g.F.Files.told c.args.files.now in
     let asked = asked_of c.in-Ok.asked in
-    let begun = c.in-Ok-begin.ensures.begins in
-    let from = state_of c.in-Ok-begin.engine in
-    let starts : Starts words told asked from = record { says = c.in-Ok.ensures; start = begun.0 } in
+    let begins = c.in-Ok-begin.ensures.begins in
+    let from = standing_of c.over-sessions.result in
+    let starts : Starts words told asked from = record { says = c.in-Ok.ensures; start = subst (λ (s : Standing). StartsBy told asked.load asked.max_id s) (sym c.over-sessions.ensures.standing) begins.0 } in
     finished words told (g.F.Files.told c.finish.new.files) (g.S.Source.left c.args.script.now) (g.S.Source.left c.run_source.new.script) (g.S.Source.faults c.args.script.now) (g.S.Source.faults c.run_source.new.script)
     (g.K.Sink.held c.args.out.now) (g.K.Sink.held c.run_source.new.out) (g.K.Sink.held c.finish.new.out) (g.K.Sink.faults c.args.out.now) (g.K.Sink.faults c.run_source.new.out) (g.K.Sink.faults c.finish.new.out)
     (g.F.Files.faults c.args.files.now) (g.F.Files.faults c.begin.new.files) (g.F.Files.faults c.finish.new.files)
-    c.words_say_one_thing.ensures c.two_runs_are_one.ensures.start c.two_runs_are_one.ensures.dump asked from (state_of c.run_source.new.engine) starts
-    c.in-Done.ensures.ends.0 c.in-Done.ensures.ends.1 c.in-Done.ensures.stays begun.2 c.finish.result c.finish.ensures.finishes
+    c.words_say_one_thing.ensures c.two_runs_are_one.ensures.start c.two_runs_are_one.ensures.dump asked from (standing_of c.run_source.new.sessions) starts
+    c.in-Done.ensures.ends.0 c.in-Done.ensures.ends.1 c.in-Done.ensures.stays begins.2 c.finish.result
+    (subst (λ (k : Parts AnyView). Finishes (state_of k) asked.dump (g.F.Files.told c.finish.new.files) (g.K.Sink.held c.run_source.new.out) (g.K.Sink.held c.finish.new.out) (g.K.Sink.faults c.run_source.new.out) (g.K.Sink.faults c.finish.new.out) (g.F.Files.faults c.begin.new.files) (g.F.Files.faults c.finish.new.files) c.finish.result)
+    c.engine.ensures c.finish.ensures.finishes)
 
 pub returns : goal.returns
 returns g c =
@@ -62,11 +69,12 @@ returns g c =
     let filed = g.F.Files.faults c.args.files.now in
     let filed' = g.F.Files.faults c.begin.new.files in
     let asked = asked_of c.in-Ok.asked in
-    let from = state_of c.in-Ok-begin.engine in
-    let starts : Starts words told asked from = record { says = c.in-Ok.ensures; start = c.in-Ok-begin.ensures.begins.0 } in
+    let from = standing_of c.over-sessions.result in
+    let starts : Starts words told asked from =
+    record { says = c.in-Ok.ensures; start = subst (λ (s : Standing). StartsBy told asked.load asked.max_id s) (sym c.over-sessions.ensures.standing) c.in-Ok-begin.ensures.begins.0 } in
     record {
       ends = subst (λ (e : End). Ends words told told' left left' read read' held held' put put' filed filed' e) (sym c.ended.ensures)
-          (script_ends words told told' left left' read read' held put filed filed' c.words_say_one_thing.ensures c.two_runs_are_one.ensures.start asked from (state_of c.run_source.new.engine) starts
+          (script_ends words told told' left left' read read' held put filed filed' c.words_say_one_thing.ensures c.two_runs_are_one.ensures.start asked from (standing_of c.run_source.new.sessions) starts
           held' put' c.run_source.result c.in_default.not-Done c.run_source.ensures.ends);
       stays = subst (λ (e : End). EndStays put put' e) (sym c.ended.ensures) (script_stays put put' c.run_source.result c.run_source.ensures.stays);
       files = λ file. inl (c.begin.ensures.same file);
@@ -75,3 +83,9 @@ returns g c =
       later_write = c.run_source.ensures.later_write;
       later_file = c.begin.ensures.later;
     }
+
+pub returns-in-Done-clause-stays : goal.returns-in-Done-clause-stays
+returns-in-Done-clause-stays g c =
+    stays_from (g.K.Sink.faults c.args.out.now) (g.K.Sink.faults c.run_source.new.out) (g.K.Sink.faults c.finish.new.out) c.finish.result c.in-Done.ensures.stays
+    (finish_stays (state_of c.engine.result.now) (asked_of c.in-Ok.asked).dump (g.F.Files.told c.finish.new.files) (g.K.Sink.held c.run_source.new.out) (g.K.Sink.held c.finish.new.out)
+    (g.K.Sink.faults c.run_source.new.out) (g.K.Sink.faults c.finish.new.out) (g.F.Files.faults c.begin.new.files) (g.F.Files.faults c.finish.new.files) c.finish.result c.finish.ensures.finishes)

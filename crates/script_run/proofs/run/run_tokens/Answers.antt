@@ -7,14 +7,14 @@ use Rattle.bidel_script.specs.Tails.{is_over}
 use Rattle.bidel_script.specs.Calls.{outcome_of}
 use Rattle.bidel_script.proofs.TokenLaws.{are_tokens_drop, rest_is}
 use Rattle.bidel_script.proofs.ScriptLaws.{front_some, front_within}
-use Rattle.engine_core.specs.Kept.{state_of}
+use Rattle.engine_sessions.specs.Standing.{standing_of}
 use Rattle.script_run.specs.Calls.{RunsOne, RunsPart}
 use Rattle.script_run.proofs.RunLemmas.{ran_none, ran_more, ran_stops, ran_front, ran_part}
 use Rattle.script_run.proofs.run.run_tokens.Goals as goal
 
 pub loop-used-init : goal.loop-used-init
 loop-used-init g c = record {
-  so_far = ran_none (state_of c.args.engine.now) c.args.bytes.now c.args.tail c.args.tokens.now (g.K.Sink.held c.args.out.now) (state_of c.args.engine.now) refl;
+  so_far = ran_none (standing_of c.args.sessions.now) c.args.bytes.now c.args.tail c.args.tokens.now (g.K.Sink.held c.args.out.now) (standing_of c.args.sessions.now) refl;
   keeps = record { limit = refl; spelled = λ is. is };
   stays = refl;
 }
@@ -30,10 +30,10 @@ loop-used-preserved g c =
     let tokens = c.args.tokens.now in
     let mid = g.K.Sink.held c.loop-used.out in
     let now = g.K.Sink.held c.take_turn.new.out in
-    let s = state_of c.loop-used.engine in
-    let s2 = state_of c.take_turn.new.engine in
+    let s = standing_of c.loop-used.sessions in
+    let s2 = standing_of c.take_turn.new.sessions in
     record {
-      so_far = ran_more (state_of c.args.engine.now) bytes c.args.tail tokens (g.K.Sink.held c.args.out.now) mid now s s2 c.loop-used.done c.in-Ran.used c.loop-used.invariant.so_far
+      so_far = ran_more (standing_of c.args.sessions.now) bytes c.args.tail tokens (g.K.Sink.held c.args.out.now) mid now s s2 c.loop-used.done c.in-Ran.used c.loop-used.invariant.so_far
           (subst (λ (l : List Token). RunsOne bytes c.args.tail l mid now s s2 c.in-Ran.used) (rest_is tokens c.loop-used.done) c.in-Ran.ensures.turns);
       keeps = record {
         limit = c.in-Ran.ensures.keeps.limit ∙ c.loop-used.invariant.keeps.limit;
@@ -46,7 +46,7 @@ pub loop-used-smaller : goal.loop-used-smaller
 loop-used-smaller g c =
     let bytes = c.args.bytes.now in
     let rest = drop c.loop-used.done c.args.tokens.now in
-    let one = subst (λ (l : List Token). RunsOne bytes c.args.tail l (g.K.Sink.held c.loop-used.out) (g.K.Sink.held c.take_turn.new.out) (state_of c.loop-used.engine) (state_of c.take_turn.new.engine) c.in-Ran.used)
+    let one = subst (λ (l : List Token). RunsOne bytes c.args.tail l (g.K.Sink.held c.loop-used.out) (g.K.Sink.held c.take_turn.new.out) (standing_of c.loop-used.sessions) (standing_of c.take_turn.new.sessions) c.in-Ran.used)
     (rest_is c.args.tokens.now c.loop-used.done) c.in-Ran.ensures.turns in
     let over = is_over c.args.tail.last in
     let some = front_some over (lexemes bytes rest) one.statement c.in-Ran.used one.front in
@@ -60,13 +60,13 @@ returns-in-Stops-clause-runs g c =
     let mid = g.K.Sink.held c.loop-used.out in
     let now = g.K.Sink.held c.take_turn.new.out in
     let o = outcome_of c.in-Stops.stop in
-    ran_stops (state_of c.args.engine.now) bytes c.args.tail tokens (g.K.Sink.held c.args.out.now) mid now (state_of c.loop-used.engine) (state_of c.take_turn.new.engine) c.loop-used.done o c.loop-used.invariant.so_far
-    (subst (λ (l : List Token). StandsBehind bytes c.args.tail l 0 o × (now ≡ mid) × (state_of c.take_turn.new.engine ≡ state_of c.loop-used.engine)) (rest_is tokens c.loop-used.done) c.in-Stops.ensures.turns)
+    ran_stops (standing_of c.args.sessions.now) bytes c.args.tail tokens (g.K.Sink.held c.args.out.now) mid now (standing_of c.loop-used.sessions) (standing_of c.take_turn.new.sessions) c.loop-used.done o c.loop-used.invariant.so_far
+    (subst (λ (l : List Token). StandsBehind bytes c.args.tail l 0 o × (now ≡ mid) × (standing_of c.take_turn.new.sessions ≡ standing_of c.loop-used.sessions)) (rest_is tokens c.loop-used.done) c.in-Stops.ensures.turns)
 
 pub returns-in-Memory-clause-runs : goal.returns-in-Memory-clause-runs
 returns-in-Memory-clause-runs g c =
-    ran_front (state_of c.args.engine.now) c.args.bytes.now c.args.tail c.args.tokens.now (g.K.Sink.held c.args.out.now) (g.K.Sink.held c.loop-used.out) (g.K.Sink.held c.take_turn.new.out)
-    (state_of c.loop-used.engine) c.loop-used.done c.loop-used.invariant.so_far c.in-Memory.ensures.turns
+    ran_front (standing_of c.args.sessions.now) c.args.bytes.now c.args.tail c.args.tokens.now (g.K.Sink.held c.args.out.now) (g.K.Sink.held c.loop-used.out) (g.K.Sink.held c.take_turn.new.out)
+    (standing_of c.loop-used.sessions) c.loop-used.done c.loop-used.invariant.so_far c.in-Memory.ensures.turns
 
 pub returns-in-Unwritten-clause-runs : goal.returns-in-Unwritten-clause-runs
 returns-in-Unwritten-clause-runs g c =
@@ -74,8 +74,8 @@ returns-in-Unwritten-clause-runs g c =
     let tokens = c.args.tokens.now in
     let mid = g.K.Sink.held c.loop-used.out in
     let now = g.K.Sink.held c.take_turn.new.out in
-    let s = state_of c.loop-used.engine in (
+    let s = standing_of c.loop-used.sessions in (
       omega (arith, c.loop-used.invariant.stays, c.in-Unwritten.ensures.turns.0),
-      ran_part (state_of c.args.engine.now) bytes c.args.tail tokens (g.K.Sink.held c.args.out.now) mid now s c.loop-used.done c.loop-used.invariant.so_far
+      ran_part (standing_of c.args.sessions.now) bytes c.args.tail tokens (g.K.Sink.held c.args.out.now) mid now s c.loop-used.done c.loop-used.invariant.so_far
           (subst (λ (l : List Token). RunsPart bytes c.args.tail l mid now s) (rest_is tokens c.loop-used.done) c.in-Unwritten.ensures.turns.1),
     )

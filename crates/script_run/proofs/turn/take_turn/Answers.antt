@@ -5,7 +5,7 @@ use Rattle.bidel_script.proofs.TextLimitsLaws.{texts_within}
 use Rattle.bidel_expr.specs.Lexemes.{lexemes}
 use Rattle.bidel_script.specs.Tails.{is_over}
 use Rattle.script_run.specs.Statuses.{PutsFront}
-use Rattle.script_run.proofs.SpelledLemmas.{stay_spelled}
+use Rattle.script_run.proofs.SpelledLaws.{stay_spelled}
 use Rattle.script_run.proofs.turn.take_turn.Goals as goal
 
 pub answer-requires : goal.answer-requires
@@ -44,7 +44,7 @@ returns-in-Ok-write_all-clause-keeps g c =
     record {
       limit = c.answer.ensures.limit;
       spelled = λ is. stay_spelled (is_over c.args.tail.last) (lexemes c.args.bytes.now c.args.tokens.now) (statement_view c.in-Ok-Whole.statement) c.in-Ok-Whole.used
-          c.args.engine.now.graph.edges c.answer.new.engine.graph.edges found.0 c.answer.ensures.texts is;
+          c.args.sessions.now.engine.graph.edges c.answer.new.sessions.engine.graph.edges found.0 c.answer.ensures.texts is;
     }
 
 pub returns-in-Ok-clause-keeps : goal.returns-in-Ok-clause-keeps
@@ -53,7 +53,7 @@ returns-in-Ok-clause-keeps g c =
     record {
       limit = c.answer.ensures.limit;
       spelled = λ is. stay_spelled (is_over c.args.tail.last) (lexemes c.args.bytes.now c.args.tokens.now) (statement_view c.in-Ok-Whole.statement) c.in-Ok-Whole.used
-          c.args.engine.now.graph.edges c.answer.new.engine.graph.edges found.0 c.answer.ensures.texts is;
+          c.args.sessions.now.engine.graph.edges c.answer.new.sessions.engine.graph.edges found.0 c.answer.ensures.texts is;
     }
 
 pub returns-in-Ok-Whole-clause-keeps : goal.returns-in-Ok-Whole-clause-keeps
@@ -62,5 +62,5 @@ returns-in-Ok-Whole-clause-keeps g c =
     record {
       limit = c.answer.ensures.limit;
       spelled = λ is. stay_spelled (is_over c.args.tail.last) (lexemes c.args.bytes.now c.args.tokens.now) (statement_view c.in-Ok-Whole.statement) c.in-Ok-Whole.used
-          c.args.engine.now.graph.edges c.answer.new.engine.graph.edges found.0 c.answer.ensures.texts is;
+          c.args.sessions.now.engine.graph.edges c.answer.new.sessions.engine.graph.edges found.0 c.answer.ensures.texts is;
     }

@@ -1,7 +1,6 @@
 -- The grammar spells the operators that a statement tells.
-use Rattle.std.specs.Prelude.{IfSome}
 use Rattle.std.specs.List.{All}
-use Rattle.std.proofs.Common.{◌≡◌, ◌<◌, ℕ, zero, suc, List, [], ◌∷◌, ◌++◌, Bool, ◌⊎◌, inl, inr, refl, sym, subst, take, length, arith}
+use Rattle.std.proofs.Common.{ℕ, suc, List, [], ◌∷◌, Bool, ◌⊎◌, inl, inr, refl, sym, subst, take, arith}
 use Rattle.std.proofs.lemmas.List.Elements.{All-cons}
 use Rattle.phrases.specs.Phrases.{Nothing, Seq}
 use Rattle.phrases.proofs.CarriesLaws.{Carries, behind-carries, made-carries, many-carries, nothing-carries, then-carries}
@@ -13,7 +12,7 @@ use Rattle.bidel_parser.specs.Operators.{ClosedOperator, ListedOperators, Operat
 use Rattle.bidel_parser.specs.Statements.{IsStatement, StatementRest}
 use Rattle.bidel_parser.specs.Parsing.{IsFront}
 use Rattle.statements.specs.Views.{OpView, StatementView, CreateVersion, DropVersion, Insert, Import, Update, Delete, Select, Materialize, Step, ShowLayout, Use, Session, Advise}
-use Rattle.version_graph.specs.Sets.{Each, In, Within}
+use Rattle.version_graph.specs.Sets.{In}
 use Rattle.version_graph.specs.declared.parts.Placed.{Placed}
 use Rattle.version_graph.proofs.SetLaws.{in_append}
 use Rattle.op_kinds.specs.Operators.{AnyView}
@@ -68,10 +67,6 @@ rest-spelled statement.Advise = behind-carries (λ name. ended-spelled (Advise n
 statement-spelled : Carries Any SpelledIn IsStatement
 statement-spelled = behind-carries rest-spelled
 
--- so are the operators of a statement at the front of some tokens
-front_spelled : (ended : Bool) (ts : List Lexeme) (s : StatementView) (used : ℕ) → IsFront ended ts s used → SpelledIn s
-front_spelled ended ts s used is = statement-spelled.holds (take used ts) s is.spelled (any_all (take used ts))
-
 -- texts that come from spelled ones are spelled
 in_spelled : (os : List OpView) (o : OpView) → All IsSpelled os → In o os → IsSpelled o
 in_spelled [] o all i = absurd i
@@ -87,10 +82,17 @@ each_spelled : (es : List (Placed AnyView)) → ((o : OpView) → In o (texts_of
 each_spelled [] f = tt
 each_spelled (e ∷ es) f = (f e.edge.operator.text (inl refl), each_spelled es (λ o i. f o (inr i)))
 
--- THE OPERATORS OF A DATABASE STAY SPELLED, where a statement at the front of some tokens is carried out
-pub stay_spelled : (ended : Bool) (ts : List Lexeme) (s : StatementView) (used : ℕ) (old new : List (Placed AnyView)) → IsFront ended ts s used → TextsCome s old new → AreSpelled old → AreSpelled new
-stay_spelled ended ts s used old new front come spelled = each_spelled new (λ o i. of_both o (in_append o (operators_in s) (texts_of old) (come o i)))
+-- THE OPERATORS OF A DATABASE STAY SPELLED, where a statement that some tokens spell is carried out
+pub said_spelled : (ts : List Lexeme) (s : StatementView) (old new : List (Placed AnyView)) → IsStatement ts s → TextsCome s old new → AreSpelled old → AreSpelled new
+said_spelled ts s old new is come spelled = each_spelled new (λ o i. of_both o (in_append o (operators_in s) (texts_of old) (come o i)))
   where
+    told : SpelledIn s
+    told = statement-spelled.holds ts s is (any_all ts)
+
     of_both : (o : OpView) → In o (operators_in s) ⊎ In o (texts_of old) → IsSpelled o
-    of_both o (inl told) = in_spelled (operators_in s) o (front_spelled ended ts s used front) told
+    of_both o (inl there) = in_spelled (operators_in s) o told there
     of_both o (inr kept) = old_spelled old o spelled kept
+
+-- so where it stands at the front of some tokens
+pub stay_spelled : (ended : Bool) (ts : List Lexeme) (s : StatementView) (used : ℕ) (old new : List (Placed AnyView)) → IsFront ended ts s used → TextsCome s old new → AreSpelled old → AreSpelled new
+stay_spelled ended ts s used old new front = said_spelled (take used ts) s old new front.spelled

@@ -1,0 +1,134 @@
+-- Statements in full.
+use Rattle.std.specs.Prelude.{Option, Ok, Err, get_or}
+use Rattle.std.specs.List.{All}
+use Rattle.std.proofs.Common.{◌≡◌, ◌≤◌, ℕ, List, ◌++◌, length, Bool, refl, sym, ap, subst, ◌∙◌, arith}
+use Rattle.par_base.specs.declared.refusal.Refusal.{Refusal}
+use Rattle.par_base.specs.declared.value.Value.{Value}
+use Rattle.par_base.specs.declared.value.Value.TheVariants.{Null, Int, Text, Reference}
+use Rattle.par_base.specs.Checked.{Checked, ◌then◌}
+use Rattle.expr_lang.specs.Operations.{text_limit}
+use Rattle.statements.specs.declared.statement.Statement.{Statement}
+use Rattle.statements.specs.declared.statement.Statement.TheVariants as statement
+use Rattle.statements.specs.declared.statement.TableName.{TableName}
+use Rattle.statements.specs.Texts.{RowTexts, ValueTexts, TextsWithin}
+use Rattle.statements.specs.Views.{statement_view, OpView, StatementView, CreateVersion, DropVersion, Insert, Import, Update, Delete, Select, Materialize, Step, ShowLayout, Use, Session, Advise}
+use Rattle.version_graph.specs.Sets.{Within}
+use Rattle.version_graph.specs.declared.parts.Placed.{Placed}
+use Rattle.version_graph.proofs.SetLaws.{in_right}
+use Rattle.op_kinds.specs.Operators.{AnyView}
+use Rattle.engine_versions.specs.KeptTexts.{texts_of}
+use Rattle.csv_io.specs.Tables.{csv_rows}
+use Rattle.csv_io.proofs.TextLaws.{rows_within}
+use Rattle.engine_state.specs.declared.reply.Reply.{Reply}
+use Rattle.engine_layouts.specs.Laid.{Laid}
+use Rattle.engine_core.specs.Act.{act as act_in_full}
+use Rattle.engine_core.specs.Spoken.{TextsCome, operators_in}
+use Rattle.layout_planner.specs.declared.planning.TableCount.{TableCount}
+use Rattle.engine_sessions.specs.Standing.{Standing, used_by}
+use Rattle.engine_sessions.specs.InFull.{in_full, wants_csv}
+use Rattle.engine_sessions.specs.Accesses.{accessed, raised_by}
+use Rattle.engine_sessions.specs.Act.{act, answer_of, counted}
+
+-- statements that are in full as they stand
+pub rest_in_full : (used : Option (List ℕ)) (st : Statement)
+    → ((a : TableName) (b : List (List Value)) → st ≡ statement.Insert a b → ⊥)
+    → ((a : TableName) (b : List ℕ) → st ≡ statement.Import a b → ⊥)
+    → ((a : TableName) (b : _) (c : _) → st ≡ statement.Update a b c → ⊥)
+    → ((a : TableName) (b : _) → st ≡ statement.Delete a b → ⊥)
+    → ((a : TableName) (b : _) (c : _) (d : Bool) → st ≡ statement.Select a b c d → ⊥)
+    → statement_view st ≡ in_full used (statement_view st)
+rest_in_full used (statement.CreateVersion name origin operators) i m u d s = refl
+rest_in_full used (statement.DropVersion name) i m u d s = refl
+rest_in_full used (statement.Insert table rows) i m u d s = absurd (i table rows refl)
+rest_in_full used (statement.Import table text) i m u d s = absurd (m table text refl)
+rest_in_full used (statement.Update table assignments filter) i m u d s = absurd (u table assignments filter refl)
+rest_in_full used (statement.Delete table filter) i m u d s = absurd (d table filter refl)
+rest_in_full used (statement.Select table items filter csv) i m u d s = absurd (s table items filter csv refl)
+rest_in_full used (statement.Materialize named in_steps) i m u d s = refl
+rest_in_full used statement.Step i m u d s = refl
+rest_in_full used statement.ShowLayout i m u d s = refl
+rest_in_full used (statement.Use name) i m u d s = refl
+rest_in_full used (statement.Session number) i m u d s = refl
+rest_in_full used (statement.Advise name) i m u d s = refl
+
+-- statements that the engine carries out
+pub act_counted : (s : Standing) (st : Statement)
+    → ((a : List ℕ) → st ≡ statement.Use a → ⊥) → ((a : ℕ) → st ≡ statement.Session a → ⊥) → ((a : List ℕ) → st ≡ statement.Advise a → ⊥)
+    → act s (statement_view st) ≡ counted s (wants_csv (statement_view st)) (in_full (used_by s.uses s.session) (statement_view st))
+act_counted s (statement.CreateVersion name origin operators) u n a = refl
+act_counted s (statement.DropVersion name) u n a = refl
+act_counted s (statement.Insert table rows) u n a = refl
+act_counted s (statement.Import table text) u n a = refl
+act_counted s (statement.Update table assignments filter) u n a = refl
+act_counted s (statement.Delete table filter) u n a = refl
+act_counted s (statement.Select table items filter csv) u n a = refl
+act_counted s (statement.Materialize named in_steps) u n a = refl
+act_counted s statement.Step u n a = refl
+act_counted s statement.ShowLayout u n a = refl
+act_counted s (statement.Use name) u n a = absurd (u name refl)
+act_counted s (statement.Session number) u n a = absurd (n number refl)
+act_counted s (statement.Advise name) u n a = absurd (a name refl)
+
+-- ---- texts
+
+shorter_value : (m : ℕ) (v : Value) → m ≤ text_limit → ValueTexts (λ bytes. length bytes ≤ m) v → ValueTexts (λ bytes. length bytes ≤ text_limit) v
+shorter_value m Null le is = tt
+shorter_value m (Int number) le is = tt
+shorter_value m (Text bytes) le is = omega (arith, le, is)
+shorter_value m (Reference id) le is = tt
+
+shorter_rows : (m : ℕ) (rows : List (List Value)) → m ≤ text_limit → All (RowTexts (λ bytes. length bytes ≤ m)) rows → All (RowTexts (λ bytes. length bytes ≤ text_limit)) rows
+shorter_rows m rows le is = λ k d lt. λ j e within. shorter_value m (get_or (get_or rows k d) j e) le (is k d lt j e within)
+
+-- a statement in full has no longer texts
+pub full_texts : (used : Option (List ℕ)) (x : StatementView) → TextsWithin text_limit x → TextsWithin text_limit (in_full used x)
+full_texts used (CreateVersion name from operators) is = is
+full_texts used (DropVersion name) is = is
+full_texts used (Insert name rows) is = is
+full_texts used (Import name text) is = shorter_rows (length text) (csv_rows text) is (rows_within text)
+full_texts used (Update name assignments filter) is = is
+full_texts used (Delete name filter) is = is
+full_texts used (Select name items filter csv) is = is
+full_texts used (Materialize named in_steps) is = is
+full_texts used Step is = is
+full_texts used ShowLayout is = is
+full_texts used (Use name) is = is
+full_texts used (Session number) is = is
+full_texts used (Advise name) is = is
+
+-- it tells the same operators
+pub full_operators : (used : Option (List ℕ)) (x : StatementView) → operators_in (in_full used x) ≡ operators_in x
+full_operators used (CreateVersion name from operators) = refl
+full_operators used (DropVersion name) = refl
+full_operators used (Insert name rows) = refl
+full_operators used (Import name text) = refl
+full_operators used (Update name assignments filter) = refl
+full_operators used (Delete name filter) = refl
+full_operators used (Select name items filter csv) = refl
+full_operators used (Materialize named in_steps) = refl
+full_operators used Step = refl
+full_operators used ShowLayout = refl
+full_operators used (Use name) = refl
+full_operators used (Session number) = refl
+full_operators used (Advise name) = refl
+
+-- what stays behind a statement that changes nothing
+pub stay_within : (x : StatementView) (es : List (Placed AnyView)) → TextsCome x es es
+stay_within x es o i = in_right o (operators_in x) (texts_of es) i
+
+-- the operators behind a statement in full come from the statement
+pub full_come : (used : Option (List ℕ)) (x full : StatementView) (old new : List (Placed AnyView)) → full ≡ in_full used x → TextsCome full old new → TextsCome x old new
+full_come used x full old new is come = subst (λ (os : List OpView). Within (texts_of new) (os ++ texts_of old)) (ap operators_in is ∙ full_operators used x) come
+
+-- ---- answers
+
+-- an accepted statement
+pub counted_ok : (s : Standing) (csv : Bool) (x : StatementView) (reply : Reply) (laid : Laid) (counts : List TableCount) → act_in_full s.laid x ≡ Ok (reply, laid)
+    → counts ≡ raised_by s.counts (accessed s.laid.database x) → counted s csv x ≡ Ok (answer_of csv reply, record s { laid = laid; counts = counts })
+counted_ok s csv x reply laid counts is made =
+    ap (λ (m : Checked (Reply × Laid)). m then λ answer. Ok (answer_of csv answer.0, record s { laid = answer.1; counts = raised_by s.counts (accessed s.laid.database x) })) is
+    ∙ ap (λ (c : List TableCount). Ok (answer_of csv reply, record s { laid = laid; counts = c })) (sym made)
+
+-- a refused one
+pub counted_err : (s : Standing) (csv : Bool) (x : StatementView) (r : Refusal) → act_in_full s.laid x ≡ Err r → counted s csv x ≡ Err r
+counted_err s csv x r is = ap (λ (m : Checked (Reply × Laid)). m then λ answer. Ok (answer_of csv answer.0, record s { laid = answer.1; counts = raised_by s.counts (accessed s.laid.database x) })) is

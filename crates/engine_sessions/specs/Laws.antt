@@ -1,0 +1,34 @@
+-- Laws of sessions.
+use Rattle.std.specs.Prelude.{◌≡◌, ℕ, List, Some, Ok, Err, IsSome, ⊤}
+use Rattle.par_base.specs.Checked.{Checked}
+use Rattle.statements.specs.Views.{StatementView, Insert, Import, Update, Delete, Select, Advise}
+use Rattle.engine_sessions.specs.declared.answer.Answer.{Answer}
+use Rattle.engine_sessions.specs.declared.uses.VersionInUse.{VersionInUse}
+use Rattle.engine_sessions.specs.Standing.{Standing, used_by, with_use}
+use Rattle.engine_sessions.specs.Act.{act}
+
+-- a USE sets the version in use of its own session, and no other
+pub record UsesAreOwn : Type 0 where
+  pub own : (uses : List VersionInUse) (session : ℕ) (version : List ℕ) → used_by (with_use uses session version) session ≡ Some version
+  pub others : (uses : List VersionInUse) (session other : ℕ) (version : List ℕ) → (other ≡ session → ⊥) → used_by (with_use uses session version) other ≡ used_by uses other
+
+-- a statement that names the version of its table, where it is on one, and asks for no advice
+abbrev pub IsFull : StatementView → Type 0
+IsFull (Insert name rows) = IsSome name.version
+IsFull (Import name text) = IsSome name.version
+IsFull (Update name assignments filter) = IsSome name.version
+IsFull (Delete name filter) = IsSome name.version
+IsFull (Select name items filter csv) = IsSome name.version
+IsFull (Advise name) = ⊥
+IsFull _ = ⊤
+
+-- the same answer with the same data behind it, or the same refusal
+abbrev pub SameBehind : Checked (Answer × Standing) → Checked (Answer × Standing) → Type 0
+SameBehind (Ok a) (Ok b) = (a.0 ≡ b.0) × (a.1.laid ≡ b.1.laid)
+SameBehind (Err r) (Err q) = r ≡ q
+SameBehind (Ok a) (Err r) = ⊥
+SameBehind (Err r) (Ok a) = ⊥
+
+-- such a statement is answered by the data alone, whatever is in use and was counted
+abbrev pub NeedTheDataAlone : Type 0
+NeedTheDataAlone = (s t : Standing) (statement : StatementView) → s.laid ≡ t.laid → IsFull statement → SameBehind (act s statement) (act t statement)

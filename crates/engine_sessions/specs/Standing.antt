@@ -1,0 +1,46 @@
+-- Where the statements of a script stand: the data with their layout, and what is kept beside them.
+use Rattle.std.specs.Prelude.{◌==◌, ℕ, not, List, [], ◌∷◌, ◌++◌, filter, Option}
+use Rattle.std.specs.Option.{option_map}
+use Rattle.std.specs.List.{find}
+use Rattle.op_kinds.specs.Operators.{AnyView}
+use Rattle.db_state.specs.declared.parts.Parts.{Parts}
+use Rattle.engine_layouts.specs.Laid.{Laid}
+use Rattle.engine_core.specs.Kept.{empty_state, state_of}
+use Rattle.layout_planner.specs.declared.planning.TableCount.{TableCount}
+use Rattle.engine_sessions.specs.declared.uses.VersionInUse.{VersionInUse}
+use Rattle.engine_sessions.specs.declared.sessions.Sessions.{Sessions}
+
+pub record Standing : Type 0 where
+  -- the data with their layout
+  pub laid : Laid
+  -- how often each table version was accessed, of those that were
+  pub counts : List TableCount
+  -- the version in use of each session that has one
+  pub uses : List VersionInUse
+  -- the session in which the next statement is given
+  pub session : ℕ
+
+-- the database that a value keeps, with its layout
+abbrev pub kept_in : Sessions → Parts AnyView
+kept_in s = s.engine
+
+abbrev pub standing_of : Sessions → Standing
+standing_of s = record { laid = state_of s.engine; counts = s.counts; uses = s.uses; session = s.session }
+
+-- the beginning over a database: nothing was accessed, and session 0 is at hand, which has no version in use
+abbrev pub begun : Laid → Standing
+begun laid = record { laid = laid; counts = []; uses = []; session = 0 }
+
+-- the beginning without a version, with the greatest identifier that may be drawn
+abbrev pub empty_standing : ℕ → Standing
+empty_standing limit = begun (empty_state limit)
+
+-- ---- versions in use
+
+-- the version that a session has in use
+abbrev pub used_by : List VersionInUse → ℕ → Option (List ℕ)
+used_by uses session = option_map (λ (u : VersionInUse). u.version) (find (λ (u : VersionInUse). u.session == session) uses)
+
+-- the session uses this version from now on; the others use theirs
+abbrev pub with_use : List VersionInUse → ℕ → List ℕ → List VersionInUse
+with_use uses session version = filter (λ (u : VersionInUse). not (u.session == session)) uses ++ record { session = session; version = version } ∷ []

@@ -1,0 +1,179 @@
+//! The engine with its sessions: one event after the other.
+ghost use Rattle.std.specs.Prelude.{◌≡◌, IfOk, Ok, OnErr};
+ghost use Rattle.expr_lang.specs.Operations.{text_limit};
+ghost use Rattle.statements.specs.Views.{statement_view, Session};
+ghost use Rattle.statements.specs.Texts.{TextsWithin};
+ghost use Rattle.std.specs.Option.{option_copied};
+ghost use Rattle.layout_planner.specs.Best.{best as best_lem};
+ghost use Rattle.engine_core.specs.Kept.{state_of};
+ghost use Rattle.engine_core.specs.Spoken.{TextsCome};
+ghost use Rattle.engine_sessions.specs.InFull.{in_full as in_full_lem, wants_csv as wants_csv_lem};
+ghost use Rattle.engine_sessions.specs.Standing.{begun, kept_in, standing_of, used_by};
+ghost use Rattle.engine_sessions.specs.Act.{act, advised, answer_of as answer_of_lem, best_name as best_name_lem, counted, used, Answers};
+ghost use Rattle.engine_sessions.specs.Calls.{IsAnswer};
+
+use crate::Answer;
+use crate::counts::count_access;
+use crate::in_full::{in_full, wants_csv};
+use crate::uses::{VersionInUse, find_use, use_version};
+use engine_core::Engine;
+use engine_state::{Reply, known_set};
+use expr_lang::Steps;
+use layout_planner::{TableCount, VersionCost, best, costs};
+use par_base::{Fault, List, Memory, Name, Refusal};
+use statements::Statement;
+use std::alloc::Global;
+use std::sync::ledger::Ledger;
+
+/// An engine, the accesses of its table versions, the versions in use, and the session in which the
+/// next statement is given.
+#[derive(Drop)]
+pub struct Sessions {
+    engine: Engine,
+    counts: List<TableCount>,
+    uses: List<VersionInUse>,
+    session: u8,
+}
+
+// The rows of a reply as CSV, where they are asked for so.
+fn answer_of(reply: Reply, csv: bool) -> Answer
+    ensures { result ≡ answer_of_lem csv reply }
+{
+    match reply {
+        Reply::Rows { header, rows, .. } if csv => Answer::Csv { header, rows },
+        reply => Answer::Plain(reply),
+    }
+}
+
+// The first of least cost.
+fn cheapest(costs: &[VersionCost]) -> Option<&VersionCost>
+    ensures { option_copied result ≡ best_lem costs.entry.now }
+{
+    costs.get(best(costs)?)
+}
+
+// The name of the version of least cost; the version itself where none has a cost.
+fn best_name(alloc: Global, version: &Name, costs: &[VersionCost]) -> Result<Name, Memory>
+    ensures { IfOk result (λ name. name ≡ best_name_lem version.now costs.now) }
+{
+    match cheapest(costs) {
+        Some(cost) => cost.version.copy(alloc),
+        None => version.copy(alloc),
+    }
+}
+
+impl Sessions {
+    /// The beginning over an engine: nothing was accessed, and session 0 is at hand. It takes no
+    /// memory.
+    pub fn over(alloc: Global, engine: Engine) -> Sessions
+        ensures standing { standing_of result ≡ begun (state_of engine) }
+        ensures engine { kept_in result ≡ engine }
+    {
+        Sessions {
+            engine,
+            counts: List::new(alloc),
+            uses: List::new(alloc),
+            session: 0,
+        }
+    }
+
+    /// The engine. It does no work.
+    pub fn engine(&self) -> &Engine
+        ensures { result.now ≡ kept_in self.now }
+    {
+        &self.engine
+    }
+
+    /// Carries out one statement, whose texts have at most 65,536 bytes, in the session at hand, and
+    /// answers the model's answer or refusal. After an error all is as it was. Each evaluation of an
+    /// expression is a step.
+    ///
+    /// It takes the time of the engine's event for the statement in full; besides, for an IMPORT, in
+    /// the length of its text, and for each statement on a table in the number of tables that were
+    /// accessed. An ADVISE takes the time of `layout_planner`'s costs.
+    pub fn event<L: Ledger>(
+        &mut self,
+        alloc: Global,
+        statement: Statement,
+        steps: &mut Steps<L>,
+    ) -> Result<Answer, Fault<Refusal>>
+        requires texts { TextsWithin text_limit (statement_view statement) }
+        ensures answers { Answers (act (standing_of self.old) (statement_view statement)) result
+            (standing_of self.new) }
+        ensures same { OnErr result (standing_of self.new ≡ standing_of self.old) }
+        ensures answer { IfOk result IsAnswer }
+        ensures texts { TextsCome (statement_view statement) (kept_in self.old).graph.edges
+            (kept_in self.new).graph.edges }
+        ensures limit { (kept_in self.new).ids.limit ≡ (kept_in self.old).ids.limit }
+    {
+        match statement {
+            Statement::Use { name } => self.use_named(alloc, name),
+            Statement::Session { number } => Ok(self.choose(number)),
+            Statement::Advise { name } => self.advise(alloc, &name),
+            statement => self.carry_out(alloc, statement, steps),
+        }
+    }
+
+    // Carries out a USE.
+    fn use_named(&mut self, alloc: Global, name: Name) -> Result<Answer, Fault<Refusal>>
+        ensures answers { Answers (used (standing_of self.old) name) result
+            (standing_of self.new) }
+        ensures same { OnErr result (standing_of self.new ≡ standing_of self.old) }
+        ensures engine { kept_in self.new ≡ kept_in self.old }
+    {
+        let _set = known_set(alloc, self.engine.database().graph(), &name)?;
+        self.uses = use_version(alloc, self.uses.as_slice(), self.session, name)?;
+        Ok(Answer::Plain(Reply::Done))
+    }
+
+    // Carries out a SESSION.
+    fn choose(&mut self, number: u8) -> Answer
+        ensures answers { Answers (act (standing_of self.old) (Session number)) (Ok result)
+            (standing_of self.new) }
+        ensures engine { kept_in self.new ≡ kept_in self.old }
+    {
+        self.session = number;
+        Answer::Plain(Reply::Done)
+    }
+
+    // Carries out an ADVISE.
+    fn advise(&self, alloc: Global, name: &Name) -> Result<Answer, Fault<Refusal>>
+        ensures answers { Answers (advised (standing_of self.now) name.now) result
+            (standing_of self.now) }
+        ensures answer { IfOk result IsAnswer }
+    {
+        let graph = self.engine.database().graph();
+        let _set = known_set(alloc, graph, name)?;
+        let costs = costs(alloc, graph, self.counts.as_slice(), name)?;
+        let best = best_name(alloc, name, costs.as_slice())?;
+        Ok(Answer::Advice { costs, best })
+    }
+
+    // Carries out a statement in full, and counts its access.
+    fn carry_out<L: Ledger>(
+        &mut self,
+        alloc: Global,
+        statement: Statement,
+        steps: &mut Steps<L>,
+    ) -> Result<Answer, Fault<Refusal>>
+        requires texts { TextsWithin text_limit (statement_view statement) }
+        ensures answers { Answers (counted (standing_of self.old)
+            (wants_csv_lem (statement_view statement))
+            (in_full_lem (used_by self.old.uses self.old.session) (statement_view statement)))
+            result (standing_of self.new) }
+        ensures same { OnErr result (standing_of self.new ≡ standing_of self.old) }
+        ensures answer { IfOk result IsAnswer }
+        ensures texts { TextsCome (statement_view statement) (kept_in self.old).graph.edges
+            (kept_in self.new).graph.edges }
+        ensures limit { (kept_in self.new).ids.limit ≡ (kept_in self.old).ids.limit }
+    {
+        let csv = wants_csv(&statement);
+        let used = find_use(self.uses.as_slice(), self.session);
+        let statement = in_full(alloc, used, statement)?;
+        let database = self.engine.database();
+        let counts = count_access(alloc, database, self.counts.as_slice(), &statement)?;
+        let reply = self.engine.event(alloc, self.session, statement, steps)?;
+        self.counts = counts;
+        Ok(answer_of(reply, csv))
+    }
+}
