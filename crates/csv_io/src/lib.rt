@@ -6,8 +6,8 @@
 //! of its records. The crate promises the crates above just that, and that no text of the rows is
 //! longer than the text that they were read from (`specs/Laws.antt`). Only memory fails: of a text
 //! that is read, each other error of `csv` is proved impossible but one of the reader underneath,
-//! which a slice of bytes never gives. It knows nothing of tables and their columns, nor of
-//! statements but what their texts are.
+//! which a slice of bytes never gives, and which would be answered as want of memory. It knows
+//! nothing of tables and their columns, nor of statements but what their texts are.
 //!
 //! Lemmas that crates above may use stand in proofs/: `TextLaws`.
 #![tactic(auto)]

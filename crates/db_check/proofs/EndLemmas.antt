@@ -11,6 +11,7 @@ use Rattle.version_graph.specs.Sets.{In}
 use Rattle.version_graph.specs.Edges.{Rises, is_in, numbers}
 use Rattle.version_graph.specs.Forest.{Link, crossing, forest}
 use Rattle.version_graph.proofs.SetLaws.{each_of}
+use Rattle.version_graph.proofs.TableLaws.{same_rising}
 use Rattle.version_graph.proofs.WalkStepLaws.{in_reverse}
 use Rattle.std.proofs.lemmas.List.{reverse-reverse}
 use Rattle.op_law.specs.Tables.{RowsWide}
@@ -34,7 +35,7 @@ use Rattle.db_check.proofs.FoundLemmas.{in_numbers}
 use Rattle.db_check.specs.Checked.{AreEntries, IsBuilt, IsListed, IsValidParts}
 use Rattle.db_check.specs.inner.Tests.{MayStand, Tells}
 use Rattle.db_check.specs.inner.Calls.{AreWell, MayRead, WasUp, state_with}
-use Rattle.db_check.proofs.ListLemmas.{found_has, own_value, rises_once}
+use Rattle.db_check.proofs.ListLemmas.{found_has, own_value}
 
 module _ {O : Type 0} (meaning : O → Meaning) (p : Parts O) (built : IsBuilt meaning p) (listed : IsListed p) where
   shaped : IsShaped p
@@ -131,7 +132,7 @@ entries_tell p stored live a b c are rise live_is x y z = (
         auxes = y.0 two.0 ∙ live_is;
         memories = z.0 two.1 ∙ live_is;
       }),
-  (λ e. and_from a (b && c) (x.1 (rises_once 0 (numbers_in p.stored) stored e.tables_ascending rise (λ t i. (are t).1 ((e.tables t).0 i)) (λ t i. (e.tables t).1 ((are t).0 i))))
+  (λ e. and_from a (b && c) (x.1 (same_rising 0 (numbers_in p.stored) stored e.tables_ascending rise (λ t i. (are t).1 ((e.tables t).0 i)) (λ t i. (e.tables t).1 ((are t).0 i))))
       (and_from b c (y.1 (e.auxes ∙ sym live_is)) (z.1 (e.memories ∙ sym live_is)))),
 )
 

@@ -6,36 +6,12 @@ use Rattle.std.proofs.Common.{◌≡◌, ℕ, zero, suc, ◌+◌, List, [], ◌�
 use Rattle.std.proofs.lemmas.Bool.{and_from, and_parts, cases_eq, eq-eqb, ne_eqb}
 use Rattle.version_graph.specs.Sets.{In}
 use Rattle.version_graph.specs.Edges.{Rises}
+use Rattle.version_graph.proofs.TableLaws.{rises_above}
 use Rattle.version_model.specs.Kept.{value_of}
 use Rattle.version_model.specs.declared.numbered.Numbered.{Numbered}
 use Rattle.version_model.proofs.NumberedLaws.{looked, value_of_first}
 use Rattle.db_state.specs.Fields.{numbers_in}
 use Rattle.db_check.specs.inner.Tests.{Tells}
-
--- what rises from n is above n
-pub above : (n : ℕ) (xs : List ℕ) → Rises n xs → (t : ℕ) → In t xs → n < t
-above n [] r t i = absurd i
-above n (x ∷ xs) r t (inl same) = subst (λ (y : ℕ). n < y) (sym same) r.0
-above n (x ∷ xs) r t (inr i) = let more = above x xs r.1 t i in let less = r.0 in omega (arith, less, more)
-
--- there is one ascending list of a set
-pub rises_once : (n : ℕ) (xs ys : List ℕ) → Rises n xs → Rises n ys → ((t : ℕ) → In t xs → In t ys) → ((t : ℕ) → In t ys → In t xs) → xs ≡ ys
-rises_once n [] [] r s f g = refl
-rises_once n [] (y ∷ ys) r s f g = absurd (g y (inl refl))
-rises_once n (x ∷ xs) [] r s f g = absurd (f x (inl refl))
-rises_once n (x ∷ xs) (y ∷ ys) r s f g =
-    let first : x ≡ y = elim (f x (inl refl)) as (λ _. x ≡ y) [
-      | inl same ↦ same
-      | inr i ↦ elim (g y (inl refl)) as (λ _. x ≡ y) [
-        | inl same ↦ sym same
-        | inr j ↦ (let a = above y ys s.1 x i in let b = above x xs r.1 y j in absurd (omega (arith, a, b)))
-      ]
-    ] in
-    let behind : Rises x ys = subst (λ (z : ℕ). Rises z ys) (sym first) s.1 in
-    let rest : xs ≡ ys = rises_once x xs ys r.1 behind
-    (λ t i. elim (f t (inr i)) as (λ _. In t ys) [ inl same ↦ (let a = above x xs r.1 t i in let b = first in let c = same in absurd (omega (arith, a, b, c))) | inr j ↦ j ])
-    (λ t i. elim (g t (inr i)) as (λ _. In t xs) [ inl same ↦ (let a = above x ys behind t i in let c = same in absurd (omega (arith, a, c))) | inr j ↦ j ]) in
-    ap (λ (z : ℕ). z ∷ xs) first ∙ ap (λ (l : List ℕ). y ∷ l) rest
 
 -- one item more of a list
 pub take_next : {X : Type 0} (xs : List X) (i : ℕ) (o : Option X) → o ≡ slice_get xs i → take (i + 1) xs ≡ take i xs ++ option_to_list o
@@ -60,7 +36,7 @@ own_value n [] r x i = absurd i
 own_value {T} n (y ∷ ys) r x (inl same) =
     subst (λ (z : Numbered T). value_of (y ∷ ys) z.number ≡ Some z.value) (sym same) (value_of_first y ys y.number ∙ ap (λ (b : Bool). looked b y (value_of ys y.number)) (eq-eqb y.number y.number refl))
 own_value {T} n (y ∷ ys) r x (inr i) =
-    let more = above y.number (numbers_in ys) r.1 x.number (number_in ys x i) in
+    let more = rises_above y.number (numbers_in ys) r.1 x.number (number_in ys x i) in
     value_of_first y ys x.number ∙ ap (λ (b : Bool). looked b y (value_of ys x.number)) (ne_eqb x.number y.number (λ same. omega (arith, more, same))) ∙ own_value y.number ys r.1 x i
   where
     number_in : (zs : List (Numbered T)) (z : Numbered T) → In z zs → In z.number (numbers_in zs)

@@ -25,7 +25,7 @@ use Rattle.db_state.specs.declared.parts.Parts.{Parts}
 use Rattle.engine_state.specs.AnyDatabase.{AnyDatabase}
 use Rattle.engine_state.specs.SharedChecks.{enough_ids}
 use Rattle.engine_state.specs.declared.reply.Reply.{Reply}
-use Rattle.engine_state.specs.declared.reply.Reply.TheVariants.{Done, Layout, Moved, Rows as Shown}
+use Rattle.engine_state.specs.declared.reply.Reply.TheVariants.{Done, Layout, Moved}
 use Rattle.engine_statements.specs.Found.{condition_list, found, known_condition, known_references}
 use Rattle.engine_statements.specs.Statements.{acted_select, columns_of, listed_places, state_with, wrote}
 use Rattle.engine_versions.specs.Evolve.{created, dropped_version}

@@ -23,7 +23,7 @@ replies_end Done = line_ends (codes "ok")
 replies_end (Inserted ids) = line_ends (codes "inserted " ++ decimal (length ids) ++ flat_map (λ id. codes " #" ++ decimal id) ids)
 replies_end (Updated count) = line_ends (codes "updated " ++ decimal count)
 replies_end (Deleted count) = line_ends (codes "deleted " ++ decimal count)
-replies_end (Rows header rows csv) = behind (line (header_text header) ++ flat_map (λ row. line (row_text row)) rows) (codes "rows " ++ decimal (length rows))
+replies_end (Rows header rows) = behind (line (header_text header) ++ flat_map (λ row. line (row_text row)) rows) (codes "rows " ++ decimal (length rows))
 replies_end (Moved count) = line_ends (codes "moved " ++ decimal count)
 replies_end (Layout tables operators) = behind (flat_map (λ t. line (table_text t)) tables ++ flat_map (λ o. line (operator_text o)) operators) (codes "ok")
 

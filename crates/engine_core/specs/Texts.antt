@@ -48,7 +48,7 @@ reply_bytes Done = line (codes "ok")
 reply_bytes (Inserted ids) = line (codes "inserted " ++ decimal (length ids) ++ flat_map (λ id. codes " #" ++ decimal id) ids)
 reply_bytes (Updated count) = line (codes "updated " ++ decimal count)
 reply_bytes (Deleted count) = line (codes "deleted " ++ decimal count)
-reply_bytes (Rows header rows csv) = rows_lines header rows
+reply_bytes (Rows header rows) = rows_lines header rows
 reply_bytes (Moved count) = line (codes "moved " ++ decimal count)
 reply_bytes (Layout tables operators) = layout_lines tables operators
 

@@ -9,8 +9,7 @@ use engine_state::{Reply, StoredOperator, StoredTable};
 use par_base::{Memory, Name, Row, Text, Value, literal_text};
 use std::alloc::Global;
 
-/// The lines that answer an accepted statement, each with its line feed. Rows as CSV come with
-/// their own stage. Until then `csv` changes nothing, and they are printed as all other rows.
+/// The lines that answer an accepted statement, each with its line feed.
 #[tactic(auto, unfolding(crate::specs::Texts::reply_bytes))]
 pub fn reply_text(alloc: Global, reply: &Reply) -> Result<Text, Memory>
     ensures { IfOk result (λ text. text ≡ reply_bytes reply.now) }
@@ -20,11 +19,7 @@ pub fn reply_text(alloc: Global, reply: &Reply) -> Result<Text, Memory>
         Reply::Inserted { ids } => inserted_text(alloc, ids.as_slice()),
         Reply::Updated { count } => counted_text(alloc, "updated", *count),
         Reply::Deleted { count } => counted_text(alloc, "deleted", *count),
-        Reply::Rows {
-            header,
-            rows,
-            csv: _,
-        } => rows_text(alloc, header.as_slice(), rows.as_slice()),
+        Reply::Rows { header, rows } => rows_text(alloc, header.as_slice(), rows.as_slice()),
         Reply::Moved { count } => counted_text(alloc, "moved", *count),
         Reply::Layout { tables, operators } => {
             layout_text(alloc, tables.as_slice(), operators.as_slice())

@@ -14,7 +14,7 @@ use Rattle.version_graph.specs.Edges.{Drawn, Rises, heading_of, made}
 use Rattle.version_graph.specs.Forest.{Link, forest, link}
 use Rattle.version_graph.specs.declared.parts.Placed.{Placed}
 use Rattle.version_graph.proofs.SetLaws.{each_at, each_of, origin}
-use Rattle.version_graph.proofs.TableLaws.{rises_above}
+use Rattle.version_graph.proofs.TableLaws.{rises_above, same_rising}
 use Rattle.version_graph.proofs.TakenLaws.{heading_known}
 use Rattle.op_law.specs.Tables.{Tables, contents}
 use Rattle.op_law.specs.declared.side.Aux.{Aux}
@@ -34,25 +34,6 @@ use Rattle.engine_state.specs.declared.reply.StoredTable.{StoredTable}
 use Rattle.engine_layouts.specs.inner.Calls.{HasHeadings, shown_edge, shown_item}
 use Rattle.engine_layouts.specs.Laid.{laid_of}
 use Rattle.engine_layouts.specs.Shown.{row_count, shown_operator, shown_operators, shown_table, shown_tables}
-
--- ascending lists of the same numbers are equal
-pub same_rising : (low : ℕ) (xs ys : List ℕ) → Rises low xs → Rises low ys → ((n : ℕ) → In n xs ↔ In n ys) → xs ≡ ys
-same_rising low [] [] rise others same = refl
-same_rising low [] (y ∷ ys) rise others same = absurd ((same y).1 (inl refl))
-same_rising low (x ∷ xs) [] rise others same = absurd ((same x).0 (inl refl))
-same_rising low (x ∷ xs) (y ∷ ys) rise others same =
-    let first : x ≡ y =
-    elim ((same x).0 (inl refl)) as (λ _. x ≡ y) [
-      | inl is ↦ is
-      | inr i ↦ elim ((same y).1 (inl refl)) as (λ _. x ≡ y) [
-        | inl is ↦ sym is
-        | inr j ↦ (let a = rises_above y ys others.1 x i in let b = rises_above x xs rise.1 y j in absurd (omega arith))
-      ]
-    ] in
-    let there : (n : ℕ) → In n xs → In n ys = λ n i. elim ((same n).0 (inr i)) as (λ _. In n ys) [ inl is ↦ (let a = rises_above x xs rise.1 n i in absurd (omega arith)) | inr j ↦ j ] in
-    let back : (n : ℕ) → In n ys → In n xs = λ n i. elim ((same n).1 (inr i)) as (λ _. In n xs) [ inl is ↦ (let a = rises_above y ys others.1 n i in absurd (omega arith)) | inr j ↦ j ] in
-    let rest = same_rising x xs ys rise.1 (subst (λ (k : ℕ). Rises k ys) (sym first) others.1) (λ n. (there n, back n)) in
-    ap (λ (k : ℕ). k ∷ xs) first ∙ ap (λ (l : List ℕ). y ∷ l) rest
 
 -- equal functions on the items of a list
 map_alike : {X Y : Type 0} (f g : X → Y) (xs : List X) → ((x : X) → In x xs → f x ≡ g x) → map f xs ≡ map g xs
@@ -98,7 +79,8 @@ module _ (p : Parts AnyView) (is : IsDatabase any_meaning p) where
   stored_list =
       let listed = stored_listed es is.graph.edges p.layout.operators (filter (is_stored es p.layout.operators) (tables_up es)) refl in
       same_rising 0 (numbers_in p.stored) (filter (is_stored es p.layout.operators) (tables_up es)) is.tables_ascending (stored_rise es is.graph.edges p.layout.operators (filter (is_stored es p.layout.operators) (tables_up es)) refl)
-      (λ t. ((λ i. (listed t).1 ((is.tables t).0 i)), (λ i. (is.tables t).1 ((listed t).0 i))))
+      (λ t i. (listed t).1 ((is.tables t).0 i))
+      (λ t i. (is.tables t).1 ((listed t).0 i))
 
   item_stored : (i : Numbered TableState) → In i p.stored → IsStored (forest es) p.layout.operators i.number
   item_stored i j = (is.tables i.number).0 (number_in p.stored i j)

@@ -21,7 +21,7 @@ use Rattle.engine_sessions.specs.Accesses.{accessed, raised_by}
 
 -- the rows of a reply as CSV, where they are asked for so
 abbrev pub answer_of : Bool → Reply → Answer
-answer_of true (Rows header rows csv) = Csv header rows
+answer_of true (Rows header rows) = Csv header rows
 answer_of _ reply = Plain reply
 
 -- the session at hand uses the version, which must live, by its name

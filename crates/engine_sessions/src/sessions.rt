@@ -40,7 +40,7 @@ fn answer_of(reply: Reply, csv: bool) -> Answer
     ensures { result ≡ answer_of_lem csv reply }
 {
     match reply {
-        Reply::Rows { header, rows, .. } if csv => Answer::Csv { header, rows },
+        Reply::Rows { header, rows } if csv => Answer::Csv { header, rows },
         reply => Answer::Plain(reply),
     }
 }

@@ -15,6 +15,6 @@ IsReply Done = ⊤
 IsReply (Inserted ids) = ⊤
 IsReply (Updated count) = ⊤
 IsReply (Deleted count) = ⊤
-IsReply (Rows header rows csv) = HasWidth header rows
+IsReply (Rows header rows) = HasWidth header rows
 IsReply (Moved count) = ⊤
 IsReply (Layout tables operators) = ⊤

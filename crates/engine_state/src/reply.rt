@@ -38,7 +38,6 @@ pub enum Reply {
     Rows {
         header: List<Name>,
         rows: List<Row>,
-        csv: bool,
     },
     /// A MATERIALIZE: how many operators changed sides.
     Moved {

@@ -147,4 +147,4 @@ acted_select s name items filter =
     listed_places (columns_of f) items then λ places.
     known_condition (columns_of f) filter then λ condition.
     known_references s.state.next (condition_list filter) then λ _.
-    Ok (Shown (listed_names (columns_of f) items) (selected (rows_of s f) places condition) false, s)
+    Ok (Shown (listed_names (columns_of f) items) (selected (rows_of s f) places condition), s)

@@ -77,6 +77,5 @@ pub fn select_rows<L: Ledger>(
     Ok(Reply::Rows {
         header: header(alloc, shown.as_slice(), items)?,
         rows,
-        csv: false,
     })
 }

@@ -13,7 +13,7 @@ use Rattle.serde_json.specs.Written.{compact_text}
 use Rattle.version_graph.specs.Sets.{Distinct, In}
 use Rattle.version_graph.specs.Edges.{Drawn, Rises, numbers}
 use Rattle.version_graph.specs.Forest.{forest}
-use Rattle.version_graph.proofs.TableLaws.{rises_above, rises_apart}
+use Rattle.version_graph.proofs.TableLaws.{rises_apart, same_rising}
 use Rattle.layout_rules.specs.Layouts.{IsStored}
 use Rattle.layout_rules.proofs.CloseLaws.{numbers_rise}
 use Rattle.op_law.specs.Calls.{tables_of}
@@ -63,25 +63,6 @@ module _ {T V : Type 0} (show : T → V) (none : V) where
       ∙ ap (λ (f : ℕ → V). map (λ (n : ℕ). (n, f n)) (numbers_in xs)) (fun_ext same)
       ∙ ap (λ (ns : List ℕ). map (line_at ys) ns) numbers
       ∙ sym (lines_found ys ys second)
-
--- ascending lists of the same numbers are equal
-same_rising : (low : ℕ) (xs ys : List ℕ) → Rises low xs → Rises low ys → ((n : ℕ) → In n xs → In n ys) → ((n : ℕ) → In n ys → In n xs) → xs ≡ ys
-same_rising low [] [] rise others into back = refl
-same_rising low [] (y ∷ ys) rise others into back = absurd (back y (inl refl))
-same_rising low (x ∷ xs) [] rise others into back = absurd (into x (inl refl))
-same_rising low (x ∷ xs) (y ∷ ys) rise others into back =
-    let first : x ≡ y =
-    elim (into x (inl refl)) as (λ _. x ≡ y) [
-      | inl is ↦ is
-      | inr i ↦ elim (back y (inl refl)) as (λ _. x ≡ y) [
-        | inl is ↦ sym is
-        | inr j ↦ (let a = rises_above y ys others.1 x i in let b = rises_above x xs rise.1 y j in absurd (omega arith))
-      ]
-    ] in
-    let there : (n : ℕ) → In n xs → In n ys = λ n i. elim (into n (inr i)) as (λ _. In n ys) [ inl is ↦ (let a = rises_above x xs rise.1 n i in absurd (omega arith)) | inr j ↦ j ] in
-    let here : (n : ℕ) → In n ys → In n xs = λ n i. elim (back n (inr i)) as (λ _. In n xs) [ inl is ↦ (let a = rises_above y ys others.1 n i in absurd (omega arith)) | inr j ↦ j ] in
-    let rest = same_rising x xs ys rise.1 (subst (λ (k : ℕ). Rises k ys) (sym first) others.1) there here in
-    ap (λ (k : ℕ). k ∷ xs) first ∙ ap (λ (l : List ℕ). y ∷ l) rest
 
 -- ---- two databases in one state
 

@@ -66,6 +66,25 @@ pub rises_apart : (n : ℕ) (ks : List ℕ) → Rises n ks → Distinct ks
 rises_apart n [] r = tt
 rises_apart n (k ∷ ks) r = ((λ i. let less = rises_above k ks r.1 k i in omega arith), rises_apart k ks r.1)
 
+-- ascending lists of the same numbers are equal
+pub same_rising : (n : ℕ) (xs ys : List ℕ) → Rises n xs → Rises n ys → ((k : ℕ) → In k xs → In k ys) → ((k : ℕ) → In k ys → In k xs) → xs ≡ ys
+same_rising n [] [] rise others into back = refl
+same_rising n [] (y ∷ ys) rise others into back = absurd (back y (inl refl))
+same_rising n (x ∷ xs) [] rise others into back = absurd (into x (inl refl))
+same_rising n (x ∷ xs) (y ∷ ys) rise others into back =
+    let first : x ≡ y =
+    elim (into x (inl refl)) as (λ _. x ≡ y) [
+      | inl is ↦ is
+      | inr i ↦ elim (back y (inl refl)) as (λ _. x ≡ y) [
+        | inl is ↦ sym is
+        | inr j ↦ (let a = rises_above y ys others.1 x i in let b = rises_above x xs rise.1 y j in absurd (omega arith))
+      ]
+    ] in
+    let there : (k : ℕ) → In k xs → In k ys = λ k i. elim (into k (inr i)) as (λ _. In k ys) [ inl is ↦ (let a = rises_above x xs rise.1 k i in absurd (omega arith)) | inr j ↦ j ] in
+    let here : (k : ℕ) → In k ys → In k xs = λ k i. elim (back k (inr i)) as (λ _. In k xs) [ inl is ↦ (let a = rises_above y ys others.1 k i in absurd (omega arith)) | inr j ↦ j ] in
+    let rest = same_rising x xs ys rise.1 (subst (λ (k : ℕ). Rises k ys) (sym first) others.1) there here in
+    ap (λ (k : ℕ). k ∷ xs) first ∙ ap (λ (l : List ℕ). y ∷ l) rest
+
 -- ---- headings
 
 pub headings_pass : (set : List TableVersion) (names : List (List ℕ)) → headings_of (passing set names) ≡ headings_passing (headings_of set) names
