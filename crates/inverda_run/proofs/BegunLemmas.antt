@@ -1,11 +1,14 @@
 -- Fronts of what a run puts.
 use Rattle.std.specs.Prelude.{nat_le, Option, Some, None}
-use Rattle.std.proofs.Common.{◌≡◌, ℕ, List, [], ◌++◌, length, take, codes, refl, sym, ap, subst, ◌∙◌, inl, inr, arith, append-nil}
+use Rattle.std.proofs.Common.{◌≡◌, ℕ, List, [], ◌++◌, length, take, codes, sym, ap, subst, ◌∙◌, inl, inr, arith, append-nil}
 use Rattle.std.specs.Io.KnownBytes.{Appends}
 use Rattle.bidel_script.specs.Script.{Over}
 use Rattle.bidel_script.proofs.UniqueLaws.{one_comes}
 use Rattle.engine_core.specs.Texts.{line}
-use Rattle.engine_sessions.specs.Standing.{Standing}
+use Rattle.engine_layouts.specs.Laid.{Laid}
+use Rattle.engine_sessions.specs.Standing.{Standing, empty_standing}
+use Rattle.script_generator.specs.Summary.{summary_lines}
+use Rattle.generated_run.specs.Summed.{generated_end, generated_summary}
 use Rattle.run_words.specs.Words.{Asked, Says}
 use Rattle.run_words.specs.Laws.{SayOneThing}
 use Rattle.script_run.specs.Output.{out, state_after}
@@ -16,10 +19,21 @@ use Rattle.script_run.proofs.FrontLaws.{puts_all, puts_behind, puts_more, puts_n
 use Rattle.inverda_run.specs.Files.{IsLonger}
 use Rattle.inverda_run.specs.Starts.{IsDumpText, Told}
 use Rattle.inverda_run.specs.Statuses.{SayNothing, Starts}
-use Rattle.inverda_run.specs.Decided.{Begun, Behind, PutsScript, bad, refused, longer, script as runs}
+use Rattle.inverda_run.specs.Decided.{Begun, Behind, PutsScript, PutsSummary, bad, refused, longer, script as runs, summary}
 use Rattle.inverda_run.specs.Calls.{HoldsNoDump, IsLongDump}
 use Rattle.inverda_run.specs.Laws.{OneDump, OneStart}
-use Rattle.inverda_run.proofs.StartLemmas.{longer_no_start, longer_not_refused, nothing_longer, nothing_refused, nothing_starts, one_start, refused_no_start, refused_not_longer, start_not_longer, start_not_refused}
+use Rattle.inverda_run.proofs.StartLemmas.{loads_none, longer_no_start, longer_not_refused, nothing_longer, nothing_refused, nothing_starts, one_start, refused_no_start, refused_not_longer, start_not_longer, start_not_refused, starts_empty}
+
+-- behind a dump that is too long stands the line that says so
+long_last : OneDump → (to : Laid) (name : List ℕ) → IsLongDump to → (dump : Option (List ℕ)) (other : Laid) (last : List ℕ) → dump ≡ Some name → Behind dump other last → to ≡ other → last ≡ line (codes "too long")
+long_last one to name long None other last is behind same = absurd (let no : ⊥ = cc in no)
+long_last one to name long (Some file) other last is behind same = elim behind.2 [
+  | inr above ↦ above.1
+  | inl within ↦ (let text_is = one to long.text behind.0 long.dump (subst (λ (s : Laid). IsDumpText s behind.0) (sym same) behind.1) in
+      let above = long.above in
+      let least = within.0 in
+      absurd (omega (arith, ap length text_is)))
+]
 
 module _ (words : List (List ℕ)) (told : Told) (left held held' : Option (List ℕ)) where
   -- nothing was put
@@ -32,14 +46,23 @@ module _ (words : List (List ℕ)) (told : Told) (left held held' : Option (List
   bad_begun none put text (refused d is) = absurd (nothing_refused words told none d)
   bad_begun none put text (longer d is) = absurd (nothing_longer words told none d)
   bad_begun none put text (runs p) = absurd (nothing_starts words told p.asked p.from none p.starts)
+  bad_begun none put text (summary p) = absurd (none p.asked p.says)
 
   module _ (one : SayOneThing) (asked : Asked) (says : Says words asked) where
+    -- a generated script loads nothing
+    none_loaded : (name text : List ℕ) → asked.load ≡ Some name → PutsSummary words text → ⊥
+    none_loaded name text load p =
+        let same : p.asked.load ≡ asked.load = ap (λ (a : Asked). a.load) (one words p.asked asked p.says says) in
+        let none : p.asked.load ≡ None = loads_none words p.asked p.n p.says p.generate in
+        cc
+
     -- a front of the line that says that the dump is refused
     pub refused_begun : (name : List ℕ) → asked.load ≡ Some name → HoldsNoDump (told name) → PutsFront held held' (line (codes "dump refused")) → Begun words told left held held'
     refused_begun name load holds put text (bad none is) = absurd (none asked says)
     refused_begun name load holds put text (refused d is) = subst (PutsFront held held') (sym is) put
     refused_begun name load holds put text (longer d is) = absurd (refused_not_longer words told one asked name says load holds d)
     refused_begun name load holds put text (runs p) = absurd (refused_no_start words told one asked name p.from says load holds p.asked p.starts p.load)
+    refused_begun name load holds put text (summary p) = absurd (none_loaded name text load p)
 
     -- a front of the line that says that the file is too long
     pub longer_begun : (name : List ℕ) → asked.load ≡ Some name → IsLonger limit (told name) → PutsFront held held' (line (codes "too long")) → Begun words told left held held'
@@ -47,16 +70,21 @@ module _ (words : List (List ℕ)) (told : Told) (left held held' : Option (List
     longer_begun name load long put text (refused d is) = absurd (longer_not_refused words told one asked name says load long d)
     longer_begun name load long put text (longer d is) = subst (PutsFront held held') (sym is) put
     longer_begun name load long put text (runs p) = absurd (longer_no_start words told one asked name p.from says load long p.asked p.starts p.load)
+    longer_begun name load long put text (summary p) = absurd (none_loaded name text load p)
 
   -- ---- behind the start
 
-  module _ (one : SayOneThing) (start : OneStart) (asked : Asked) (from : Standing) (starts : Starts words told asked from) where
+  module _ (one : SayOneThing) (start : OneStart) (asked : Asked) (from : Standing) (starts : Starts words told asked from) (source : asked.generate ≡ None) where
     -- it is enough to look at what runs of the script put
     by_script : ((text : List ℕ) → PutsScript words told left text → PutsFront held held' text) → Begun words told left held held'
     by_script f text (bad none is) = absurd (none asked starts.says)
     by_script f text (refused d is) = absurd (start_not_refused words told one asked from starts d)
     by_script f text (longer d is) = absurd (start_not_longer words told one asked from starts d)
     by_script f text (runs p) = f text p
+    by_script f text (summary p) =
+        let same : p.asked.generate ≡ asked.generate = ap (λ (a : Asked). a.generate) (one words p.asked asked p.says starts.says) in
+        let some = p.generate in
+        absurd (let no : ⊥ = cc in no)
 
     same_start : (text : List ℕ) (p : PutsScript words told left text) → from ≡ p.from
     same_start text p = one_start words told one start p.asked asked p.from from p.starts starts p.load
@@ -101,21 +129,62 @@ module _ (words : List (List ℕ)) (told : Told) (left held held' : Option (List
       pub long_begun : (name : List ℕ) → asked.dump ≡ Some name → IsLongDump to.laid → PutsFront between held' (line (codes "too long")) → Begun words told left held held'
       long_begun name is long put = by_script go
         where
-          last_is : (text : List ℕ) (p : PutsScript words told left text) (d : Option (List ℕ)) → p.asked.dump ≡ d → d ≡ Some name → Behind d (state_after p.from p.writes.statements).laid p.last
-              → to ≡ state_after p.from p.writes.statements → p.last ≡ line (codes "too long")
-          last_is text p None e d behind same = cc
-          last_is text p (Some other) e d behind same = elim behind.2 [
-            | inr above ↦ above.1
-            | inl within ↦ (let text_is = dump to.laid long.text behind.0 long.dump (subst (λ (s : Standing). IsDumpText s.laid behind.0) (sym same) behind.1) in
-                let above = long.above in
-                let least = within.0 in
-                absurd (omega (arith, ap length text_is)))
-          ]
-
           go : (text : List ℕ) → PutsScript words told left text → PutsFront held held' text
           go text p =
               let w = whole text p in
               let d : p.asked.dump ≡ Some name = ap (λ (a : Asked). a.dump) (one words p.asked asked p.starts.says starts.says) ∙ is in
-              let last = last_is text p p.asked.dump refl d (p.behind w.0) w.2 in
+              let last = long_last dump to.laid name long p.asked.dump (state_after p.from p.writes.statements).laid p.last d (p.behind w.0) (ap (λ (s : Standing). s.laid) w.2) in
               subst (PutsFront held held') (sym (p.text_is ∙ ap (λ (s : List ℕ). s ++ p.last) w.1 ∙ ap (λ (l : List ℕ). out from done.statements ++ l) last))
               (puts_behind held between held' (out from done.statements) (line (codes "too long")) done.put put)
+
+  -- ---- behind the start of a generated script
+
+  module _ (one : SayOneThing) (asked : Asked) (from : Standing) (starts : Starts words told asked from) (n : ℕ) (is : asked.generate ≡ Some n) where
+    -- it is enough to look at what is put of its summary
+    by_summary : ((text : List ℕ) → PutsSummary words text → PutsFront held held' text) → Begun words told left held held'
+    by_summary f text (bad none e) = absurd (none asked starts.says)
+    by_summary f text (refused d e) = absurd (start_not_refused words told one asked from starts d)
+    by_summary f text (longer d e) = absurd (start_not_longer words told one asked from starts d)
+    by_summary f text (runs p) =
+        let same : p.asked.generate ≡ asked.generate = ap (λ (a : Asked). a.generate) (one words p.asked asked p.starts.says starts.says) in
+        let none = p.none in
+        absurd (let no : ⊥ = cc in no)
+    by_summary f text (summary p) = f text p
+
+    module _ (text : List ℕ) (p : PutsSummary words text) where
+      same_asked : p.asked ≡ asked
+      same_asked = one words p.asked asked p.says starts.says
+
+      same_number : p.n ≡ n
+      same_number = let e : Some p.n ≡ Some n = sym p.generate ∙ ap (λ (a : Asked). a.generate) same_asked ∙ is in cc
+
+      same_begin : empty_standing p.asked.max_id ≡ from
+      same_begin = ap (λ (a : Asked). empty_standing a.max_id) same_asked ∙ sym (starts_empty words told asked from n starts is)
+
+      same_end : generated_end from n ≡ generated_end (empty_standing p.asked.max_id) p.n
+      same_end = λ i. generated_end (sym same_begin i) (sym same_number i)
+
+      summary_is : text ≡ summary_lines (generated_summary from n) ++ p.last
+      summary_is = p.text_is ∙ (λ i. summary_lines (generated_summary (same_begin i) (same_number i)) ++ p.last)
+
+    -- a front of the summary was put
+    pub summary_begun : PutsFront held held' (summary_lines (generated_summary from n)) → Begun words told left held held'
+    summary_begun put = by_summary (λ text p. subst (PutsFront held held') (sym (summary_is text p)) (puts_more held held' (summary_lines (generated_summary from n)) p.last put))
+
+    module _ (dump : OneDump) (between : Option (List ℕ)) (put : Appends held between (summary_lines (generated_summary from n))) where
+      -- nothing was put behind it
+      pub summed_begun : held' ≡ between → Begun words told left held held'
+      summed_begun same =
+          let text = summary_lines (generated_summary from n) in
+          summary_begun (puts_all held held' text (subst (λ (h : Option (List ℕ)). Appends held h text) (sym same) put))
+
+      -- a front was put of the line that says that the dump is too long
+      pub summed_long : (name : List ℕ) → asked.dump ≡ Some name → IsLongDump (generated_end from n).laid → PutsFront between held' (line (codes "too long")) → Begun words told left held held'
+      summed_long name dumps long more = by_summary go
+        where
+          go : (text : List ℕ) → PutsSummary words text → PutsFront held held' text
+          go text p =
+              let d : p.asked.dump ≡ Some name = ap (λ (a : Asked). a.dump) (same_asked text p) ∙ dumps in
+              let last = long_last dump (generated_end from n).laid name long p.asked.dump (generated_end (empty_standing p.asked.max_id) p.n).laid p.last d p.behind (ap (λ (s : Standing). s.laid) (same_end text p)) in
+              subst (PutsFront held held') (sym (summary_is text p ∙ ap (λ (l : List ℕ). summary_lines (generated_summary from n) ++ l) last))
+              (puts_behind held between held' (summary_lines (generated_summary from n)) (line (codes "too long")) put more)

@@ -1,7 +1,7 @@
 -- A state has one dump, and a dump stands for one state.
 use Rattle.std.specs.Prelude.{Option, Some}
 use Rattle.std.specs.Option.{option_map_or}
-use Rattle.std.proofs.Common.{◌≡◌, ℕ, List, [], ◌∷◌, filter, map, refl, sym, ap, subst, ◌∙◌, inl, inr, arith}
+use Rattle.std.proofs.Common.{◌≡◌, ℕ, List, [], ◌∷◌, filter, map, refl, sym, ap, subst, ◌∙◌, inl, inr}
 use Rattle.std.proofs.Math.Path.{fun_ext}
 use mathlib.Core.List.{reverse}
 use Rattle.row_store.specs.States.{TableState}
@@ -11,7 +11,7 @@ use Rattle.serde_json.specs.Data.{Data}
 use Rattle.serde_json.specs.Read.{read}
 use Rattle.serde_json.specs.Written.{compact_text}
 use Rattle.version_graph.specs.Sets.{Distinct, In}
-use Rattle.version_graph.specs.Edges.{Drawn, Rises, numbers}
+use Rattle.version_graph.specs.Edges.{Drawn, numbers}
 use Rattle.version_graph.specs.Forest.{forest}
 use Rattle.version_graph.proofs.TableLaws.{rises_apart, same_rising}
 use Rattle.layout_rules.specs.Layouts.{IsStored}

@@ -1,30 +1,35 @@
 -- How a run ends.
 use Rattle.std.specs.Prelude.{Option, Some, None}
-use Rattle.std.proofs.Common.{◌≡◌, ℕ, List, codes, refl, sym, subst, inl, inr}
+use Rattle.std.proofs.Common.{◌≡◌, ℕ, List, codes, refl, sym, subst, ◌∙◌, inl, inr}
 use Rattle.outside.specs.Causes.{Rose}
 use Rattle.engine_core.specs.Texts.{line}
 use Rattle.engine_sessions.specs.Standing.{Standing}
 use Rattle.run_words.specs.Words.{Asked, Says}
 use Rattle.run_words.specs.Laws.{SayOneThing}
-use Rattle.script_run.specs.Statuses.{Done, limit}
+use Rattle.script_generator.specs.Summary.{summary_lines}
+use Rattle.script_run.specs.Statuses.{Done, PutsFront, limit}
 use Rattle.script_run.specs.Calls.{Ends as ScriptEnds}
 use Rattle.script_run.specs.declared.end.End.{End as ScriptEnd}
 use Rattle.script_run.specs.declared.end.End.TheVariants as script
+use Rattle.script_run.proofs.FrontLaws.{puts_none}
+use Rattle.generated_run.specs.Summed.{generated_end, generated_summary}
 use Rattle.inverda_run.specs.Files.{IsLonger}
 use Rattle.inverda_run.specs.Starts.{Told}
-use Rattle.inverda_run.specs.Statuses.{OfStart, SayNothing, Starts, Written}
-use Rattle.inverda_run.specs.Calls.{DumpsTo, Early, Ends, Finishes, HoldsNoDump, PutsLast, ended}
+use Rattle.inverda_run.specs.Statuses.{Carried, OfStart, SayNothing, Starts, Written, source, generated}
+use Rattle.inverda_run.specs.Calls.{DumpsTo, Early, Ends, EndsGenerated, Finishes, HoldsNoDump, IsLongDump, PutsLast, ended}
 use Rattle.inverda_run.specs.Laws.{OneDump, OneStart}
+use Rattle.inverda_run.specs.Decided.{Begun}
 use Rattle.inverda_run.specs.declared.end.End.{End}
 use Rattle.inverda_run.specs.declared.end.End.TheVariants as end
-use Rattle.inverda_run.proofs.BegunLemmas.{bad_begun, done_begun, long_begun, longer_begun, none_begun, refused_begun, script_begun}
+use Rattle.inverda_run.proofs.BegunLemmas.{bad_begun, done_begun, long_begun, longer_begun, none_begun, refused_begun, script_begun, summary_begun, summed_begun, summed_long}
+use Rattle.inverda_run.proofs.StartLemmas.{starts_limit}
 
 -- nothing was read of the script
 module _ (words : List (List ℕ)) (told told' : Told) (left : Option (List ℕ)) (read : ℕ) (held held' : Option (List ℕ)) (put put' filed filed' : ℕ) where
   abbrev Here : End → Type 0
   Here e = Ends words told told' left left read read held held' put put' filed filed' e
 
-  early : ((¬ Rose filed filed') → Rattle.inverda_run.specs.Decided.Begun words told left held held') → Early words told left left read read held held' filed filed'
+  early : ((¬ Rose filed filed') → Begun words told left held held') → Early words told left left read read held held' filed filed'
   early begun = record { begun = λ source files. begun files; taken = λ differs. absurd (differs refl) }
 
   -- memory ran out before anything was put
@@ -56,37 +61,17 @@ module _ (words : List (List ℕ)) (told told' : Told) (left : Option (List ℕ)
     unread_ends rose e (inl p) = subst Here (sym p.0) (rose, record { name = name; loads = loads; put = p.1 }, (refl, refl))
     unread_ends rose e (inr p) = subst Here (sym p.0) (p.1, early (λ files. absurd (files rose)))
 
--- the script was run
+-- a script was run
 module _ (words : List (List ℕ)) (told told' : Told) (left left' : Option (List ℕ)) (read read' : ℕ) (held : Option (List ℕ)) (put filed filed' : ℕ)
-    (one : SayOneThing) (start : OneStart) (asked : Asked) (from to : Standing) (starts : Starts words told asked from) where
-  ofStart : {P : Standing → Type 0} → P from → OfStart words told P
-  ofStart p = (asked, from, starts, p)
-
-  -- it came to no end of its own
-  pub script_ends : (held' : Option (List ℕ)) (put' : ℕ) (e : ScriptEnd) → (e ≡ script.Done → ⊥) → ScriptEnds from to left left' read read' held held' put put' e
-      → Ends words told told' left left' read read' held held' put put' filed filed' (ended e)
-  script_ends held' put' script.Done n h = absurd (n refl)
-  script_ends held' put' script.Memory n h = record {
-    begun = λ source files. script_begun words told left held held' one start asked from starts (h.0 source);
-    taken = λ differs. ofStart (h.1 differs);
-  }
-  script_ends held' put' script.Syntax n h = ofStart h
-  script_ends held' put' script.Unread n h = ofStart h
-  script_ends held' put' script.Unwritten n h = (
-    h.0,
-    record {
-      begun = λ source files. script_begun words told left held held' one start asked from starts (h.1 source);
-      taken = λ differs. ofStart (h.2 differs);
-    },
-  )
-  script_ends held' put' script.TooLong n h = ofStart h
-
-  -- it came to its end
-  module _ (dump : OneDump) (between held' : Option (List ℕ)) (put' : ℕ) (done : Done from to left left' held between) (same : read' ≡ read) where
+    (asked : Asked) (from to : Standing) (starts : Starts words told asked from) where
+  -- it came to its end: by what the sink was given of it, and what is known where nothing more was put, or the line on a long dump
+  module _ (between held' : Option (List ℕ)) (put' : ℕ) (carried : Carried asked from to left left' held between) (limit_stays : to.laid.database.limit ≡ asked.max_id) (same : read' ≡ read)
+      (none : held' ≡ between → Begun words told left held held')
+      (long : (name : List ℕ) → asked.dump ≡ Some name → IsLongDump to.laid → PutsFront between held' (line (codes "too long")) → Begun words told left held held') where
     abbrev There : End → Type 0
     There e = Ends words told told' left left' read read' held held' put put' filed filed' e
 
-    early_done : ((¬ Rose filed filed') → Rattle.inverda_run.specs.Decided.Begun words told left held held') → Early words told left left' read read' held held' filed filed'
+    early_done : ((¬ Rose filed filed') → Begun words told left held held') → Early words told left left' read read' held held' filed filed'
     early_done begun = record { begun = λ source files. begun files; taken = λ differs. absurd (differs same) }
 
     ran : held' ≡ between → Written asked.dump told' to.laid → filed' ≡ filed → There end.Done
@@ -96,7 +81,8 @@ module _ (words : List (List ℕ)) (told told' : Told) (left left' : Option (Lis
         from = from;
         to = to;
         starts = starts;
-        done = subst (λ (h : Option (List ℕ)). Done from to left left' held h) (sym is) done;
+        carried = subst (λ (h : Option (List ℕ)). Carried asked from to left left' held h) (sym is) carried;
+        limit_stays = limit_stays;
         written = written;
       },
       same,
@@ -106,10 +92,10 @@ module _ (words : List (List ℕ)) (told told' : Told) (left left' : Option (Lis
     dumped : (name : List ℕ) → asked.dump ≡ Some name → (e : End) → DumpsTo to.laid (told' name) between held' put put' filed filed' e → There e
     dumped name is end.Done h =
         ran h.1 (subst (λ (d : Option (List ℕ)). Written d told' to.laid) (sym is) (h.0.text, h.0.dump, h.0.within, h.0.holds)) h.3
-    dumped name is end.Memory h = early_done (λ files. done_begun words told left held held' one start asked from starts dump left' between to done h.0)
+    dumped name is end.Memory h = early_done (λ files. none h.0)
     dumped name is end.LongDump h = record {
       to = to;
-      ran = record { asked = asked; from = from; starts = starts; between = between; done = done; put = h.1 };
+      ran = record { asked = asked; from = from; starts = starts; between = between; carried = carried; put = h.1 };
       name = name;
       dumps = record { asked = asked; says = starts.says; dump = is };
       text = h.0.text;
@@ -120,7 +106,7 @@ module _ (words : List (List ℕ)) (told told' : Told) (left left' : Option (Lis
       h.0,
       record {
         to = to;
-        ran = record { asked = asked; from = from; starts = starts; between = between; done = done; put = h.1 };
+        ran = record { asked = asked; from = from; starts = starts; between = between; carried = carried; put = h.1 };
         name = name;
         dumps = record { asked = asked; says = starts.says; dump = is };
       },
@@ -128,7 +114,7 @@ module _ (words : List (List ℕ)) (told told' : Told) (left left' : Option (Lis
     dumped name is end.Unwritten h = (
       h.0,
       early_done (λ files. elim h.1 [
-        | inl long ↦ long_begun words told left held held' one start asked from starts dump left' between to done name is long.0 long.1
+        | inl more ↦ long name is more.0 more.1
         | inr rose ↦ absurd (files rose)
       ]),
     )
@@ -140,9 +126,61 @@ module _ (words : List (List ℕ)) (told told' : Told) (left left' : Option (Lis
     dumped name is end.LongLoad h = absurd h
     dumped name is end.UnreadLoad h = absurd h
 
-    pub finish_ends : (e : End) → Finishes to.laid asked.dump told' between held' put put' filed filed' e → There e
-    finish_ends e h = go asked.dump refl h
+    finishes_so : (e : End) → Finishes to.laid asked.dump told' between held' put put' filed filed' e → There e
+    finishes_so e h = go asked.dump refl h
       where
         go : (d : Option (List ℕ)) → asked.dump ≡ d → Finishes to.laid d told' between held' put put' filed filed' e → There e
         go None is f = subst There (sym f.0) (ran f.1 (subst (λ (d : Option (List ℕ)). Written d told' to.laid) (sym is) tt) f.3)
         go (Some name) is f = dumped name is e f
+
+-- that of the source
+module _ (words : List (List ℕ)) (told told' : Told) (left left' : Option (List ℕ)) (read read' : ℕ) (held : Option (List ℕ)) (put filed filed' : ℕ)
+    (one : SayOneThing) (start : OneStart) (asked : Asked) (from to : Standing) (starts : Starts words told asked from) (own : asked.generate ≡ None) where
+  ofStart : {P : Standing → Type 0} → P from → OfStart words told P
+  ofStart p = (asked, from, starts, own, p)
+
+  -- it came to no end of its own
+  pub script_ends : (held' : Option (List ℕ)) (put' : ℕ) (e : ScriptEnd) → (e ≡ script.Done → ⊥) → ScriptEnds from to left left' read read' held held' put put' e
+      → Ends words told told' left left' read read' held held' put put' filed filed' (ended e)
+  script_ends held' put' script.Done n h = absurd (n refl)
+  script_ends held' put' script.Memory n h = record {
+    begun = λ source files. script_begun words told left held held' one start asked from starts own (h.0 source);
+    taken = λ differs. ofStart (h.1 differs);
+  }
+  script_ends held' put' script.Syntax n h = ofStart h
+  script_ends held' put' script.Unread n h = ofStart h
+  script_ends held' put' script.Unwritten n h = (
+    h.0,
+    record {
+      begun = λ source files. script_begun words told left held held' one start asked from starts own (h.1 source);
+      taken = λ differs. ofStart (h.2 differs);
+    },
+  )
+  script_ends held' put' script.TooLong n h = ofStart h
+
+  -- it came to its end
+  pub finish_ends : OneDump → (between held' : Option (List ℕ)) (put' : ℕ) → Done from to left left' held between → to.laid.database.limit ≡ asked.max_id → read' ≡ read → (e : End) → Finishes to.laid asked.dump told' between held' put put' filed filed' e
+      → Ends words told told' left left' read read' held held' put put' filed filed' e
+  finish_ends dump between held' put' done limit_stays same e h =
+      finishes_so words told told' left left' read read' held put filed filed' asked from to starts between held' put' (source own done) limit_stays same
+      (done_begun words told left held held' one start asked from starts own dump left' between to done)
+      (long_begun words told left held held' one start asked from starts own dump left' between to done) e h
+
+-- the generated one
+module _ (words : List (List ℕ)) (told told' : Told) (left : Option (List ℕ)) (read : ℕ) (held held' : Option (List ℕ)) (put put' filed filed' : ℕ)
+    (one : SayOneThing) (dump : OneDump) (asked : Asked) (from : Standing) (starts : Starts words told asked from) (n : ℕ) (is : asked.generate ≡ Some n) where
+  abbrev So : End → Type 0
+  So e = Ends words told told' left left read read held held' put put' filed filed' e
+
+  early_so : Begun words told left held held' → Early words told left left read read held held' filed filed'
+  early_so begun = record { begun = λ source files. begun; taken = λ differs. absurd (differs refl) }
+
+  pub generated_ends : (e : End) → EndsGenerated from n asked.dump told' held held' put put' filed filed' e → So e
+  generated_ends e (inl memory) =
+      subst So (sym memory.0) (early_so (summary_begun words told left held held' one asked from starts n is (puts_none held held' (summary_lines (generated_summary from n)) memory.1)))
+  generated_ends e (inr (inl front)) = subst So (sym front.0) (front.1, early_so (summary_begun words told left held held' one asked from starts n is front.2))
+  generated_ends e (inr (inr finished)) =
+      finishes_so words told told' left left read read held put filed filed' asked from (generated_end from n) starts finished.0 held' put'
+      (generated n is refl finished.1 refl) (finished.2 ∙ starts_limit words told asked from starts) refl
+      (summed_begun words told left held held' one asked from starts n is dump finished.0 finished.1)
+      (summed_long words told left held held' one asked from starts n is dump finished.0 finished.1) e finished.3

@@ -3,6 +3,7 @@ mod TwoRunLemmas
 mod FileLemmas
 mod StartedLemmas
 mod FinishLemmas
+mod GenerateLemmas
 mod StartLemmas
 mod BegunLemmas
 mod EndLemmas

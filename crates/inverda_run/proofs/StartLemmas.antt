@@ -1,9 +1,9 @@
 -- One start of a run, whatever tells of it.
-use Rattle.std.specs.Prelude.{◌<◌, Option, Some, None}
+use Rattle.std.specs.Prelude.{◌<◌, Option, Some, None, IsSome}
 use Rattle.std.proofs.Common.{◌≡◌, ℕ, List, length, refl, sym, ap, subst, ◌∙◌, arith}
 use Rattle.outside.specs.FileTold.{ToldAs}
 use Rattle.dump_file.specs.Stands.{IsDumpOf}
-use Rattle.engine_sessions.specs.Standing.{Standing}
+use Rattle.engine_sessions.specs.Standing.{Standing, empty_standing}
 use Rattle.run_words.specs.Words.{Asked, Says}
 use Rattle.run_words.specs.Laws.{SayOneThing}
 use Rattle.script_run.specs.Statuses.{limit}
@@ -113,6 +113,21 @@ module _ (words : List (List ℕ)) (told : Told) (one : SayOneThing) where
       go (Some name) k first second =
           law k.0 asked.max_id to from (subst (λ (f : Option (Option (List ℕ))). Loaded f asked.max_id to) k.1 second)
           (subst (λ (f : Option (Option (List ℕ))). Loaded f asked.max_id from) k.1 first)
+
+-- a generated script begins with an empty database
+pub loads_none : (words : List (List ℕ)) (asked : Asked) (n : ℕ) → Says words asked → asked.generate ≡ Some n → asked.load ≡ None
+loads_none words asked n says is = says.load ∙ (says.alone (subst (λ (g : Option ℕ). IsSome g) (sym is) refl)).0
+
+pub starts_empty : (words : List (List ℕ)) (told : Told) (asked : Asked) (from : Standing) (n : ℕ) → Starts words told asked from → asked.generate ≡ Some n → from ≡ empty_standing asked.max_id
+starts_empty words told asked from n s is = subst (λ (l : Option (List ℕ)). StartsBy told l asked.max_id from) (loads_none words asked n s.says is) s.start
+
+-- the greatest identifier is the one that the words name
+pub starts_limit : (words : List (List ℕ)) (told : Told) (asked : Asked) (from : Standing) → Starts words told asked from → from.laid.database.limit ≡ asked.max_id
+starts_limit words told asked from s = go asked.load s.start
+  where
+    go : (load : Option (List ℕ)) → StartsBy told load asked.max_id from → from.laid.database.limit ≡ asked.max_id
+    go None is = ap (λ (s : Standing). s.laid.database.limit) is
+    go (Some name) loaded = ap (λ (s : Standing). s.laid.database.limit) loaded.state ∙ loaded.limit_is
 
 -- words that say nothing load nothing and start nothing
 pub nothing_refused : (words : List (List ℕ)) (told : Told) → SayNothing words → ToldNoDump words told → ⊥

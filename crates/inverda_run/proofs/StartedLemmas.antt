@@ -1,5 +1,5 @@
 -- What a run begins from.
-use Rattle.std.specs.Prelude.{◌≤◌, ◌<◌, ◌^◌, ◌-◌, Option, Some, None, Result, Ok, Err}
+use Rattle.std.specs.Prelude.{◌≤◌, ◌<◌, ◌^◌, Option, Some, None, Result, Ok, Err}
 use Rattle.std.proofs.Common.{◌≡◌, ℕ, List, length, codes, refl, sym, ap, subst, inl, inr, arith}
 use Rattle.outside.specs.FileTold.{ToldAs}
 use Rattle.op_kinds.specs.Operators.{AnyView}

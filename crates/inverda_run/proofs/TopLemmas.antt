@@ -1,10 +1,11 @@
 -- What the statuses say, by how a run ends.
-use Rattle.std.specs.Prelude.{◌⊎◌, ◌≤◌, nat_le, Option, Some}
+use Rattle.std.specs.Prelude.{◌⊎◌, ◌≤◌, nat_le, Option, Some, None}
 use Rattle.std.proofs.Common.{◌≡◌, ℕ, List, length, take, codes, sym, ap, subst, ◌∙◌, inl, inr, arith}
 use Rattle.outside.specs.Causes.{Rose}
 use Rattle.bidel_script.specs.Script.{Outcome, Over, Fault, Long, Open}
 use Rattle.bidel_script.proofs.UniqueLaws.{one_comes}
-use Rattle.engine_sessions.specs.Standing.{Standing}
+use Rattle.engine_sessions.specs.Standing.{Standing, empty_standing}
+use Rattle.generated_run.specs.Summed.{generated_end}
 use Rattle.run_words.specs.Words.{Asked}
 use Rattle.run_words.specs.Laws.{SayOneThing}
 use Rattle.script_run.specs.Moves.{MovesUnseen}
@@ -14,45 +15,64 @@ use Rattle.script_run.proofs.EndLaws.{done_answers, done_told, had_done, had_pas
 use Rattle.script_run.proofs.CutLaws.{passed_first, stopped_of_all, unread_first}
 use Rattle.script_run.proofs.MoveLaws.{moves_unseen}
 use Rattle.inverda_run.specs.Starts.{IsDumpText, Told}
-use Rattle.inverda_run.specs.Statuses.{LongDump, LongLoad, OfStart, Ran, RefusedDump, SayNothing, Starts, StaysBut}
-use Rattle.inverda_run.specs.Decided.{DumpFits, Told', ToldLonger, ToldNoDump, ToldWhole}
+use Rattle.inverda_run.specs.Statuses.{Carried, Loads, LongDump, LongLoad, OfStart, Ran, RefusedDump, RunsSource, SayNothing, Starts, StaysBut, source, generated}
+use Rattle.inverda_run.specs.Decided.{DumpFits, Told', ToldGenerated, ToldLonger, ToldNoDump, ToldWhole}
 use Rattle.inverda_run.specs.Calls.{HoldsNoDump}
-use Rattle.inverda_run.proofs.StartLemmas.{longer_no_start, longer_not_refused, nothing_starts, refused_no_start, refused_not_longer, start_not_longer, start_not_refused}
+use Rattle.inverda_run.proofs.StartLemmas.{loads_none, longer_no_start, longer_not_refused, nothing_starts, refused_no_start, refused_not_longer, start_not_longer, start_not_refused, starts_empty}
 
 -- ---- a run that is done
 
-pub ran_answers : {words : List (List ℕ)} {told told' : Told} {left left' held held' : Option (List ℕ)} → Ran words told told' left left' held held' → OfStart words told (λ from. AnswersScript from left held held')
-ran_answers {words} {told} {told'} {left} {left'} {held} {held'} r = (r.asked, r.from, r.starts, done_answers r.from r.to left left' held held' r.done)
+-- what follows of a run of the source's script
+of_source : {words : List (List ℕ)} {told : Told} {asked : Asked} {from to : Standing} {left left' held between : Option (List ℕ)} {P : Type 0} → Starts words told asked from → RunsSource words
+    → Carried asked from to left left' held between → (asked.generate ≡ None → Done from to left left' held between → P) → P
+of_source {words} {told} {asked} {from} {to} {left} {left'} {held} {between} {P} starts none (source own done) f = f own done
+of_source {words} {told} {asked} {from} {to} {left} {left'} {held} {between} {P} starts none (generated n is same put next) f =
+    absurd (none n (record { asked = asked; says = starts.says; generate = is }))
 
-pub ran_unseen : {words : List (List ℕ)} {told told' : Told} {left left' held held' : Option (List ℕ)} → Ran words told told' left left' held held' → OfStart words told (λ from. MovesUnseen from left left' held held')
-ran_unseen {words} {told} {told'} {left} {left'} {held} {held'} r = (r.asked, r.from, r.starts, moves_unseen r.from r.to left left' held held' r.done)
+pub ran_answers : {words : List (List ℕ)} {told told' : Told} {left left' held held' : Option (List ℕ)} → Ran words told told' left left' held held' → RunsSource words → OfStart words told (λ from. AnswersScript from left held held')
+ran_answers {words} {told} {told'} {left} {left'} {held} {held'} r none = of_source r.starts none r.carried (λ own done. (r.asked, r.from, r.starts, own, done_answers r.from r.to left left' held held' done))
+
+pub ran_unseen : {words : List (List ℕ)} {told told' : Told} {left left' held held' : Option (List ℕ)} → Ran words told told' left left' held held' → RunsSource words → OfStart words told (λ from. MovesUnseen from left left' held held')
+ran_unseen {words} {told} {told'} {left} {left'} {held} {held'} r none = of_source r.starts none r.carried (λ own done. (r.asked, r.from, r.starts, own, moves_unseen r.from r.to left left' held held' done))
 
 -- the source told a script, where the script was carried out
 pub done_is_over : (read read' : ℕ) → {left left' held : Option (List ℕ)} {from to : Standing} {between : Option (List ℕ)} {o : Outcome} → Done from to left left' held between → ¬ Rose read read' → Had left o → o ≡ Over
 done_is_over read read' {left} {left'} {held} {from} {to} {between} {o} d safe had = had_done from to left left' held between read read' o had safe d
 
-pub ran_is_over : (read read' : ℕ) → {words : List (List ℕ)} {told told' : Told} {left left' held held' : Option (List ℕ)} {o : Outcome} → Ran words told told' left left' held held' → ¬ Rose read read' → Told' words told left o → o ≡ Over
-ran_is_over read read' {words} {told} {told'} {left} {left'} {held} {held'} r safe t = done_is_over read read' r.done safe t.had
+-- a run that is told to read the source has carried out its script
+carried_done : {words : List (List ℕ)} {told : Told} {asked : Asked} {from to : Standing} {left left' held between : Option (List ℕ)} {o : Outcome} → SayOneThing → Starts words told asked from
+    → Carried asked from to left left' held between → Told' words told left o → Done from to left left' held between
+carried_done {words} {told} {asked} {from} {to} {left} {left'} {held} {between} {o} one starts carried t = of_source starts none carried (λ own done. done)
+  where
+    none : RunsSource words
+    none n g =
+        let same : g.asked.generate ≡ t.asked.generate = ap (λ (a : Asked). a.generate) (one words g.asked t.asked g.says t.starts.says) in
+        let some = g.generate in
+        let own = t.source in
+        cc
+
+pub ran_is_over : SayOneThing → (read read' : ℕ) → {words : List (List ℕ)} {told told' : Told} {left left' held held' : Option (List ℕ)} {o : Outcome} → Ran words told told' left left' held held' → ¬ Rose read read' → Told' words told left o → o ≡ Over
+ran_is_over one read read' {words} {told} {told'} {left} {left'} {held} {held'} r safe t = done_is_over read read' (carried_done one r.starts r.carried t) safe t.had
 
 -- ---- a run that a fault ended
 
 pub stopped_is_fault : {words : List (List ℕ)} {told : Told} {left left' held held' : Option (List ℕ)} {read read' : ℕ} {o : Outcome} → OfStart words told (λ from. Stopped from left left' read read' held held') → ¬ Rose read read' → Told' words told left o → (at : ℕ) × (o ≡ Fault at)
-stopped_is_fault {words} {told} {left} {left'} {held} {held'} {read} {read'} {o} s safe t = had_stopped s.1 s.1 left left' held held' read read' o t.had safe s.3
+stopped_is_fault {words} {told} {left} {left'} {held} {held'} {read} {read'} {o} s safe t = had_stopped s.1 s.1 left left' held held' read read' o t.had safe s.4
 
 pub stopped_cut : {words : List (List ℕ)} {told : Told} {left left' held held' : Option (List ℕ)} {read read' : ℕ} → OfStart words told (λ from. Stopped from left left' read read' held held') → OfStart words told (λ from. StoppedOfAll from left held held')
-stopped_cut {words} {told} {left} {left'} {held} {held'} {read} {read'} s = (s.0, s.1, s.2, stopped_of_all s.1 left left' held held' read read' s.3)
+stopped_cut {words} {told} {left} {left'} {held} {held'} {read} {read'} s = (s.0, s.1, s.2, s.3, stopped_of_all s.1 left left' held held' read read' s.4)
 
 pub unread_rose : {words : List (List ℕ)} {told : Told} {left left' held held' : Option (List ℕ)} {read read' : ℕ} → OfStart words told (λ from. Unread from left left' read read' held held') → Rose read read'
-unread_rose {words} {told} {left} {left'} {held} {held'} {read} {read'} s = s.3.cause
+unread_rose {words} {told} {left} {left'} {held} {held'} {read} {read'} s = s.4.cause
 
 pub unread_cut : {words : List (List ℕ)} {told : Told} {left left' held held' : Option (List ℕ)} {read read' : ℕ} → OfStart words told (λ from. Unread from left left' read read' held held') → OfStart words told (λ from. FirstReplies from left held held' (codes "read fault"))
-unread_cut {words} {told} {left} {left'} {held} {held'} {read} {read'} s = (s.0, s.1, s.2, unread_first s.1 left left' held held' read read' s.3)
+unread_cut {words} {told} {left} {left'} {held} {held'} {read} {read'} s = (s.0, s.1, s.2, s.3, unread_first s.1 left left' held held' read read' s.4)
 
 pub passed_is_long : {words : List (List ℕ)} {told : Told} {left left' held held' : Option (List ℕ)} {read read' : ℕ} {o : Outcome} → OfStart words told (λ from. Passed from left left' read read' held held') → ¬ Rose read read' → Told' words told left o → (o ≡ Long) ⊎ (o ≡ Open)
-passed_is_long {words} {told} {left} {left'} {held} {held'} {read} {read'} {o} s safe t = had_passed s.1 s.1 left left' held held' read read' o t.had safe s.3
+passed_is_long {words} {told} {left} {left'} {held} {held'} {read} {read'} {o} s safe t = had_passed s.1 s.1 left left' held held' read read' o t.had safe s.4
 
 pub passed_cut : {words : List (List ℕ)} {told : Told} {left left' held held' : Option (List ℕ)} {read read' : ℕ} → OfStart words told (λ from. Passed from left left' read read' held held') → OfStart words told (λ from. FirstReplies from left held held' (codes "too long"))
-passed_cut {words} {told} {left} {left'} {held} {held'} {read} {read'} s = (s.0, s.1, s.2, passed_first s.1 left left' held held' read read' s.3)
+passed_cut {words} {told} {left} {left'} {held} {held'} {read} {read'} s = (s.0, s.1, s.2, s.3, passed_first s.1 left left' held held' read read' s.4)
 
 -- ---- a run that started
 
@@ -92,22 +112,61 @@ module _ (one : SayOneThing) where
   long_dump_not_refused {words} {told} {left} {left'} {held} {held'} r d = start_not_refused words told one r.ran.asked r.ran.from r.ran.starts d
 
   pub long_dump_is_over : (read read' : ℕ) → {words : List (List ℕ)} {told : Told} {left left' held held' : Option (List ℕ)} {o : Outcome} → LongDump words told left left' held held' → ¬ Rose read read' → Told' words told left o → o ≡ Over
-  long_dump_is_over read read' {words} {told} {left} {left'} {held} {held'} r safe t = done_is_over read read' r.ran.done safe t.had
+  long_dump_is_over read read' {words} {told} {left} {left'} {held} {held'} r safe t = done_is_over read read' (carried_done one r.ran.starts r.ran.carried t) safe t.had
 
   -- a run whose dump fits has none that is too long
   pub long_dump_not_whole : {words : List (List ℕ)} {told : Told} {left left' held held' : Option (List ℕ)} → LongDump words told left left' held held' → ToldWhole words told left → ⊥
   long_dump_not_whole {words} {told} {left} {left'} {held} {held'} r w =
       let had = w.script.had in
-      let comes = done_told r.ran.from r.to left left' held r.ran.between had.bytes had.told r.ran.done in
-      let same = one_comes (take limit had.bytes) (nat_le (length had.bytes) limit) had.statements r.ran.done.statements Over Over had.comes comes in
+      let done = carried_done one r.ran.starts r.ran.carried w.script in
+      let comes = done_told r.ran.from r.to left left' held r.ran.between had.bytes had.told done in
+      let same = one_comes (take limit had.bytes) (nat_le (length had.bytes) limit) had.statements done.statements Over Over had.comes comes in
       let asked : r.ran.asked ≡ w.script.asked = one words r.ran.asked w.script.asked r.ran.starts.says w.script.starts.says in
       let fits : DumpFits w.script.asked.dump (state_after r.ran.from had.statements).laid =
       w.fits r.ran.from (subst (λ (a : Asked). Starts words told a r.ran.from) asked r.ran.starts) in
       let dump_is : w.script.asked.dump ≡ Some r.name = ap (λ (a : Asked). a.dump) (one words w.script.asked r.dumps.asked w.script.starts.says r.dumps.says) ∙ r.dumps.dump in
-      let to_is : r.to ≡ state_after r.ran.from had.statements = r.ran.done.next ∙ ap (state_after r.ran.from) (sym same.0) in
+      let to_is : r.to ≡ state_after r.ran.from had.statements = done.next ∙ ap (state_after r.ran.from) (sym same.0) in
       let least : length r.text ≤ limit = subst (λ (d : Option (List ℕ)). DumpFits d (state_after r.ran.from had.statements).laid) dump_is fits r.text (subst (λ (s : Standing). IsDumpText s.laid r.text) to_is r.dump) in
       let above = r.above in
       omega arith
+
+  -- ---- a generated script
+
+  -- it is not the source's
+  pub started_not_generated : {words : List (List ℕ)} {told : Told} {P : Standing → Type 0} → OfStart words told P → ToldGenerated words → ⊥
+  started_not_generated {words} {told} {P} s d =
+      let same : d.asked.generate ≡ s.0.generate = ap (λ (a : Asked). a.generate) (one words d.asked s.0 d.says s.2.says) in
+      let some = d.generate in
+      let own = s.3 in
+      cc
+
+  -- it loads nothing
+  pub loads_not_generated : {words : List (List ℕ)} {name : List ℕ} → Loads words name → ToldGenerated words → ⊥
+  loads_not_generated {words} {name} l d =
+      let same : d.asked.load ≡ l.asked.load = ap (λ (a : Asked). a.load) (one words d.asked l.asked d.says l.says) in
+      let none : d.asked.load ≡ None = loads_none words d.asked d.n d.says d.generate in
+      let some = l.load in
+      cc
+
+  -- its dump fits
+  pub long_dump_not_generated : {words : List (List ℕ)} {told : Told} {left left' held held' : Option (List ℕ)} → LongDump words told left left' held held' → ToldGenerated words → ⊥
+  long_dump_not_generated {words} {told} {left} {left'} {held} {held'} r d = go r.ran.carried
+    where
+      go : Carried r.ran.asked r.ran.from r.to left left' held r.ran.between → ⊥
+      go (source own done) =
+          let same : d.asked.generate ≡ r.ran.asked.generate = ap (λ (a : Asked). a.generate) (one words d.asked r.ran.asked d.says r.ran.starts.says) in
+          let some = d.generate in
+          cc
+      go (generated n is same put next) =
+          let asked : r.ran.asked ≡ d.asked = one words r.ran.asked d.asked r.ran.starts.says d.says in
+          let number : n ≡ d.n = (let e : Some n ≡ Some d.n = sym is ∙ ap (λ (a : Asked). a.generate) asked ∙ d.generate in cc) in
+          let begin : r.ran.from ≡ empty_standing d.asked.max_id = starts_empty words told r.ran.asked r.ran.from n r.ran.starts is ∙ ap (λ (a : Asked). empty_standing a.max_id) asked in
+          let to_is : r.to ≡ generated_end (empty_standing d.asked.max_id) d.n = next ∙ (λ i. generated_end (begin i) (number i)) in
+          let dump_is : d.asked.dump ≡ Some r.name = ap (λ (a : Asked). a.dump) (one words d.asked r.dumps.asked d.says r.dumps.says) ∙ r.dumps.dump in
+          let fits : DumpFits (Some r.name) (generated_end (empty_standing d.asked.max_id) d.n).laid = subst (λ (f : Option (List ℕ)). DumpFits f (generated_end (empty_standing d.asked.max_id) d.n).laid) dump_is d.fits in
+          let least : length r.text ≤ limit = fits r.text (subst (λ (s : Standing). IsDumpText s.laid r.text) to_is r.dump) in
+          let above = r.above in
+          omega arith
 
 -- words that say nothing start nothing
 pub nothing_told : {words : List (List ℕ)} {told : Told} {left : Option (List ℕ)} {o : Outcome} → SayNothing words → Told' words told left o → ⊥

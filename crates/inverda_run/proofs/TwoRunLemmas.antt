@@ -1,7 +1,9 @@
 -- Two scripts, one after the other.
-use Rattle.std.specs.Prelude.{Ok, Err}
+use Rattle.std.specs.Prelude.{Option, Some, Ok, Err}
+use Rattle.std.specs.Io.KnownBytes.{Appends}
 use Rattle.std.specs.List.{All}
-use Rattle.std.proofs.Common.{◌≡◌, suc, List, [], ◌∷◌, ◌++◌, refl, ap, arith}
+use Rattle.std.proofs.Common.{◌≡◌, ℕ, suc, List, [], ◌∷◌, ◌++◌, refl, sym, ap, subst, ◌∙◌, arith}
+use Rattle.std.proofs.KnownBytes.{Appends-trans}
 use Rattle.par_base.specs.Checked.{Checked}
 use Rattle.par_base.specs.declared.refusal.Refusal.{Refusal}
 use Rattle.statements.specs.Views.{StatementView}
@@ -13,7 +15,10 @@ use Rattle.engine_sessions.specs.Texts.{answer_bytes}
 use Rattle.engine_sessions.specs.declared.answer.Answer.{Answer}
 use Rattle.script_run.specs.Output.{next_state, out, replies, state_after, text_of}
 use Rattle.script_run.proofs.OutputLaws.{out-append}
-use Rattle.inverda_run.specs.Laws.{BeginsAgain, TwoRuns}
+use Rattle.outside.specs.FileTold.{ToldAs}
+use Rattle.inverda_run.specs.Starts.{Loaded, StartsBy}
+use Rattle.inverda_run.specs.Statuses.{Written}
+use Rattle.inverda_run.specs.Laws.{BeginsAgain, LoadsTheDumped, RunsAreOne, TwoRuns}
 
 state_append : (s : Standing) (first second : List StatementView) → state_after s (first ++ second) ≡ state_after (state_after s first) second
 unfolding state_after
@@ -41,3 +46,26 @@ begins_again law s statements full = alike law (begun s.laid) s statements refl 
 
 pub two_runs : TwoRuns
 two_runs s first second = (out-append s first second, state_append s first second)
+
+-- what was dumped is loaded, and the statements behind it are answered as they would be without the dump between
+pub runs_are_one : LoadsTheDumped → NeedTheDataAlone → RunsAreOne
+runs_are_one loads law words words' told mid told' left left' more more' held between held' first second name file dumps load is same one other full =
+    let written : Written (Some name) mid first.to.laid = subst (λ (d : Option (List ℕ)). Written d mid first.to.laid) dumps first.written in
+    let start : Loaded (mid name) second.asked.max_id second.from = subst (λ (l : Option (List ℕ)). StartsBy mid l second.asked.max_id second.from) load second.starts.start in
+    let text = written.0 in
+    let file_is : file ≡ text = subst (λ (f : Option (Option (List ℕ))). ToldAs f text) is written.3 in
+    let held_so : Loaded (Some (Some file)) second.asked.max_id second.from = subst (λ (f : Option (Option (List ℕ))). Loaded f second.asked.max_id second.from) is start in
+    let loaded : Loaded (Some (Some text)) first.to.laid.database.limit second.from = subst (λ (n : ℕ). Loaded (Some (Some text)) n second.from) (same ∙ sym first.limit_stays) (subst (λ (t : List ℕ). Loaded (Some (Some t)) second.asked.max_id second.from) file_is held_so) in
+    let begins : second.from ≡ begun first.to.laid = loads first.to.laid second.from text written.1 written.2 loaded in
+    let again = begins_again law first.to other.statements full in
+    let both = two_runs first.from one.statements other.statements in
+    let out_is : out second.from other.statements ≡ out (state_after first.from one.statements) other.statements =
+    ap (λ (s : Standing). out s other.statements) begins ∙ again.0 ∙ ap (λ (s : Standing). out s other.statements) one.next in
+    let put = Appends-trans held between held' (out first.from one.statements) (out second.from other.statements) one.put other.put in (
+      subst (Appends held held') (ap (λ (t : List ℕ). out first.from one.statements ++ t) out_is ∙ sym both.0) put,
+      ap (λ (s : Standing). s.laid) other.next
+          ∙ ap (λ (s : Standing). (state_after s other.statements).laid) begins
+          ∙ again.1
+          ∙ ap (λ (s : Standing). (state_after s other.statements).laid) one.next
+          ∙ sym (ap (λ (s : Standing). s.laid) both.1),
+    )

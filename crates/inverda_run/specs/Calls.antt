@@ -6,11 +6,13 @@ use Rattle.outside.specs.FileTold.{IsMissing, ToldAs}
 use Rattle.op_kinds.specs.Operators.{AnyView}
 use Rattle.db_state.specs.declared.parts.Parts.{Parts}
 use Rattle.engine_layouts.specs.Laid.{Laid}
-use Rattle.engine_sessions.specs.Standing.{begun}
+use Rattle.engine_sessions.specs.Standing.{Standing, begun}
 use Rattle.engine_core.specs.Kept.{state_of}
 use Rattle.engine_core.specs.Texts.{line}
 use Rattle.dump_graph.specs.Texts.{AreSpelled}
 use Rattle.dump_file.specs.Stands.{IsDumpOf}
+use Rattle.script_generator.specs.Summary.{summary_lines}
+use Rattle.generated_run.specs.Summed.{generated_end, generated_summary}
 use Rattle.script_run.specs.Statuses.{BegunTaken, Passed, PutsFront, Stopped, Unread, limit}
 use Rattle.script_run.specs.declared.end.End.{End as ScriptEnd}
 use Rattle.script_run.specs.declared.end.End.TheVariants as script
@@ -104,6 +106,16 @@ DumpsTo to file held held' put put' filed filed' _ = ⊥
 abbrev pub Finishes : Laid → Option (List ℕ) → Told → Option (List ℕ) → Option (List ℕ) → ℕ → ℕ → ℕ → ℕ → End → Type 0
 Finishes to None told held held' put put' filed filed' e = (e ≡ end.Done) × (held' ≡ held) × (put' ≡ put) × (filed' ≡ filed)
 Finishes to (Some name) told held held' put put' filed filed' e = DumpsTo to (told name) held held' put put' filed filed' e
+
+-- how a run ends that carries out the generated script: memory ran out and nothing was put, or a front of the summary was put, or all of
+-- it and then what a run puts that has carried out its script
+abbrev pub EndsGenerated : Standing → ℕ → Option (List ℕ) → Told → Option (List ℕ) → Option (List ℕ) → ℕ → ℕ → ℕ → ℕ → End → Type 0
+EndsGenerated from n dump told held held' put put' filed filed' e =
+    ((e ≡ end.Memory) × (held' ≡ held) × (put' ≡ put) × (filed' ≡ filed))
+    ⊎ ((e ≡ end.Unwritten) × Rose put put' × PutsFront held held' (summary_lines (generated_summary from n)) × (filed' ≡ filed))
+    ⊎ ((between : Option (List ℕ)) × Appends held between (summary_lines (generated_summary from n))
+    × ((generated_end from n).laid.database.limit ≡ from.laid.database.limit)
+    × Finishes (generated_end from n).laid dump told between held' put put' filed filed' e)
 
 -- a file is as it was, or it is the one that is written, and the run is done or a call on the files failed
 abbrev pub WritesBut : List ℕ → Told → Told → ℕ → ℕ → End → List ℕ → Type 0

@@ -2,11 +2,13 @@
 use Rattle.std.specs.Prelude.{◌≡◌, ◌++◌, ◌≤◌, ◌<◌, ◌⊎◌, ℕ, nat_le, List, [], take, length, Option, Some, None, codes, ⊤}
 use Rattle.bidel_script.specs.Script.{Outcome, Over}
 use Rattle.engine_layouts.specs.Laid.{Laid}
-use Rattle.engine_sessions.specs.Standing.{Standing}
+use Rattle.engine_sessions.specs.Standing.{Standing, empty_standing}
 use Rattle.engine_core.specs.Texts.{line}
-use Rattle.run_words.specs.Words.{Asked}
+use Rattle.run_words.specs.Words.{Asked, Says}
+use Rattle.script_generator.specs.Summary.{summary_lines}
 use Rattle.script_run.specs.Output.{state_after}
 use Rattle.script_run.specs.Statuses.{Had, PutsFront, WritesScript, limit}
+use Rattle.generated_run.specs.Summed.{generated_end, generated_summary}
 use Rattle.inverda_run.specs.Starts.{IsDumpText, Told}
 use Rattle.inverda_run.specs.Statuses.{Loads, NoDump, SayNothing, Starts}
 
@@ -15,11 +17,12 @@ abbrev pub IsTold : Told → Option (List ℕ) → Type 0
 IsTold told None = ⊤
 IsTold told (Some name) = (file : List ℕ) × (told name ≡ Some (Some file))
 
--- a run of the words starts from where it is told, and this comes of the bytes that the source told
+-- a run of the source's script starts from where it is told, and this comes of the bytes that the source told
 pub record Told' (words : List (List ℕ)) (told : Told) (left : Option (List ℕ)) (outcome : Outcome) : Type 0 where
   pub asked : Asked
   pub from : Standing
   pub starts : Starts words told asked from
+  pub source : asked.generate ≡ None
   pub load : IsTold told asked.load
   pub had : Had left outcome
 
@@ -32,6 +35,14 @@ DumpFits (Some name) to = (text : List ℕ) → IsDumpText to text → length te
 pub record ToldWhole (words : List (List ℕ)) (told : Told) (left : Option (List ℕ)) : Type 0 where
   pub script : Told' words told left Over
   pub fits : (from : Standing) → Starts words told script.asked from → DumpFits script.asked.dump (state_after from script.had.statements).laid
+
+-- the generated script, and a dump within the limits
+pub record ToldGenerated (words : List (List ℕ)) : Type 0 where
+  pub asked : Asked
+  pub says : Says words asked
+  pub n : ℕ
+  pub generate : asked.generate ≡ Some n
+  pub fits : DumpFits asked.dump (generated_end (empty_standing asked.max_id) n).laid
 
 -- the file that the words load is told, and its bytes are no dump
 pub record ToldNoDump (words : List (List ℕ)) (told : Told) : Type 0 where
@@ -52,7 +63,7 @@ pub record ToldLonger (words : List (List ℕ)) (told : Told) : Type 0 where
 
 -- ---- what is put
 
--- what stands behind the replies of a script: nothing, or that the dump is too long
+-- what stands behind the replies of a script, or its summary: nothing, or that the dump is too long
 abbrev pub Behind : Option (List ℕ) → Laid → List ℕ → Type 0
 Behind None to last = last ≡ []
 Behind (Some name) to last = (text : List ℕ) × IsDumpText to text
@@ -63,6 +74,7 @@ pub record PutsScript (words : List (List ℕ)) (told : Told) (left : Option (Li
   pub asked : Asked
   pub from : Standing
   pub starts : Starts words told asked from
+  pub none : asked.generate ≡ None
   pub load : IsTold told asked.load
   pub bytes : List ℕ
   pub source : left ≡ Some bytes
@@ -73,12 +85,23 @@ pub record PutsScript (words : List (List ℕ)) (told : Told) (left : Option (Li
   pub other : (writes.outcome ≡ Over → ⊥) → last ≡ []
   pub text_is : text ≡ script ++ last
 
+-- what a run of the generated script puts
+pub record PutsSummary (words : List (List ℕ)) (text : List ℕ) : Type 0 where
+  pub asked : Asked
+  pub says : Says words asked
+  pub n : ℕ
+  pub generate : asked.generate ≡ Some n
+  pub last : List ℕ
+  pub behind : Behind asked.dump (generated_end (empty_standing asked.max_id) n).laid last
+  pub text_is : text ≡ summary_lines (generated_summary (empty_standing asked.max_id) n) ++ last
+
 -- what a run puts where no call fails and memory suffices
 pub data Puts (words : List (List ℕ)) (told : Told) (left : Option (List ℕ)) (text : List ℕ) : Type 0 where
   bad : SayNothing words → text ≡ line (codes "bad words") → Puts words told left text
   refused : ToldNoDump words told → text ≡ line (codes "dump refused") → Puts words told left text
   longer : ToldLonger words told → text ≡ line (codes "too long") → Puts words told left text
   script : PutsScript words told left text → Puts words told left text
+  summary : PutsSummary words text → Puts words told left text
 
 -- a front of it was put
 abbrev pub Begun : List (List ℕ) → Told → Option (List ℕ) → Option (List ℕ) → Option (List ℕ) → Type 0

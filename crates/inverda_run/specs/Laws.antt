@@ -1,13 +1,15 @@
 -- Two runs, the second from the dump of the first, are one.
-use Rattle.std.specs.Prelude.{◌≡◌, ◌++◌, ◌≤◌, ℕ, List, length, Some}
+use Rattle.std.specs.Prelude.{◌≡◌, ◌++◌, ◌≤◌, ℕ, List, length, Option, Some}
+use Rattle.std.specs.Io.KnownBytes.{Appends}
 use Rattle.std.specs.List.{All}
 use Rattle.statements.specs.Views.{StatementView}
 use Rattle.engine_layouts.specs.Laid.{Laid}
 use Rattle.engine_sessions.specs.Standing.{Standing, begun}
 use Rattle.engine_sessions.specs.Laws.{IsFull}
 use Rattle.script_run.specs.Output.{out, state_after}
-use Rattle.script_run.specs.Statuses.{limit}
-use Rattle.inverda_run.specs.Starts.{IsDumpText, Loaded}
+use Rattle.script_run.specs.Statuses.{Done, limit}
+use Rattle.inverda_run.specs.Starts.{IsDumpText, Loaded, Told}
+use Rattle.inverda_run.specs.Statuses.{Ran}
 
 -- a state has one dump
 abbrev pub OneDump : Type 0
@@ -31,3 +33,16 @@ TwoRuns = (s : Standing) (first second : List StatementView)
 abbrev pub BeginsAgain : Type 0
 BeginsAgain = (s : Standing) (statements : List StatementView) → All IsFull statements
     → (out (begun s.laid) statements ≡ out s statements) × ((state_after (begun s.laid) statements).laid ≡ (state_after s statements).laid)
+
+-- IN ONE SENTENCE: a run was done that dumped to a file, and then one that loaded the file, both with the same greatest identifier, and went
+-- on behind what the first had put. Where the statements of the second name their versions and ask for no advice, the two have put what one
+-- run of both scripts puts, and have left the same data.
+abbrev pub RunsAreOne : Type 0
+RunsAreOne = (words words' : List (List ℕ)) (told mid told' : Told) (left left' more more' held between held' : Option (List ℕ))
+    → (first : Ran words told mid left left' held between) (second : Ran words' mid told' more more' between held')
+    → (name file : List ℕ) → first.asked.dump ≡ Some name → second.asked.load ≡ Some name → mid name ≡ Some (Some file)
+    → second.asked.max_id ≡ first.asked.max_id
+    → (one : Done first.from first.to left left' held between) (other : Done second.from second.to more more' between held')
+    → All IsFull other.statements
+    → Appends held held' (out first.from (one.statements ++ other.statements))
+    × (second.to.laid ≡ (state_after first.from (one.statements ++ other.statements)).laid)

@@ -9,7 +9,9 @@ use Rattle.engine_sessions.specs.Standing.{Standing}
 use Rattle.engine_core.specs.Texts.{line}
 use Rattle.dump_file.specs.Stands.{IsDumpOf}
 use Rattle.run_words.specs.Words.{Asked, Says}
+use Rattle.script_generator.specs.Summary.{summary_lines}
 use Rattle.script_run.specs.Statuses.{Done, limit}
+use Rattle.generated_run.specs.Summed.{generated_end, generated_summary}
 use Rattle.inverda_run.specs.Files.{IsLonger}
 use Rattle.inverda_run.specs.Starts.{IsDumpText, StartsBy, Told}
 
@@ -36,9 +38,19 @@ pub record Starts (words : List (List ℕ)) (told : Told) (asked : Asked) (from 
   pub says : Says words asked
   pub start : StartsBy told asked.load asked.max_id from
 
--- it holds of where the run starts
+-- the words ask for the generated script of so many numbers in place of the source's
+pub record Generates (words : List (List ℕ)) (n : ℕ) : Type 0 where
+  pub asked : Asked
+  pub says : Says words asked
+  pub generate : asked.generate ≡ Some n
+
+-- the words ask for no generated script
+abbrev pub RunsSource : List (List ℕ) → Type 0
+RunsSource words = (n : ℕ) → Generates words n → ⊥
+
+-- it holds of where a run of the source's script starts
 abbrev pub OfStart : List (List ℕ) → Told → (Standing → Type 0) → Type 0
-OfStart words told P = (asked : Asked) × (from : Standing) × Starts words told asked from × P from
+OfStart words told P = (asked : Asked) × (from : Standing) × Starts words told asked from × (asked.generate ≡ None) × P from
 
 -- the bytes are no dump of a database
 abbrev pub NoDump : List ℕ → Type 0
@@ -51,13 +63,21 @@ abbrev pub Written : Option (List ℕ) → Told → Laid → Type 0
 Written None told to = ⊤
 Written (Some name) told to = (text : List ℕ) × IsDumpText to text × (length text ≤ limit) × ToldAs (told name) text
 
+-- the script was carried out from here to its end: that of the source, whose statements were answered, or the generated one, whose
+-- summary was put and for which nothing was taken
+pub data Carried (asked : Asked) (from to : Standing) (left left' held held' : Option (List ℕ)) : Type 0 where
+  source : asked.generate ≡ None → Done from to left left' held held' → Carried asked from to left left' held held'
+  generated : (n : ℕ) → asked.generate ≡ Some n → left' ≡ left → Appends held held' (summary_lines (generated_summary from n)) → to ≡ generated_end from n
+      → Carried asked from to left left' held held'
+
 -- the script was carried out from the start to its end, and the dump was written
 pub record Ran (words : List (List ℕ)) (told told' : Told) (left left' held held' : Option (List ℕ)) : Type 0 where
   pub asked : Asked
   pub from : Standing
   pub to : Standing
   pub starts : Starts words told asked from
-  pub done : Done from to left left' held held'
+  pub carried : Carried asked from to left left' held held'
+  pub limit_stays : to.laid.database.limit ≡ asked.max_id
   pub written : Written asked.dump told' to.laid
 
 -- the loaded bytes are no dump
@@ -77,13 +97,13 @@ pub record LongLoad (words : List (List ℕ)) (told : Told) (held held' : Option
   pub longer : IsLonger limit (told name)
   pub put : Appends held held' (line (codes "too long"))
 
--- the script was carried out from the start to its end, and this line stands behind its replies instead of a dump
+-- the script was carried out from the start to its end, and this line stands behind what was put instead of a dump
 pub record RanBefore (words : List (List ℕ)) (told : Told) (left left' held held' : Option (List ℕ)) (last : List ℕ) (to : Standing) : Type 0 where
   pub asked : Asked
   pub from : Standing
   pub starts : Starts words told asked from
   pub between : Option (List ℕ)
-  pub done : Done from to left left' held between
+  pub carried : Carried asked from to left left' held between
   pub put : Appends between held' (line last)
 
 -- the dump would be longer than the limit

@@ -1,5 +1,5 @@
 //! Laws of runs, each the contract of a function that does nothing.
-ghost use Rattle.inverda_run.specs.Laws.{BeginsAgain, LoadsTheDumped, OneDump, OneStart, TwoRuns};
+ghost use Rattle.inverda_run.specs.Laws.{BeginsAgain, LoadsTheDumped, OneDump, OneStart, RunsAreOne, TwoRuns};
 
 use db_state::states_are_stored_once;
 use dump_file::dumps_are_of_one_database;
@@ -17,6 +17,7 @@ pub fn two_runs_are_one()
     ensures loads { LoadsTheDumped }
     ensures runs { TwoRuns }
     ensures again { BeginsAgain }
+    ensures one { RunsAreOne }
 {
     states_are_stored_once::<AnyOp>();
     dumps_are_of_one_database();

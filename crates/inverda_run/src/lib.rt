@@ -17,6 +17,7 @@ mod begin;
 mod end;
 mod file;
 mod finish;
+mod generate;
 mod last;
 mod laws;
 mod limit;

@@ -6,14 +6,15 @@ ghost use Rattle.outside.specs.Causes.{Rose};
 ghost use Rattle.engine_core.specs.Texts.{line};
 ghost use Rattle.script_run.specs.Moves.{MovesUnseen};
 ghost use Rattle.script_run.specs.Statuses.{AnswersScript, BegunTaken, FirstReplies, Passed, Stopped, StoppedOfAll, Unread};
-ghost use Rattle.inverda_run.specs.Statuses.{LongDump, LongLoad, Misses, OfStart, Ran, RefusedDump, SayNothing, StaysBut, UnreadLoad, UnwrittenDump};
-ghost use Rattle.inverda_run.specs.Decided.{Begun, Told', ToldLonger, ToldNoDump, ToldWhole};
-ghost use Rattle.inverda_run.specs.Calls.{EndStays, Ends, ended as ended_lem};
+ghost use Rattle.inverda_run.specs.Statuses.{Generates, LongDump, LongLoad, Misses, OfStart, Ran, RefusedDump, RunsSource, SayNothing, StaysBut, UnreadLoad, UnwrittenDump};
+ghost use Rattle.inverda_run.specs.Decided.{Begun, Told', ToldGenerated, ToldLonger, ToldNoDump, ToldWhole};
+ghost use Rattle.inverda_run.specs.Calls.{EndStays, Ends, Untouched, ended as ended_lem};
 ghost use Rattle.inverda_run.specs.declared.end.End.TheVariants as end;
 
 use crate::begin::{NotBegun, begin};
 use crate::end::End;
 use crate::finish::finish;
+use crate::generate::generate;
 use crate::last::put_last;
 use crate::laws::two_runs_are_one;
 use engine_sessions::Sessions;
@@ -54,6 +55,9 @@ fn run<S: Source, K: Sink, F: Files>(
         ((result ≡ end.Done) ⊎ Rose (F.faults files.old) (F.faults files.new)) }
     ensures misses { Misses (map string_bytes words.now) (F.told files.old) (F.missing files.old)
         (F.missing files.new) }
+    ensures untouched { (n : ℕ) → Generates (map string_bytes words.now) n
+        → Untouched (S.left script.old) (S.left script.new) (S.faults script.old)
+        (S.faults script.new) }
     ensures later_read { S.faults script.old ≤ S.faults script.new }
     ensures later_write { K.faults out.old ≤ K.faults out.new }
     ensures later_file { F.faults files.old ≤ F.faults files.new }
@@ -77,6 +81,9 @@ fn run<S: Source, K: Sink, F: Files>(
         Err(NotBegun::Fault) => return put_last(End::UnreadLoad, b"file fault\n", out),
     };
     let mut sessions = Sessions::over(alloc, engine);
+    if let Some(n) = asked.generate {
+        return generate(alloc, &mut sessions, n, asked.dump, out, files);
+    }
     match run_source(alloc, &mut sessions, script, out) {
         ScriptEnd::Done => finish(alloc, sessions.engine(), asked.dump, out, files),
         end => ended(end),
@@ -85,10 +92,12 @@ fn run<S: Source, K: Sink, F: Files>(
 
 /// Runs the script that the source gives, and puts the lines that answer its statements. The words are
 /// those after the program's name: `--load FILE` begins from the database whose dump the file holds,
-/// `--dump FILE` dumps the database to a file at the end, and `--max-ids N` sets the greatest
-/// identifier that is drawn. The answer is a status:
+/// `--dump FILE` dumps the database to a file at the end, `--max-ids N` sets the greatest identifier
+/// that is drawn, and `--generate N` runs the generated script of N numbers in place of the source's,
+/// which isn't touched, and puts its summary. The answer is a status:
 ///
-/// - 0: all statements were carried out and answered, and the dump was written where there is one
+/// - 0: all statements were carried out and answered, or the generated ones carried out and summed up,
+///   and the dump was written where there is one
 /// - 1: memory ran out
 /// - 2: the words say nothing; the last line is `bad words`
 /// - 3: the bytes are no script; the last line is `syntax` with line and column of the first fault
@@ -117,9 +126,9 @@ pub fn inverda<S: Source, K: Sink, F: Files>(
     ensures done { result ≡ 0 → Ran (map string_bytes words.now) (F.told files.old)
         (F.told files.new) (S.left script.old) (S.left script.new) (K.held out.old)
         (K.held out.new) }
-    ensures answers { result ≡ 0 → OfStart (map string_bytes words.now) (F.told files.old)
+    ensures answers { result ≡ 0 → RunsSource (map string_bytes words.now) → OfStart (map string_bytes words.now) (F.told files.old)
         (λ from. AnswersScript from (S.left script.old) (K.held out.old) (K.held out.new)) }
-    ensures unseen { result ≡ 0 → OfStart (map string_bytes words.now) (F.told files.old)
+    ensures unseen { result ≡ 0 → RunsSource (map string_bytes words.now) → OfStart (map string_bytes words.now) (F.told files.old)
         (λ from. MovesUnseen from (S.left script.old) (S.left script.new) (K.held out.old)
         (K.held out.new)) }
     ensures calm { result ≡ 0 → (S.faults script.new ≡ S.faults script.old)
@@ -128,6 +137,9 @@ pub fn inverda<S: Source, K: Sink, F: Files>(
     // Where nothing fails, the words, what is told of files, and the bytes decide the status.
     ensures complete { ToldWhole (map string_bytes words.now) (F.told files.old)
         (S.left script.old) → ¬ Rose (S.faults script.old) (S.faults script.new)
+        → ¬ Rose (K.faults out.old) (K.faults out.new)
+        → ¬ Rose (F.faults files.old) (F.faults files.new) → (result ≡ 0) ⊎ (result ≡ 1) }
+    ensures generates { ToldGenerated (map string_bytes words.now)
         → ¬ Rose (K.faults out.old) (K.faults out.new)
         → ¬ Rose (F.faults files.old) (F.faults files.new) → (result ≡ 0) ⊎ (result ≡ 1) }
     ensures stops { (at : ℕ) → Told' (map string_bytes words.now) (F.told files.old)
@@ -152,6 +164,9 @@ pub fn inverda<S: Source, K: Sink, F: Files>(
     ensures words_only { SayNothing (map string_bytes words.now)
         → (result ≡ 2) ⊎ (result ≡ 1) ⊎ (result ≡ 6) }
     ensures untouched { (result ≡ 2) ⊎ (result ≡ 4) → (S.left script.new ≡ S.left script.old)
+        × (S.faults script.new ≡ S.faults script.old) }
+    ensures unread { (n : ℕ) → Generates (map string_bytes words.now) n
+        → (S.left script.new ≡ S.left script.old)
         × (S.faults script.new ≡ S.faults script.old) }
     ensures syntax { result ≡ 3 → OfStart (map string_bytes words.now) (F.told files.old)
         (λ from. Stopped from (S.left script.old) (S.left script.new) (S.faults script.old)

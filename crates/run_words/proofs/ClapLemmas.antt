@@ -7,7 +7,7 @@ use Rattle.std.specs.Prelude.{◌==◌}
 use Rattle.std.proofs.Common.{arith}
 use Rattle.std.proofs.lemmas.Bool.Decides.{nat_tests}
 use Rattle.std.proofs.lemmas.Slice.Eq.{bytes_eq-Decides}
-use Rattle.clap.specs.Walk.{Held, Row, Rule, Text, Walk, arg_by_id, arg_by_long, at_row, has_row, idle, more_values, nothing_held, option, settled, settled_rows, used, walk, walk_from, walked, without}
+use Rattle.clap.specs.Walk.{Held, Row, Rule, Text, Walk, arg_by_id, arg_by_long, at_row, has_row, idle, more_values, option, settled, settled_rows, used, walk, walked, without}
 use Rattle.clap.specs.Simple.{Shape, built}
 use Rattle.clap.specs.Faults.{settle_fault, turn_fault, use_fault, walk_fault}
 use Rattle.clap.specs.Kinds.{Kinds, or_else}
@@ -46,18 +46,20 @@ rule name = record {
   is_free = true;
 }
 
-rules_are : rules ≡ rule (codes "load") ∷ rule (codes "dump") ∷ rule (codes "max-ids") ∷ []
+rules_are : rules ≡ rule (codes "load") ∷ rule (codes "dump") ∷ rule (codes "max-ids") ∷ rule (codes "generate") ∷ []
 rules_are = refl
 
 pub by_id : (name : Text) → IsOption name → arg_by_id rules name ≡ Some (rule name)
 by_id name (inl is) = rw is refl
 by_id name (inr (inl is)) = rw is refl
-by_id name (inr (inr is)) = rw is refl
+by_id name (inr (inr (inl is))) = rw is refl
+by_id name (inr (inr (inr is))) = rw is refl
 
 pub by_long : (name : Text) → IsOption name → arg_by_long rules name ≡ Some (rule name)
 by_long name (inl is) = rw is refl
 by_long name (inr (inl is)) = rw is refl
-by_long name (inr (inr is)) = rw is refl
+by_long name (inr (inr (inl is))) = rw is refl
+by_long name (inr (inr (inr is))) = rw is refl
 
 -- ---- one option
 
@@ -217,11 +219,13 @@ flag_fault name other None word rows is known long = rw (not_dashes word (other,
 
 -- a name is an option's, or clap knows none of it
 pub option_or_none : (name : Text) → IsOption name ⊎ (arg_by_long rules name ≡ None)
-option_or_none name = go (bytes_eq (codes "load") name) refl (bytes_eq (codes "dump") name) refl (bytes_eq (codes "max-ids") name) refl
+option_or_none name =
+    go (bytes_eq (codes "load") name) refl (bytes_eq (codes "dump") name) refl (bytes_eq (codes "max-ids") name) refl (bytes_eq (codes "generate") name) refl
   where
     go : (a : Bool) → bytes_eq (codes "load") name ≡ a → (b : Bool) → bytes_eq (codes "dump") name ≡ b → (c : Bool) → bytes_eq (codes "max-ids") name ≡ c
-        → IsOption name ⊎ (arg_by_long rules name ≡ None)
-    go true e b f c g = inl (inl (sym (same_bytes (codes "load") name e)))
-    go false e true f c g = inl (inr (inl (sym (same_bytes (codes "dump") name f))))
-    go false e false f true g = inl (inr (inr (sym (same_bytes (codes "max-ids") name g))))
-    go false e false f false g = inr (rw (e, f, g) refl)
+        → (d : Bool) → bytes_eq (codes "generate") name ≡ d → IsOption name ⊎ (arg_by_long rules name ≡ None)
+    go true e b f c g d h = inl (inl (sym (same_bytes (codes "load") name e)))
+    go false e true f c g d h = inl (inr (inl (sym (same_bytes (codes "dump") name f))))
+    go false e false f true g d h = inl (inr (inr (inl (sym (same_bytes (codes "max-ids") name g)))))
+    go false e false f false g true h = inl (inr (inr (inr (sym (same_bytes (codes "generate") name h)))))
+    go false e false f false g false h = inr (rw (e, f, g, h) refl)

@@ -49,12 +49,14 @@ fine_two_more h next name word value words before rows here none then fine behin
 pub joined_name : (name value : Text) → IsOption name → long_of (codes "--" ++ (name ++ (codes "=" ++ value))) ≡ Some (name, Some value)
 joined_name name value (inl is) = rw is refl
 joined_name name value (inr (inl is)) = rw is refl
-joined_name name value (inr (inr is)) = rw is refl
+joined_name name value (inr (inr (inl is))) = rw is refl
+joined_name name value (inr (inr (inr is))) = rw is refl
 
 pub apart_name : (name : Text) → IsOption name → long_of (codes "--" ++ name) ≡ Some (name, None)
 apart_name name (inl is) = rw is refl
 apart_name name (inr (inl is)) = rw is refl
-apart_name name (inr (inr is)) = rw is refl
+apart_name name (inr (inr (inl is))) = rw is refl
+apart_name name (inr (inr (inr is))) = rw is refl
 
 -- THE WORDS ARE OPTIONS: clap finds no fault, and a row of each
 pub are_fine : (gs : List Given) (words : List Text) → Spells words gs → Once gs → (rows : List Row) (pending : Option (Text × List Text))

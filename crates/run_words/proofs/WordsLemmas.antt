@@ -37,12 +37,14 @@ unfolding defaults_fault
 no_defaults rows =
     none_both _ _ (no_default (codes "load") rows)
     (none_both _ _ (no_default (codes "dump") (with_default rows (rule (codes "load"))))
-    (none_both _ _ (no_default (codes "max-ids") (with_default (with_default rows (rule (codes "load"))) (rule (codes "dump")))) refl))
+    (none_both _ _ (no_default (codes "max-ids") (with_default (with_default rows (rule (codes "load"))) (rule (codes "dump"))))
+    (none_both _ _ (no_default (codes "generate") (with_default (with_default (with_default rows (rule (codes "load"))) (rule (codes "dump"))) (rule (codes "max-ids")))) refl)))
 
 all_rows : (rows : List Row) → fold with_default rows rules ≡ rows
 all_rows rows =
-    ap (λ rs. with_default (with_default rs (rule (codes "dump"))) (rule (codes "max-ids"))) (same_rows (codes "load") rows)
-    ∙ ap (λ rs. with_default rs (rule (codes "max-ids"))) (same_rows (codes "dump") rows) ∙ same_rows (codes "max-ids") rows
+    ap (λ rs. with_default (with_default (with_default rs (rule (codes "dump"))) (rule (codes "max-ids"))) (rule (codes "generate"))) (same_rows (codes "load") rows)
+    ∙ ap (λ rs. with_default (with_default rs (rule (codes "max-ids"))) (rule (codes "generate"))) (same_rows (codes "dump") rows)
+    ∙ ap (λ rs. with_default rs (rule (codes "generate"))) (same_rows (codes "max-ids") rows) ∙ same_rows (codes "generate") rows
 
 -- the rows that clap finds are those at the end of the walk
 matches_are : (words : List Text) → matches_of program words ≡ end_rows (holding [] None) words

@@ -7,7 +7,7 @@ use Rattle.run_words.specs.declared.words.BadWords.{BadWords}
 use Rattle.run_words.specs.declared.words.RunWords.{RunWords}
 
 abbrev pub asked_of : RunWords → Asked
-asked_of w = record { load = option_map (λ s. s.now) w.load; dump = option_map (λ s. s.now) w.dump; max_id = w.max_id }
+asked_of w = record { load = option_map (λ s. s.now) w.load; dump = option_map (λ s. s.now) w.dump; max_id = w.max_id; generate = w.generate }
 
 -- what the words say, or a refusal exactly where they say nothing
 abbrev pub Reads : List (List ℕ) → Result RunWords (Fault BadWords) → Type 0

@@ -18,10 +18,13 @@ fn options<'a>(alloc: Global) -> Result<Command<'a>, AllocError>
     let max_ids = Arg::new(alloc, "max-ids")
         .long("max-ids")
         .action(ArgAction::Set);
+    let generate = Arg::new(alloc, "generate")
+        .long("generate")
+        .action(ArgAction::Set);
     let command = Command::new(alloc, "inverda")
         .no_binary_name(true)
         .disable_help_flag(true);
-    command.arg(load)?.arg(dump)?.arg(max_ids)
+    command.arg(load)?.arg(dump)?.arg(max_ids)?.arg(generate)
 }
 
 /// What `clap` finds in the words.

@@ -1,4 +1,4 @@
-//! The greatest identifier, as words give it.
+//! The numbers that words give.
 ghost use Rattle.std.specs.Prelude.{◌≡◌};
 ghost use Rattle.std.specs.Str.{all_ascii_digits};
 ghost use Rattle.run_words.specs.inner.Reading.{FindsNumber};
@@ -8,6 +8,9 @@ const MOST_DIGITS: usize = 19;
 
 /// The greatest identifier that there is, 2^63 - 1.
 pub const GREATEST: u64 = 9_223_372_036_854_775_807;
+
+/// The most rows that a generated script begins with.
+pub const GREATEST_COUNT: u64 = 100_000;
 
 fn are_digits(bytes: &[u8]) -> bool
     ensures { result ≡ all_ascii_digits bytes.now }

@@ -1,5 +1,5 @@
 -- What is read with clap, and what the program looks at itself.
-use Rattle.std.specs.Prelude.{◌≡◌, ◌≢◌, ℕ, true, List, [], Option, Some, None, codes, Result, Ok, Err, ⊤}
+use Rattle.std.specs.Prelude.{◌≡◌, ◌≢◌, ℕ, true, List, [], Option, Some, None, codes, IsSome, Result, Ok, Err, ⊤}
 use Rattle.std.specs.List.{All}
 use Rattle.par_base.specs.declared.fault.Fault.{Fault}
 use Rattle.par_base.specs.declared.fault.Fault.TheVariants.{Refused, Memory}
@@ -10,7 +10,7 @@ use Rattle.clap.specs.Faults.{fault_of}
 use Rattle.clap.specs.Matches.{found_of}
 use Rattle.clap.specs.declared.parser.matches.ArgMatches.{ArgMatches}
 use Rattle.clap.specs.declared.builder.action.ArgAction.TheVariants.{Set}
-use Rattle.run_words.specs.Words.{IsLimit, IsNumber, IsValue}
+use Rattle.run_words.specs.Words.{IsCount, IsLimit, IsNumber, IsValue}
 use Rattle.run_words.specs.declared.words.BadWords.{BadWords}
 
 -- ---- the command
@@ -24,7 +24,8 @@ abbrev pub bare : App
 bare = on_top (λ s. record s { no_binary_name = true; disable_help_flag = true }) (new_app (codes "inverda"))
 
 abbrev pub program : App
-program = with_rule (with_rule (with_rule bare (option_rule (codes "load"))) (option_rule (codes "dump"))) (option_rule (codes "max-ids"))
+program =
+    with_rule (with_rule (with_rule (with_rule bare (option_rule (codes "load"))) (option_rule (codes "dump"))) (option_rule (codes "max-ids"))) (option_rule (codes "generate"))
 
 -- the matches of the words, or a refusal where clap finds a fault
 abbrev pub Matches : List (List ℕ) → Result ArgMatches (Fault BadWords) → Type 0
@@ -58,3 +59,12 @@ FindsNumber text None = (n : ℕ) → IsNumber text n → ⊥
 abbrev pub FindsLimit : Option (List ℕ) → Option ℕ → Type 0
 FindsLimit text (Some n) = IsLimit text n
 FindsLimit text None = (n : ℕ) → IsLimit text n → ⊥
+
+-- how many rows a value gives, or that it gives no such number
+abbrev pub FindsCount : Option (List ℕ) → Option (Option ℕ) → Type 0
+FindsCount text (Some count) = IsCount text count
+FindsCount text None = (count : Option ℕ) → IsCount text count → ⊥
+
+-- beside a number of rows neither a file to load nor a greatest identifier is given
+abbrev pub IsAlone : Option ℕ → Option (List ℕ) → Option (List ℕ) → Type 0
+IsAlone count load max_ids = IsSome count → (load ≡ None) × (max_ids ≡ None)

@@ -1,4 +1,4 @@
-use Rattle.std.proofs.Common.{rules, ◌-◌, ◌∙◌, take}
+use Rattle.std.proofs.Common.{rules, ◌∙◌, take}
 use Rattle.inverda_run.proofs.FileLemmas.{front_kept}
 use Rattle.inverda_run.proofs.file.read_file.Goals as goal
 

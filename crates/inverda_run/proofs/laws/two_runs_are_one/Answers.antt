@@ -1,5 +1,5 @@
 use Rattle.inverda_run.proofs.DumpLemmas.{loads_dumped, one_dump, one_start}
-use Rattle.inverda_run.proofs.TwoRunLemmas.{begins_again, two_runs}
+use Rattle.inverda_run.proofs.TwoRunLemmas.{begins_again, runs_are_one, two_runs}
 use Rattle.inverda_run.proofs.laws.two_runs_are_one.Goals as goal
 
 pub returns-clause-dump : goal.returns-clause-dump
@@ -16,3 +16,6 @@ returns-clause-runs c = two_runs
 
 pub returns-clause-again : goal.returns-clause-again
 returns-clause-again c = begins_again c.full_statements_need_the_data_alone.ensures
+
+pub returns-clause-one : goal.returns-clause-one
+returns-clause-one c = runs_are_one (loads_dumped (one_start c.dumps_are_of_one_database.ensures)) c.full_statements_need_the_data_alone.ensures

@@ -1,6 +1,6 @@
 use Rattle.std.proofs.Common.{◌≡◌, refl, inl, inr}
 use Rattle.bidel_script.specs.Script.{Over, Fault, Long, Open}
-use Rattle.inverda_run.proofs.TopLemmas.{long_dump_is_over, long_dump_not_refused, long_dump_not_whole, long_is_not_refused, long_not_told, nothing_started, nothing_told, passed_cut, passed_is_long, ran_answers, ran_is_over, ran_not_longer, ran_not_refused, ran_unseen, refused_is_not_longer, refused_not_told, started_not_longer, started_not_refused, stays_for, stopped_cut, stopped_is_fault, unread_cut, unread_rose}
+use Rattle.inverda_run.proofs.TopLemmas.{loads_not_generated, long_dump_is_over, long_dump_not_generated, long_dump_not_refused, long_dump_not_whole, long_is_not_refused, long_not_told, nothing_started, nothing_told, passed_cut, passed_is_long, ran_answers, ran_is_over, ran_not_longer, ran_not_refused, ran_unseen, refused_is_not_longer, refused_not_told, started_not_generated, started_not_longer, started_not_refused, stays_for, stopped_cut, stopped_is_fault, unread_cut, unread_rose}
 use Rattle.inverda_run.proofs.top.inverda.Goals as goal
 
 pub returns-in-Done-clause-files : goal.returns-in-Done-clause-files
@@ -40,17 +40,17 @@ pub returns-in-UnwrittenDump-clause-files : goal.returns-in-UnwrittenDump-clause
 returns-in-UnwrittenDump-clause-files g c = stays_for (λ p. elim p [ inl is ↦ (let no : ⊥ = cc in absurd no) | inr rose ↦ inr rose ]) c.in-UnwrittenDump.ensures.files
 
 pub returns-in-Done-clause-answers : goal.returns-in-Done-clause-answers
-returns-in-Done-clause-answers g c = λ zero. ran_answers c.in-Done.ensures.ends.0
+returns-in-Done-clause-answers g c = λ zero none. ran_answers c.in-Done.ensures.ends.0 none
 
 pub returns-in-Done-clause-unseen : goal.returns-in-Done-clause-unseen
-returns-in-Done-clause-unseen g c = λ zero. ran_unseen c.in-Done.ensures.ends.0
+returns-in-Done-clause-unseen g c = λ zero none. ran_unseen c.in-Done.ensures.ends.0 none
 
 pub returns-in-Done-clause-stops : goal.returns-in-Done-clause-stops
-returns-in-Done-clause-stops g c = λ at told safe put files. let same : Fault at ≡ Over = ran_is_over (g.S.Source.faults c.args.script.now) (g.S.Source.faults c.run.new.script) c.in-Done.ensures.ends.0 safe told in cc
+returns-in-Done-clause-stops g c = λ at told safe put files. let same : Fault at ≡ Over = ran_is_over c.words_say_one_thing.ensures (g.S.Source.faults c.args.script.now) (g.S.Source.faults c.run.new.script) c.in-Done.ensures.ends.0 safe told in cc
 
 pub returns-in-Done-clause-passes : goal.returns-in-Done-clause-passes
 returns-in-Done-clause-passes g c = λ told safe put files.
-    elim told [ inl t ↦ (let same : Long ≡ Over = ran_is_over (g.S.Source.faults c.args.script.now) (g.S.Source.faults c.run.new.script) c.in-Done.ensures.ends.0 safe t in cc) | inr t ↦ (let same : Open ≡ Over = ran_is_over (g.S.Source.faults c.args.script.now) (g.S.Source.faults c.run.new.script) c.in-Done.ensures.ends.0 safe t in cc) ]
+    elim told [ inl t ↦ (let same : Long ≡ Over = ran_is_over c.words_say_one_thing.ensures (g.S.Source.faults c.args.script.now) (g.S.Source.faults c.run.new.script) c.in-Done.ensures.ends.0 safe t in cc) | inr t ↦ (let same : Open ≡ Over = ran_is_over c.words_say_one_thing.ensures (g.S.Source.faults c.args.script.now) (g.S.Source.faults c.run.new.script) c.in-Done.ensures.ends.0 safe t in cc) ]
 
 pub returns-in-Done-clause-refuses : goal.returns-in-Done-clause-refuses
 returns-in-Done-clause-refuses g c = λ d put files. absurd (ran_not_refused c.words_say_one_thing.ensures c.in-Done.ensures.ends.0 d)
@@ -226,3 +226,30 @@ returns-in-UnwrittenDump-clause-words_only g c = λ none. absurd (none c.in-Unwr
 
 pub returns-in-UnwrittenDump-clause-fault : goal.returns-in-UnwrittenDump-clause-fault
 returns-in-UnwrittenDump-clause-fault g c = λ eight. (c.in-UnwrittenDump.ensures.ends.0, inr c.in-UnwrittenDump.ensures.ends.1)
+
+pub returns-in-BadWords-clause-generates : goal.returns-in-BadWords-clause-generates
+returns-in-BadWords-clause-generates g c = λ d put files. absurd (c.in-BadWords.ensures.ends.0 d.asked d.says)
+
+pub returns-in-Syntax-clause-generates : goal.returns-in-Syntax-clause-generates
+returns-in-Syntax-clause-generates g c = λ d put files. absurd (started_not_generated c.words_say_one_thing.ensures c.in-Syntax.ensures.ends d)
+
+pub returns-in-Unread-clause-generates : goal.returns-in-Unread-clause-generates
+returns-in-Unread-clause-generates g c = λ d put files. absurd (started_not_generated c.words_say_one_thing.ensures c.in-Unread.ensures.ends d)
+
+pub returns-in-LongScript-clause-generates : goal.returns-in-LongScript-clause-generates
+returns-in-LongScript-clause-generates g c = λ d put files. absurd (started_not_generated c.words_say_one_thing.ensures c.in-LongScript.ensures.ends d)
+
+pub returns-in-Refused-clause-generates : goal.returns-in-Refused-clause-generates
+returns-in-Refused-clause-generates g c = λ d put files. absurd (loads_not_generated c.words_say_one_thing.ensures c.in-Refused.ensures.ends.0.loads d)
+
+pub returns-in-LongLoad-clause-generates : goal.returns-in-LongLoad-clause-generates
+returns-in-LongLoad-clause-generates g c = λ d put files. absurd (loads_not_generated c.words_say_one_thing.ensures c.in-LongLoad.ensures.ends.0.loads d)
+
+pub returns-in-LongDump-clause-generates : goal.returns-in-LongDump-clause-generates
+returns-in-LongDump-clause-generates g c = λ d put files. absurd (long_dump_not_generated c.words_say_one_thing.ensures c.in-LongDump.ensures.ends d)
+
+pub returns-in-UnreadLoad-clause-generates : goal.returns-in-UnreadLoad-clause-generates
+returns-in-UnreadLoad-clause-generates g c = λ d put files. absurd (files c.in-UnreadLoad.ensures.ends.0)
+
+pub returns-in-UnwrittenDump-clause-generates : goal.returns-in-UnwrittenDump-clause-generates
+returns-in-UnwrittenDump-clause-generates g c = λ d put files. absurd (files c.in-UnwrittenDump.ensures.ends.0)

@@ -1,4 +1,4 @@
-use Rattle.std.proofs.Common.{map, string_bytes, sym, subst, inl}
+use Rattle.std.proofs.Common.{map, string_bytes, sym, subst, ◌∙◌, inl}
 use Rattle.op_kinds.specs.Operators.{AnyView}
 use Rattle.db_state.specs.declared.parts.Parts.{Parts}
 use Rattle.engine_core.specs.Kept.{state_of}
@@ -10,7 +10,8 @@ use Rattle.inverda_run.specs.Calls.{EndStays, Ends, Finishes}
 use Rattle.inverda_run.specs.declared.end.End.{End}
 use Rattle.inverda_run.proofs.EndLemmas.{bad_ends, longer_ends, refused_ends, script_ends}
 use Rattle.inverda_run.proofs.FinishLemmas.{finish_stays}
-use Rattle.inverda_run.proofs.RunLemmas.{finished, script_stays, stays_from}
+use Rattle.inverda_run.proofs.RunLemmas.{finished, generated_so, script_stays, source_touched, stays_from}
+use Rattle.inverda_run.proofs.StartLemmas.{starts_limit}
 use Rattle.inverda_run.proofs.StartedLemmas.{misses_loaded}
 use Rattle.inverda_run.proofs.top.run.Goals as goal
 
@@ -44,12 +45,13 @@ returns-in-Done-clause-ends g c =
     let asked = asked_of c.in-Ok.asked in
     let begins = c.in-Ok-begin.ensures.begins in
     let from = standing_of c.over-sessions.result in
+    let own = c.in_default.is in
     let starts : Starts words told asked from = record { says = c.in-Ok.ensures; start = subst (λ (s : Standing). StartsBy told asked.load asked.max_id s) (sym c.over-sessions.ensures.standing) begins.0 } in
     finished words told (g.F.Files.told c.finish.new.files) (g.S.Source.left c.args.script.now) (g.S.Source.left c.run_source.new.script) (g.S.Source.faults c.args.script.now) (g.S.Source.faults c.run_source.new.script)
     (g.K.Sink.held c.args.out.now) (g.K.Sink.held c.run_source.new.out) (g.K.Sink.held c.finish.new.out) (g.K.Sink.faults c.args.out.now) (g.K.Sink.faults c.run_source.new.out) (g.K.Sink.faults c.finish.new.out)
     (g.F.Files.faults c.args.files.now) (g.F.Files.faults c.begin.new.files) (g.F.Files.faults c.finish.new.files)
-    c.words_say_one_thing.ensures c.two_runs_are_one.ensures.start c.two_runs_are_one.ensures.dump asked from (standing_of c.run_source.new.sessions) starts
-    c.in-Done.ensures.ends.0 c.in-Done.ensures.ends.1 c.in-Done.ensures.stays begins.2 c.finish.result
+    c.words_say_one_thing.ensures c.two_runs_are_one.ensures.start c.two_runs_are_one.ensures.dump asked from (standing_of c.run_source.new.sessions) starts own
+    c.in-Done.ensures.ends.0 (c.in-Done.ensures.keeps.limit ∙ starts_limit words told asked from starts) c.in-Done.ensures.ends.1 c.in-Done.ensures.stays begins.2 c.finish.result
     (subst (λ (k : Parts AnyView). Finishes (state_of k) asked.dump (g.F.Files.told c.finish.new.files) (g.K.Sink.held c.run_source.new.out) (g.K.Sink.held c.finish.new.out) (g.K.Sink.faults c.run_source.new.out) (g.K.Sink.faults c.finish.new.out) (g.F.Files.faults c.begin.new.files) (g.F.Files.faults c.finish.new.files) c.finish.result)
     c.engine.ensures c.finish.ensures.finishes)
 
@@ -70,15 +72,17 @@ returns g c =
     let filed' = g.F.Files.faults c.begin.new.files in
     let asked = asked_of c.in-Ok.asked in
     let from = standing_of c.over-sessions.result in
+    let own = c.in_default.is in
     let starts : Starts words told asked from =
     record { says = c.in-Ok.ensures; start = subst (λ (s : Standing). StartsBy told asked.load asked.max_id s) (sym c.over-sessions.ensures.standing) c.in-Ok-begin.ensures.begins.0 } in
     record {
       ends = subst (λ (e : End). Ends words told told' left left' read read' held held' put put' filed filed' e) (sym c.ended.ensures)
-          (script_ends words told told' left left' read read' held put filed filed' c.words_say_one_thing.ensures c.two_runs_are_one.ensures.start asked from (standing_of c.run_source.new.sessions) starts
-          held' put' c.run_source.result c.in_default.not-Done c.run_source.ensures.ends);
+          (script_ends words told told' left left' read read' held put filed filed' c.words_say_one_thing.ensures c.two_runs_are_one.ensures.start asked from (standing_of c.run_source.new.sessions) starts own
+          held' put' c.run_source.result c.in_default-run_source.not-Done c.run_source.ensures.ends);
       stays = subst (λ (e : End). EndStays put put' e) (sym c.ended.ensures) (script_stays put put' c.run_source.result c.run_source.ensures.stays);
       files = λ file. inl (c.begin.ensures.same file);
       misses = misses_loaded words told asked (g.F.Files.missing c.args.files.now) (g.F.Files.missing c.begin.new.files) c.in-Ok.ensures c.begin.ensures.missing;
+      untouched = λ n generates. absurd (source_touched words c.words_say_one_thing.ensures asked c.in-Ok.ensures own n generates);
       later_read = c.run_source.ensures.later_read;
       later_write = c.run_source.ensures.later_write;
       later_file = c.begin.ensures.later;
@@ -89,3 +93,18 @@ returns-in-Done-clause-stays g c =
     stays_from (g.K.Sink.faults c.args.out.now) (g.K.Sink.faults c.run_source.new.out) (g.K.Sink.faults c.finish.new.out) c.finish.result c.in-Done.ensures.stays
     (finish_stays (state_of c.engine.result.now) (asked_of c.in-Ok.asked).dump (g.F.Files.told c.finish.new.files) (g.K.Sink.held c.run_source.new.out) (g.K.Sink.held c.finish.new.out)
     (g.K.Sink.faults c.run_source.new.out) (g.K.Sink.faults c.finish.new.out) (g.F.Files.faults c.begin.new.files) (g.F.Files.faults c.finish.new.files) c.finish.result c.finish.ensures.finishes)
+
+pub returns-in-Done-clause-untouched : goal.returns-in-Done-clause-untouched
+returns-in-Done-clause-untouched g c = λ n generates. absurd (source_touched (map string_bytes c.args.words.now) c.words_say_one_thing.ensures (asked_of c.in-Ok.asked) c.in-Ok.ensures c.in_default.is n generates)
+
+pub returns-in-Some-clause-ends : goal.returns-in-Some-clause-ends
+returns-in-Some-clause-ends g c =
+    let words = map string_bytes c.args.words.now in
+    let told = g.F.Files.told c.args.files.now in
+    let asked = asked_of c.in-Ok.asked in
+    let begins = c.in-Ok-begin.ensures.begins in
+    let from = standing_of c.over-sessions.result in
+    let starts : Starts words told asked from = record { says = c.in-Ok.ensures; start = subst (λ (s : Standing). StartsBy told asked.load asked.max_id s) (sym c.over-sessions.ensures.standing) begins.0 } in
+    generated_so words told (g.F.Files.told c.generate.new.files) (g.S.Source.left c.args.script.now) (g.S.Source.faults c.args.script.now) (g.K.Sink.held c.args.out.now) (g.K.Sink.held c.generate.new.out)
+    (g.K.Sink.faults c.args.out.now) (g.K.Sink.faults c.generate.new.out) (g.F.Files.faults c.args.files.now) (g.F.Files.faults c.begin.new.files) (g.F.Files.faults c.generate.new.files)
+    c.words_say_one_thing.ensures c.two_runs_are_one.ensures.dump asked from starts c.in-Some.n c.in-Some.is begins.2 c.generate.result c.generate.ensures.ends

@@ -1,0 +1,4 @@
+pub mod Generated
+pub mod Summary
+pub mod Laws
+pub mod inner
