@@ -12,8 +12,6 @@ mod decompose_refusals;
 #[cfg(test)]
 mod decompositions;
 #[cfg(test)]
-mod examples;
-#[cfg(test)]
 mod fk_decompositions;
 #[cfg(test)]
 mod fk_joins;
