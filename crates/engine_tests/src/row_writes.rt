@@ -126,12 +126,19 @@ fn push_tables(alloc: Global, text: &mut String, tables: &[Table]) -> Result<(),
     Ok(())
 }
 
+// Adds the lines of a table.
+fn push_lines(alloc: Global, text: &mut String, table: &Table) -> Result<(), Memory> {
+    let lines = table_text(alloc, table)?;
+    text.push_str(lines.as_str())?;
+    Ok(())
+}
+
 // The lines of all stored tables.
 fn stored_text(alloc: Global, db: &Db<AnyOp>) -> Result<String, Memory> {
     let mut text = String::new(alloc);
     for item in db.stored() {
-        let lines = table_text(alloc, &item.value)?;
-        write!(text, "table {}\n{}", item.number, lines.as_str())?;
+        write!(text, "table {}\n", item.number)?;
+        push_lines(alloc, &mut text, &item.value)?;
     }
     Ok(text)
 }
@@ -247,7 +254,23 @@ pub(crate) struct Case<'a> {
     pub(crate) after: &'a [Shown],
 }
 
-// Plans a write twice, and puts the second plan in.
+// Plans a write of this database twice, and puts the second plan in.
+fn expect_both<L: Ledger>(
+    rt: &impl Abort,
+    alloc: Global,
+    db: &mut Db<AnyOp>,
+    case: &Case<'_>,
+    steps: &mut Steps<L>,
+) -> Result<(), Fail> {
+    expect_plan(rt, alloc, db, case.text, steps)?;
+    expect_tables(rt, alloc, db, case.before, steps)?;
+    let made = expect_plan(rt, alloc, db, case.text, steps)?;
+    assert_eq!(rt; is_by_rows(&made), case.by_rows, "plan of {}", case.text);
+    let _ = commit(alloc, db, made);
+    expect_tables(rt, alloc, db, case.after, steps)
+}
+
+// The same after a script and a move.
 fn expect_twice<L: Ledger>(
     rt: &impl Abort,
     alloc: Global,
@@ -264,12 +287,7 @@ fn expect_twice<L: Ledger>(
         plain: _,
         moved: mut db,
     } = twin;
-    expect_plan(rt, alloc, &mut db, case.text, &mut steps)?;
-    expect_tables(rt, alloc, &db, case.before, &mut steps)?;
-    let made = expect_plan(rt, alloc, &mut db, case.text, &mut steps)?;
-    assert_eq!(rt; is_by_rows(&made), case.by_rows, "plan of {}", case.text);
-    let _ = commit(alloc, &mut db, made);
-    expect_tables(rt, alloc, &db, case.after, &mut steps)
+    expect_both(rt, alloc, &mut db, case, &mut steps)
 }
 
 // Expects what a write changes, and that its plan alone changes nothing.
