@@ -1,10 +1,9 @@
 //! Whether edges fit a working set.
-ghost use Rattle.std.specs.Prelude.{IsTrue, ◌≡◌, ◌==◌, ◌&&◌, length, List as Items};
+ghost use Rattle.std.specs.Prelude.{IsTrue, ◌≡◌, ◌==◌, ◌&&◌};
 ghost use Rattle.std.specs.List.{list_all};
 ghost use Rattle.std.specs.Str.{bytes_eq};
 ghost use Rattle.version_graph.specs.Sets.{Distinct, Each, In};
 ghost use Rattle.version_graph.specs.Tables.{FitInOrder, FitsSet, IsHeading, heading_names};
-ghost use Rattle.version_graph.specs.declared.parts.Heading.{Heading as AHeading};
 ghost use Rattle.data_tests.specs.Tests.{AreNew, HasRoom, has as has_lem, is_bare as is_bare_lem};
 
 use par_base::Name;

@@ -1,5 +1,5 @@
-//! Tests of the data layer: values and names, sources and sinks, tables and memories, dumps as
-//! JSON, and graphs. This crate has nothing but tests, and what promises them what the calls of a
+//! Tests of the data layer: values and names, sources and sinks, tables, indexes and memories, dumps
+//! as JSON, and graphs. This crate has nothing but tests, and what promises them what the calls of a
 //! graph require (`fit`): it says yes only to edges with at most one source and at most two targets,
 //! and without columns. They call each public function once with ample memory, and show that the
 //! look-ups of a memory are no plain search.
@@ -12,6 +12,8 @@ mod dumps;
 #[cfg(test)]
 mod evolving;
 mod fit;
+#[cfg(test)]
+mod indexes;
 #[cfg(test)]
 mod layouts;
 #[cfg(test)]

@@ -1,5 +1,5 @@
 //! The counter, and memories of pairs.
-ghost use Rattle.std.specs.Prelude.{◌≡◌, ◌≤◌, ◌+◌, IfOk};
+ghost use Rattle.std.specs.Prelude.{◌+◌};
 
 use id_memory::{IdCounter, PairMemory};
 use par_base::{IdsSpent, Memory};

@@ -1,6 +1,5 @@
 //! Tables of many pages: filled from behind, one change at a time, and thinned out.
-ghost use Rattle.std.specs.Prelude.{◌≡◌, ◌+◌, ◌≤◌, length, IfOk};
-ghost use Rattle.row_store.specs.Rows.{row_of};
+ghost use Rattle.std.specs.Prelude.{◌≡◌, ◌+◌, length, IfOk};
 ghost use Rattle.row_store.specs.Changes.{AreOld};
 
 use crate::tables::change;
@@ -65,6 +64,28 @@ fn odd_rows(alloc: Global) -> Result<Table, Memory> {
 fn even_rows_are_taken_out(rt: HostRuntime) -> Result<(), Fail> {
     let table = odd_rows(rt.alloc())?;
     assert_eq!(rt; table.len(), 5_000);
+    expect_found::<Brand>(&rt, &table, (9_999, 10_000), Blank::new(1));
+    Ok(())
+}
+
+/// The changes that take the even identifiers up to 10,000 out.
+fn even_rows(alloc: Global, table: &Table) -> Result<Changes, Memory>
+    ensures { IfOk result (AreOld table.now.rows) }
+{
+    let mut changes = Changes::new(alloc);
+    for half in 0..5_000u64 {
+        changes.push(change(alloc, table, 2 * half + 2, None)?)?;
+    }
+    Ok(changes)
+}
+
+#[test]
+fn even_rows_are_taken_out_at_once(rt: HostRuntime) -> Result<(), Fail> {
+    let mut table = filled(rt.alloc(), 10_000)?;
+    let mut changes = even_rows(rt.alloc(), &table)?;
+    table.reserve(changes.len())?;
+    table.apply(&mut changes);
+    assert_eq!(rt; table.is_same(&odd_rows(rt.alloc())?), true);
     expect_found::<Brand>(&rt, &table, (9_999, 10_000), Blank::new(1));
     Ok(())
 }

@@ -1,0 +1,5 @@
+mod BuildLemmas
+mod EntryLemmas
+mod FoundLemmas
+mod PassLemmas
+mod ReferenceLemmas

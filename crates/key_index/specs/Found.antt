@@ -1,0 +1,11 @@
+-- What a look-up by value answers.
+use Rattle.std.specs.Prelude.{◌≡◌, ℕ, ◌≤◌, List, Option, Some, MatchOption}
+use Rattle.par_base.specs.declared.value.Value.{Value}
+use Rattle.row_store.specs.Rows.{Rows, row_of}
+
+-- the least identifier from this one on that has the key; none, where there is none
+abbrev pub IsLeastFrom : Rows → List Value → ℕ → Option ℕ → Type 0
+IsLeastFrom rows key from found =
+    MatchOption found
+    ((id : ℕ) → from ≤ id → row_of rows id ≡ Some key → ⊥)
+    (λ least. (from ≤ least) × (row_of rows least ≡ Some key) × ((id : ℕ) → from ≤ id → row_of rows id ≡ Some key → least ≤ id))

@@ -1,0 +1,7 @@
+pub mod Changes
+pub mod Found
+pub mod Keys
+pub mod States
+pub mod Tables
+pub mod Values
+pub mod inner

@@ -1,0 +1,3 @@
+pub mod Entries
+pub mod OrderLemmas
+pub mod Passes

@@ -1,0 +1,6 @@
+mod BalanceLemmas
+mod EditLemmas
+mod EntryItemLemmas
+mod FindLemmas
+pub mod OrderLaws
+mod PagesLemmas

@@ -1,0 +1,6 @@
+pub mod Entries
+pub mod Laws
+pub mod LookUps
+pub mod Orders
+pub mod States
+pub mod inner
