@@ -24,7 +24,7 @@ module _ {O : Type 0} where
   right_ends [] ms h = h
   right_ends (n ∷ ns) ms h = right_ends ns ms h.1
 
-  halves : (k : ℕ) (nodes : List (Node O)) → reverse nodes ≡ reverse (drop k nodes) ++ reverse (take k nodes)
+  pub halves : (k : ℕ) (nodes : List (Node O)) → reverse nodes ≡ reverse (drop k nodes) ++ reverse (take k nodes)
   halves k nodes = sym (ap (λ (l : List (Node O)). reverse l) (take-append-drop k nodes)) ∙ reverse-append (take k nodes) (drop k nodes)
 
   pub front_right : (k : ℕ) (nodes : List (Node O)) → AreRight (reverse nodes) → AreRight (reverse (take k nodes))

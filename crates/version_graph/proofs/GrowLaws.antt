@@ -2,7 +2,7 @@
 use Rattle.std.proofs.Common.{◌≡◌, ℕ, suc, ◌+◌, ◌<◌, ◌≤◌, List, [], ◌∷◌, ◌++◌, refl, sym, ap, ◌∙◌, subst, length, take, drop, get_or, arith, inl, inr}
 use Rattle.std.specs.Prelude.{◌==◌, Option, Some, None}
 use Rattle.std.proofs.lemmas.Bool.{eq-eqb, cond-true}
-use Rattle.std.proofs.lemmas.List.{drop_more, drop_all, take_more, map-append, reverse-append, take_at, take-take, length-take}
+use Rattle.std.proofs.lemmas.List.{drop_more, take_more, map-append, reverse-append, take_at, take-take, length-take}
 use mathlib.Core.List.{reverse}
 use Rattle.version_graph.specs.Sets.{In, Each}
 use Rattle.version_graph.specs.Tables.{TableVersion, table_numbers, headings_of, headings_after, FitInOrder}
@@ -111,8 +111,8 @@ last_first xs x = reverse-append xs (x ∷ [])
 
 module _ {O : Type 0} where
   -- what a further node adds
-  pub added : (nodes new : List (Node O)) (e : Placed O) → AddsNode nodes e new → AreRight (reverse nodes) → (edges_of new ≡ e ∷ edges_of nodes) × AreRight (reverse new) × (take (length nodes) new ≡ nodes)
-  added nodes new e a right =
+  pub added : (nodes new : List (Node O)) (low : ℕ) (e : Placed O) → AddsNode nodes low e new → AreRight (reverse nodes) → (edges_of new ≡ e ∷ edges_of nodes) × AreRight (reverse new) × (take (length nodes) new ≡ nodes)
+  added nodes new low e a right =
       let n = a.0 in
       let turned : reverse new ≡ n ∷ reverse nodes = ap (λ (l : List (Node O)). reverse l) a.1 ∙ last_first nodes n in (
         ap (λ (l : List (Node O)). placed_in l) turned ∙ ap (λ (f : Placed O). f ∷ edges_of nodes) a.2,
@@ -127,11 +127,11 @@ module _ {O : Type 0} where
 
   -- one edge more of those that are left, the last of them first
   pub grow_step : (nodes new first : List (Node O)) (left rest : List (Edge O)) (p o t n : ℕ) (e : Edge O) (all : List (Placed O)) → left ≡ rest ++ e ∷ [] → n ≡ length e.targets → CanGrow (edges_of nodes) p o t (reverse left) → AreRight (reverse nodes)
-      → take (length first) nodes ≡ first → grown (edges_of nodes) p o t (reverse left) ≡ all → AddsNode nodes (placed_next p o t e) new
+      → take (length first) nodes ≡ first → grown (edges_of nodes) p o t (reverse left) ≡ all → AddsNode nodes t (placed_next p o t e) new
       → AreRight (reverse new) × CanGrow (edges_of new) (o + 1) (o + 1) (t + n) (reverse rest) × (take (length first) new ≡ first) × (grown (edges_of new) (o + 1) (o + 1) (t + n) (reverse rest) ≡ all)
   grow_step nodes new first left rest p o t n e all is count can right front so_far a =
       let turned : reverse left ≡ e ∷ reverse rest = ap (λ (l : List (Edge O)). reverse l) is ∙ last_first rest e in
-      let add = added nodes new (placed_next p o t e) a right in
+      let add = added nodes new t (placed_next p o t e) a right in
       let next = can_next (edges_of nodes) p o t e (reverse rest) (subst (λ (l : List (Edge O)). CanGrow (edges_of nodes) p o t l) turned can) in
       let counted = subst (λ (k : ℕ). CanGrow (placed_next p o t e ∷ edges_of nodes) (o + 1) (o + 1) (t + k) (reverse rest)) (sym count) next in (
         add.1,

@@ -18,7 +18,7 @@ use Rattle.version_graph.proofs.TakenLaws.{only_found, same_item}
 use Rattle.version_graph.proofs.WalkStepLaws.{in_at, in_reverse, node_number, nodes_once}
 
 -- where no item passes, none is found
-none_found : {X : Type 0} (test : X → Bool) (xs : List X) → ((u : X) → In u xs → test u ≡ true → ⊥) → find test xs ≡ None
+pub none_found : {X : Type 0} (test : X → Bool) (xs : List X) → ((u : X) → In u xs → test u ≡ true → ⊥) → find test xs ≡ None
 none_found test [] none = refl
 none_found test (x ∷ xs) none =
     (elim (test x) as (λ b. test x ≡ b → cond b (Some x) (find test xs) ≡ None) [
@@ -27,7 +27,7 @@ none_found test (x ∷ xs) none =
     ]) refl
 
 -- each item stands at a place
-stands_at : {X : Type 0} (x : X) (xs : List X) (d : X) → In x xs → (i : ℕ) × (i < length xs) × (get_or xs i d ≡ x)
+pub stands_at : {X : Type 0} (x : X) (xs : List X) (d : X) → In x xs → (i : ℕ) × (i < length xs) × (get_or xs i d ≡ x)
 stands_at x [] d i = absurd i
 stands_at x (y ∷ ys) d (inl e) = (0, omega arith, sym e)
 stands_at x (y ∷ ys) d (inr i) = let more = stands_at x ys d i in (suc more.0, omega (arith, more.1), more.2)

@@ -14,6 +14,7 @@ pub mod WalkLaws
 pub mod PlaceLaws
 mod FinishLemmas
 mod HalvingLemmas
+mod MarkLemmas
 mod AscendLemmas
 pub mod UnneededLaws
 pub mod TreeLaws

@@ -2,7 +2,6 @@
 use Rattle.std.proofs.Common.{◌≡◌, ℕ, zero, suc, ◌<◌, List, [], ◌∷◌, ◌++◌, Bool, true, false, cond, refl, sym, ap, ◌∙◌, subst, length, arith, inl, inr}
 use Rattle.std.specs.Prelude.{◌==◌, ◌||◌, Option, Some, None, option_map, option_and_then, slice_get, unwrap_or}
 use Rattle.std.specs.List.{find}
-use Rattle.std.specs.Map.{lookup}
 use Rattle.std.proofs.lemmas.Bool.{eq-eqb, ne_eqb, cond-true, cond-false, cases_eq}
 use Rattle.std.proofs.lemmas.List.{reverse-reverse, reverse-append, map-append}
 use mathlib.Core.List.{reverse}

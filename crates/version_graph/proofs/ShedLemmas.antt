@@ -4,7 +4,7 @@ use Rattle.std.specs.Prelude.{◌==◌, ◌||◌, Some, None, remove, position, 
 use Rattle.std.specs.List.{list_any, position_or_len}
 use Rattle.std.specs.Map.{remove_entry, keys_of, lookup}
 use Rattle.std.proofs.lemmas.Bool.{ne_eqb, eq-eqb, cases_eq}
-use Rattle.std.proofs.lemmas.List.{take_more, drop_more, reverse-append, append-nil, take_at, drop_at, take-append-le, length-take-le}
+use Rattle.std.proofs.lemmas.List.{take_more, drop_more, reverse-append, take_at, drop_at, length-take-le}
 use Rattle.std.proofs.lemmas.List.Folds.{list_any-append}
 use mathlib.Core.List.{reverse}
 use Rattle.version_graph.specs.Edges.{is_in}

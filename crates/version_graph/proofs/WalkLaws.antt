@@ -4,7 +4,7 @@ use Rattle.std.proofs.Common.{inl, inr, refl, sym, ap, ◌∙◌, subst, arith}
 use Rattle.std.proofs.lemmas.Bool.{false≢true}
 use Rattle.std.proofs.lemmas.List.{map-append}
 use Rattle.version_graph.specs.Sets.{In, Apart, Distinct, Within, Each}
-use Rattle.version_graph.specs.Tables.{TableVersion, table_numbers, headings_of, heading_names, taken, table_named}
+use Rattle.version_graph.specs.Tables.{TableVersion, table_numbers, taken, table_named}
 use Rattle.version_graph.specs.Edges.{AreEdges, is_in, numbers, working, set_after, made, made_by_edge}
 use Rattle.version_graph.specs.Forest.{Link, Crossing, crossing, forest, minus, tables_in, up, rest, tree, walk}
 use Rattle.version_graph.specs.Laws.{Leaves, Ordered}

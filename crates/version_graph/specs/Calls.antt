@@ -16,15 +16,21 @@ use Rattle.version_graph.specs.declared.parts.Placed.{Placed}
 use Rattle.version_graph.specs.declared.node.Node.{Node}
 use Rattle.version_graph.specs.declared.node.Last.{Last}
 
--- one node more, of an edge on the others
-abbrev pub AddsNode : {O : Type 0} → List (Node O) → Placed O → List (Node O) → Type 0
-AddsNode {O} nodes e new = (n : Node O) × (new ≡ nodes ++ n ∷ []) × (n.placed ≡ e) × IsRight (edges_of nodes) n
+-- one node more, of an edge on the others, after this last table number
+abbrev pub AddsNode : {O : Type 0} → List (Node O) → ℕ → Placed O → List (Node O) → Type 0
+AddsNode {O} nodes last e new = (n : Node O) × (new ≡ nodes ++ n ∷ []) × (n.placed ≡ e) × IsRight (edges_of nodes) n × (n.last_before ≡ last)
 
 -- the nodes before the place have lesser numbers, and those from it on have not
 pub record IsPlaceFor {O : Type 0} (nodes : List (Node O)) (number place : ℕ) : Type 0 where
   pub within : place ≤ length nodes
   pub older : (i : ℕ) (k : Node O) → i < place → (slice_index_or nodes i k).placed.number < number
   pub others : (i : ℕ) (k : Node O) → place ≤ i → i < length nodes → number ≤ (slice_index_or nodes i k).placed.number
+
+-- the table was given after the last one before each node that stands before the place, and after that of no other
+pub record IsPlaceBehind {O : Type 0} (nodes : List (Node O)) (table place : ℕ) : Type 0 where
+  pub within : place ≤ length nodes
+  pub older : (i : ℕ) (k : Node O) → i < place → (slice_index_or nodes i k).last_before < table
+  pub others : (i : ℕ) (k : Node O) → place ≤ i → i < length nodes → table ≤ (slice_index_or nodes i k).last_before
 
 -- edges may be added on a working set after these numbers
 pub record CanGrow {O : Type 0} (es : List (Placed O)) (parent operator table : ℕ) (more : List (Edge O)) : Type 0 where

@@ -1,7 +1,8 @@
 -- What a graph keeps of its edges.
-use Rattle.std.specs.Prelude.{filter_map, ◌≡◌, ℕ, cond, ◌==◌, List, [], ◌∷◌, ◌++◌, map, Option, option_map}
+use Rattle.std.specs.Prelude.{filter_map, ◌≡◌, ℕ, ◌<◌, ◌≤◌, cond, ◌==◌, List, [], ◌∷◌, ◌++◌, map, Option, option_map}
 use Rattle.std.specs.List.{find}
 use mathlib.Core.List.{reverse}
+use Rattle.version_graph.specs.Sets.{Each}
 use Rattle.version_graph.specs.Tables.{TableVersion, table_numbers}
 use Rattle.version_graph.specs.Edges.{Drawn, is_in, made_by_edge, number_named, sources_of, working, set_after, IsGraph}
 use Rattle.version_graph.specs.Forest.{forest, tree}
@@ -33,6 +34,20 @@ abbrev pub AreRight : {O : Type 0} → List (Node O) → Type 0
 AreRight [] = Unit {0}
 AreRight (n ∷ nodes) = IsRight (placed_in nodes) n × AreRight nodes
 
+-- a node is marked by the last table number before it: its tables were given after that one, up to this last one
+pub record IsMarked {O : Type 0} (last : ℕ) (n : Node O) : Type 0 where
+  pub before : n.last_before ≤ last
+  pub tables : Each (λ t. (n.last_before < t) × (t ≤ last)) n.placed.tables
+
+-- the nodes, the newest first, up to the last table number
+abbrev pub AreMarked : {O : Type 0} → ℕ → List (Node O) → Type 0
+AreMarked last [] = Unit {0}
+AreMarked last (n ∷ nodes) = IsMarked last n × AreMarked n.last_before nodes
+
+-- ascending nodes, up to some last table number
+abbrev pub HaveMarks : {O : Type 0} → List (Node O) → Type 0
+HaveMarks nodes = (last : ℕ) × AreMarked last (reverse nodes)
+
 abbrev pub node_of : {O : Type 0} → List (Node O) → ℕ → Option (Node O)
 node_of {O} nodes n = find (λ (k : Node O). n == k.placed.number) (reverse nodes)
 
@@ -62,4 +77,5 @@ drawn p = record { edges = edges_of p.nodes.items; versions = p.versions.entries
 
 pub record IsKept {O : Type 0} (p : Parts O) : Type 0 where
   pub right : AreRight (reverse p.nodes.items)
+  pub marked : AreMarked p.last.table (reverse p.nodes.items)
   pub graph : IsGraph (drawn p)

@@ -1,11 +1,10 @@
 //! A node over ascending ones.
-ghost use Rattle.std.specs.Prelude.{◌≡◌, ◌++◌, ◌∷◌, map, length, IfOk, OnOk, option_to_list};
+ghost use Rattle.std.specs.Prelude.{◌≡◌, ◌++◌, ◌∷◌, length, IfOk, OnOk, option_to_list};
 ghost use mathlib.Core.List.{reverse};
 ghost use Rattle.version_graph.specs.Sets.{In};
-ghost use Rattle.version_graph.specs.Tables.{FitsSet, headings_of, table_numbers};
 ghost use Rattle.version_graph.specs.Edges.{AreEdges, has_name as has_name_lem, number_named as number_named_lem, numbers, working};
 ghost use Rattle.version_graph.specs.Forest.{minus};
-ghost use Rattle.version_graph.specs.Kept.{AreRight, IsRight, edges_of, numbers_named as numbers_named_lem, tree_on as tree_on_lem};
+ghost use Rattle.version_graph.specs.Kept.{AreRight, HaveMarks, IsRight, edges_of, numbers_named as numbers_named_lem, tree_on as tree_on_lem};
 
 use crate::Placed;
 use crate::look::{heading_of, node_of, tables_of_set};
@@ -16,7 +15,8 @@ use std::alloc::Global;
 use std::iter::Iterator;
 
 fn has_name<O>(nodes: &[Node<O>], table: u32, name: &Name) -> bool
-    requires { AreEdges (edges_of nodes.now) }
+    requires edges { AreEdges (edges_of nodes.now) }
+    requires marked { HaveMarks nodes.now }
     ensures { result ≡ has_name_lem (edges_of nodes.now) name.now table }
 {
     match heading_of(nodes, table) {
@@ -27,7 +27,8 @@ fn has_name<O>(nodes: &[Node<O>], table: u32, name: &Name) -> bool
 
 /// The first of these tables that has this name.
 pub fn number_named<O>(nodes: &[Node<O>], tables: &[u32], name: &Name) -> Option<u32>
-    requires { AreEdges (edges_of nodes.now) }
+    requires edges { AreEdges (edges_of nodes.now) }
+    requires marked { HaveMarks nodes.now }
     ensures { result ≡ number_named_lem (edges_of nodes.now) tables.now name.now }
 {
     tables
@@ -51,7 +52,8 @@ fn numbers_named<O>(
     tables: &[u32],
     names: &[Name],
 ) -> Result<List<u32>, Memory>
-    requires { AreEdges (edges_of nodes.now) }
+    requires edges { AreEdges (edges_of nodes.now) }
+    requires marked { HaveMarks nodes.now }
     ensures { IfOk result (λ made. made ≡ numbers_named_lem
         (edges_of nodes.now) tables.now names.now) }
 {
@@ -101,19 +103,23 @@ fn tree_on<O>(nodes: &[Node<O>], placed: &Placed<O>) -> u32
     }
 }
 
-/// The node of an edge that fits on others. It takes time in the number of their tables, for each
-/// table of the working set before it and each source.
+/// The node of an edge that fits on others, after this last table number. It takes time in the
+/// logarithm of the number of nodes and in the number of tables of one of them, for each source and
+/// each table of the working set before it.
 pub fn node_on<O: Drop>(
     alloc: Global,
     nodes: &[Node<O>],
+    last_before: u32,
     placed: Placed<O>,
 ) -> Result<Node<O>, Memory>
     requires right { AreRight (reverse nodes.now) }
     requires edges { AreEdges (edges_of nodes.now) }
     requires live { In placed.parent (0 ∷ numbers (edges_of nodes.now)) }
     requires counted { length placed.tables ≡ length placed.edge.targets }
+    requires marked { HaveMarks nodes.now }
     ensures placed { IfOk result (λ node. node.placed ≡ placed) }
     ensures right { IfOk result (IsRight (edges_of nodes.now)) }
+    ensures before { IfOk result (λ node. node.last_before ≡ last_before) }
 {
     let before = tables_of_set(nodes, placed.parent);
     let sources = numbers_named(alloc, nodes, before, placed.edge.sources.as_slice())?;
@@ -124,5 +130,6 @@ pub fn node_on<O: Drop>(
         sources,
         set,
         tree,
+        last_before,
     })
 }

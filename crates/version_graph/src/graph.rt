@@ -1,5 +1,5 @@
 //! The graph, and its look-ups.
-ghost use Rattle.std.specs.Prelude.{◌≡◌, ◌<◌, ◌==◌, ◌||◌, [], length, map, slice_get, IfOk, OnOk};
+ghost use Rattle.std.specs.Prelude.{◌≡◌, ◌<◌, [], length, map, slice_get, IfOk, OnOk};
 ghost use Rattle.std.specs.Option.{option_copied, option_map};
 ghost use mathlib.Core.List.{reverse};
 ghost use Rattle.version_graph.specs.Tables.{table_numbers, headings_of};
@@ -108,22 +108,24 @@ impl<O> Graph<O> {
         tables_at(self.parts.nodes.as_slice(), set)
     }
 
-    /// The name and the columns of a live table. It takes time in the number of live tables.
+    /// The name and the columns of a live table. It takes time in the logarithm of the number of live
+    /// operators, and in the number of tables of one operator.
     pub fn heading(&self, table: u32) -> Option<&Heading>
         ensures { option_copied result ≡ heading_of_lem self.now.edges table }
     {
         heading_of(self.parts.nodes.as_slice(), table)
     }
 
-    /// The operator that made a live table. It takes time in the number of live tables.
+    /// The operator that made a live table. It takes time in the logarithm of the number of live
+    /// operators, and in the number of tables of one operator.
     pub fn made_by(&self, table: u32) -> Option<u32>
         ensures { result ≡ maker_of_lem self.now.edges table }
     {
         maker_of(self.parts.nodes.as_slice(), table)
     }
 
-    /// The first of these tables that lives and has this name. It takes time in the number of live
-    /// tables, for each of these.
+    /// The first of these tables that lives and has this name. It takes time in the logarithm of the
+    /// number of live operators and in the number of tables of one operator, for each of these.
     pub fn number_named(&self, tables: &[u32], name: &Name) -> Option<u32>
         ensures { result ≡ number_named_lem self.now.edges tables.now name.now }
     {
@@ -174,7 +176,8 @@ impl<O> Graph<O> {
 
 impl<O> Graph<O> {
     /// The names and columns of the tables of a working set, in order: none where it is 0 or doesn't
-    /// live. It takes time in the number of live tables, for each table of the set.
+    /// live. It takes time in the logarithm of the number of live operators and in the number of
+    /// tables of one operator, for each table of the set.
     pub fn headings(&self, alloc: Global, set: u32) -> Result<List<Heading>, Memory>
         ensures { IfOk result (λ made. made ≡ headings_of (working self.now.edges set)) }
     {
@@ -202,7 +205,8 @@ impl<O> Graph<O> {
 impl<O: Drop> Graph<O> {
     /// Adds the edges, each on the working set before it, the first on that of the version `from`
     /// or on the empty one, and names the last working set. Answers its number. It takes time in
-    /// the number of tables, for each new edge and each table of the working set before it.
+    /// the logarithm of the number of operators and in the number of tables of one operator, for
+    /// each source of a new edge and each table of the working set before it.
     pub fn evolve(
         &mut self,
         name: Name,
@@ -246,7 +250,8 @@ impl<O: Drop> Graph<O> {
     }
 
     /// Adds the edge under its numbers, which are then the last ones given. It takes time in the
-    /// number of tables, for each table of the parent's working set.
+    /// logarithm of the number of live operators and in the number of tables of one operator, for
+    /// each source and each table of the parent's working set.
     pub fn place_edge(&mut self, placed: Placed<O>) -> Result<(), Fault<NotGraph>>
         requires fits { FitsParent self.old placed }
         ensures { PlacesEdge self.old placed result self.new }

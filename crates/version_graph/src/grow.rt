@@ -4,9 +4,9 @@ ghost use mathlib.Core.List.{reverse};
 ghost use Rattle.std.specs.Option.{option_copied};
 ghost use Rattle.version_graph.specs.Sets.{In};
 ghost use Rattle.version_graph.specs.Edges.{AreEdges, Drawn, numbers, operator_limit, set_named as set_named_lem};
-ghost use Rattle.version_graph.specs.Evolve.{numbers_after, placed_next, grown, MayEvolve, EvolvesGraph, IsEvolvedFrom};
+ghost use Rattle.version_graph.specs.Evolve.{numbers_after, placed_next, grown, MayEvolve, EvolvesGraph, IsEvolvedFrom, targets_in};
 ghost use Rattle.version_graph.specs.Finished.{IsFinished};
-ghost use Rattle.version_graph.specs.Kept.{AreRight, IsKept, drawn, edges_of};
+ghost use Rattle.version_graph.specs.Kept.{AreMarked, AreRight, IsKept, drawn, edges_of};
 ghost use Rattle.version_graph.specs.Calls.{AddsNode, CanGrow, CanAdd, FindsStart, IsUnused, FindsRoom, FindsRoomAt};
 
 use crate::build::node_on;
@@ -112,20 +112,22 @@ fn place_next<O: Drop>(
     })
 }
 
-/// Adds the node of an edge on the others.
+/// Adds the node of an edge on the others, after this last table number.
 pub fn add_placed<O: Drop>(
     alloc: Global,
     nodes: &mut Vec<Node<O>>,
+    last_before: u32,
     placed: Placed<O>,
 ) -> Result<(), Memory>
     requires right { AreRight (reverse nodes.old.items) }
     requires edges { AreEdges (edges_of nodes.old.items) }
     requires live { In placed.parent (0 ∷ numbers (edges_of nodes.old.items)) }
     requires counted { length placed.tables ≡ length placed.edge.targets }
-    ensures ok { OnOk result (AddsNode nodes.old.items placed nodes.new.items) }
+    requires marked { AreMarked last_before (reverse nodes.old.items) }
+    ensures ok { OnOk result (AddsNode nodes.old.items last_before placed nodes.new.items) }
     ensures err { OnErr result (nodes.new.items ≡ nodes.old.items) }
 {
-    let node = node_on(alloc, nodes.as_slice(), placed)?;
+    let node = node_on(alloc, nodes.as_slice(), last_before, placed)?;
     nodes.push(node)?;
     Ok(())
 }
@@ -139,12 +141,13 @@ fn add_edge<O: Drop>(
 ) -> Result<(), Memory>
     requires right { AreRight (reverse nodes.old.items) }
     requires can { CanAdd (edges_of nodes.old.items) parent last.operator last.table edge }
-    ensures ok { OnOk result (AddsNode nodes.old.items
+    requires marked { AreMarked last.table (reverse nodes.old.items) }
+    ensures ok { OnOk result (AddsNode nodes.old.items last.table
         (placed_next parent last.operator last.table edge) nodes.new.items) }
     ensures err { OnErr result (nodes.new.items ≡ nodes.old.items) }
 {
     let placed = place_next(alloc, last, parent, edge)?;
-    add_placed(alloc, nodes, placed)
+    add_placed(alloc, nodes, last.table, placed)
 }
 
 // Adds all edges in order. After an error the first nodes are as before, and some may stand behind
@@ -158,9 +161,12 @@ fn add_edges<O: Drop>(
 ) -> Result<(), Memory>
     requires right { AreRight (reverse nodes.old.items) }
     requires can { CanGrow (edges_of nodes.old.items) set start.operator start.table edges }
+    requires marked { AreMarked start.table (reverse nodes.old.items) }
     ensures grown { OnOk result (edges_of nodes.new.items
         ≡ grown (edges_of nodes.old.items) set start.operator start.table edges) }
     ensures right { OnOk result (AreRight (reverse nodes.new.items)) }
+    ensures marked { OnOk result (AreMarked (start.table + targets_in edges)
+        (reverse nodes.new.items)) }
     ensures front { take (length nodes.old.items) nodes.new.items ≡ nodes.old.items }
 {
     let mut last = start;
@@ -189,9 +195,12 @@ pub fn grow<O: Drop>(
 ) -> Result<(), Memory>
     requires right { AreRight (reverse nodes.old.items) }
     requires can { CanGrow (edges_of nodes.old.items) set start.operator start.table edges }
+    requires marked { AreMarked start.table (reverse nodes.old.items) }
     ensures grown { OnOk result (edges_of nodes.new.items
         ≡ grown (edges_of nodes.old.items) set start.operator start.table edges) }
     ensures right { OnOk result (AreRight (reverse nodes.new.items)) }
+    ensures marked { OnOk result (AreMarked (start.table + targets_in edges)
+        (reverse nodes.new.items)) }
     ensures front { take (length nodes.old.items) nodes.new.items ≡ nodes.old.items }
     ensures err { OnErr result (nodes.new.items ≡ nodes.old.items) }
 {
@@ -217,10 +226,13 @@ pub fn grow_and_name<O: Drop>(
 ) -> Result<(), Memory>
     requires right { AreRight (reverse nodes.old.items) }
     requires can { CanGrow (edges_of nodes.old.items) set start.operator start.table edges }
+    requires marked { AreMarked start.table (reverse nodes.old.items) }
     requires new { set_named_lem versions.old.entries version.0 ≡ None }
     ensures grown { OnOk result (edges_of nodes.new.items
         ≡ grown (edges_of nodes.old.items) set start.operator start.table edges) }
     ensures right { OnOk result (AreRight (reverse nodes.new.items)) }
+    ensures marked { OnOk result (AreMarked (start.table + targets_in edges)
+        (reverse nodes.new.items)) }
     ensures named { OnOk result (versions.new.entries ≡ versions.old.entries ++ version ∷ []) }
     ensures err { OnErr result ((nodes.new.items ≡ nodes.old.items)
         × (versions.new.entries ≡ versions.old.entries)) }

@@ -9,7 +9,8 @@
 //! read out is placed again with its numbers, edge by edge and name by name (`specs/Placing.antt`).
 //! In a finished graph each operator has a named version at or below it (`specs/Finished.antt`): new
 //! graphs are so, evolutions and drops leave them so, and the end of placing asks for it. It keeps
-//! of each edge its source tables, its working set and its tree, so that no look-up goes the way up.
+//! of each edge its source tables, its working set and its tree, so that no look-up goes the way up,
+//! and the last table number before it, so that the operator of a table is found by halving.
 //! It knows nothing of what an operator does: `O` is any type.
 //!
 //! Lemmas that crates above may use stand in proofs/: `NameLaws`, `NodeLaws`, `SetLaws`,

@@ -1,10 +1,10 @@
 //! Look-ups among ascending nodes, and among versions.
-ghost use Rattle.std.specs.Prelude.{◌≡◌, ◌++◌, map, length, slice_get, option_to_list, IfOk, OnOk};
+ghost use Rattle.std.specs.Prelude.{◌≡◌, ◌++◌, length, slice_get, option_to_list, IfOk, OnOk};
 ghost use mathlib.Core.List.{reverse};
 ghost use Rattle.std.specs.Option.{option_copied, option_map};
 ghost use Rattle.version_graph.specs.Edges.{AreEdges, edge_of as edge_of_lem, sources_at as sources_at_lem, tables_at as tables_at_lem, heading_of as heading_of_lem, maker_of as maker_of_lem};
-ghost use Rattle.version_graph.specs.Kept.{AreRight, edges_of, node_of as node_of_lem, node_making as node_making_lem, heading_in as heading_in_lem};
-ghost use Rattle.version_graph.specs.Calls.{IsPlaceFor};
+ghost use Rattle.version_graph.specs.Kept.{AreRight, HaveMarks, edges_of, node_of as node_of_lem, node_making as node_making_lem, heading_in as heading_in_lem};
+ghost use Rattle.version_graph.specs.Calls.{IsPlaceBehind, IsPlaceFor};
 ghost use Rattle.version_graph.specs.Sets.{In, Each};
 ghost use Rattle.version_graph.specs.Tables.{headings_of, table_numbers};
 ghost use Rattle.version_graph.specs.Edges.{numbers, version_sets, working, set_named as set_named_lem};
@@ -47,13 +47,29 @@ pub fn node_of<O>(nodes: &[Node<O>], number: u32) -> Option<&Node<O>>
     }
 }
 
+// How many nodes were added while no later table was given: its own is the last of them.
+fn place_behind<O>(nodes: &[Node<O>], table: u32) -> usize
+    requires { HaveMarks nodes.now }
+    ensures { IsPlaceBehind nodes.now table result }
+{
+    nodes.partition_point(|node| node.last_before < table)
+}
+
+// The node of the operator that made a table, found by halving.
 fn node_making<O>(nodes: &[Node<O>], table: u32) -> Option<&Node<O>>
+    requires { HaveMarks nodes.now }
     ensures { option_copied result ≡ node_making_lem nodes.now table }
 {
-    nodes
-        .iter()
-        .rev()
-        .find(|node| node.placed.tables.as_slice().contains(&table))
+    let place = place_behind(nodes, table);
+    if place == 0 {
+        return None;
+    }
+    let node = &nodes[place - 1];
+    if node.placed.tables.as_slice().contains(&table) {
+        Some(node)
+    } else {
+        None
+    }
 }
 
 fn heading_in<O>(placed: &Placed<O>, table: u32) -> Option<&Heading>
@@ -109,7 +125,8 @@ pub fn tables_at<O>(nodes: &[Node<O>], set: u32) -> Option<&[u32]>
 
 /// The heading of a table.
 pub fn heading_of<O>(nodes: &[Node<O>], table: u32) -> Option<&Heading>
-    requires { AreEdges (edges_of nodes.now) }
+    requires edges { AreEdges (edges_of nodes.now) }
+    requires marked { HaveMarks nodes.now }
     ensures { option_copied result ≡ heading_of_lem (edges_of nodes.now) table }
 {
     match node_making(nodes, table) {
@@ -120,6 +137,7 @@ pub fn heading_of<O>(nodes: &[Node<O>], table: u32) -> Option<&Heading>
 
 /// The operator that made a table.
 pub fn maker_of<O>(nodes: &[Node<O>], table: u32) -> Option<u32>
+    requires { HaveMarks nodes.now }
     ensures { result ≡ maker_of_lem (edges_of nodes.now) table }
 {
     match node_making(nodes, table) {
@@ -204,6 +222,7 @@ fn push_heading(
 pub fn headings<O>(alloc: Global, nodes: &[Node<O>], set: u32) -> Result<List<Heading>, Memory>
     requires right { AreRight (reverse nodes.now) }
     requires edges { AreEdges (edges_of nodes.now) }
+    requires marked { HaveMarks nodes.now }
     ensures { IfOk result (λ made. made ≡ headings_of (working (edges_of nodes.now) set)) }
 {
     let tables = tables_of_set(nodes, set);

@@ -5,13 +5,15 @@ use par_base::{List, Name};
 
 /// An edge with what follows of it and the older ones, so that no look-up goes the way up: the
 /// numbers of its source tables, the tables of its working set, and the number of the oldest edge
-/// of its tree.
+/// of its tree. By the last table number that was given before it, the node of a table is found by
+/// halving.
 #[derive(Drop)]
 pub struct Node<O> {
     pub placed: Placed<O>,
     pub sources: List<u32>,
     pub set: List<u32>,
     pub tree: u32,
+    pub last_before: u32,
 }
 
 /// The last operator number and the last table number given.

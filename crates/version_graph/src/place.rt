@@ -76,7 +76,7 @@ pub fn place_edge<O: Drop>(
     ensures kept { IsKept parts.new }
 {
     let after = after_edge(parts, &placed)?;
-    add_placed(alloc, &mut parts.nodes, placed)?;
+    add_placed(alloc, &mut parts.nodes, parts.last.table, placed)?;
     parts.last = after;
     Ok(())
 }

@@ -1,7 +1,7 @@
 //! Drops: which operators no name needs any longer, and the graph without them.
-ghost use Rattle.std.specs.Prelude.{◌≡◌, ◌==◌, ◌||◌, ◌++◌, ◌∷◌, drop, length, map, slice_get, IfOk, OnOk, ◌<◌};
+ghost use Rattle.std.specs.Prelude.{◌≡◌, ◌==◌, ◌||◌, drop, length, IfOk, ◌<◌};
 ghost use mathlib.Core.List.{reverse};
-ghost use Rattle.version_graph.specs.Edges.{is_in, version_sets, set_named as set_named_lem};
+ghost use Rattle.version_graph.specs.Edges.{is_in, version_sets};
 ghost use Rattle.version_graph.specs.Dropped.{Dooms, LeavesSets, doomed as doomed_lem, dropped, other_versions};
 ghost use Rattle.version_graph.specs.Finished.{IsFinished};
 ghost use Rattle.std.specs.List.{list_any};

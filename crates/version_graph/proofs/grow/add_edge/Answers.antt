@@ -13,4 +13,4 @@ add_placed-requires-clause-counted g c =
 pub returns-clause-ok : goal.returns-clause-ok
 returns-clause-ok g c =
     let is = c.in_ok-placed.ensures in
-    subst (λ (p : Placed _). OnOk c.add_placed.result (AddsNode c.args.nodes.now.items p c.add_placed.new.nodes.items)) is c.add_placed.ensures.ok
+    subst (λ (p : Placed _). OnOk c.add_placed.result (AddsNode c.args.nodes.now.items c.args.last.table p c.add_placed.new.nodes.items)) is c.add_placed.ensures.ok

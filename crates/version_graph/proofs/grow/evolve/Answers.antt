@@ -1,7 +1,8 @@
+use mathlib.Core.List.{reverse}
 use Rattle.std.proofs.Common.{ℕ, List, ◌++◌, [], ◌∷◌, length, refl, sym, ap, ◌∙◌, subst}
 use Rattle.std.specs.Prelude.{unwrap_or}
 use Rattle.std.specs.Option.{option_copied}
-use Rattle.version_graph.specs.Kept.{drawn, edges_of}
+use Rattle.version_graph.specs.Kept.{AreMarked, drawn, edges_of}
 use Rattle.version_graph.specs.declared.node.Node.{Node}
 use Rattle.version_graph.proofs.EvolveLaws.{goes_from, goes_can, goes_no_refusal, goes_to, goes_is_graph}
 use Rattle.version_graph.specs.Edges.{Drawn}
@@ -42,6 +43,7 @@ returns-clause-kept g c =
     let named = c.in_ok-grow_and_name.ensures.named ∙ ap (λ (n : List ℕ). p.versions.entries ++ (n, after.operator) ∷ []) c.in_ok-name.ensures.0 in
     record {
       right = c.in_ok-grow_and_name.ensures.right;
+      marked = subst (λ (t : ℕ). AreMarked t (reverse c.grow_and_name.new.nodes.items)) (sym goes.last_table) c.in_ok-grow_and_name.ensures.marked;
       graph = goes_is_graph (drawn p) c.args.name from c.args.edges c.in_ok-set.set after.operator after.table goes (edges_of c.grow_and_name.new.nodes.items) c.grow_and_name.new.versions.entries c.in_ok-grow_and_name.ensures.grown named;
     }
 

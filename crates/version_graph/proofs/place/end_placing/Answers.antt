@@ -3,6 +3,8 @@ use Rattle.version_graph.specs.Edges.{version_sets}
 use Rattle.version_graph.specs.Finished.{are_needed}
 use Rattle.version_graph.specs.Kept.{drawn, edges_of}
 use Rattle.version_graph.specs.declared.node.Node.{Node}
+use mathlib.Core.List.{reverse}
+use Rattle.version_graph.proofs.MarkLemmas.{marked_more}
 use Rattle.version_graph.proofs.PlaceLaws.{last_graph}
 use Rattle.version_graph.proofs.FinishLemmas.{below_needed, needed_below}
 use Rattle.version_graph.proofs.place.end_placing.Goals as goal
@@ -32,6 +34,7 @@ returns-clause-answers g c =
 pub returns-clause-kept : goal.returns-clause-kept
 returns-clause-kept g c = record {
   right = c.requires.kept.right;
+  marked = marked_more (reverse c.args.parts.now.nodes.items) c.args.parts.now.last.table c.args.table c.if-table-parts.false c.requires.kept.marked;
   graph = last_graph (drawn c.args.parts.now) c.requires.kept.graph c.args.operator c.args.table c.if-operator-parts.false c.if-table-parts.false;
 }
 

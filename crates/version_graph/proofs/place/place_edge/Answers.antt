@@ -1,8 +1,13 @@
-use Rattle.std.proofs.Common.{sym, subst}
+use mathlib.Core.List.{reverse}
+use Rattle.std.proofs.Common.{◌<◌, ◌≤◌, ℕ, sym, subst}
 use Rattle.version_graph.specs.Edges.{Drawn, IsGraph}
-use Rattle.version_graph.specs.Kept.{drawn, edges_of}
+use Rattle.version_graph.specs.Kept.{AreMarked, drawn, edges_of}
 use Rattle.version_graph.proofs.GrowLaws.{added}
-use Rattle.version_graph.proofs.PlaceLaws.{edge_graph, edge_is}
+use Rattle.version_graph.proofs.MarkLemmas.{marked_added}
+use Rattle.version_graph.proofs.PlaceLaws.{below_last, edge_graph, edge_is, last_above}
+use Rattle.version_graph.proofs.SetLaws.{each_at, each_of}
+use Rattle.version_graph.proofs.TableLaws.{rises_above}
+use Rattle.version_graph.specs.Placing.{last_of}
 use Rattle.version_graph.proofs.place.place_edge.Goals as goal
 
 pub returns-clause-kept : goal.returns-clause-kept
@@ -11,8 +16,13 @@ returns-clause-kept g c =
     let e = c.args.placed in
     let after = c.in_ok-after.after in
     let found = c.in_ok-after.ensures in
-    let add = added p.nodes.items c.add_placed.new.nodes.items e c.in_ok-add_placed.ensures.ok c.requires.kept.right in
+    let add = added p.nodes.items c.add_placed.new.nodes.items p.last.table e c.in_ok-add_placed.ensures.ok c.requires.kept.right in
+    let last = last_of p.last.table e.tables in
+    let rises = found.0.rising in
+    let tables = each_of (λ t. (p.last.table < t) × (t ≤ last)) e.tables (λ t i. (rises_above p.last.table e.tables rises t i, each_at (λ k. k ≤ last) e.tables t i (below_last p.last.table e.tables rises))) in
+    let marked = marked_added p.nodes.items c.add_placed.new.nodes.items p.last.table last e c.in_ok-add_placed.ensures.ok c.requires.kept.marked (last_above p.last.table e.tables rises) tables in
     record {
       right = add.1;
+      marked = subst (λ (t : ℕ). AreMarked t (reverse c.add_placed.new.nodes.items)) (sym found.2) marked;
       graph = subst (λ (d : Drawn _). IsGraph d) (sym (edge_is (drawn p) e (edges_of c.add_placed.new.nodes.items) after.operator after.table add.0 found.1 found.2)) (edge_graph (drawn p) c.requires.kept.graph e found.0 c.requires.fits);
     }

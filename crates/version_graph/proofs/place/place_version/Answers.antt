@@ -41,5 +41,6 @@ returns-clause-kept g c =
     } in
     record {
       right = c.requires.kept.right;
+      marked = c.requires.kept.marked;
       graph = subst (λ (d : Drawn _). IsGraph d) (sym (version_is (drawn p) c.args.name c.args.set c.name_set.new.versions.entries c.in_ok-name_set.ensures.ok)) (version_graph (drawn p) c.requires.kept.graph c.args.name c.args.set can);
     }

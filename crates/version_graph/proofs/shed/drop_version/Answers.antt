@@ -2,8 +2,9 @@ use Rattle.std.proofs.Common.{◌≡◌, List, sym, subst}
 use mathlib.Core.List.{reverse}
 use Rattle.version_graph.specs.Edges.{Drawn, IsGraph, version_sets}
 use Rattle.version_graph.specs.Dropped.{LeavesSets, other_versions, staying}
-use Rattle.version_graph.specs.Kept.{AreRight, drawn, edges_of}
+use Rattle.version_graph.specs.Kept.{AreMarked, AreRight, drawn, edges_of}
 use Rattle.version_graph.specs.declared.node.Node.{Node}
+use Rattle.version_graph.proofs.MarkLemmas.{marked_stays}
 use Rattle.version_graph.proofs.StayLaws.{nodes_stay, dropped_graph, dropped_is, stays_as}
 use Rattle.version_graph.specs.Finished.{IsFinished}
 use Rattle.version_graph.proofs.UnneededLaws.{dropped_finished, sets_stay}
@@ -26,6 +27,7 @@ returns-clause-kept g c =
     (stays_as p.nodes.items c.shed.new.nodes.items vs (other_versions p.versions.entries c.args.name.now) c.shed.ensures named) named in
     record {
       right = subst (λ (l : List (Node _)). AreRight l) (sym c.shed.ensures) (nodes_stay (reverse p.nodes.items) (version_sets vs) c.requires.kept.right);
+      marked = subst (λ (l : List (Node _)). AreMarked p.last.table l) (sym c.shed.ensures) (marked_stays (reverse p.nodes.items) (version_sets vs) p.last.table c.requires.kept.marked);
       graph = subst (λ (d : Drawn _). IsGraph d) (sym is) (dropped_graph (drawn p) c.args.name.now c.requires.kept.graph);
     }
 

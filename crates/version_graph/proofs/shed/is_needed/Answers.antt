@@ -1,4 +1,3 @@
-use Rattle.std.proofs.Common.{true, false}
 use Rattle.version_graph.specs.Edges.{is_in, version_sets}
 use Rattle.version_graph.proofs.ShedLemmas.{by_parent, by_name}
 use Rattle.version_graph.proofs.shed.is_needed.Goals as goal
