@@ -19,4 +19,4 @@ pub use leads::{Leads, goals_of, leads_to};
 pub use least::{Chooses, least_rows};
 pub use parts::RowParts;
 pub use references::{at_goal, goal_at, is_goal, referred_ids};
-pub use shared::{copy_of, part_of};
+pub use shared::part_of;

@@ -7,7 +7,7 @@ use Rattle.row_store.specs.Changes.{AreOld}
 use Rattle.row_store.specs.States.{TableState}
 use Rattle.op_law.specs.Tables.{Tables, contents}
 use Rattle.row_changes.specs.Changed.{TableChanges, AreChangesOf, changed, changed_tables}
-use Rattle.row_changes.proofs.OnlyLaws.{by_test}
+use Rattle.op_law.proofs.OnlyLaws.{by_test}
 use Rattle.kept_changes.specs.Room.{HaveRoom, spares}
 use Rattle.kept_changes.specs.inner.Calls.{Fit}
 use Rattle.kept_changes.proofs.ChangesLaws.{no_changes}

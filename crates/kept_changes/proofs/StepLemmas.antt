@@ -3,7 +3,7 @@ use Rattle.std.specs.Option.{option_map_or}
 use Rattle.std.proofs.Common.{◌≡◌, if◌then◌else◌, ℕ, ◌==◌, List, [], ◌∷◌, ◌++◌, Bool, true, false, Option, Some, None, inl, inr, refl, ap, sym, ◌∙◌, subst, arith, length}
 use Rattle.std.proofs.lemmas.Bool.{eqb-true, ne_eqb}
 use Rattle.version_graph.specs.Sets.{Distinct, Each, In}
-use Rattle.row_changes.proofs.OnlyLaws.{by_test}
+use Rattle.op_law.proofs.OnlyLaws.{by_test}
 use Rattle.version_model.specs.Kept.{value_of}
 use Rattle.version_model.specs.declared.numbered.Numbered.{Numbered}
 use Rattle.version_model.proofs.NumberedLaws.{looked, value_of_first}

@@ -1,5 +1,5 @@
 //! Room for changes in kept tables and auxiliary tables.
-ghost use Rattle.std.specs.Prelude.{◌≡◌, ◌≤◌, ℕ, length, OnOk};
+ghost use Rattle.std.specs.Prelude.{◌≡◌, ◌≤◌, ℕ, OnOk};
 ghost use Rattle.version_graph.specs.Sets.{In};
 ghost use Rattle.version_model.specs.Kept.{rows_at};
 ghost use Rattle.db_state.specs.Fields.{auxes_at, numbers_in};

@@ -1,5 +1,5 @@
 //! One column more.
-ghost use Rattle.std.specs.Prelude.{◌≡◌, IfOk, true, false};
+ghost use Rattle.std.specs.Prelude.{IfOk};
 ghost use Rattle.expr_lang.specs.Terms.{expr_term};
 ghost use Rattle.op_rows.specs.RowCalls.{AdmitsRows, NearRows};
 ghost use Rattle.op_column.specs.AddColumn.{add_column};

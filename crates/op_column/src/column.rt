@@ -7,9 +7,9 @@ ghost use Rattle.op_rows.specs.Cells.{first_cell};
 ghost use Rattle.op_column.specs.AddColumn.{added, added_value, column_alone, kept_value as value_kept, restored, without_column};
 ghost use Rattle.op_column.specs.inner.Calls.{HasPlace, MayAdd, TakesPlace, is_beside};
 
-use crate::rows::{first_row, one_cell, one_value};
+use crate::rows::{first_row, one_value};
 use expr_lang::{Expr, Steps, eval};
-use op_rows::Cells;
+use op_rows::{Cells, one_cell};
 use par_base::{Memory, Row, Value};
 use row_parts::{value_at, with_value, without_value};
 use std::alloc::Global;

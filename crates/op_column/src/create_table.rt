@@ -1,11 +1,9 @@
 //! A table that is there from the beginning of its version.
-ghost use Rattle.std.specs.Prelude.{◌≡◌, IfOk, true, false};
 ghost use Rattle.op_column.specs.CreateTable.{create_table, create_table_laws};
 
 use crate::copies::copy_cells;
-use crate::rows::one_cell;
 use expr_lang::Steps;
-use op_rows::{Cells, NearSide, OldRows, RowOperator};
+use op_rows::{Cells, NearSide, OldRows, RowOperator, one_cell};
 use par_base::{List, Memory};
 use std::alloc::Global;
 use std::sync::ledger::Ledger;

@@ -1,5 +1,4 @@
 //! Another name for a table or a column.
-ghost use Rattle.std.specs.Prelude.{◌≡◌, IfOk, true, false};
 ghost use Rattle.op_column.specs.Rename.{rename, rename_laws};
 
 use crate::copies::copy_cells;

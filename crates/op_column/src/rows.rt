@@ -17,20 +17,11 @@ pub(crate) fn first_row(cells: &Cells) -> Option<&Row>
     }
 }
 
-/// What a side with one table has.
-pub(crate) fn one_cell(alloc: Global, cell: Option<Row>) -> Result<Cells, Memory>
-    ensures { IfOk result (λ cells. cells ≡ cell ∷ []) }
-{
-    let mut cells = List::new(alloc);
-    cells.push(cell)?;
-    Ok(cells)
-}
-
 /// A row of one value.
 pub(crate) fn one_value(alloc: Global, value: Value) -> Result<Row, Memory>
     ensures { IfOk result (λ row. row ≡ value ∷ []) }
 {
-    let mut row = List::new(alloc);
+    let mut row = List::with_room(alloc, 1)?;
     row.push(value)?;
     Ok(row)
 }

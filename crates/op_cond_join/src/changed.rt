@@ -1,5 +1,5 @@
 //! Which rows of a new table are as they were.
-ghost use Rattle.std.specs.Prelude.{◌≡◌, ◌++◌, ◌∷◌, [], if◌then◌else◌, IsTrue, IfOk, OnOk};
+ghost use Rattle.std.specs.Prelude.{◌≡◌, ◌++◌, ◌∷◌, [], IsTrue, IfOk, OnOk};
 ghost use Rattle.row_store.specs.Rows.{RiseFrom, row_of};
 ghost use Rattle.op_cond_join.specs.inner.Changed.{as_before, changed_in, ids_of};
 

@@ -1,5 +1,5 @@
 //! The new target and memory from a new source.
-ghost use Rattle.std.specs.Prelude.{◌≡◌, ◌+◌, ◌++◌, length, true, OnOk};
+ghost use Rattle.std.specs.Prelude.{◌≡◌, ◌+◌, ◌++◌, length, OnOk};
 ghost use Rattle.op_law.specs.Calls.{seen, IsMapped};
 ghost use Rattle.op_law.specs.Meaning.{flip, exchanged};
 ghost use Rattle.op_law.specs.Premises.{SomeMap};

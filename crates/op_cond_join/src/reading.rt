@@ -1,9 +1,6 @@
 //! A side from the other one, the memory and the rows in no pair.
 ghost use Rattle.std.specs.Prelude.{◌≡◌, ◌∷◌, [], IfOk};
-ghost use Rattle.op_law.specs.Tables.{contents};
-ghost use Rattle.op_law.specs.Meaning.{flip};
-ghost use Rattle.op_law.specs.Premises.{SomeStored};
-ghost use Rattle.op_law.specs.Calls.{seen, tables_of};
+ghost use Rattle.op_law.specs.Calls.{tables_of};
 ghost use Rattle.op_cond_join.specs.Joinings.{joining};
 ghost use Rattle.pair_rows.specs.Kept.{alone};
 ghost use Rattle.op_cond_join.specs.JoinOn.{join_on, table_at};

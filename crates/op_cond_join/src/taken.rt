@@ -1,5 +1,5 @@
 //! The pairs that are taken.
-ghost use Rattle.std.specs.Prelude.{ℕ, ◌≡◌, ◌++◌, ◌∷◌, [], OnOk};
+ghost use Rattle.std.specs.Prelude.{◌≡◌, ◌++◌, ◌∷◌, [], OnOk};
 ghost use Rattle.op_cond_join.specs.Shown.{has};
 ghost use Rattle.op_cond_join.specs.inner.Assignings.{KnowsPairs};
 

@@ -2,7 +2,7 @@
 //!
 //! The other side is read as if they did. It is theirs where it has rows of the right width, gives
 //! back the side that it was read from, and keeps these auxiliary tables beside.
-ghost use Rattle.std.specs.Prelude.{[], IfOk};
+ghost use Rattle.std.specs.Prelude.{IfOk};
 ghost use Rattle.op_law.specs.Calls.{tables_of};
 ghost use Rattle.op_fk_decompose.specs.inner.Admitted.{IsTold, IsToldBack};
 

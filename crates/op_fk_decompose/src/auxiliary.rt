@@ -1,10 +1,7 @@
 //! DECOMPOSE ON FK: what a stored source keeps beside.
-ghost use Rattle.std.specs.Prelude.{◌≡◌, [], ◌∷◌, ◌&&◌, not, IfOk};
-ghost use Rattle.row_store.specs.Rows.{row_of};
-ghost use Rattle.op_law.specs.Tables.{contents};
-ghost use Rattle.op_law.specs.Calls.{seen, tables_of};
-ghost use Rattle.row_parts.specs.RowCells.{is_there, kept_if, map_cell, in_cell};
-ghost use Rattle.foreign_keys.specs.References.{goal_of, dangles as leads_nowhere, referred};
+ghost use Rattle.std.specs.Prelude.{◌≡◌, IfOk};
+ghost use Rattle.op_law.specs.Calls.{tables_of};
+ghost use Rattle.foreign_keys.specs.References.{dangles as leads_nowhere};
 ghost use Rattle.op_fk_decompose.specs.Decompose.{ref_at, dangling_at, kept_at};
 ghost use Rattle.op_fk_decompose.specs.Decompose.{refs, dangling, kept_rows, decompose_aux};
 

@@ -1,5 +1,5 @@
 //! DECOMPOSE ON FK, backward: the source of a target, identifier by identifier.
-ghost use Rattle.std.specs.Prelude.{◌≡◌, [], ◌∷◌, IfOk};
+ghost use Rattle.std.specs.Prelude.{◌≡◌, IfOk};
 ghost use Rattle.op_fk_decompose.specs.Decompose.{joined, joined_table, decompose_source};
 
 use crate::keys::far_part;

@@ -1,5 +1,4 @@
 //! DECOMPOSE ON FK, forward: the target from a new source.
-ghost use Rattle.std.specs.Prelude.{◌≡◌, IfOk};
 ghost use Rattle.op_law.specs.Calls.{seen, IsMapped};
 ghost use Rattle.op_fk_decompose.specs.Decompose.{decompose_forward};
 

@@ -1,9 +1,8 @@
 //! DECOMPOSE ON FK: the target from a source and what it keeps beside.
-ghost use Rattle.std.specs.Prelude.{◌≡◌, [], ◌∷◌, IfOk};
-ghost use Rattle.row_store.specs.Rows.{row_of};
+ghost use Rattle.std.specs.Prelude.{◌≡◌, IfOk};
 ghost use Rattle.op_law.specs.Calls.{tables_of};
 ghost use Rattle.foreign_keys.specs.Seeking.{seek as sought, goals_in};
-ghost use Rattle.foreign_keys.specs.Shared.{head_or_null, second_part_at};
+ghost use Rattle.foreign_keys.specs.Shared.{second_part_at};
 ghost use Rattle.op_fk_decompose.specs.Decompose.{first_again, leads, get_at};
 ghost use Rattle.op_fk_decompose.specs.Decompose.{get_first, get_second, decompose_read};
 ghost use Rattle.op_fk_decompose.specs.Calls.{FindsLeads};

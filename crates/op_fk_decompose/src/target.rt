@@ -1,13 +1,13 @@
 //! DECOMPOSE ON FK, forward: the new tables of the target, identifier by identifier.
-ghost use Rattle.std.specs.Prelude.{◌≡◌, ◌+◌, ◌≤◌, ◌^◌, [], ◌∷◌, length, IfOk};
-ghost use Rattle.row_store.specs.Rows.{row_of};
+ghost use Rattle.std.specs.Prelude.{◌≡◌, ◌+◌, ◌≤◌, ◌^◌, length, IfOk};
 ghost use Rattle.foreign_keys.specs.References.{AreReferred};
 ghost use Rattle.op_fk_decompose.specs.Decompose.{ref as ref_to, made_row, new_first, new_s};
 ghost use Rattle.op_fk_decompose.specs.Decompose.{second_from, t_from};
 
 use crate::keys::how;
 use crate::old_target::OldTarget;
-use foreign_keys::{Drawn, RowParts, copy_of};
+use foreign_keys::{Drawn, RowParts};
+use op_law::copy_of;
 use op_tables::{MakesRow, table_over, with_ids};
 use par_base::{List, Memory, Row, Value, is_same_row};
 use row_map::IdSet;

@@ -1,7 +1,5 @@
 //! S and T, with look-ups of the references from S to T.
-ghost use Rattle.std.specs.Prelude.{◌≡◌, ◌||◌, IfOk};
-ghost use Rattle.row_store.specs.Rows.{row_of};
-ghost use Rattle.row_parts.specs.RowCells.{is_there};
+ghost use Rattle.std.specs.Prelude.{◌≡◌, IfOk};
 ghost use Rattle.foreign_keys.specs.References.{referred as is_referred};
 ghost use Rattle.op_fk_decompose.specs.Decompose.{alone, may_share};
 

@@ -1,12 +1,12 @@
 //! JOIN ON FK: what a stored target keeps beside.
-ghost use Rattle.std.specs.Prelude.{◌≡◌, [], ◌∷◌, IfOk};
+ghost use Rattle.std.specs.Prelude.{◌≡◌, IfOk};
 ghost use Rattle.op_law.specs.Calls.{tables_of};
 ghost use Rattle.foreign_keys.specs.References.{AreReferred};
 ghost use Rattle.op_fk_join.specs.Join.{key_here, join_refs, unjoined_here, unjoined};
 ghost use Rattle.op_fk_join.specs.Join.{unreferred_here, unreferred, join_aux};
 
-use foreign_keys::{RowParts, copy_of, referred_ids};
-use op_law::{Aux, Side};
+use foreign_keys::{RowParts, referred_ids};
+use op_law::{Aux, Side, copy_of};
 use op_tables::{MakesRow, first_of, second_of, table_over, with_ids};
 use par_base::{List, Memory, Row};
 use row_map::IdSet;

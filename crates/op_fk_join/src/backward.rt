@@ -1,5 +1,5 @@
 //! JOIN ON FK: the source from a new target.
-ghost use Rattle.std.specs.Prelude.{◌≡◌, [], ◌∷◌, IfOk, Some};
+ghost use Rattle.std.specs.Prelude.{◌≡◌, IfOk, Some};
 ghost use Rattle.row_store.specs.Rows.{row_of};
 ghost use Rattle.op_law.specs.Calls.{seen, IsMapped};
 ghost use Rattle.op_fk_join.specs.Join.{joined_row, ref_join, left_in, join_first_in, join_first};
@@ -8,9 +8,9 @@ ghost use Rattle.op_fk_join.specs.inner.Calls.{MayDraw};
 
 use crate::keys::kept_key;
 use crate::old_source::OldSource;
-use foreign_keys::{Drawn, RowParts, at_goal, copy_of, draw_values, number};
+use foreign_keys::{Drawn, RowParts, at_goal, draw_values, number};
 use id_memory::{IdCounter, PairMemory};
-use op_law::{Far, Pair, Side};
+use op_law::{Far, Pair, Side, copy_of};
 use op_tables::{MakesRow, first_of, second_of, table_over, with_ids};
 use par_base::{Fault, IdsSpent, List, Memory, Row, Value};
 use row_store::Table;

@@ -1,5 +1,5 @@
 //! JOIN ON FK: the target of a source.
-ghost use Rattle.std.specs.Prelude.{◌≡◌, [], ◌∷◌, IfOk};
+ghost use Rattle.std.specs.Prelude.{◌≡◌, IfOk};
 ghost use Rattle.std.specs.Option.{option_copied};
 ghost use Rattle.op_fk_join.specs.Join.{joined_row, joined_here, join_table, join_target};
 

@@ -1,8 +1,8 @@
 //! JOIN ON FK: the source from a target and what it keeps beside.
-ghost use Rattle.std.specs.Prelude.{◌≡◌, [], ◌∷◌, IfOk};
+ghost use Rattle.std.specs.Prelude.{◌≡◌, IfOk};
 ghost use Rattle.op_law.specs.Calls.{tables_of};
 ghost use Rattle.foreign_keys.specs.Seeking.{seek as sought, AreFirstLed};
-ghost use Rattle.foreign_keys.specs.Shared.{head_or_null, second_part_at};
+ghost use Rattle.foreign_keys.specs.Shared.{second_part_at};
 ghost use Rattle.op_fk_join.specs.Join.{key_leads, back_first_at, back_first};
 ghost use Rattle.op_fk_join.specs.Join.{back_second_at, back_second, join_read};
 

@@ -1,10 +1,9 @@
 -- Which rows JOIN ON PK admits.
 use Rattle.std.proofs.Common.{◌≡◌, ℕ, [], ◌∷◌, take, drop, Some, None, refl, sym, ap, subst}
-use Rattle.op_rows.specs.Cells.{Cells, CellWide, AreCellsOf}
+use Rattle.op_rows.specs.Cells.{Cells, nth_cell, CellWide, AreCellsOf}
 use Rattle.op_rows.specs.RowMeaning.{flip_row}
 use Rattle.op_rows.specs.RowCalls.{AdmitsRows}
 use Rattle.row_parts.specs.RowCells.{Cell, or_else, map_cell}
-use Rattle.op_key_join.specs.Sides.{nth_cell}
 use Rattle.op_key_join.specs.JoinPk.{joined, rows_alone, sources_of, join_pk}
 use Rattle.op_key_join.specs.inner.JoinPkLaws.{source_of, target_of, joined_wide, sources_wide, part_long, rest_long, parts_join}
 use Rattle.op_key_join.specs.inner.Calls.{MayStandAlone}

@@ -1,12 +1,11 @@
 -- What becomes of values and rows that the other side of a write doesn't have.
 use Rattle.std.proofs.Common.{◌≡◌, ℕ, List, length, Some, None, IsSome, refl, ◌∙◌, ap, arith}
 use Rattle.std.proofs.lemmas.Bool.{false≢true}
-use Rattle.op_rows.specs.Cells.{CellWide}
+use Rattle.op_rows.specs.Cells.{nth_cell, CellWide}
 use Rattle.row_parts.specs.RowCells.{Cell, row_or}
 use Rattle.row_parts.specs.Places.{nulls}
 use Rattle.row_parts.specs.inner.PlaceLemmas.{second_join}
 use Rattle.row_parts.specs.Partition.{Divides}
-use Rattle.op_key_join.specs.Sides.{nth_cell}
 use Rattle.op_key_join.specs.OtherPlaces.{others}
 use Rattle.op_key_join.specs.inner.PartLemmas.{pick_wide, or_nulls_wide}
 use Rattle.op_key_join.specs.DecomposeSingle.{rest_of, with_rest}

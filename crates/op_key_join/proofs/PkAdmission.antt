@@ -2,12 +2,11 @@
 use Rattle.std.proofs.Common.{◌≡◌, ℕ, zero, suc, ◌+◌, ◌==◌, List, [], ◌∷◌, length, Some, None, refl, sym, ◌∙◌, ap, subst, rules}
 use Rattle.par_base.specs.declared.value.Value.{Value}
 use Rattle.par_base.specs.declared.value.Value.TheVariants.{Null}
-use Rattle.op_rows.specs.Cells.{Cells, CellWide, AreCellsOf}
+use Rattle.op_rows.specs.Cells.{Cells, nth_cell, CellWide, AreCellsOf}
 use Rattle.op_rows.specs.RowMeaning.{flip_row}
 use Rattle.op_rows.specs.RowCalls.{AdmitsRows}
 use Rattle.row_parts.specs.RowCells.{Cell, is_there, value_or, by_test}
 use Rattle.row_parts.specs.Places.{nulls, value_for, filled, value_of_both}
-use Rattle.op_key_join.specs.Sides.{nth_cell}
 use Rattle.op_key_join.specs.Nulls.{is_null, nulls_null, null_nulls}
 use Rattle.op_key_join.specs.DecomposePk.{null_rows, row_of_neither, rows_of_neither, row_of_parts, HasParts, joined_parts, shown_parts, decompose_pk}
 use Rattle.op_key_join.specs.inner.DecomposePkLaws.{source_of, parts_wide, source_wide, has_shown, has_joined, neither_null, neither_wide}

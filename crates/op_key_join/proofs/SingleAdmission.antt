@@ -1,10 +1,9 @@
 -- Which rows DECOMPOSE into one table admits.
 use Rattle.std.proofs.Common.{◌≡◌, ℕ, List, [], ◌∷◌, length, Some, sym, ◌∙◌, ap, subst}
-use Rattle.op_rows.specs.Cells.{Cells, CellWide, AreCellsOf}
+use Rattle.op_rows.specs.Cells.{Cells, nth_cell, CellWide, AreCellsOf}
 use Rattle.op_rows.specs.RowMeaning.{flip_row}
 use Rattle.op_rows.specs.RowCalls.{AdmitsRows}
 use Rattle.row_parts.specs.RowCells.{Cell}
-use Rattle.op_key_join.specs.Sides.{nth_cell}
 use Rattle.op_key_join.specs.OtherPlaces.{others}
 use Rattle.op_key_join.specs.inner.PartLemmas.{pick_wide}
 use Rattle.op_key_join.specs.DecomposeSingle.{part_of, rest_of, with_rest, decompose_single}

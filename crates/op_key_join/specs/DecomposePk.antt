@@ -2,11 +2,10 @@
 use Rattle.std.specs.Prelude.{◌≡◌, ℕ, ◌+◌, List, [], ◌∷◌, length, Bool, true, not, ◌||◌, Some, None}
 use Rattle.par_base.specs.declared.value.Value.{Value}
 use Rattle.op_law.specs.Tables.{Heading}
-use Rattle.op_rows.specs.Cells.{Cells}
+use Rattle.op_rows.specs.Cells.{Cells, nth_cell}
 use Rattle.op_rows.specs.RowMeaning.{RowMeaning}
 use Rattle.row_parts.specs.RowCells.{Cell, is_there, kept_if, row_or, in_cell}
 use Rattle.row_parts.specs.Places.{pick, nulls, row_of_both, ArePartition, names_at}
-use Rattle.op_key_join.specs.Sides.{nth_cell}
 use Rattle.op_key_join.specs.Nulls.{is_null, is_null_there}
 
 -- the targets have the source's columns between them, each in the order of its list

@@ -2,9 +2,9 @@
 use Rattle.std.specs.Prelude.{◌≡◌, ℕ, ◌<◌, List, [], ◌∷◌, length, true}
 use Rattle.op_law.specs.Tables.{Heading}
 use Rattle.op_rows.specs.RowMeaning.{RowMeaning}
+use Rattle.op_rows.specs.Cells.{nth_cell}
 use Rattle.row_parts.specs.RowCells.{Cell, map_cell, row_or}
 use Rattle.row_parts.specs.Places.{pick, nulls, row_of_both, has_place, AreOnce, names_at}
-use Rattle.op_key_join.specs.Sides.{nth_cell}
 use Rattle.op_key_join.specs.OtherPlaces.{others}
 
 -- the listed columns are columns of the source, each listed once, and the target has them in this order

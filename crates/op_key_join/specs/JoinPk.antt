@@ -1,10 +1,9 @@
 -- JOIN ON PK, at one identifier: the target joins the rows of two sources that both have the identifier.
 use Rattle.std.specs.Prelude.{◌≡◌, ℕ, List, [], ◌∷◌, ◌++◌, length, true, not, Some, None, take, drop}
 use Rattle.op_law.specs.Tables.{Heading}
-use Rattle.op_rows.specs.Cells.{Cells}
+use Rattle.op_rows.specs.Cells.{Cells, nth_cell}
 use Rattle.op_rows.specs.RowMeaning.{RowMeaning}
 use Rattle.row_parts.specs.RowCells.{Cell, is_there, or_else, kept_if, map_cell}
-use Rattle.op_key_join.specs.Sides.{nth_cell}
 
 -- the target has the first source's columns, and then the second's
 pub record JoinPkFits (first second : ℕ) (hs ht : List Heading) : Type 0 where

@@ -2,11 +2,10 @@
 use Rattle.std.specs.Prelude.{◌≡◌, ℕ, List, [], ◌∷◌, length, true, false, Some, None, IsSome}
 use Rattle.par_base.specs.declared.value.Value.{Value}
 use Rattle.op_law.specs.Tables.{Heading}
-use Rattle.op_rows.specs.Cells.{Cells, AreCellsOf}
+use Rattle.op_rows.specs.Cells.{Cells, nth_cell, AreCellsOf}
 use Rattle.op_rows.specs.RowMeaning.{RowPair}
 use Rattle.row_parts.specs.RowCells.{Cell}
 use Rattle.row_parts.specs.Places.{pick, nulls}
-use Rattle.op_key_join.specs.Sides.{nth_cell}
 use Rattle.op_key_join.specs.Nulls.{is_null}
 use Rattle.op_key_join.specs.OtherPlaces.{others}
 use Rattle.op_key_join.specs.DecomposeSingle.{rest_of, decompose_single}

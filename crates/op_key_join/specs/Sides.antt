@@ -1,13 +1,9 @@
 -- Sides of one table and of two, at one identifier.
-use Rattle.std.specs.Prelude.{◌≡◌, ℕ, zero, suc, List, [], ◌∷◌, length, slice_get, unwrap_or, None, refl}
+use Rattle.std.specs.Prelude.{◌≡◌, ℕ, List, [], ◌∷◌, length, refl}
 use Rattle.std.proofs.Common.{sym, subst}
 use Rattle.op_law.specs.Tables.{Heading}
-use Rattle.op_rows.specs.Cells.{Cells, CellWide, AreCellsOf, CellSound, CellsSound}
+use Rattle.op_rows.specs.Cells.{Cells, nth_cell, CellWide, AreCellsOf}
 use Rattle.row_parts.specs.RowCells.{Cell}
-
--- what a table of a side has, counted from 0; past the last table there is nothing
-abbrev pub nth_cell : ℕ → Cells → Cell
-nth_cell at cells = unwrap_or (slice_get cells at) None
 
 -- what a side with one table has: one cell, and a row in it has so many values
 pub record OneCell (width : ℕ) (cs : Cells) : Type 0 where
@@ -51,12 +47,6 @@ pub two_wide : (first second : ℕ) (h k : Heading) (hs : List Heading) (c d : C
 two_wide first second h k hs c d is wide other of rest =
     subst (λ (l : List Heading). AreCellsOf l (c ∷ d ∷ [])) (sym is)
     (subst (λ (w : ℕ). CellWide w c) (sym wide) of, (subst (λ (w : ℕ). CellWide w d) (sym other) rest, tt))
-
--- a sound side has sound cells
-pub nth_sound : (n at : ℕ) (cs : Cells) → CellsSound n cs → CellSound n (nth_cell at cs)
-nth_sound n at [] sound = tt
-nth_sound n zero (c ∷ cs) sound = sound.0
-nth_sound n (suc at) (c ∷ cs) sound = nth_sound n at cs sound.1
 
 -- equal cells of both tables
 pub both_cells : (a b c d : Cell) → a ≡ c → b ≡ d → a ∷ b ∷ [] ≡ c ∷ d ∷ []

@@ -1,23 +1,10 @@
-//! What the calls read and make at one identifier.
-ghost use Rattle.std.specs.Prelude.{◌≡◌, ◌↔◌, [], ◌∷◌, IfOk, IsTrue};
+//! Tests of a row that may be missing.
+ghost use Rattle.std.specs.Prelude.{◌≡◌, ◌↔◌, IsTrue};
 ghost use Rattle.std.specs.Option.{option_copied};
 ghost use Rattle.op_rows.specs.Cells.{CellWide};
 ghost use Rattle.row_parts.specs.RowCells.{is_there, kept_if};
-ghost use Rattle.op_key_join.specs.Sides.{nth_cell};
 
-use op_rows::Cells;
-use par_base::{List, Memory, Row};
-use std::alloc::Global;
-
-/// The row of a table of a side, counted from 0.
-pub(crate) fn row_at(cells: &Cells, at: usize) -> Option<&Row>
-    ensures { option_copied result ≡ nth_cell at cells.now }
-{
-    match cells.get(at) {
-        Some(Some(row)) => Some(row),
-        _ => None,
-    }
-}
+use par_base::Row;
 
 /// Whether there is a row.
 pub(crate) fn has_row(cell: Option<&Row>) -> bool
@@ -44,37 +31,4 @@ pub(crate) fn is_wide(cell: Option<&Row>, width: usize) -> bool
         Some(row) => row.len() == width,
         None => true,
     }
-}
-
-/// An equal row.
-pub(crate) fn copied(alloc: Global, cell: Option<&Row>) -> Result<Option<Row>, Memory>
-    ensures { IfOk result (λ made. made ≡ option_copied cell.entry) }
-{
-    match cell {
-        Some(row) => Ok(Some(row.copy(alloc)?)),
-        None => Ok(None),
-    }
-}
-
-/// What a side with one table has.
-pub(crate) fn one_cell(alloc: Global, cell: Option<Row>) -> Result<Cells, Memory>
-    ensures { IfOk result (λ cells. cells ≡ cell ∷ []) }
-{
-    let mut cells = List::new(alloc);
-    cells.push(cell)?;
-    Ok(cells)
-}
-
-/// What a side with two tables has.
-pub(crate) fn two_cells(
-    alloc: Global,
-    first: Option<Row>,
-    second: Option<Row>,
-) -> Result<Cells, Memory>
-    ensures { IfOk result (λ cells. cells ≡ first ∷ second ∷ []) }
-{
-    let mut cells = List::new(alloc);
-    cells.push(first)?;
-    cells.push(second)?;
-    Ok(cells)
 }

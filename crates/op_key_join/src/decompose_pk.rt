@@ -1,13 +1,13 @@
 //! A table in two parts, with the same identifiers.
-ghost use Rattle.std.specs.Prelude.{◌≡◌, IfOk, true, false};
+ghost use Rattle.std.specs.Prelude.{◌≡◌, IfOk, true};
 ghost use Rattle.op_rows.specs.NearSides.{seen_from};
 ghost use Rattle.op_key_join.specs.DecomposePk.{decompose_pk, null_rows as the_null_rows, rows_of_neither};
 ghost use Rattle.op_key_join.specs.inner.DecomposePkLaws.{decompose_pk_laws};
 
-use crate::cells::{copied, one_cell, row_at, two_cells};
 use crate::parts::{joined_parts, may_be_of_neither, null_row, row_of_neither, shown_parts};
 use expr_lang::Steps;
-use op_rows::{Cells, NearSide, OldRows, RowOperator};
+use op_law::copied;
+use op_rows::{Cells, NearSide, OldRows, RowOperator, one_cell, row_at, two_cells};
 use par_base::{List, Memory};
 use row_parts::is_same_cells;
 use std::alloc::Global;

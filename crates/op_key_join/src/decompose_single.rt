@@ -1,13 +1,12 @@
 //! Some columns of a table.
-ghost use Rattle.std.specs.Prelude.{◌≡◌, IfOk, true, false};
+ghost use Rattle.std.specs.Prelude.{◌≡◌, IfOk};
 ghost use Rattle.op_rows.specs.NearSides.{seen_from};
 ghost use Rattle.op_key_join.specs.DecomposeSingle.{decompose_single};
 ghost use Rattle.op_key_join.specs.inner.DecomposeSingleLaws.{decompose_single_laws};
 
-use crate::cells::row_at;
 use crate::single::{part_of, rest_of, with_rest};
 use expr_lang::Steps;
-use op_rows::{Cells, NearSide, OldRows, RowOperator};
+use op_rows::{Cells, NearSide, OldRows, RowOperator, row_at};
 use par_base::{List, Memory};
 use row_parts::is_same_cells;
 use std::alloc::Global;

@@ -1,13 +1,13 @@
 //! Two tables joined where they have the same identifiers.
-ghost use Rattle.std.specs.Prelude.{◌≡◌, IfOk, true, false};
+ghost use Rattle.std.specs.Prelude.{◌≡◌, IfOk, true};
 ghost use Rattle.op_rows.specs.NearSides.{seen_from};
 ghost use Rattle.op_key_join.specs.JoinPk.{join_pk, rows_alone as the_rows_alone};
 ghost use Rattle.op_key_join.specs.inner.JoinPkLaws.{join_pk_laws};
 
-use crate::cells::{copied, row_at, two_cells};
 use crate::joins::{joined, may_stand_alone, row_alone, sources_of};
 use expr_lang::Steps;
-use op_rows::{Cells, NearSide, OldRows, RowOperator};
+use op_law::copied;
+use op_rows::{Cells, NearSide, OldRows, RowOperator, row_at, two_cells};
 use par_base::{List, Memory};
 use row_parts::is_same_cells;
 use std::alloc::Global;

@@ -3,10 +3,9 @@ ghost use Rattle.std.specs.Prelude.{◌≡◌, [], ◌∷◌, IfOk};
 ghost use Rattle.std.specs.Option.{option_copied};
 ghost use Rattle.op_key_join.specs.DecomposeSingle.{part_of as the_part, rest_of as the_rest, with_rest as with_the_rest};
 
-use crate::cells::one_cell;
 use crate::null_rows::row_or_nulls;
 use crate::other_places::others;
-use op_rows::Cells;
+use op_rows::{Cells, one_cell};
 use par_base::{Memory, Row};
 use row_parts::{pick, row_of_both};
 use std::alloc::Global;

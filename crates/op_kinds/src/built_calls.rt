@@ -1,5 +1,4 @@
 //! The calls of any operator: each hands on to the operator that was built.
-ghost use Rattle.std.specs.Prelude.{◌≡◌};
 ghost use Rattle.op_kinds.specs.Operators.{meaning_of, laws_of};
 ghost use Rattle.op_kinds.specs.Views.{built_view};
 

@@ -1,6 +1,6 @@
 -- The identifiers of tables are those of their rows, each once.
 use Rattle.std.specs.Prelude.{nat_lt}
-use Rattle.std.proofs.Common.{◌≡◌, ℕ, ◌+◌, ◌≤◌, ◌==◌, ◌⊎◌, List, [], ◌∷◌, Bool, true, false, cond, Option, Some, IsSome, refl, sym, ◌∙◌, arith}
+use Rattle.std.proofs.Common.{◌≡◌, ℕ, ◌+◌, ◌<◌, ◌≤◌, ◌==◌, ◌⊎◌, List, [], ◌∷◌, Bool, true, false, cond, Option, Some, IsSome, refl, sym, ◌∙◌, arith, length}
 use Rattle.std.proofs.lemmas.Bool.Decides.{nat_tests}
 use Rattle.std.proofs.lemmas.Bool.{cases_order, false≢true}
 use mathlib.Core.Logic.{inl, inr}
@@ -9,6 +9,7 @@ use Rattle.row_store.specs.Rows.{Rows, row_of}
 use Rattle.op_law.specs.Tables.{Tables}
 use Rattle.op_law.specs.Sound.{HasRow}
 use Rattle.op_law.specs.Identifiers.{put_id, ids_in, ids_over, has_id, IdsRise, NoneStandsTwice, AllWithRows}
+use Rattle.op_law.proofs.OnlyLaws.{by_test, is_same}
 
 -- tests in either order
 cond_swap : (a b c : Bool) → cond a true (cond b true c) ≡ cond b true (cond a true c)
@@ -128,3 +129,41 @@ none_stands_twice tables = tables_rise tables [] tt
 
 pub all_with_rows : AllWithRows
 all_with_rows tables id = (λ listed. has_row tables id (has_over tables [] id listed), rows_listed tables [] id)
+
+eq_self : (n : ℕ) → (n == n) ≡ true
+eq_self n = grind (arith, nat_tests)
+
+-- no identifier stands before the least
+pub none_before : (n : ℕ) (xs : List ℕ) (id : ℕ) → IdsRise n xs → id < n → has_id xs id ≡ false
+none_before n [] id rise h = refl
+none_before n (x ∷ xs) id rise h =
+    let other : (x == id) ≡ false = grind (arith, nat_tests, rise.0) in
+    rw other (none_before (x + 1) xs id rise.1 (omega (arith, rise.0)))
+
+-- ascending identifiers among others are no more than those
+pub no_more : (n k : ℕ) (xs ys : List ℕ) → IdsRise n xs → IdsRise k ys → ((id : ℕ) → has_id xs id ≡ true → has_id ys id ≡ true) → length xs ≤ length ys
+no_more n k [] ys rise_x rise_y within = omega arith
+no_more n k (x ∷ xs) [] rise_x rise_y within =
+    let own = eq_self x in
+    let no : false ≡ true = within x (rw own refl) in
+    absurd (false≢true no)
+no_more n k (x ∷ xs) (y ∷ ys) rise_x rise_y within =
+    let own = eq_self x in
+    let here = within x (rw own refl) in
+    elim (cases_order x y) [
+      | inl e ↦
+          let rest = no_more (x + 1) (y + 1) xs ys rise_x.1 rise_y.1 (λ id has.
+          by_test (y == id)
+          (λ same. let low = none_before (x + 1) xs id rise_x.1 (omega (arith, is_same y id same)) in absurd (false≢true (sym low ∙ has)))
+          (λ other. let there = within id (either_passes (x == id) (has_id xs id) has) in rw other at there)) in
+          omega (arith, rest)
+      | inr (inl h) ↦
+          let low = none_before (x + 1) (y ∷ ys) x (omega arith, rise_y.1) (omega arith) in
+          absurd (false≢true (sym low ∙ here))
+      | inr (inr h) ↦
+          let rest = no_more n (y + 1) (x ∷ xs) ys rise_x rise_y.1 (λ id has.
+          by_test (y == id)
+          (λ same. let low = none_before (y + 1) (x ∷ xs) id (omega arith, rise_x.1) (omega (arith, is_same y id same)) in absurd (false≢true (sym low ∙ has)))
+          (λ other. let there = within id has in rw other at there)) in
+          omega (arith, rest)
+    ]

@@ -5,7 +5,7 @@
 //! other. The crates above rest on these laws alone. It knows no single operator, and nothing of
 //! versions or of where tables are stored.
 //!
-//! Lemmas that crates above may use stand in proofs/: `IdentifierLaws`, `SoundLaws` and
+//! Lemmas that crates above may use stand in proofs/: `IdentifierLaws`, `OnlyLaws`, `SoundLaws` and
 //! `SoundTermLaws`.
 #![tactic(auto)]
 
@@ -14,6 +14,7 @@ mod flip;
 mod laws;
 mod operator;
 mod pair;
+mod rows;
 mod side;
 
 pub use chain::Chain;
@@ -24,4 +25,5 @@ pub use laws::{
 };
 pub use operator::Operator;
 pub use pair::{Far, Pair};
+pub use rows::{copied, copy_of};
 pub use side::{Aux, Side};

@@ -1,5 +1,5 @@
 -- What tables have at one identifier, and tables made from what they are to have.
-use Rattle.std.specs.Prelude.{◌≡◌, ℕ, zero, suc, List, [], ◌∷◌, length, map, Option, Some, None}
+use Rattle.std.specs.Prelude.{◌≡◌, ℕ, zero, suc, List, [], ◌∷◌, length, map, slice_get, unwrap_or, Option, Some, None}
 use Rattle.par_base.specs.declared.value.Value.{Value}
 use Rattle.row_store.specs.Rows.{Rows, row_of}
 use Rattle.op_law.specs.Tables.{Tables, Heading}
@@ -17,6 +17,10 @@ cells_at tables id = map (λ table. row_of table id) tables
 abbrev pub nones : ℕ → Cells
 nones zero = []
 nones (suc k) = None ∷ nones k
+
+-- what a table of a side has, counted from 0; past the last table there is nothing
+abbrev pub nth_cell : ℕ → Cells → Option (List Value)
+nth_cell at cells = unwrap_or (slice_get cells at) None
 
 abbrev pub first_cell : Cells → Option (List Value)
 first_cell [] = None

@@ -1,22 +1,14 @@
-//! What tables have at one identifier.
-ghost use Rattle.std.specs.Prelude.{◌≡◌, IfOk};
-ghost use Rattle.row_store.specs.Rows.{row_of};
+//! What tables have at one identifier, and what sides of one table and of two are to have.
+ghost use Rattle.std.specs.Prelude.{◌≡◌, [], ◌∷◌, IfOk};
+ghost use Rattle.std.specs.Option.{option_copied};
 ghost use Rattle.op_law.specs.Tables.{contents};
-ghost use Rattle.op_rows.specs.Cells.{cells_at};
+ghost use Rattle.op_rows.specs.Cells.{cells_at, nth_cell};
 
 use crate::Cells;
+use op_law::copy_of;
 use par_base::{List, Memory, Row};
 use row_store::Table;
 use std::alloc::Global;
-
-fn cell_of(alloc: Global, table: &Table, id: u64) -> Result<Option<Row>, Memory>
-    ensures { IfOk result (λ cell. cell ≡ row_of table.now.rows id) }
-{
-    match table.get(id) {
-        Some(row) => Ok(Some(row.copy(alloc)?)),
-        None => Ok(None),
-    }
-}
 
 /// A copy of what each of the tables has at the identifier. A table takes a binary search.
 pub(crate) fn cells_of(alloc: Global, tables: &[Table], id: u64) -> Result<Cells, Memory>
@@ -24,7 +16,36 @@ pub(crate) fn cells_of(alloc: Global, tables: &[Table], id: u64) -> Result<Cells
 {
     let mut cells = List::new(alloc);
     for table in tables {
-        cells.push(cell_of(alloc, table, id)?)?;
+        cells.push(copy_of(alloc, table, id)?)?;
     }
+    Ok(cells)
+}
+
+/// The row of a table of a side, counted from 0. It takes no memory.
+pub fn row_at(cells: &Cells, at: usize) -> Option<&Row>
+    ensures { option_copied result ≡ nth_cell at cells.now }
+{
+    match cells.get(at) {
+        Some(Some(row)) => Some(row),
+        _ => None,
+    }
+}
+
+/// What a side with one table has. It takes room for one row.
+pub fn one_cell(alloc: Global, cell: Option<Row>) -> Result<Cells, Memory>
+    ensures { IfOk result (λ cells. cells ≡ cell ∷ []) }
+{
+    let mut cells = List::with_room(alloc, 1)?;
+    cells.push(cell)?;
+    Ok(cells)
+}
+
+/// What a side with two tables has. It takes room for two rows.
+pub fn two_cells(alloc: Global, first: Option<Row>, second: Option<Row>) -> Result<Cells, Memory>
+    ensures { IfOk result (λ cells. cells ≡ first ∷ second ∷ []) }
+{
+    let mut cells = List::with_room(alloc, 2)?;
+    cells.push(first)?;
+    cells.push(second)?;
     Ok(cells)
 }

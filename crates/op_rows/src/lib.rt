@@ -17,6 +17,7 @@ mod row_operator;
 mod rowwise;
 mod tables;
 
+pub use cells::{one_cell, row_at, two_cells};
 pub use flip_row::FlipRow;
 pub use ids::merge_ids;
 pub use laws::{rowwise_is_local, rowwise_keeps_the_laws};

@@ -1,5 +1,5 @@
 //! A pass over identifiers, which makes tables from what is made at each identifier by itself.
-ghost use Rattle.std.specs.Prelude.{◌≡◌, ℕ, ◌+◌, ◌*◌, ◌≤◌, [], ◌∷◌, ◌++◌, length, List, IfOk, OnOk};
+ghost use Rattle.std.specs.Prelude.{◌≡◌, ℕ, ◌+◌, ◌*◌, ◌≤◌, [], ◌++◌, length, List, IfOk, OnOk};
 ghost use Rattle.row_store.specs.Rows.{AreBelow};
 ghost use Rattle.op_law.specs.Tables.{Tables, contents};
 ghost use Rattle.op_rows.specs.Cells.{Cells, cells_at, with_row, tables_from};

@@ -3,10 +3,9 @@ use Rattle.std.specs.Prelude.{◌≡◌, ◌≢◌, ℕ, List, [], ◌∷◌, tr
 use Rattle.par_base.specs.declared.value.Value.{Value}
 use Rattle.expr_lang.specs.Terms.{Term}
 use Rattle.expr_lang.specs.Val.{holds_at}
-use Rattle.op_rows.specs.Cells.{Cells}
+use Rattle.op_rows.specs.Cells.{Cells, nth_cell}
 use Rattle.op_rows.specs.RowMeaning.{RowMeaning, flip_row}
 use Rattle.op_split_merge.specs.Twins.{Cell}
-use Rattle.op_split_merge.specs.Sides.{nth_cell}
 use Rattle.op_split_merge.specs.Split.{split}
 
 -- what an operator does at one identifier, whatever it computes

@@ -1,18 +1,14 @@
 -- The sides of SPLIT at one identifier: one source, and one target or two.
-use Rattle.std.specs.Prelude.{◌≡◌, ℕ, zero, suc, List, [], ◌∷◌, length, map, slice_get, unwrap_or, Option, Some, None, refl}
+use Rattle.std.specs.Prelude.{◌≡◌, ℕ, List, [], ◌∷◌, length, map, Option, Some, None, refl}
 use Rattle.std.proofs.Common.{subst}
 use Rattle.expr_lang.specs.Terms.{Term}
 use Rattle.op_law.specs.Tables.{Heading}
-use Rattle.op_rows.specs.Cells.{Cells, CellWide, AreCellsOf, CellSound, CellsSound}
+use Rattle.op_rows.specs.Cells.{Cells, nth_cell, CellWide, AreCellsOf, CellSound, CellsSound}
 use Rattle.op_split_merge.specs.Twins.{Cell}
 
 -- how many columns each table has
 abbrev pub widths : List Heading → List ℕ
 widths headings = map (λ heading. length heading.columns) headings
-
--- what a table of a side has, counted from 0; past the last table there is nothing
-abbrev pub nth_cell : ℕ → Cells → Cell
-nth_cell at cells = unwrap_or (slice_get cells at) None
 
 -- one for each target: without a second condition there is no second target
 abbrev pub targets_of : {A : Type 0} → Option (Term ℕ) → A → A → List A
@@ -82,12 +78,7 @@ target_wide (Some q) width (k ∷ (l ∷ [])) r s e wide other_wide =
     (subst (λ (w : ℕ). CellWide w r) same wide, (subst (λ (w : ℕ). CellWide w s) other other_wide, tt))
 target_wide (Some q) width (k ∷ (l ∷ (m ∷ ms))) r s e wide other_wide = absurd (cc)
 
--- a sound side has sound cells
-pub nth_sound : (n : ℕ) (at : ℕ) (cs : Cells) → CellsSound n cs → CellSound n (nth_cell at cs)
-nth_sound n at [] sound = tt
-nth_sound n zero (c ∷ cs) sound = sound.0
-nth_sound n (suc at) (c ∷ cs) sound = nth_sound n at cs sound.1
-
+-- sound cells are a sound side
 pub targets_sound : (second : Option (Term ℕ)) (n : ℕ) (r s : Cell) → CellSound n r → CellSound n s → CellsSound n (targets_of second r s)
 targets_sound None n r s sound other = (sound, tt)
 targets_sound (Some q) n r s sound other = (sound, (other, tt))

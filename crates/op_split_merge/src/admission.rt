@@ -3,18 +3,16 @@ ghost use Rattle.std.specs.Prelude.{◌≡◌, ◌↔◌, IfOk, IsTrue, Some, No
 ghost use Rattle.std.specs.Option.{option_copied, option_map};
 ghost use Rattle.expr_lang.specs.Terms.{expr_term};
 ghost use Rattle.expr_lang.specs.Val.{holds_at};
-ghost use Rattle.op_rows.specs.Cells.{CellWide};
+ghost use Rattle.op_rows.specs.Cells.{nth_cell, CellWide};
 ghost use Rattle.op_split_merge.specs.Twins.{AreTwinsOf};
-ghost use Rattle.op_split_merge.specs.Sides.{nth_cell};
 ghost use Rattle.op_split_merge.specs.Split.{test_of};
 ghost use Rattle.op_split_merge.specs.inner.Calls.{CanTestBoth, TestsWithin, TargetBelongs, SourceBelongs};
 
 use crate::Split;
 use crate::auxiliary::{aux_at_source, aux_at_target};
-use crate::cells::row_at;
 use crate::twins::meets;
 use expr_lang::Steps;
-use op_rows::Cells;
+use op_rows::{Cells, row_at};
 use par_base::{Memory, Row, is_same_values};
 use row_parts::is_same_cells;
 use std::alloc::Global;

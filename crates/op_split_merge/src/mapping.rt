@@ -3,16 +3,17 @@ ghost use Rattle.std.specs.Prelude.{◌≡◌, ◌+◌, ◌≤◌, ◌&&◌, ◌
 ghost use Rattle.std.specs.Option.{option_copied, option_map};
 ghost use Rattle.expr_lang.specs.Terms.{expr_term};
 ghost use Rattle.expr_lang.specs.Val.{holds_at};
-ghost use Rattle.op_split_merge.specs.Twins.{are_separated, kept_if, first_to, second_to, source_to};
+ghost use Rattle.op_split_merge.specs.Twins.{are_separated, first_to, second_to, source_to};
 ghost use Rattle.op_split_merge.specs.Sides.{targets_of};
 ghost use Rattle.op_split_merge.specs.Split.{test_of};
 ghost use Rattle.op_split_merge.specs.inner.Calls.{CanTestBoth};
 
 use crate::Split;
-use crate::cells::{copied, one_cell, or_other, row_if};
+use crate::cells::{or_other, row_if};
 use crate::twins::{is_separated, meets, wants};
 use expr_lang::{Expr, Steps};
-use op_rows::Cells;
+use op_law::copied;
+use op_rows::{Cells, one_cell};
 use par_base::{List, Memory, Row};
 use std::alloc::Global;
 use std::sync::ledger::Ledger;

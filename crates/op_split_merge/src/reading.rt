@@ -2,18 +2,17 @@
 ghost use Rattle.std.specs.Prelude.{◌≡◌, ◌+◌, ◌≤◌, IfOk, Some};
 ghost use Rattle.std.specs.Option.{option_copied, option_map};
 ghost use Rattle.expr_lang.specs.Terms.{expr_term};
-ghost use Rattle.expr_lang.specs.Val.{holds_at};
+ghost use Rattle.op_rows.specs.Cells.{nth_cell};
 ghost use Rattle.op_split_merge.specs.Auxiliary.{shown_by};
-ghost use Rattle.op_split_merge.specs.Sides.{nth_cell};
 ghost use Rattle.op_split_merge.specs.Split.{test_of, split_read_target};
 ghost use Rattle.op_split_merge.specs.inner.Calls.{CanTest, CanTestBoth};
 
 use crate::Split;
-use crate::cells::{has_row, or_other, row_at, row_if};
+use crate::cells::{has_row, or_other, row_if};
 use crate::mapping::targets;
 use crate::twins::meets;
 use expr_lang::{Expr, Steps};
-use op_rows::Cells;
+use op_rows::{Cells, row_at};
 use par_base::{Memory, Row};
 use std::alloc::Global;
 use std::sync::ledger::Ledger;

@@ -1,5 +1,5 @@
 //! The operator SPLIT.
-ghost use Rattle.std.specs.Prelude.{◌≡◌, IfOk, true, false};
+ghost use Rattle.std.specs.Prelude.{IfOk};
 ghost use Rattle.std.specs.Option.{option_map};
 ghost use Rattle.expr_lang.specs.Terms.{expr_term};
 ghost use Rattle.op_rows.specs.RowMeaning.{flip_row};
@@ -9,11 +9,10 @@ ghost use Rattle.op_split_merge.specs.inner.SplitLaws.{split_laws};
 
 use crate::admission::{source_belongs, target_belongs};
 use crate::auxiliary::{aux_at_source, aux_at_target, rest};
-use crate::cells::row_at;
 use crate::mapping::{source_of, targets_to};
 use crate::reading::read_target;
 use expr_lang::{Expr, Steps};
-use op_rows::{Cells, NearSide, OldRows, RowOperator};
+use op_rows::{Cells, NearSide, OldRows, RowOperator, row_at};
 use par_base::Memory;
 use std::alloc::Global;
 use std::sync::ledger::Ledger;

@@ -1,8 +1,6 @@
 -- Whether rows have so many values each, as a test.
-use Rattle.std.specs.Prelude.{◌&&◌}
 use Rattle.std.proofs.Common.{◌≡◌, ℕ, ◌==◌, [], ◌∷◌, length, Bool, true, false, if◌then◌else◌, refl, arith}
 use Rattle.std.proofs.lemmas.Bool.Decides.{nat_tests}
-use Rattle.std.proofs.lemmas.Bool.{and_from, and_parts}
 use Rattle.row_store.specs.Rows.{Rows}
 use Rattle.op_law.specs.Tables.{RowsWide}
 use Rattle.op_rows.specs.inner.CellLemmas.{is_same}

@@ -1,5 +1,5 @@
 //! Tables that are made over the ascending identifiers of other tables.
-ghost use Rattle.std.specs.Prelude.{◌≡◌, ℕ, [], ◌∷◌, ◌++◌, IfOk, OnOk};
+ghost use Rattle.std.specs.Prelude.{◌≡◌, ℕ, [], ◌++◌, IfOk, OnOk};
 ghost use Rattle.row_store.specs.Rows.{AreBelow};
 ghost use Rattle.op_law.specs.Identifiers.{ids_in};
 ghost use Rattle.op_rows.specs.Cells.{with_row, table_from};

@@ -13,7 +13,7 @@ use Rattle.op_law.specs.Calls.{StepsWithin}
 use Rattle.op_law.proofs.IdentifierLaws.{has_over}
 use Rattle.op_rows.specs.inner.CellLemmas.{has_id, rise_ids, IdsRise, AllRise}
 use Rattle.op_rows.specs.inner.Tabulated.{all_rise}
-use Rattle.row_changes.proofs.OnlyLaws.{first_table, not_true, other_tables, row_in, same_rows}
+use Rattle.op_law.proofs.OnlyLaws.{first_table, not_true, other_tables, row_in, same_rows}
 use Rattle.operator_changes.specs.AuxCalls.{AuxWithin, MayChangePair, changed_pair, touched_both}
 use Rattle.row_changes.specs.Changed.{TableChanges, AreChangesOf, changed_tables}
 use Rattle.row_changes.specs.Differences.{AreDifferences}
@@ -24,7 +24,8 @@ use Rattle.operator_changes.proofs.FootLemmas.{has_passed}
 use Rattle.operator_changes.proofs.PartLemmas.{parts_are}
 use Rattle.row_changes.proofs.ChangedLaws.{only_changes, other_changes, only_fit}
 use Rattle.row_changes.proofs.PickLaws.{picks_difference}
-use Rattle.row_changes.proofs.TouchedLaws.{each_pass, no_more, rise_over, stays_over}
+use Rattle.op_law.proofs.IdentifierLaws.{no_more}
+use Rattle.row_changes.proofs.TouchedLaws.{each_pass, rise_over, stays_over}
 
 -- the changes that are picked of whole tables and of parts of new ones
 pub differences_whole : (ids : List ℕ) (ts us : Tables) (cs : TableChanges) → IdsRise 0 ids → AllRise ts → AllRise us → only (λ q. not (has_id ids q)) us ≡ only (λ q. not (has_id ids q)) ts

@@ -9,7 +9,7 @@ use Rattle.op_law.specs.Local.{only, rows_only}
 use Rattle.op_law.specs.Sound.{RowsSound, TablesSound}
 use Rattle.op_law.specs.Tables.{Tables}
 use Rattle.op_rows.specs.inner.CellLemmas.{has_id, is_same, IdsRise}
-use Rattle.row_changes.proofs.OnlyLaws.{by_test}
+use Rattle.op_law.proofs.OnlyLaws.{by_test}
 use Rattle.operator_changes.specs.Footprint.{drawn_from, ids_under, passes, with_drawn}
 
 drawn_rise : (k n c : ℕ) → k ≤ n → IdsRise k (drawn_from c n)

@@ -23,7 +23,7 @@ use Rattle.op_law.specs.Premises.{SomeMap}
 use Rattle.op_law.proofs.IdentifierLaws.{has_over}
 use Rattle.op_rows.specs.inner.CellLemmas.{has_id, rise_ids, IdsRise, AllRise}
 use Rattle.op_rows.specs.inner.Tabulated.{all_rise, tables_long}
-use Rattle.row_changes.proofs.OnlyLaws.{by_test, first_table, other_tables, row_in, row_out, same_rows}
+use Rattle.op_law.proofs.OnlyLaws.{by_test, first_table, other_tables, row_in, row_out, same_rows}
 use Rattle.operator_changes.specs.Calls.{toward, IsChangedTo, MayChange}
 use Rattle.row_changes.specs.Changed.{TableChanges, AreChangesOf, changed_tables}
 use Rattle.row_changes.specs.Differences.{AreDifferences}
@@ -36,7 +36,7 @@ use Rattle.operator_changes.proofs.DrawnLemmas.{only_same, under_passes, with_ha
 use Rattle.operator_changes.proofs.PartLemmas.{parts_are}
 use Rattle.row_changes.proofs.ChangedLaws.{only_changes, only_fit}
 use Rattle.row_changes.proofs.PickLaws.{picks_difference}
-use Rattle.row_changes.proofs.TouchedLaws.{no_more}
+use Rattle.op_law.proofs.IdentifierLaws.{no_more}
 
 -- THE CHANGES THAT ARE PICKED OF BOTH PARTS ARE THE DIFFERENCE OF BOTH SIDES
 pub differences : (ids : List ℕ) (ts us : Tables) (cs : TableChanges) → IdsRise 0 ids → AllRise ts → AllRise us → only (λ q. not (has_id ids q)) us ≡ only (λ q. not (has_id ids q)) ts

@@ -13,7 +13,7 @@ use Rattle.row_changes.specs.Changed.{TableChanges, changed_tables}
 use Rattle.operator_changes.specs.Footprint.{IsFootprint, passes}
 use Rattle.row_changes.specs.Touched.{EachPass, touched}
 use Rattle.operator_changes.proofs.FootLemmas.{each_more, has_passes}
-use Rattle.row_changes.proofs.OnlyLaws.{not_true}
+use Rattle.op_law.proofs.OnlyLaws.{not_true}
 use Rattle.operator_changes.proofs.PartLemmas.{tables_sound}
 use Rattle.row_changes.proofs.ChangedLaws.{other_changes}
 use Rattle.row_changes.proofs.TouchedLaws.{rise_over, touched_pass}

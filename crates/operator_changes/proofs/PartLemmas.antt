@@ -11,7 +11,7 @@ use Rattle.operator_changes.specs.Calls.{ahead}
 use Rattle.op_rows.specs.Cells.{table_from}
 use Rattle.op_rows.specs.inner.CellLemmas.{has_id, IdsRise, AllRise}
 use Rattle.op_rows.specs.inner.Tabulated.{row_from, rise_from}
-use Rattle.row_changes.proofs.OnlyLaws.{row_in, row_out, rise_only, by_test}
+use Rattle.op_law.proofs.OnlyLaws.{row_in, row_out, rise_only, by_test}
 use Rattle.operator_changes.specs.Parts.{part_of, pair_part}
 
 in_cond : (b : Bool) (o : Option (List Value)) → b ≡ true → cond b o None ≡ o

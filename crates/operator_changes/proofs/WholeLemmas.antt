@@ -15,7 +15,7 @@ use Rattle.op_law.specs.Premises.{SomeMap}
 use Rattle.op_law.specs.Sound.{HasRow}
 use Rattle.op_rows.specs.inner.CellLemmas.{has_id, none_at, rise_ids}
 use Rattle.op_rows.specs.Cells.{Cells, cells_at, nones}
-use Rattle.row_changes.proofs.OnlyLaws.{by_test}
+use Rattle.op_law.proofs.OnlyLaws.{by_test}
 use Rattle.op_rows.specs.inner.Tabulated.{all_rise, tables_long}
 use Rattle.row_changes.specs.Changed.{changed_tables}
 use Rattle.operator_changes.specs.Footprint.{passes}

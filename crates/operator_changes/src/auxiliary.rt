@@ -1,5 +1,5 @@
 //! The changes of the auxiliary tables from those of both sides.
-ghost use Rattle.std.specs.Prelude.{◌≡◌, ◌≤◌, true, [], length, IfOk};
+ghost use Rattle.std.specs.Prelude.{◌≡◌, true, [], IfOk};
 ghost use Rattle.op_law.specs.Calls.{seen, tables_of, StepsWithin};
 ghost use Rattle.op_law.specs.Identifiers.{IdsRise};
 ghost use Rattle.op_law.specs.Premises.{SomePair};

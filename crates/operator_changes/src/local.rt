@@ -1,6 +1,6 @@
 //! The changes of the far side of an operator that treats each identifier by itself: the
 //! identifiers that the changes name are a footprint of them.
-ghost use Rattle.std.specs.Prelude.{◌≡◌, ◌≤◌, true, length};
+ghost use Rattle.std.specs.Prelude.{◌≡◌, true};
 ghost use Rattle.op_law.specs.Meaning.{exchanged, flip};
 ghost use Rattle.operator_changes.specs.Calls.{ahead, toward, mapped_changes, ChangesWithin, IsChangedTo, MayChange};
 

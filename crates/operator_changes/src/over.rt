@@ -1,12 +1,12 @@
 //! A reader over both sides of a pair in memory.
-ghost use Rattle.std.specs.Prelude.{◌≡◌, length, IfOk};
+ghost use Rattle.std.specs.Prelude.{◌≡◌, IfOk};
 ghost use Rattle.row_store.specs.Rows.{row_of};
 ghost use Rattle.op_law.specs.Tables.{contents};
 ghost use Rattle.operator_changes.specs.Calls.{ahead};
 ghost use Rattle.operator_changes.specs.Pairs.{of_sides, side_at, table_at};
 
 use crate::PairRead;
-use op_law::Side;
+use op_law::{Side, copy_of};
 use par_base::{Memory, Row};
 use row_store::Table;
 use std::alloc::Global;
@@ -43,20 +43,11 @@ fn side_of<'a>(source: &'a Side, target: &'a Side, of_target: bool) -> &'a Side
     if of_target { target } else { source }
 }
 
-fn copy_row(alloc: Global, table: &Table, id: u64) -> Result<Option<Row>, Memory>
-    ensures { IfOk result (λ row. row ≡ row_of table.now.rows id) }
-{
-    match table.get(id) {
-        Some(row) => Ok(Some(row.copy(alloc)?)),
-        None => Ok(None),
-    }
-}
-
 fn row_in(alloc: Global, tables: &[Table], which: usize, id: u64) -> Result<Option<Row>, Memory>
     ensures { IfOk result (λ row. row ≡ row_of (table_at (contents tables.now) which) id) }
 {
     if which < tables.len() {
-        copy_row(alloc, &tables[which], id)
+        copy_of(alloc, &tables[which], id)
     } else {
         Ok(None)
     }

@@ -1,5 +1,5 @@
 //! The rows of some identifiers alone, read of an old pair.
-ghost use Rattle.std.specs.Prelude.{◌≡◌, ◌≤◌, [], ◌∷◌, ◌++◌, length, IfOk, OnOk};
+ghost use Rattle.std.specs.Prelude.{◌≡◌, ◌≤◌, [], ◌++◌, length, IfOk, OnOk};
 ghost use Rattle.row_store.specs.Rows.{AreBelow, row_of};
 ghost use Rattle.op_law.specs.Tables.{contents};
 ghost use Rattle.op_rows.specs.Cells.{with_row, table_from};

@@ -12,7 +12,7 @@ use Rattle.row_store.proofs.UndoLaws.{ext}
 use Rattle.op_law.specs.Local.{rows_only, only}
 use Rattle.op_rows.specs.Cells.{with_row}
 use Rattle.op_rows.specs.inner.CellLemmas.{is_same}
-use Rattle.row_changes.proofs.OnlyLaws.{row_in, row_out, rise_only, by_test}
+use Rattle.op_law.proofs.OnlyLaws.{row_in, row_out, rise_only, by_test}
 use Rattle.op_law.specs.Tables.{Tables, AllRise}
 use Rattle.row_changes.specs.Changed.{put_row, changed, TableChanges, changed_tables, AreChangesOf}
 use Rattle.row_changes.specs.Touched.{AllPass, EachPass}

@@ -12,7 +12,7 @@ use Rattle.row_changes.specs.Changed.{TableChanges, changed, AreChangesOf, chang
 use Rattle.row_changes.specs.Differences.{AllDiffer, IsDifference, AreDifferences}
 use Rattle.row_changes.specs.Touched.{AllPass, EachPass}
 use Rattle.row_changes.proofs.ChangedLaws.{after_other, changed_at, changed_rise}
-use Rattle.row_changes.proofs.OnlyLaws.{by_test, first_table, other_tables, rise_only, row_in, row_out, same_rows}
+use Rattle.op_law.proofs.OnlyLaws.{by_test, first_table, other_tables, rise_only, row_in, row_out, same_rows}
 
 first_after : (c : Change) (cs : List Change) (row : Option (List Value)) → after (c ∷ cs) c.id row ≡ c.new
 first_after c cs row = let own : (c.id == c.id) ≡ true = grind (arith, nat_tests) in rw own refl

@@ -1,6 +1,5 @@
 pub mod ChangedLaws
 pub mod DifferenceLaws
-pub mod OnlyLaws
 pub mod PickLaws
 pub mod TouchedLaws
 mod LoopLemmas

@@ -9,7 +9,7 @@ use Rattle.row_store.specs.Rows.{Rows, RiseFrom, row_of}
 use Rattle.row_store.specs.Changes.{ChangesRise, IsAbove, AreOld, after}
 use Rattle.row_store.proofs.UndoLaws.{ext}
 use Rattle.op_rows.specs.inner.CellLemmas.{has_id, IdsRise, is_same, none_at, rise_ids}
-use Rattle.row_changes.proofs.OnlyLaws.{by_test}
+use Rattle.op_law.proofs.OnlyLaws.{by_test}
 use Rattle.row_changes.specs.Changed.{changed}
 use Rattle.row_changes.specs.Differences.{AllDiffer, IsDifference}
 use Rattle.op_law.specs.Tables.{Tables, AllRise}
@@ -19,7 +19,7 @@ use Rattle.row_changes.specs.Changed.{TableChanges}
 use Rattle.row_changes.specs.Picked.{Lookup, Picks, PicksEach, change_between}
 use Rattle.row_changes.specs.Touched.{AllPass, EachPass}
 use Rattle.row_changes.proofs.ChangedLaws.{changed_at, changed_rise}
-use Rattle.row_changes.proofs.TouchedLaws.{none_before}
+use Rattle.op_law.proofs.IdentifierLaws.{none_before}
 
 lower : (n k : ℕ) (cs : List Change) → n ≤ k → ChangesRise k cs → ChangesRise n cs
 lower n k [] h rise = tt

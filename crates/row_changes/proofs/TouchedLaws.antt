@@ -1,11 +1,8 @@
 -- The identifiers that changes name.
-use Rattle.std.proofs.Common.{◌≡◌, ℕ, ◌+◌, ◌<◌, ◌≤◌, ◌==◌, List, [], ◌∷◌, Bool, true, false, cond, refl, ap, sym, ◌∙◌, arith, length}
-use Rattle.std.proofs.lemmas.Bool.{false≢true, cases_order}
+use Rattle.std.proofs.Common.{◌≡◌, ℕ, ◌==◌, List, [], ◌∷◌, Bool, true, false, cond, refl, ap, ◌∙◌, arith}
 use Rattle.std.proofs.lemmas.Bool.Decides.{nat_tests}
-use mathlib.Core.Logic.{inl, inr}
 use Rattle.row_store.specs.declared.change.Change.{Change}
-use Rattle.op_rows.specs.inner.CellLemmas.{has_id, has_put, rise_put, IdsRise, is_same}
-use Rattle.row_changes.proofs.OnlyLaws.{by_test}
+use Rattle.op_rows.specs.inner.CellLemmas.{has_id, has_put, rise_put, IdsRise}
 use Rattle.row_changes.specs.Changed.{TableChanges}
 use Rattle.row_changes.specs.Touched.{touched_in, touched_over, touched, AllPass, EachPass}
 
@@ -47,37 +44,3 @@ each_pass (c ∷ cs) ids P h = (own_pass c c ids P (λ id e. h id (stays_over cs
 
 pub touched_pass : (changes : TableChanges) → EachPass (has_id (touched changes)) changes
 touched_pass changes = each_pass changes [] (has_id (touched changes)) (λ id e. e)
-
--- ascending identifiers among others are no more than those
-pub none_before : (n : ℕ) (xs : List ℕ) (id : ℕ) → IdsRise n xs → id < n → has_id xs id ≡ false
-none_before n [] id rise h = refl
-none_before n (x ∷ xs) id rise h =
-    let other : (x == id) ≡ false = grind (arith, nat_tests, rise.0) in
-    rw other (none_before (x + 1) xs id rise.1 (omega (arith, rise.0)))
-
-pub no_more : (n k : ℕ) (xs ys : List ℕ) → IdsRise n xs → IdsRise k ys → ((id : ℕ) → has_id xs id ≡ true → has_id ys id ≡ true) → length xs ≤ length ys
-no_more n k [] ys rise_x rise_y within = omega arith
-no_more n k (x ∷ xs) [] rise_x rise_y within =
-    let own = eq_self x in
-    let no : false ≡ true = within x (rw own refl) in
-    absurd (false≢true no)
-no_more n k (x ∷ xs) (y ∷ ys) rise_x rise_y within =
-    let own = eq_self x in
-    let here = within x (rw own refl) in
-    elim (cases_order x y) [
-      | inl e ↦
-          let rest = no_more (x + 1) (y + 1) xs ys rise_x.1 rise_y.1 (λ id has.
-          by_test (y == id)
-          (λ same. let low = none_before (x + 1) xs id rise_x.1 (omega (arith, is_same y id same)) in absurd (false≢true (sym low ∙ has)))
-          (λ other. let there = within id (true_or (x == id) (has_id xs id) has) in rw other at there)) in
-          omega (arith, rest)
-      | inr (inl h) ↦
-          let low = none_before (x + 1) (y ∷ ys) x (omega arith, rise_y.1) (omega arith) in
-          absurd (false≢true (sym low ∙ here))
-      | inr (inr h) ↦
-          let rest = no_more n (y + 1) (x ∷ xs) ys rise_x rise_y.1 (λ id has.
-          by_test (y == id)
-          (λ same. let low = none_before (y + 1) (x ∷ xs) id (omega arith, rise_x.1) (omega (arith, is_same y id same)) in absurd (false≢true (sym low ∙ has)))
-          (λ other. let there = within id has in rw other at there)) in
-          omega (arith, rest)
-    ]

@@ -1,29 +1,21 @@
 //! Copies of changes, and of tables with changes.
-ghost use Rattle.std.specs.Prelude.{◌≡◌, ◌++◌, [], ◌∷◌, length, IfOk};
+ghost use Rattle.std.specs.Prelude.{◌≡◌, IfOk};
 ghost use Rattle.row_store.specs.Changes.{AreOld};
 ghost use Rattle.op_law.specs.Tables.{contents};
 ghost use Rattle.row_changes.specs.Changed.{changed, changed_tables, AreChangesOf};
 
-use par_base::{List, Memory, Row};
+use op_law::copied;
+use par_base::{List, Memory};
 use row_store::{Change, Changes, Table};
 use std::alloc::Global;
-
-fn copy_cell(alloc: Global, cell: &Option<Row>) -> Result<Option<Row>, Memory>
-    ensures { IfOk result (λ made. made ≡ cell.now) }
-{
-    match cell {
-        Some(row) => Ok(Some(row.copy(alloc)?)),
-        None => Ok(None),
-    }
-}
 
 fn copy_change(alloc: Global, change: &Change) -> Result<Change, Memory>
     ensures { IfOk result (λ made. made ≡ change.now) }
 {
     Ok(Change {
         id: change.id,
-        old: copy_cell(alloc, &change.old)?,
-        new: copy_cell(alloc, &change.new)?,
+        old: copied(alloc, change.old.as_ref())?,
+        new: copied(alloc, change.new.as_ref())?,
     })
 }
 

@@ -3,13 +3,14 @@
 //! Both tables are looked up at each of the identifiers that either has, in order.
 ghost use Rattle.std.specs.Prelude.{◌≡◌, ◌↔◌, [], ◌∷◌, length, IfOk, IsTrue};
 ghost use Rattle.std.specs.Option.{option_map};
-ghost use Rattle.row_store.specs.Rows.{RiseFrom, row_of};
+ghost use Rattle.row_store.specs.Rows.{row_of};
 ghost use Rattle.op_law.specs.Tables.{contents, AllRise};
 ghost use Rattle.op_law.specs.Identifiers.{ids_over, IdsRise};
 ghost use Rattle.row_changes.specs.Differences.{AreDifferences, IsDifference};
 ghost use Rattle.row_changes.specs.Picked.{change_between, Picks, PicksEach};
 
 use crate::SideChanges;
+use op_law::copy_of;
 use op_rows::merge_ids;
 use par_base::{List, Memory, Row, is_same_values};
 use row_store::{Change, Changes, Table};
@@ -27,23 +28,14 @@ fn is_same_cell(some: Option<&Row>, other: Option<&Row>) -> bool
     }
 }
 
-fn copy_cell(alloc: Global, cell: Option<&Row>) -> Result<Option<Row>, Memory>
-    ensures { IfOk result (λ made. made ≡ option_map (λ row. row.now) cell.entry) }
-{
-    match cell {
-        Some(row) => Ok(Some(row.copy(alloc)?)),
-        None => Ok(None),
-    }
-}
-
 fn change_at(alloc: Global, id: u64, before: &Table, now: &Table) -> Result<Change, Memory>
     ensures { IfOk result (λ made. made
         ≡ change_between (row_of before.now.rows) (row_of now.now.rows) id) }
 {
     Ok(Change {
         id,
-        old: copy_cell(alloc, before.get(id))?,
-        new: copy_cell(alloc, now.get(id))?,
+        old: copy_of(alloc, before, id)?,
+        new: copy_of(alloc, now, id)?,
     })
 }
 

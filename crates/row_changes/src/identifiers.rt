@@ -1,5 +1,5 @@
 //! The identifiers that changes name, ascending, each once.
-ghost use Rattle.std.specs.Prelude.{◌≡◌, ◌+◌, ◌<◌, ◌≤◌, [], ◌∷◌, length, IfOk};
+ghost use Rattle.std.specs.Prelude.{◌≡◌, ◌+◌, ◌<◌, ◌≤◌, ◌∷◌, length, IfOk};
 ghost use Rattle.row_store.specs.Changes.{ChangesRise};
 ghost use Rattle.row_changes.specs.Touched.{touched, touched_in, touched_left, touched_over};
 ghost use Rattle.op_law.specs.Identifiers.{IdsRise};

@@ -5,8 +5,8 @@
 //! that a difference names each identifier at which two tables differ, once, and no other. It knows
 //! no operator, and nothing of versions.
 //!
-//! Lemmas that crates above may use stand in proofs/: `ChangedLaws`, `DifferenceLaws`, `OnlyLaws`,
-//! `PickLaws` and `TouchedLaws`.
+//! Lemmas that crates above may use stand in proofs/: `ChangedLaws`, `DifferenceLaws`, `PickLaws` and
+//! `TouchedLaws`.
 #![tactic(auto)]
 
 mod change;

@@ -1,6 +1,6 @@
 //! Numbers by row. Each row is a path, and its number stands at the node to which the path leads:
 //! so no row is kept, no look-up takes memory, and long texts are kept once.
-ghost use Rattle.std.specs.Prelude.{◌≡◌, ℕ, List, None, OnOk, OnErr};
+ghost use Rattle.std.specs.Prelude.{◌≡◌, List, None, OnOk, OnErr};
 ghost use Rattle.par_base.specs.declared.value.Value.{Value};
 ghost use Rattle.row_map.specs.RowNumbers.{number_of_row, IsWithRow, HasSameNumbers};
 

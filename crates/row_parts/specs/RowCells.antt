@@ -1,6 +1,7 @@
 -- What one table has at one identifier, and ways to take a case apart.
 use Rattle.std.specs.Prelude.{◌≡◌, ℕ, List, Bool, true, false, Option, Some, None, refl}
 use Rattle.par_base.specs.declared.value.Value.{Value}
+pub use Rattle.op_law.proofs.OnlyLaws.{by_test}
 
 -- what one table has at the identifier
 abbrev pub Cell : Type 0
@@ -45,11 +46,6 @@ id_or n (Some p) = p
 abbrev pub value_or : Value → Option Value → Value
 value_or f None = f
 value_or f (Some g) = g
-
--- either value of a test
-pub by_test : {A : Type 0} (b : Bool) → (b ≡ true → A) → (b ≡ false → A) → A
-by_test true f g = f refl
-by_test false f g = g refl
 
 -- either form of an option
 pub by_option : {A X : Type 0} (o : Option A) → (o ≡ None → X) → ((a : A) → o ≡ Some a → X) → X

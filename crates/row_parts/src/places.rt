@@ -1,5 +1,5 @@
 //! Values of a row by their places, and rows put together from values at places.
-ghost use Rattle.std.specs.Prelude.{◌≡◌, ◌+◌, IfOk, length};
+ghost use Rattle.std.specs.Prelude.{◌≡◌, IfOk};
 ghost use Rattle.std.specs.Option.{option_copied};
 ghost use Rattle.row_parts.specs.RowEdits.{value_at as value_there};
 ghost use Rattle.row_parts.specs.Places.{pick as picked, value_for as for_place, nulls as null_row};
@@ -22,7 +22,7 @@ pub fn value_at(alloc: Global, row: &Row, place: usize) -> Result<Value, Memory>
 pub fn pick(alloc: Global, places: &[usize], row: &Row) -> Result<Row, Memory>
     ensures { IfOk result (λ part. part ≡ picked places.now row.now) }
 {
-    let mut part = List::new(alloc);
+    let mut part = List::with_room(alloc, places.len())?;
     for place in places {
         part.push(value_at(alloc, row, *place)?)?;
     }
@@ -33,7 +33,7 @@ pub fn pick(alloc: Global, places: &[usize], row: &Row) -> Result<Row, Memory>
 pub fn nulls(alloc: Global, count: usize) -> Result<Row, Memory>
     ensures { IfOk result (λ row. row ≡ null_row count) }
 {
-    let mut row = List::new(alloc);
+    let mut row = List::with_room(alloc, count)?;
     for _ in 0..count {
         row.push(Value::Null)?;
     }

@@ -9,8 +9,8 @@ use Rattle.op_law.specs.Sound.{HasRow}
 use Rattle.op_law.specs.Local.{only, rows_only}
 use Rattle.op_law.specs.Identifiers.{IdsRise, has_id, ids_in, ids_over}
 use Rattle.op_law.proofs.IdentifierLaws.{has_over, none_stands_twice}
-use Rattle.row_changes.proofs.OnlyLaws.{by_test, row_out}
-use Rattle.row_changes.proofs.TouchedLaws.{no_more}
+use Rattle.op_law.proofs.OnlyLaws.{by_test, row_out}
+use Rattle.op_law.proofs.IdentifierLaws.{no_more}
 use Rattle.version_model.specs.Bounds.{AreAmong}
 
 some_none : {A : Type 0} (o : Option A) → IsSome o → o ≡ None → ⊥

@@ -3,16 +3,15 @@ use Rattle.std.specs.Prelude.{◌==◌, if◌then◌else◌}
 use Rattle.std.proofs.Common.{◌≡◌, ℕ, ◌+◌, ◌*◌, ◌<◌, ◌≤◌, List, [], ◌∷◌, Bool, true, false, map, length, get_or, Ok, refl, ap, sym, ◌∙◌, subst, arith}
 use Rattle.std.proofs.lemmas.Nat.{mul-le}
 use Rattle.row_store.specs.Rows.{Rows}
-use Rattle.version_graph.specs.Sets.{In, Each}
 use Rattle.version_graph.specs.Forest.{Crossing, forest, walk}
 use Rattle.version_graph.specs.declared.parts.Placed.{Placed}
 use Rattle.version_graph.proofs.SetLaws.{each_at}
 use Rattle.version_graph.proofs.WalkStepLaws.{in_at}
 use Rattle.op_law.specs.Calls.{MapsWithin}
-use Rattle.op_law.specs.Identifiers.{IdsRise, has_id, ids_over}
+use Rattle.op_law.specs.Identifiers.{IdsRise, has_id}
 use Rattle.op_law.specs.Laws.{Laws}
 use Rattle.op_law.specs.Local.{only, pair_only, rows_only}
-use Rattle.op_law.specs.Meaning.{Mapped, Meaning, PairState}
+use Rattle.op_law.specs.Meaning.{Meaning, PairState}
 use Rattle.op_law.specs.Premises.{SomeMap}
 use Rattle.op_law.specs.Tables.{Tables}
 use Rattle.version_model.specs.Bounds.{AreAmong, AreLocal, CarriesOnly, CarriesWithin, HasOnly, WritesOnly, WritesWithin}

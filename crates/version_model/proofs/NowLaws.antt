@@ -1,7 +1,7 @@
 -- What a write has made so far: the last table under a number counts.
 use Rattle.std.proofs.Common.{◌≡◌, if◌then◌else◌, ℕ, ◌+◌, ◌<◌, ◌≤◌, ◌==◌, List, [], ◌∷◌, ◌++◌, Bool, true, false, length, take, drop, get_or, Option, refl, ap, sym, ◌∙◌, arith}
 use Rattle.std.proofs.Math.Path.{fun_ext}
-use Rattle.std.proofs.lemmas.List.{reverse-append, take_at, take_more, drop_more, drop_all, map-append, length-map}
+use Rattle.std.proofs.lemmas.List.{reverse-append, take_at, take_more, drop_more, map-append, length-map}
 use mathlib.Core.List.{reverse}
 use Rattle.row_store.specs.Rows.{Rows}
 use Rattle.row_store.specs.States.{TableState}

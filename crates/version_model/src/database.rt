@@ -130,8 +130,9 @@ impl<O: Operator> PlainDatabase<O> {
 impl<O: Operator + Drop> PlainDatabase<O> {
     /// Adds the edges, each on the working set before it, the first on that of the version `from` or
     /// on the empty one, and names the last working set. It takes time in the number of tables, for
-    /// each new edge and each table of the working set before it, and copies the sources of each
-    /// new operator.
+    /// each new edge; in the logarithm of the number of operators and in the number of tables of one
+    /// operator, for each source of a new edge and each table of the working set before it; and
+    /// copies the sources of each new operator.
     pub fn evolve<L: Ledger>(
         &mut self,
         alloc: Global,
@@ -168,7 +169,8 @@ impl<O: Operator + Drop> PlainDatabase<O> {
 
     /// Takes the name of a live version away, and with it each operator that no name needs any
     /// longer, its tables and its memory. It takes no memory, and time in the square of the number
-    /// of live operators and of live tables.
+    /// of live operators, and in the logarithm of this number and the number of tables of one
+    /// operator, for each table.
     pub fn drop_version(&mut self, name: &Name)
         requires { IsSome (set_named self.old.graph.versions name.now) }
         ensures { database_of self.new ≡ dropped_database (database_of self.old) name.now }

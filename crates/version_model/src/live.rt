@@ -19,7 +19,8 @@ fn is_live_operator<O>(graph: &Graph<O>, number: u32) -> bool
 }
 
 /// Lets the values go that stand under the number of no live table. It takes no memory, and time in
-/// the number of live tables, for each value.
+/// the logarithm of the number of live operators and in the number of tables of one operator, for
+/// each value.
 pub fn keep_live_tables<O, T: Drop>(graph: &Graph<O>, values: &mut Vec<Numbered<T>>)
     ensures { values.new.items
         ≡ filter (λ item. is_in item.number (table_numbers (made graph.now.edges))) values.old.items }
@@ -28,7 +29,7 @@ pub fn keep_live_tables<O, T: Drop>(graph: &Graph<O>, values: &mut Vec<Numbered<
 }
 
 /// Lets the values go that stand under the number of no live operator. It takes no memory, and time
-/// in the number of live operators, for each value.
+/// in the logarithm of the number of live operators, for each value.
 pub fn keep_live_operators<O, T: Drop>(graph: &Graph<O>, values: &mut Vec<Numbered<T>>)
     ensures { values.new.items
         ≡ filter (λ item. is_in item.number (numbers graph.now.edges)) values.old.items }

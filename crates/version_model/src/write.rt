@@ -1,5 +1,5 @@
 //! What a write makes.
-ghost use Rattle.std.specs.Prelude.{◌≡◌, IfOk};
+ghost use Rattle.std.specs.Prelude.{IfOk};
 ghost use Rattle.version_model.specs.Calls.{MayWriteRows, WritesRows};
 ghost use Rattle.version_model.specs.Bounds.{WritesOnly, WritesWithin};
 

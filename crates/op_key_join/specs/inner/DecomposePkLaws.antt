@@ -2,12 +2,13 @@
 use Rattle.std.proofs.Common.{◌≡◌, ℕ, ◌+◌, List, [], ◌∷◌, length, Bool, not, ◌||◌, Some, None, inr, refl, sym, ◌∙◌, ap}
 use Rattle.par_base.specs.declared.value.Value.{Value}
 use Rattle.op_law.specs.Tables.{Heading}
-use Rattle.op_rows.specs.Cells.{Cells, CellWide, AreCellsOf, CellSound}
+use Rattle.op_rows.specs.Cells.{Cells, nth_cell, CellWide, AreCellsOf, CellSound}
+use Rattle.op_rows.specs.inner.CellLemmas.{nth_sound}
 use Rattle.op_rows.specs.RowMeaning.{RowHalf, RowLaws, flip_row}
 use Rattle.row_parts.specs.RowCells.{Cell, is_there, kept_if, row_or, by_test}
 use Rattle.row_parts.specs.Places.{pick, nulls, ArePartition}
 use Rattle.row_parts.specs.inner.PlaceLemmas.{length-names, length-pick, pick_sound, first_join, second_join, join_parts}
-use Rattle.op_key_join.specs.Sides.{nth_cell, OneCell, TwoCells, one_cell, two_cells, one_wide, two_wide, nth_sound, both_cells}
+use Rattle.op_key_join.specs.Sides.{OneCell, TwoCells, one_cell, two_cells, one_wide, two_wide, both_cells}
 use Rattle.op_key_join.specs.Nulls.{is_null, nulls_null, null_nulls}
 use Rattle.op_key_join.specs.inner.PartLemmas.{or_nulls_wide, or_nulls_may, both_wide, both_may}
 use Rattle.op_key_join.specs.DecomposePk.{DecomposePkFits, shown_part, null_row, row_of_neither, HasParts, joined_parts, shown_parts, decompose_pk}

@@ -2,13 +2,14 @@
 use Rattle.std.proofs.Common.{◌≡◌, ℕ, ◌+◌, List, [], ◌∷◌, length, Some, None, inr, refl, sym, ◌∙◌, ap}
 use Rattle.par_base.specs.declared.value.Value.{Value}
 use Rattle.op_law.specs.Tables.{Heading}
-use Rattle.op_rows.specs.Cells.{Cells, CellWide, AreCellsOf, CellSound}
+use Rattle.op_rows.specs.Cells.{Cells, nth_cell, CellWide, AreCellsOf, CellSound}
+use Rattle.op_rows.specs.inner.CellLemmas.{nth_sound}
 use Rattle.op_rows.specs.RowMeaning.{RowHalf, RowLaws, flip_row}
 use Rattle.row_parts.specs.RowCells.{Cell, row_or}
 use Rattle.row_parts.specs.Places.{nulls}
 use Rattle.row_parts.specs.inner.PlaceLemmas.{length-names, first_join, join_parts}
 use Rattle.row_parts.specs.Partition.{Divides}
-use Rattle.op_key_join.specs.Sides.{nth_cell, OneCell, one_cell, one_wide, nth_sound}
+use Rattle.op_key_join.specs.Sides.{OneCell, one_cell, one_wide}
 use Rattle.op_key_join.specs.OtherPlaces.{others, others_divide}
 use Rattle.op_key_join.specs.inner.PartLemmas.{pick_wide, pick_may, or_nulls_wide, or_nulls_may, both_wide, both_may}
 use Rattle.op_key_join.specs.DecomposeSingle.{DecomposeSingleFits, part_of, rest_of, with_rest, decompose_single}

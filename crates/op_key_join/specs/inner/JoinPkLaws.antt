@@ -5,10 +5,11 @@ use Rattle.std.proofs.Math.Seq.{take-append_seam, drop-append_seam}
 use Rattle.par_base.specs.declared.value.Value.{Value}
 use Rattle.op_law.specs.Tables.{Heading}
 use Rattle.op_law.specs.Sound.{ValuesSound}
-use Rattle.op_rows.specs.Cells.{Cells, CellWide, AreCellsOf, CellSound}
+use Rattle.op_rows.specs.Cells.{Cells, nth_cell, CellWide, AreCellsOf, CellSound}
+use Rattle.op_rows.specs.inner.CellLemmas.{nth_sound}
 use Rattle.op_rows.specs.RowMeaning.{RowHalf, RowLaws, flip_row}
 use Rattle.row_parts.specs.RowCells.{Cell, or_else, map_cell}
-use Rattle.op_key_join.specs.Sides.{nth_cell, OneCell, TwoCells, one_cell, two_cells, one_wide, two_wide, nth_sound, both_cells}
+use Rattle.op_key_join.specs.Sides.{OneCell, TwoCells, one_cell, two_cells, one_wide, two_wide, both_cells}
 use Rattle.op_key_join.specs.JoinPk.{JoinPkFits, joined, row_alone, sources_of, join_pk}
 
 -- what may stand gives what may stand

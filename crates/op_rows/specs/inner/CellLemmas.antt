@@ -1,6 +1,6 @@
 -- Look-ups: tables are what they have at each identifier.
 use Rattle.std.specs.Prelude.{nat_lt}
-use Rattle.std.proofs.Common.{◌≡◌, ℕ, ◌+◌, ◌==◌, List, [], ◌∷◌, Bool, true, false, cond, length, Option, None, refl, ap, sym, ◌∙◌, arith}
+use Rattle.std.proofs.Common.{◌≡◌, ℕ, zero, suc, ◌+◌, ◌==◌, List, [], ◌∷◌, Bool, true, false, cond, length, Option, None, refl, ap, sym, ◌∙◌, arith}
 use Rattle.std.proofs.lemmas.Bool.Decides.{nat_tests}
 use Rattle.std.proofs.lemmas.Bool.{cases_order}
 use mathlib.Core.Logic.{inl, inr}
@@ -13,14 +13,12 @@ use Rattle.op_law.specs.Sound.{IsBelow, RowsSound, TablesSound}
 use Rattle.op_law.specs.Identifiers.{put_id, ids_in, ids_over}
 pub use Rattle.op_law.specs.Identifiers.{has_id, IdsRise}
 pub use Rattle.op_law.proofs.IdentifierLaws.{has_put, rise_put}
-use Rattle.op_rows.specs.Cells.{Cells, cells_at, nones, first_cell, other_cells}
+pub use Rattle.op_law.proofs.OnlyLaws.{is_same}
+use Rattle.op_rows.specs.Cells.{Cells, cells_at, nones, nth_cell, first_cell, other_cells, CellSound, CellsSound}
 
 abbrev pub IdsBelow : ℕ → List ℕ → Type 0
 IdsBelow n [] = Unit {0}
 IdsBelow n (x ∷ xs) = IsBelow n x × IdsBelow n xs
-
-pub is_same : (a b : ℕ) → (a == b) ≡ true → a ≡ b
-is_same a b h = grind (arith, nat_tests)
 
 -- the same of sides
 pub ext_all : (s t : Tables) → AllRise s → AllRise t → ((id : ℕ) → cells_at s id ≡ cells_at t id) → s ≡ t
@@ -31,6 +29,12 @@ ext_all (s ∷ ss) (t ∷ ts) rise_s rise_t same =
     let head : s ≡ t = ext 0 s t rise_s.0 rise_t.0 (λ id. ap first_cell (same id)) in
     let tail : ss ≡ ts = ext_all ss ts rise_s.1 rise_t.1 (λ id. ap other_cells (same id)) in
     cc
+
+-- a sound side has sound cells
+pub nth_sound : (n at : ℕ) (cs : Cells) → CellsSound n cs → CellSound n (nth_cell at cs)
+nth_sound n at [] sound = tt
+nth_sound n zero (c ∷ cs) sound = sound.0
+nth_sound n (suc at) (c ∷ cs) sound = nth_sound n at cs sound.1
 
 pub below_put : (n i : ℕ) (xs : List ℕ) → IsBelow n i → IdsBelow n xs → IdsBelow n (put_id i xs)
 below_put n i [] h all = (h, tt)

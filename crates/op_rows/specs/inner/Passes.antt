@@ -1,6 +1,6 @@
 -- What a pass over identifiers ensures.
 use Rattle.std.specs.Prelude.{◌≡◌, ℕ, zero, suc, true, List, [], ◌∷◌, ◌++◌, Option, Some, None}
-use Rattle.row_store.specs.Rows.{Rows, AreBelow}
+use Rattle.row_store.specs.Rows.{AreBelow}
 use Rattle.row_store.specs.States.{TableState}
 use Rattle.op_law.specs.Tables.{Tables, contents}
 use Rattle.op_rows.specs.Cells.{Cells, cells_at, first_cell, other_cells, with_row, tables_from}

@@ -1,6 +1,5 @@
 use Rattle.std.proofs.Common.{◌≡◌, ℕ, List, [], Option, length, drop, ap, sym, ◌∙◌, arith}
 use Rattle.std.proofs.lemmas.List.{drop_all}
-use Rattle.row_store.specs.Rows.{Rows}
 use Rattle.row_store.specs.inner.RowsLeft.{all_first, comes_last, drop_first}
 use Rattle.foreign_keys.specs.Seeking.{put_goal, goals_in}
 use Rattle.foreign_keys.proofs.leads.goals_of.Goals as goal

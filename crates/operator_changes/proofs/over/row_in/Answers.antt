@@ -8,7 +8,7 @@ pub returns-then-which-tables : goal.returns-then-which-tables
 returns-then-which-tables c =
     let table = c.index-tables-which.result in
     let here = ap (λ (t : TableState). t.rows) c.index-tables-which.is ∙ sym (content_at c.args.tables.now c.args.which table c.if-which-tables.true) in
-    subst (λ (rows : Rows). IfOk c.copy_row.result (λ row. row ≡ row_of rows c.args.id)) here c.copy_row.ensures
+    subst (λ (rows : Rows). IfOk c.copy_of.result (λ row. row ≡ row_of rows c.args.id)) here c.copy_of.ensures
 
 pub returns-else-which-tables : goal.returns-else-which-tables
 returns-else-which-tables c =

@@ -1,4 +1,4 @@
-use Rattle.std.proofs.Common.{◌≡◌, List, [], ◌∷◌, ap, sym, ◌∙◌, refl}
+use Rattle.std.proofs.Common.{◌≡◌, List, [], ◌∷◌, ap, ◌∙◌}
 use Rattle.row_store.specs.States.{TableState}
 use Rattle.version_model.specs.Put.{put}
 use Rattle.version_model.specs.Kept.{rows_now}

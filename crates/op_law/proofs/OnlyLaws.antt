@@ -1,16 +1,20 @@
 -- Look-ups in tables that are restricted to the identifiers that pass a test.
 use Rattle.std.proofs.Common.{◌≡◌, ℕ, ◌+◌, ◌≤◌, ◌==◌, List, [], ◌∷◌, Bool, true, false, not, cond, Some, None, refl, ap, sym, ◌∙◌, arith}
 use Rattle.std.proofs.lemmas.Bool.{false≢true}
+use Rattle.std.proofs.lemmas.Bool.Decides.{nat_tests}
 use Rattle.par_base.specs.declared.value.Value.{Value}
 use Rattle.row_store.specs.Rows.{Rows, RiseFrom, row_of}
 use Rattle.op_law.specs.Tables.{Tables}
 use Rattle.op_law.specs.Local.{rows_only}
-use Rattle.op_rows.specs.inner.CellLemmas.{is_same}
 
--- by cases of a test
-pub by_test : (b : Bool) {A : Type 0} → (b ≡ true → A) → (b ≡ false → A) → A
+-- either value of a test
+pub by_test : {A : Type 0} (b : Bool) → (b ≡ true → A) → (b ≡ false → A) → A
 by_test true f g = f refl
 by_test false f g = g refl
+
+-- numbers that are tested as the same
+pub is_same : (a b : ℕ) → (a == b) ≡ true → a ≡ b
+is_same a b h = grind (arith, nat_tests)
 
 -- the tests of the first row, whether it passes and whether it is asked for
 module _ (P : ℕ → Bool) (r : ℕ × List Value) (rs : Rows) (id : ℕ) where
