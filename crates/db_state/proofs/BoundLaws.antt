@@ -1,6 +1,6 @@
 -- Reading what is seen, and making auxiliary tables of it, takes few steps.
 use Rattle.std.specs.Prelude.{◌&&◌, ◌||◌, ◌==◌}
-use Rattle.std.proofs.Common.{◌≡◌, ℕ, ◌+◌, ◌*◌, ◌<◌, ◌≤◌, List, [], ◌∷◌, ◌++◌, Bool, true, false, not, cond, map, length, Option, Some, None, inl, inr, refl, ap, sym, ◌∙◌, subst, arith}
+use Rattle.std.proofs.Common.{◌≡◌, ℕ, ◌+◌, ◌*◌, ◌≤◌, List, [], ◌∷◌, ◌++◌, Bool, true, false, not, cond, map, length, Some, inl, inr, refl, sym, subst, arith}
 use Rattle.std.proofs.lemmas.Bool.{eqb-true, ne_eqb}
 use Rattle.std.proofs.lemmas.Nat.{mul-le}
 use Rattle.row_store.specs.Rows.{Rows}
@@ -24,7 +24,7 @@ use Rattle.db_state.specs.Calls.{AuxesWithin, IsRelatedAt}
 use Rattle.db_state.specs.Parts.{AreLocalAt, Ascends, MaySee, SeenWithin, listed_in, passes, seen_of}
 use Rattle.db_state.specs.declared.sight.Sight.{Sight}
 use Rattle.db_state.specs.declared.sight.Sight.TheVariants.{All, Of}
-use Rattle.db_state.specs.inner.Passes.{SeesOver, is_passed, passed_in}
+use Rattle.db_state.specs.inner.Passes.{SeesOver, passed_in}
 use Rattle.db_state.proofs.PartLaws.{rows_twice}
 
 -- ---- steps for each identifier that is seen

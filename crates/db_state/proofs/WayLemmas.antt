@@ -1,6 +1,6 @@
 -- The operators on the way to storage cover the table, and themselves.
-use Rattle.std.specs.Prelude.{◌↔◌}
-use Rattle.std.proofs.Common.{◌≡◌, ℕ, zero, suc, List, inl, inr, refl, sym, subst}
+use Rattle.std.specs.Prelude.{◌↔◌, ◌≤◌}
+use Rattle.std.proofs.Common.{◌≡◌, ℕ, ◌+◌, ◌*◌, zero, suc, List, [], ◌∷◌, length, inl, inr, refl, sym, subst, arith}
 use Rattle.std.proofs.lemmas.Bool.{cond-false, cond-true}
 use Rattle.version_graph.specs.Sets.{In}
 use Rattle.version_graph.specs.Edges.{is_in}
@@ -13,8 +13,11 @@ use Rattle.layout_rules.specs.Ways.{IsOnWay, ReadsFrom, ReadsOver}
 use Rattle.layout_rules.proofs.LinkLaws.{same_link}
 use Rattle.layout_rules.proofs.WayLaws.{reads_on}
 use Rattle.storage_law.specs.Storage.{stored_way}
-use Rattle.storage_law.proofs.LinkLaws.{not_in_false}
+use Rattle.storage_law.proofs.LinkLaws.{not_in_false, same_test}
+use Rattle.op_law.specs.Meaning.{Meaning}
 use Rattle.db_state.specs.Covered.{Covers, CoversItself}
+use Rattle.db_state.specs.Parts.{AreLocalAt, IsLocalWay, IsWay, RowWithin, SeenWithin, WayWithin, listed_in}
+use Rattle.db_state.specs.declared.sight.Sight.{Sight}
 
 module _ {O : Type 0} (es : List (Link O)) (forest : IsForest es) (layout : List ℕ) (valid : IsValid es layout) (table : ℕ) where
   -- a table that is read over an operator is read from those that the operator keeps
@@ -40,3 +43,28 @@ way_listed {O} es fs layout operators table made ns same stays is way n =
     subst (λ (l : List ℕ). In n l ↔ IsOnWay (forest es) layout table n) (sym is)
     (subst (λ (l : List ℕ). In n made ↔ IsOnWay (forest es) l table n) stays
     (subst (λ (l : List (Placed O)). In n made ↔ IsOnWay (forest l) operators table n) same (way n)))
+
+-- ---- its steps
+
+-- of lists with the same numbers as many operators are listed
+pub listed_same : {O : Type 0} (ns ms : List ℕ) → ((n : ℕ) → In n ns ↔ In n ms) → (es : List (Link O)) → listed_in ns es ≡ listed_in ms es
+listed_same ns ms both [] = refl
+listed_same ns ms both (e ∷ es) =
+    let here = same_test e.number ns ms (both e.number) in
+    let rest = listed_same ns ms both es in
+    cc
+
+module _ {O : Type 0} (meaning : O → Meaning) (es : List (Placed O)) (layout : List ℕ) (table : ℕ) where
+  -- the bound over a list of the way is the bound over the way
+  pub within_way : (ms : List ℕ) (sight wider : Sight) (old new : ℕ) → IsWay es layout table ms → (AreLocalAt meaning es ms → wider ≡ sight) → SeenWithin 2 wider (listed_in ms (forest es)) old new → WayWithin meaning es layout table sight old new
+  within_way ms sight wider old new way same within local ns other =
+      let mine : AreLocalAt meaning es ms = λ e at i. local e at ((way e.number).0 i) in
+      let both : (n : ℕ) → In n ms ↔ In n ns = λ n. (λ i. (other n).1 ((way n).0 i), λ i. (way n).1 ((other n).0 i)) in
+      subst (λ (count : ℕ). SeenWithin 2 sight count old new) (listed_same ms ns both (forest es))
+      (subst (λ (s : Sight). SeenWithin 2 s (listed_in ms (forest es)) old new) (same mine) within)
+
+  -- a row is what is seen of one identifier
+  pub row_within : (ids : List ℕ) (old new : ℕ) → length ids ≡ 1 → ((local : IsLocalWay meaning es layout table) → (ns : List ℕ) → IsWay es layout table ns → new ≤ old + 2 * (length ids * listed_in ns (forest es))) → RowWithin meaning es layout table old new
+  row_within ids old new one within local ns way =
+      let most = subst (λ (k : ℕ). new ≤ old + 2 * (k * listed_in ns (forest es))) one (within local ns way) in
+      omega (arith, most)

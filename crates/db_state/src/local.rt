@@ -45,6 +45,7 @@ pub fn sight_over<'a, O: Operator>(
     requires { Ascends sight }
     ensures may { MaySee O.meaning graph.now.edges operators.now result }
     ensures seen { (id : ℕ) → passes sight.entry id ≡ true → passes result id ≡ true }
+    ensures same { AreLocalAt O.meaning graph.now.edges operators.now → result ≡ sight.entry }
 {
     if are_local(graph, operators) {
         sight

@@ -7,14 +7,14 @@ ghost use Rattle.row_store.specs.Rows.{row_of};
 ghost use Rattle.op_law.specs.Local.{rows_only};
 ghost use Rattle.version_model.specs.Kept.{rows_now, value_of};
 ghost use Rattle.db_state.specs.Fields.{state_for};
-ghost use Rattle.db_state.specs.Parts.{Ascends, passes, seen_of};
+ghost use Rattle.db_state.specs.Parts.{Ascends, RowWithin, WayWithin, passes, seen_of};
 
 use crate::local::sight_over;
 use crate::read::read_over;
 use crate::{Db, Sight};
 use expr_lang::Steps;
 use layout_rules::way_to_storage;
-use op_law::Operator;
+use op_law::{Operator, copy_of};
 use par_base::{List, Memory, Row};
 use row_store::Table;
 use std::alloc::Global;
@@ -45,22 +45,15 @@ fn read_along_way<O: Operator, L: Ledger>(
     requires lives { In table (table_numbers (made_lem db.now.graph.edges)) }
     requires unstored { value_of db.now.stored table ≡ None }
     requires ascends { Ascends sight }
-    ensures { IfOk result (λ read. rows_only (passes sight.entry) read.rows
+    ensures seen { IfOk result (λ read. rows_only (passes sight.entry) read.rows
         ≡ seen_of sight.entry (state_for O.meaning db.now).tables table) }
+    ensures steps { WayWithin O.meaning db.now.graph.edges db.now.layout.operators table sight.entry
+        steps.old steps.new }
 {
     let operators = way_to_storage(alloc, db.graph(), db.layout(), table)?;
     let wider = sight_over(db.graph(), operators.as_slice(), sight);
     let read = read_over(alloc, db, operators.as_slice(), wider, steps)?;
     Ok(take_latest(alloc, read, table))
-}
-
-fn copy_row(alloc: Global, table: &Table, id: u64) -> Result<Option<Row>, Memory>
-    ensures { IfOk result (λ row. row ≡ row_of table.now.rows id) }
-{
-    match table.get(id) {
-        Some(row) => Ok(Some(row.copy(alloc)?)),
-        None => Ok(None),
-    }
 }
 
 /// A live table, read along its way to storage alone. Of a stored table the rows are copied and
@@ -83,7 +76,8 @@ pub fn read_table<O: Operator, L: Ledger>(
 
 /// The row of an identifier in a live table, where there is one. Of a stored table it is copied and
 /// nothing else. Where each operator on the way to storage treats each identifier by itself, the
-/// identifier's rows alone are read along it; else it costs what `read_table` does.
+/// identifier's rows alone are read along it, in at most two steps for each operator; else it costs
+/// what `read_table` does.
 pub fn row_at<O: Operator, L: Ledger>(
     alloc: Global,
     db: &Db<O>,
@@ -92,14 +86,16 @@ pub fn row_at<O: Operator, L: Ledger>(
     steps: &mut Steps<L>,
 ) -> Result<Option<Row>, Memory>
     requires { In table (table_numbers (made_lem db.now.graph.edges)) }
-    ensures { IfOk result (λ row. row ≡ row_of ((state_for O.meaning db.now).tables table) id) }
+    ensures row { IfOk result (λ row. row ≡ row_of ((state_for O.meaning db.now).tables table) id) }
+    ensures steps { RowWithin O.meaning db.now.graph.edges db.now.layout.operators table steps.old
+        steps.new }
 {
     match db.stored_table(table) {
-        Some(stored) => copy_row(alloc, stored, id),
+        Some(stored) => copy_of(alloc, stored, id),
         None => {
             let ids = [id];
             let read = read_along_way(alloc, db, table, Sight::Of(&ids), steps)?;
-            copy_row(alloc, &read, id)
+            copy_of(alloc, &read, id)
         }
     }
 }

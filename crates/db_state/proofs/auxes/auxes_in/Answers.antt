@@ -1,4 +1,4 @@
-use Rattle.std.proofs.Common.{◌+◌, ℕ, List, get_or, length, take, sym, subst, arith}
+use Rattle.std.proofs.Common.{◌+◌, List, get_or, take, sym, subst, arith}
 use Rattle.version_graph.proofs.SetLaws.{each_at}
 use Rattle.version_graph.proofs.WalkStepLaws.{in_at}
 use Rattle.op_law.specs.declared.side.Aux.{Aux}

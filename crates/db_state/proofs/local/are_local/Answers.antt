@@ -1,4 +1,4 @@
-use Rattle.std.proofs.Common.{inl, subst}
+use Rattle.std.proofs.Common.{inl}
 use Rattle.version_graph.proofs.WalkStepLaws.{in_at}
 use Rattle.db_state.proofs.LocalLemmas.{local_more, one_local}
 use Rattle.db_state.proofs.local.are_local.Goals as goal

@@ -1,4 +1,4 @@
-use Rattle.std.proofs.Common.{◌≡◌, ◌+◌, ◌-◌, ◌<◌, ℕ, List, length, true, sym, ◌∙◌, subst, arith}
+use Rattle.std.proofs.Common.{◌≡◌, ◌+◌, ◌-◌, ◌<◌, ℕ, length, true, sym, ◌∙◌, subst, arith}
 use Rattle.version_graph.specs.Forest.{forest}
 use Rattle.version_graph.specs.Edges.{Drawn}
 use Rattle.layout_rules.proofs.DownLaws.{below, below_all}

@@ -1,4 +1,4 @@
-use Rattle.std.proofs.Common.{◌≡◌, ◌≤◌, ◌+◌, ℕ, true, false, subst, arith}
+use Rattle.std.proofs.Common.{ℕ, true, false, subst, arith}
 use Rattle.version_graph.specs.Forest.{forest}
 use Rattle.db_state.specs.Parts.{SeenWithin, listed_in}
 use Rattle.db_state.specs.inner.Passes.{passed_in}
