@@ -100,8 +100,8 @@ impl Twin {
         materialize(alloc, &mut self.moved, named, steps)
     }
 
-    /// Moves the data of one operator to its other side where that leaves a valid layout, and answers
-    /// whether it does.
+    /// Moves the data of one operator to its other side where it lives and that leaves a valid layout,
+    /// and answers whether it does.
     pub fn flip<L: Ledger>(
         &mut self,
         alloc: Global,
@@ -112,6 +112,9 @@ impl Twin {
         ensures twin { IsTwin self.new }
         ensures same { moved_state self.new ≡ moved_state self.old }
     {
+        if self.moved.graph().edge(operator).is_none() {
+            return Ok(false);
+        }
         let layout = flipped(alloc, self.moved.graph(), self.moved.layout(), operator)?;
         if !is_valid(self.moved.graph(), &layout) {
             return Ok(false);

@@ -1,4 +1,5 @@
 mod SideLemmas
+mod TurnLemmas
 mod CoverLemmas
 mod ValueLemmas
 mod PlaceLemmas

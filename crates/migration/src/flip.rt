@@ -1,7 +1,10 @@
 //! One operator's data go to their other side.
 ghost use Rattle.std.specs.Prelude.{◌≡◌, IfOk};
+ghost use Rattle.std.specs.Option.{IsSome};
+ghost use Rattle.version_graph.specs.Edges.{edge_of};
 ghost use Rattle.version_graph.specs.Forest.{forest};
 ghost use Rattle.layout_rules.specs.Layouts.{IsValid};
+ghost use Rattle.storage_law.specs.Flips.{Turns};
 ghost use Rattle.db_state.specs.Fields.{database_for};
 ghost use Rattle.db_state.specs.Laws.{IsRestored};
 ghost use Rattle.migration.specs.Sides.{flipped_layout};
@@ -34,19 +37,23 @@ pub fn flipped<O>(
     Ok(Layout { operators })
 }
 
-/// Reads the other side of an operator and makes the auxiliary tables that belong beside it. The
-/// database stays as it is.
+/// Reads the other side of a live operator and makes the auxiliary tables that belong beside it. The
+/// database stays as it is. In the layout that it gives this operator is on its other side, and no
+/// other one.
 pub fn prepare_flip<O: Operator, L: Ledger>(
     alloc: Global,
     db: &Db<O>,
     operator: u32,
     steps: &mut Steps<L>,
 ) -> Result<Moved, Memory>
-    requires { IsValid (forest db.now.graph.edges)
+    requires lives { IsSome (edge_of db.now.graph.edges operator) }
+    requires valid { IsValid (forest db.now.graph.edges)
         (flipped_layout db.now.graph.edges operator db.now.layout.operators) }
     ensures leads { IfOk result (λ moved. Leads O.meaning db.now moved) }
     ensures layout { IfOk result (λ moved. moved.layout.operators
         ≡ flipped_layout db.now.graph.edges operator db.now.layout.operators) }
+    ensures turns { IfOk result (λ moved. Turns operator db.now.layout.operators
+        moved.layout.operators) }
 {
     let goal = flipped(alloc, db.graph(), db.layout(), operator)?;
     prepare(alloc, db, goal, steps)

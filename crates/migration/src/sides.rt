@@ -1,6 +1,5 @@
 //! Which operators' data go to their other side.
 ghost use Rattle.std.specs.Prelude.{◌≡◌, ◌++◌, filter, option_to_list, IfOk, OnOk};
-ghost use Rattle.layout_rules.specs.Lookups.{numbers_up};
 ghost use Rattle.migration.specs.Sides.{changes_side as changes_side_lem, changing as changing_lem, keeps_side as keeps_side_lem, leaving_layout as leaving_layout_lem};
 
 use layout_rules::holds;

@@ -1,19 +1,18 @@
 -- No check of an operator answers that it isn't built.
-use Rattle.std.proofs.Common.{◌≡◌, ◌≢◌, ℕ, List, [], ◌∷◌, ◌++◌, length, Bool, true, false, cond, Option, Some, None, Result, Ok, Err, refl, sym}
+use Rattle.std.proofs.Common.{◌≡◌, ◌≢◌, ℕ, List, [], ◌∷◌, ◌++◌, length, Bool, true, false, Option, Some, None, Ok, Err, refl, sym}
 use Rattle.std.specs.Prelude.{◌↔◌, ◌||◌, nat_lt}
 use Rattle.std.specs.List.{remove}
 use Rattle.std.specs.Str.{bytes_eq}
 use Rattle.std.specs.Cmp.Lexicographic.{pointwise}
 use Rattle.std.proofs.lemmas.Bool.{false≢true}
-use Rattle.par_base.specs.declared.refusal.Refusal.TheVariants.{NotBuilt, TooManyColumns, ColumnsDiffer}
-use Rattle.expr_lang.specs.Terms.{Term}
+use Rattle.par_base.specs.declared.refusal.Refusal.TheVariants.{NotBuilt}
 use Rattle.expr_lang.specs.Resolved.{place_of, resolved}
 use Rattle.statements.specs.Views.{Tree, KeyView, BranchView, OpView}
 use Rattle.statements.specs.Views as «text»
 use Rattle.version_graph.specs.Tables.{column_limit}
 use Rattle.version_graph.specs.declared.parts.Heading.{Heading}
-use Rattle.par_base.specs.Checked.{Checked, ◌then◌}
-use Rattle.op_any.specs.NameChecks.{heading_named, is_passing, known_table, other_table, new_table, known_column, known_columns, unrepeated, new_columns, same_columns, few_columns, known_id, known_ids}
+use Rattle.par_base.specs.Checked.{Checked}
+use Rattle.op_any.specs.NameChecks.{heading_named, is_passing, known_table, other_table, new_table, known_column, known_columns, new_columns, same_columns, few_columns, known_ids}
 use Rattle.op_any.proofs.Decides.{Decides, then_decides, table_decides, new_table_decides, other_table_decides, column_decides, expression_decides, once_decides, same_decides, few_decides, ids_decide}
 use Rattle.op_any.proofs.JoinForms.{decomposing_decides, decomposing_table_decides, joining_decides}
 use Rattle.op_any.specs.BuildJoins.{joining_tables}

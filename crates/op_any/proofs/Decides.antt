@@ -1,5 +1,5 @@
 -- No check answers that an operator isn't built.
-use Rattle.std.proofs.Common.{◌≡◌, ◌≢◌, ℕ, List, [], ◌∷◌, Bool, true, false, cond, Option, Some, None, Result, Ok, Err}
+use Rattle.std.proofs.Common.{◌≢◌, ℕ, List, [], ◌∷◌, Bool, true, false, cond, Option, Some, None, Result, Ok, Err}
 use Rattle.par_base.specs.declared.refusal.Refusal.TheVariants.{NotBuilt, TooManyColumns, ColumnsDiffer}
 use Rattle.expr_lang.specs.Terms.{Term}
 use Rattle.expr_lang.specs.Resolved.{place_of}

@@ -1,15 +1,15 @@
 -- No check of DECOMPOSE or JOIN answers that it isn't built.
-use Rattle.std.proofs.Common.{◌≡◌, ℕ, List, [], ◌∷◌, ◌++◌, length, Bool, true, false, Ok, sym}
+use Rattle.std.proofs.Common.{◌≡◌, ℕ, List, [], ◌∷◌, ◌++◌, length, Bool, true, false}
 use Rattle.std.specs.Prelude.{◌||◌, nat_lt}
 use Rattle.std.specs.List.{remove}
 use Rattle.std.specs.Str.{bytes_eq}
 use Rattle.std.proofs.lemmas.Bool.{false≢true}
 use Rattle.expr_lang.specs.Resolved.{place_of, resolved}
-use Rattle.statements.specs.Views.{Tree, KeyView, Primary, Foreign, Condition}
+use Rattle.statements.specs.Views.{KeyView, Primary, Foreign, Condition}
 use Rattle.version_graph.specs.Tables.{column_limit}
 use Rattle.version_graph.specs.declared.parts.Heading.{Heading}
 use Rattle.op_any.specs.NameChecks.{heading_named, is_passing, repeated, known_table, other_table, new_table, known_column, known_places, known_columns, well_divided, new_columns, few_columns, known_ids}
-use Rattle.op_any.specs.BuildJoins.{Parting, Sources, parting, divided, decomposing_in_one, decomposing_on_pk, decomposing_on_fk, decomposing_on, decomposing_table, meeting, columns_of_both, joining_on_pk, joining_on_fk, joining_on, joining_tables}
+use Rattle.op_any.specs.BuildJoins.{parting, divided, decomposing_in_one, decomposing_table, meeting, columns_of_both, joining_tables}
 use Rattle.op_any.specs.Build.{is_built_join}
 use Rattle.op_any.proofs.Decides.{Decides, then_decides, table_decides, new_table_decides, other_table_decides, column_decides, places_decide, divided_decides, expression_decides, once_decides, few_decides, ids_decide}
 

@@ -26,13 +26,13 @@ use Rattle.op_any.proofs.Suits.{Suits, if_then, at_ok, table_is, is_new, sources
 use Rattle.op_any.proofs.Ranges.{length-range, ranges_divide, first_names, second_names}
 
 -- both sources were found, they differ, and the target's name is free
-record AreMet (set : List Heading) (first second target : List ℕ) (t : Sources) : Type 0 where
-  found : heading_named set first ≡ Some t.first
-  other_found : heading_named set second ≡ Some t.second
+pub record AreMet (set : List Heading) (first second target : List ℕ) (t : Sources) : Type 0 where
+  pub found : heading_named set first ≡ Some t.first
+  pub other_found : heading_named set second ≡ Some t.second
   differ : first ≡ second → ⊥
   free : is_passing set (first ∷ second ∷ []) target ≡ false
 
-met : (set : List Heading) (first second target : List ℕ) → IfOk (meeting set first second target) (AreMet set first second target)
+pub met : (set : List Heading) (first second target : List ℕ) → IfOk (meeting set first second target) (AreMet set first second target)
 unfolding meeting
 met set first second target =
     if_then _ (known_table first (heading_named set first)) _ (λ h known.
@@ -47,12 +47,12 @@ met set first second target =
     }))))
 
 -- the target has the columns of both, and may have them
-record HasBoth (first second columns : List (List ℕ)) : Type 0 where
-  are : columns ≡ first ++ second
+pub record HasBoth (first second columns : List (List ℕ)) : Type 0 where
+  pub are : columns ≡ first ++ second
   once : Distinct (row_name ∷ first) → Distinct (row_name ∷ columns)
   few : length columns ≤ 64
 
-has_both : (target : List ℕ) (first second : List (List ℕ)) → IfOk (columns_of_both target first second) (HasBoth first second)
+pub has_both : (target : List ℕ) (first second : List (List ℕ)) → IfOk (columns_of_both target first second) (HasBoth first second)
 unfolding columns_of_both
 has_both target first second =
     if_then _ (new_columns first second) _ (λ u new.

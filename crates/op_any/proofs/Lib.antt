@@ -11,3 +11,7 @@ pub mod BuiltLaws
 mod Decides
 mod JoinForms
 mod BuiltForms
+mod Stops
+mod RefusedJoins
+mod RefusedForms
+mod MadeTables

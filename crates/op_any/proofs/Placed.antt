@@ -1,24 +1,23 @@
 -- Columns by their places: where listed columns stand, and when two lists divide them.
-use Rattle.std.proofs.Common.{◌≡◌, ℕ, zero, suc, ◌+◌, ◌<◌, ◌≤◌, List, [], ◌∷◌, ◌++◌, length, Bool, true, false, cond, not, Option, Some, None, Ok, IfOk, inl, inr, refl, sym, ◌∙◌, ap, subst, arith}
+use Rattle.std.proofs.Common.{◌≡◌, ℕ, zero, suc, ◌+◌, ◌<◌, List, [], ◌∷◌, ◌++◌, length, Bool, true, false, cond, not, Option, Some, None, Ok, IfOk, inl, inr, refl, sym, ◌∙◌, ap, subst, arith}
 use Rattle.std.specs.Prelude.{◌||◌, ◌==◌, slice_get, unwrap_or, MatchOption}
 use Rattle.std.specs.List.{list_any}
 use Rattle.std.specs.Option.{option_or}
 use Rattle.std.specs.Str.{bytes_eq}
 use Rattle.std.proofs.lemmas.Bool.{false≢true, eqb-true, eq-eqb}
-use Rattle.std.proofs.lemmas.Bool.Decides.{nat_tests}
 use Rattle.std.proofs.lemmas.List.Quantifiers.{position-Some}
 use Rattle.std.proofs.lemmas.Option.{unwrap_or-slice_get}
 use Rattle.expr_lang.specs.Resolved.{place_of}
 use Rattle.version_graph.specs.Sets.{In, Distinct, Within}
 use Rattle.version_graph.specs.Tables.{IsHeading, row_name}
 use Rattle.version_graph.specs.declared.parts.Heading.{Heading}
-use Rattle.version_graph.proofs.SetLaws.{in_append, in_left, in_right}
+use Rattle.version_graph.proofs.SetLaws.{in_left}
 use Rattle.version_graph.proofs.NameLaws.{same_name}
 use Rattle.row_parts.specs.RowCells.{by_test}
 use Rattle.row_parts.specs.Places.{has_place, AreOnce, names_at}
 use Rattle.row_parts.specs.Partition.{Divides, divides}
 use Rattle.row_parts.specs.inner.PlaceLemmas.{length-names}
-use Rattle.op_key_join.specs.OtherPlaces.{others, others_divide}
+use Rattle.op_key_join.specs.OtherPlaces.{others_divide}
 use Rattle.op_any.specs.NameChecks.{repeated, left_out, misdivided, known_column, known_places, well_divided}
 use Rattle.op_any.specs.Laws.{IsFirstRepeated, IsFirstLeftOut, IsFirstMisdivided}
 use Rattle.op_any.proofs.NameLists.{member, not_member, repeated-first, unrepeated_distinct}

@@ -5,4 +5,5 @@ pub mod Build
 pub mod Texts
 pub mod BuiltOn
 pub mod Laws
+pub mod Refusals
 pub mod inner

@@ -1,5 +1,5 @@
 //! The checks of an operator, each with its refusal.
-ghost use Rattle.std.specs.Prelude.{◌≡◌, ◌<◌, ◌||◌, ◌++◌, [], length, IfOk};
+ghost use Rattle.std.specs.Prelude.{◌<◌, ◌||◌, ◌++◌, [], length, IfOk};
 ghost use Rattle.std.specs.Option.{option_map};
 ghost use Rattle.std.specs.Str.{bytes_eq};
 ghost use Rattle.expr_lang.specs.Terms.{text_term, expr_term};

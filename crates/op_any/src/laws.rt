@@ -1,5 +1,6 @@
 //! Laws of built operators. The functions do nothing: their contracts are the laws.
 ghost use Rattle.op_any.specs.Laws.{BuiltEdgesFit, BuiltForItsTables, BuiltIsClosed, BuiltHasFewTables, OnlyCreateTableIsWithoutSource, BuiltIsLocalByForm, BuiltKeepsItsText, NotBuiltIsTheForm, HeadingsOfTaken, FirstRepeatedIsRefused, FirstMisdividedIsRefused};
+ghost use Rattle.op_any.specs.Refusals.{BuiltHasItsTables, EachRefusalHasItsCause, FirstFailedRefuses, FirstMissingIsRefused};
 
 /// An edge that was built on the working set of a graph fits it, and its operator is built for its
 /// tables: for its targets, and for the tables of the set that it takes.
@@ -37,4 +38,21 @@ pub fn first_repeated_column_is_refused()
 /// Which column is refused because the lists of DECOMPOSE name it twice or leave it out.
 pub fn first_misdivided_column_is_refused()
     ensures { FirstMisdividedIsRefused }
+{}
+
+/// All operators have their checks in one order: the first that an operator fails refuses it, and one
+/// that fails none is built. So each refusal says what its check found.
+pub fn first_failed_check_refuses()
+    ensures order { FirstFailedRefuses }
+    ensures causes { EachRefusalHasItsCause }
+{}
+
+/// Which table or column is refused because it isn't there.
+pub fn first_missing_name_is_refused()
+    ensures { FirstMissingIsRefused }
+{}
+
+/// From which tables to which a built edge goes, and which columns its targets have.
+pub fn built_edges_have_their_tables()
+    ensures { BuiltHasItsTables }
 {}

@@ -1,11 +1,9 @@
 //! What one operator makes of a working set, or why it is refused.
 ghost use Rattle.std.specs.Prelude.{◌≡◌, ◌∷◌, ◌++◌, [], IfOk};
-ghost use Rattle.std.specs.List.{insert, remove};
 ghost use Rattle.expr_lang.specs.Terms.{text_term};
 ghost use Rattle.statements.specs.Views.{op_view};
 ghost use Rattle.par_base.specs.Checked.{Gives};
 ghost use Rattle.op_any.specs.Build.{creating_table, dropping_table, renaming_table, renaming_column, adding_column, dropping_column, planned_edge};
-ghost use Rattle.op_kinds.specs.Views.{built_view};
 ghost use Rattle.op_any.specs.Edges.{edge_view};
 
 use crate::checks::{

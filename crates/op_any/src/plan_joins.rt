@@ -1,6 +1,5 @@
 //! What JOIN makes of a working set, or why it is refused.
 ghost use Rattle.std.specs.Prelude.{◌≡◌, ◌++◌, length, IfOk};
-ghost use Rattle.std.specs.List.{remove};
 ghost use Rattle.expr_lang.specs.Terms.{text_term, expr_term};
 ghost use Rattle.expr_lang.specs.Resolved.{resolved};
 ghost use Rattle.statements.specs.Views.{key_view};

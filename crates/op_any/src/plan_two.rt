@@ -1,5 +1,4 @@
 //! What SPLIT and MERGE make of a working set, or why they are refused.
-ghost use Rattle.std.specs.Prelude.{◌≡◌};
 ghost use Rattle.statements.specs.Views.{branch_view, second_view};
 ghost use Rattle.par_base.specs.Checked.{Gives};
 ghost use Rattle.op_any.specs.Build.{splitting_in_one, splitting_in_two, splitting_table, merging_tables};

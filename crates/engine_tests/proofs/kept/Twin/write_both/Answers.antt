@@ -4,7 +4,7 @@ use Rattle.op_kinds.specs.Operators.{any_meaning}
 use Rattle.write_propagation.specs.Plans.{rows_written}
 use Rattle.write_propagation.proofs.PlanLaws.{may_commit}
 use Rattle.engine_tests.specs.Twins.{moved_state}
-use Rattle.engine_tests.proofs.TwinLemmas.{both_before, both_refused, both_written, plan_refused, plan_writes}
+use Rattle.engine_tests.proofs.TwinLemmas.{both_written, plan_refused, plan_writes}
 use Rattle.engine_tests.proofs.kept.Twin.write_both.Goals as goal
 
 pub returns-in_err-made-clause-twin : goal.returns-in_err-made-clause-twin
