@@ -3,7 +3,7 @@
 //! A level reads its operands and the infix operators between them; below the levels stand NOT, comparisons, signs and
 //! parentheses. What is left of the limits goes along from left to right. How deep parentheses may still nest bounds the
 //! depth of the calls.
-ghost use Rattle.std.specs.Prelude.{◌≡◌, false, MatchResult};
+ghost use Rattle.std.specs.Prelude.{◌≡◌, false};
 ghost use Rattle.expr_lang.specs.Terms.{text_term, Unary, Binary};
 ghost use Rattle.phrases.specs.Reading.{starts, is};
 ghost use Rattle.phrases.specs.Chains.{Item};

@@ -1,5 +1,5 @@
 //! Levels of infix operators, and what says each operator.
-ghost use Rattle.std.specs.Prelude.{◌≡◌, bytes_eq, MatchOption};
+ghost use Rattle.std.specs.Prelude.{◌≡◌, bytes_eq};
 ghost use Rattle.bidel_expr.specs.Lexemes.{lexeme_of};
 ghost use Rattle.bidel_expr.specs.Operators.{look_up, comparisons, sums, products, compare_of, op_of};
 ghost use Rattle.bidel_expr.specs.ReadAnswers.{IsNext};

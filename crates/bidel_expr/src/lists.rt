@@ -1,9 +1,9 @@
 //! Lists with commas, in parentheses and without.
-ghost use Rattle.std.specs.Prelude.{◌≡◌, ◌∷◌, [], map};
-ghost use Rattle.phrases.specs.Reading.{starts, is, either, done, rest_at, behind_at, separated_at, enclosed_at, with_front};
+ghost use Rattle.std.specs.Prelude.{map};
+ghost use Rattle.phrases.specs.Reading.{is, separated_at};
 ghost use Rattle.bidel_expr.specs.Lexemes.{name_of};
 ghost use Rattle.bidel_expr.specs.Literals.{comma_of, further_at, listed_at, name_at, names_at, literal_at, tuple_at, begins_literal};
-ghost use Rattle.bidel_expr.specs.ReadAnswers.{ahead, ReadsAs};
+ghost use Rattle.bidel_expr.specs.ReadAnswers.{ReadsAs};
 
 use crate::cursor::Cursor;
 use crate::literals::{is_literal_next, take_literal};

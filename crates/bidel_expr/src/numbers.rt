@@ -1,5 +1,5 @@
 //! The value of a number's digits.
-ghost use Rattle.std.specs.Prelude.{◌≡◌, ◌≤◌, ◌+◌, ◌*◌, ◌-◌, ◌^◌, false, nat_le, pos, neg_ℤ, MatchOption};
+ghost use Rattle.std.specs.Prelude.{◌≡◌, ◌≤◌, ◌+◌, ◌*◌, ◌-◌, ◌^◌, pos, neg_ℤ};
 ghost use Rattle.bidel_expr.specs.Lexemes.{IsCapped, value_after, value_with};
 
 /// The greatest value of a number, which only a minus sign before it makes an `i64`.

@@ -1,8 +1,8 @@
 //! The readers of one token.
-ghost use Rattle.std.specs.Prelude.{◌≡◌, ◌∷◌, [], map, false, bytes_eq, MatchOption, MatchResult};
+ghost use Rattle.std.specs.Prelude.{◌≡◌, [], map, false, bytes_eq, MatchResult};
 ghost use Rattle.par_base.specs.Names.{folded};
 ghost use Rattle.phrases.specs.Reading.{one_at, starts, is};
-ghost use Rattle.bidel_expr.specs.Lexemes.{lexeme_of, keyword, starts_both, sign, name_of, number_of, negative_of};
+ghost use Rattle.bidel_expr.specs.Lexemes.{keyword, starts_both, sign, name_of, number_of, negative_of};
 ghost use Rattle.bidel_expr.specs.ReadAnswers.{ahead, IsFirst, IsNext, IsThere, ReadsAs, Passes, ran_out};
 
 use crate::cursor::{Cursor, Next};

@@ -1,7 +1,6 @@
 -- Tests on bytes, and the first byte of a token.
-use Rattle.std.proofs.Common.{◌≡◌, ◌⊎◌, inl, inr, ◌-◌, ◌<◌, ◌≤◌, ◌||◌, ◌&&◌, ℕ, Bool, true, false, cond, nat_le, nat_lt, refl, arith}
+use Rattle.std.proofs.Common.{◌≡◌, ◌⊎◌, inl, inr, ◌-◌, ◌<◌, ◌≤◌, ◌||◌, ℕ, Bool, true, false, cond, nat_le, nat_lt, refl, arith}
 use Rattle.std.specs.Char.{digit_value}
-use Rattle.std.proofs.lemmas.Bool.{and_parts}
 use Rattle.bidel_lex.specs.declared.unfinished.Unfinished.TheVariants.{Word, Number}
 use Rattle.bidel_lex.specs.declared.next.First.TheVariants.{Space, Alone, Opens}
 use Rattle.bidel_lex.specs.Classes.{is_between, is_digit, is_lone_symbol, is_space, is_word_start}

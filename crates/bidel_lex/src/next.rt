@@ -1,6 +1,6 @@
 //! The next token: what each byte makes of those before it, from a place on.
 
-ghost use Rattle.std.specs.Prelude.{◌≡◌, ◌≤◌, ◌<◌, ◌^◌, length, slice_index};
+ghost use Rattle.std.specs.Prelude.{◌≡◌, ◌≤◌, ◌<◌, ◌^◌, length};
 ghost use Rattle.bidel_lex.specs.Next.{IsWithin, answer_at_end, first_of, first_turn, next_of, opened_by, over_at, step_of, step_turn, turn_at};
 
 use crate::classes::{begins_word, is_digit_byte, is_lone, is_space_byte};

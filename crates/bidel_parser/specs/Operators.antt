@@ -1,10 +1,10 @@
 -- Operators: which tokens spell which, and reading them.
-use Rattle.std.specs.Prelude.{◌+◌, ◌∷◌, [], ℕ, List, Bool, true, false, Option, Some, None, length, codes}
+use Rattle.std.specs.Prelude.{◌∷◌, [], ℕ, List, Bool, true, false, Option, Some, None, codes}
 use Rattle.phrases.specs.Phrases.{Nothing, Seq, Either, Many, Behind, Optional}
-use Rattle.phrases.specs.Reading.{Read, and_then, done, either, is, begins_item, many_at, behind_at, optional_at, with_front, starts}
+use Rattle.phrases.specs.Reading.{is, begins_item, starts}
 use Rattle.bidel_expr.specs.Lexemes.{Lexeme}
-use Rattle.bidel_expr.specs.Literals.{comma_of, Names, name_at, names_at}
-use Rattle.bidel_expr.specs.Expressions.{Expression, expression_at}
+use Rattle.bidel_expr.specs.Literals.{comma_of, Names}
+use Rattle.bidel_expr.specs.Expressions.{Expression}
 use Rattle.bidel_parser.specs.declared.first_words.OperatorWord.{OperatorWord}
 use Rattle.bidel_parser.specs.declared.first_words.OperatorWord.TheVariants as first
 use Rattle.bidel_parser.specs.declared.first_words.Kind.{Kind}
@@ -12,7 +12,6 @@ use Rattle.bidel_parser.specs.declared.first_words.Kind.TheVariants as kind
 use Rattle.bidel_parser.specs.declared.first_words.KeyWord.{KeyWord}
 use Rattle.bidel_parser.specs.declared.first_words.KeyWord.TheVariants as by
 use Rattle.bidel_parser.specs.Words.{Word, Sign, Name, choice_of, Choice, is_word}
-use Rattle.bidel_parser.specs.inner.WordReaders.{word_at, sign_at, choice_at}
 use Rattle.bidel_parser.specs.declared.decompose.Second.{Second}
 use Rattle.statements.specs.Views.{Tree, key_view, KeyView, Primary, Foreign, Condition, BranchView, OpView, CreateTable, DropTable, RenameTable, RenameColumn, AddColumn, DropColumn, DecomposeSingle, Decompose, Join, Split, Merge}
 

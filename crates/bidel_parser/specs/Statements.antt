@@ -2,17 +2,14 @@
 use Rattle.std.specs.Prelude.{◌∷◌, [], ℕ, List, Bool, false, Option, Some, None, codes}
 use Rattle.par_base.specs.declared.limits.Target.{Target}
 use Rattle.phrases.specs.Phrases.{Nothing, Seq, OneOf, Either, Many, Behind, Optional, Separated}
-use Rattle.phrases.specs.Reading.{Read, and_then, one_at, done, either, is, behind_at, optional_at, separated_at}
 use Rattle.bidel_expr.specs.Lexemes.{Lexeme, text_of}
-use Rattle.bidel_expr.specs.Literals.{comma_of, dot_of, star_of, Tuple, name_at, tuple_at}
-use Rattle.bidel_expr.specs.Expressions.{Expression, expression_at}
+use Rattle.bidel_expr.specs.Literals.{comma_of, dot_of, Tuple}
+use Rattle.bidel_expr.specs.Expressions.{Expression}
 use Rattle.statements.specs.declared.statement.TableName.{TableName}
 use Rattle.bidel_parser.specs.declared.first_words.StatementWord.{StatementWord}
 use Rattle.bidel_parser.specs.declared.first_words.StatementWord.TheVariants as first
-use Rattle.bidel_parser.specs.Words.{Word, Sign, Name, Choice, Flag, session_of, is_word}
-use Rattle.bidel_parser.specs.inner.WordReaders.{word_at, sign_at, choice_at, flag_at}
+use Rattle.bidel_parser.specs.Words.{Word, Sign, Name, Choice, Flag, session_of}
 use Rattle.bidel_parser.specs.Operators.{ListedOperators, begins_operator}
-use Rattle.bidel_parser.specs.inner.OperatorReaders.{listed_operators_at}
 use Rattle.statements.specs.Views.{Tree, AssignmentView, StatementView, CreateVersion, DropVersion, Insert, Import, Update, Delete, Select, Materialize, Step, ShowLayout, Use, Session, Advise}
 
 -- ---- the words that tell them apart

@@ -3,7 +3,7 @@ use Rattle.std.specs.Prelude.{ℕ, List, [], ◌∷◌, Bool, true, false, Optio
 use Prim.Native.String.{String}
 use Rattle.std.specs.Borrow.{Bor}
 use Rattle.phrases.specs.Phrases.{Nothing, Seq, OneOf, Either}
-use Rattle.phrases.specs.Reading.{Read, and_then, one_at, done, either, is}
+use Rattle.phrases.specs.Reading.{is}
 use Rattle.bidel_expr.specs.Lexemes.{Lexeme, number, keyword, sign, name_of}
 
 -- ---- the grammar

@@ -1,9 +1,8 @@
 //! DECOMPOSE, behind its first word.
-ghost use Rattle.std.specs.Prelude.{◌≡◌};
 ghost use Rattle.statements.specs.Views.{op_view};
 ghost use Rattle.bidel_parser.specs.Operators.{part_view, optional_view};
 ghost use Rattle.bidel_parser.specs.inner.OperatorReaders.{second_part_at, optional_part_at, decompose_rest_at};
-ghost use Rattle.bidel_expr.specs.ReadAnswers.{ahead, ReadsAs};
+ghost use Rattle.bidel_expr.specs.ReadAnswers.{ReadsAs};
 
 use crate::keys::take_key;
 use bidel_expr::{Cursor, ReadError, next_sign, take_keyword, take_name, take_names};

@@ -1,9 +1,7 @@
 //! Keys: by what two tables belong together.
-ghost use Rattle.std.specs.Prelude.{◌≡◌};
-ghost use Rattle.phrases.specs.Reading.{starts, is};
 ghost use Rattle.statements.specs.Views.{key_view};
 ghost use Rattle.bidel_parser.specs.inner.OperatorReaders.{key_rest_at, key_at};
-ghost use Rattle.bidel_expr.specs.ReadAnswers.{ahead, ReadsAs};
+ghost use Rattle.bidel_expr.specs.ReadAnswers.{ReadsAs};
 
 use crate::choices::next_key_word;
 use crate::first_words::KeyWord;

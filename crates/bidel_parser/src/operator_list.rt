@@ -1,9 +1,8 @@
 //! The operators of a CREATE SCHEMA VERSION, up to where none begins.
-ghost use Rattle.std.specs.Prelude.{◌≡◌, ◌∷◌, [], map};
-ghost use Rattle.phrases.specs.Reading.{with_front};
+ghost use Rattle.std.specs.Prelude.{◌≡◌, [], map};
 ghost use Rattle.statements.specs.Views.{op_view};
 ghost use Rattle.bidel_parser.specs.Operators.{begins_operator, shows_operator};
-ghost use Rattle.bidel_parser.specs.inner.OperatorReaders.{further_operators_at, closed_operator_at, operators_at, listed_operators_at};
+ghost use Rattle.bidel_parser.specs.inner.OperatorReaders.{further_operators_at, closed_operator_at, listed_operators_at};
 ghost use Rattle.bidel_expr.specs.ReadAnswers.{ahead, ReadsAs};
 
 use crate::choices::{is_kind_next, is_lone_word_next, is_shared_word_next, next_shared_word};

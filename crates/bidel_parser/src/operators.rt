@@ -1,8 +1,7 @@
 //! Operators, behind their first words.
-ghost use Rattle.std.specs.Prelude.{◌≡◌};
 ghost use Rattle.statements.specs.Views.{op_view, branch_view, second_view};
 ghost use Rattle.bidel_parser.specs.inner.OperatorReaders.{create_rest_at, drop_rest_at, rename_rest_at, add_rest_at, join_rest_at, split_branch_at, second_branch_at, split_rest_at, merge_branch_at, merge_rest_at, operator_rest_at, operator_at};
-ghost use Rattle.bidel_expr.specs.ReadAnswers.{ahead, ReadsAs};
+ghost use Rattle.bidel_expr.specs.ReadAnswers.{ReadsAs};
 
 use crate::choices::{take_kind, take_operator_word};
 use crate::decompose::decompose_rest;

@@ -1,5 +1,5 @@
 //! The call of the parser for statements.
-ghost use Rattle.std.specs.Prelude.{◌≡◌, drop, length};
+ghost use Rattle.std.specs.Prelude.{◌≡◌, length};
 ghost use Rattle.bidel_lex.specs.Tokens.{AreTokens};
 ghost use Rattle.bidel_parser.specs.Parsing.{Parses, start_of};
 

@@ -1,8 +1,7 @@
 //! Statements.
-ghost use Rattle.std.specs.Prelude.{◌≡◌};
 ghost use Rattle.bidel_parser.specs.inner.StatementReaders.{create_version_rest_at, drop_version_rest_at, insert_rest_at, import_rest_at, update_rest_at, delete_rest_at, select_rest_at, materialize_rest_at, show_rest_at, closed_name_at, session_rest_at, statement_rest_at, statement_at};
 ghost use Rattle.statements.specs.Views.{statement_view};
-ghost use Rattle.bidel_expr.specs.ReadAnswers.{ahead, ReadsAs};
+ghost use Rattle.bidel_expr.specs.ReadAnswers.{ReadsAs};
 
 use crate::choices::take_statement_word;
 use crate::first_words::StatementWord;

@@ -1,11 +1,10 @@
 //! What statements name: tables and versions, what is assigned, and which rows.
-ghost use Rattle.std.specs.Prelude.{◌≡◌, map};
 ghost use Rattle.par_base.specs.declared.limits.Target.{Target};
 ghost use Rattle.bidel_parser.specs.Words.{session_of};
 ghost use Rattle.statements.specs.Views.{AssignmentView, assignment_view, filter_view};
 ghost use Rattle.bidel_parser.specs.inner.StatementReaders.{second_name_at, table_at, target_at, assignment_at, filter_at, items_at, origin_at, csv_at, in_steps_at};
 ghost use Rattle.phrases.specs.Reading.{one_at};
-ghost use Rattle.bidel_expr.specs.ReadAnswers.{ahead, ReadsAs};
+ghost use Rattle.bidel_expr.specs.ReadAnswers.{ReadsAs};
 
 use bidel_expr::{
     Cursor, Item, Names, ReadError, next_keyword, next_number, next_sign, take_expression,

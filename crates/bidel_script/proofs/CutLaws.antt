@@ -1,5 +1,5 @@
 -- The statements that some first bytes fix are the first of those that all bytes fix, and a fault in the first bytes is that of all.
-use Rattle.std.proofs.Common.{◌≡◌, ◌≢◌, ◌+◌, ◌-◌, ◌≤◌, ◌<◌, ◌++◌, ℕ, List, [], ◌∷◌, Bool, Ok, Err, true, false, inl, inr, refl, sym, ap, subst, ◌∙◌, append_assoc, append-nil, drop, length, arith, length-drop, length-append}
+use Rattle.std.proofs.Common.{◌≡◌, ◌≢◌, ◌+◌, ◌-◌, ◌<◌, ◌++◌, ℕ, List, [], ◌∷◌, Bool, Ok, Err, true, false, inl, inr, refl, sym, ap, subst, ◌∙◌, append_assoc, append-nil, drop, length, arith, length-append}
 use Rattle.std.specs.Prelude.{min}
 use Rattle.std.proofs.lemmas.List.{length-map, drop-append-le}
 use Rattle.phrases.specs.Reading.{Read, next}
@@ -17,10 +17,10 @@ use Rattle.bidel_parser.specs.Parsing.{IsFront, NoFront, FirstFault, start_of}
 use Rattle.bidel_parser.proofs.ScriptLaws.{fault_stays}
 use Rattle.bidel_parser.proofs.StatementLaws.{statement-last, script_over}
 use Rattle.bidel_script.specs.declared.tokens.Tail.{Tail}
-use Rattle.bidel_script.specs.Tails.{AreAll, is_over, begin_of, known_end, begun_at, last_end, earlier, first_byte}
+use Rattle.bidel_script.specs.Tails.{is_over, begin_of, known_end, begun_at, last_end, earlier}
 use Rattle.bidel_script.specs.Lengths.{IsLong, is_long, is_long_fault, part}
 use Rattle.bidel_script.specs.Script.{Leads, Comes, Outcome, Over, Fault, Long, Open, IsFaulty, StandsBehind, FrontsComeFirst, FaultsStay}
-use Rattle.bidel_script.proofs.TokenLaws.{ends_not, more_open, lexemes-drop}
+use Rattle.bidel_script.proofs.TokenLaws.{ends_not, more_open}
 use Rattle.bidel_script.proofs.ScriptLaws.{leads_begins, leads_within, front_within}
 use Rattle.bidel_script.proofs.UniqueLaws.{begins_front, blocked, leads_first, no_front_at, one_comes}
 use Rattle.bidel_script.proofs.ComesLaws.{something_comes}

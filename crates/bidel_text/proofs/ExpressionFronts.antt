@@ -29,7 +29,7 @@ use Rattle.bidel_expr.specs.Expressions.{Tree, cost, weight, Atom, NullTest, Exp
 use Rattle.bidel_expr.proofs.WordLaws.{when_some, name_is, by_unsigned, by_negative, keyword_is, sign_is}
 use Rattle.bidel_text.specs.ExpressionText.{operator_sign, expression_text, grouped, is_operation, is_integer, is_integer_literal}
 use Rattle.bidel_text.proofs.Written.{Front, ends}
-use Rattle.bidel_text.proofs.Tokens.{IsWritable, OneToken, one_token, is_negative, negative_said, number_spelled, number_follows, then_token, nothing_front, spaced, word_spelled, name_spelled, name_said, word_follows, name_parts}
+use Rattle.bidel_text.proofs.Tokens.{IsWritable, one_token, is_negative, negative_said, number_spelled, number_follows, then_token, nothing_front, spaced, word_spelled, name_spelled, name_said, word_follows, name_parts}
 use Rattle.bidel_text.proofs.Fronts.{respelled, then_front, then_word, then_sign}
 use Rattle.bidel_text.proofs.Writable.{AreWritable}
 use Rattle.bidel_text.proofs.Shapes.{Whole, Operand, Negated, SignedNumber, Two, Held, whole_or, whole_and, whole_compare, whole_sum, whole_product, whole_not, whole_negate, whole_test, whole_atom, operand_atom, negated_atom, operand_held, negated_held}

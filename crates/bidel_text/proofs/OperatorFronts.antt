@@ -2,7 +2,6 @@
 use Rattle.std.proofs.Common.{◌≡◌, ◌++◌, ◌∷◌, [], ℕ, List, Bool, true, false, refl, ap, ◌∙◌, subst, append-nil, inl, inr}
 use Rattle.std.specs.Prelude.{Option, Some, None, IfSome, codes}
 use Rattle.std.specs.List.{All}
-use Rattle.par_base.specs.Names.{is_name}
 use Rattle.bidel_lex.specs.declared.tokens.TokenKind.TheVariants as kind
 use Rattle.phrases.specs.Phrases.{Nothing, Seq, OneOf, Optional, Behind}
 use Rattle.bidel_expr.specs.Lexemes.{Lexeme, name_of, keyword}

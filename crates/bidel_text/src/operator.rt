@@ -1,5 +1,5 @@
 //! The canonical text of an operator.
-ghost use Rattle.std.specs.Prelude.{◌≡◌, ◌++◌, ◌∷◌, IfOk, OnOk, Some, None, codes, string_bytes, length};
+ghost use Rattle.std.specs.Prelude.{◌≡◌, ◌++◌, IfOk, OnOk, Some, None, codes, string_bytes};
 ghost use Rattle.expr_lang.specs.Terms.{text_term};
 ghost use Rattle.statements.specs.Views.{key_view, branch_view, second_view, op_view, CreateTable, RenameTable, RenameColumn, AddColumn, DropColumn, DecomposeSingle, Join, Split, Merge};
 ghost use Rattle.bidel_text.specs.OperatorText.{further_text, listed_text, names_text, key_text, split_text, second_text, merge_text, outer_text, operator_text};

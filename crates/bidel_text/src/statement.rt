@@ -1,6 +1,5 @@
 //! The canonical text of a statement.
-ghost use Rattle.std.specs.Prelude.{◌≡◌, ◌++◌, ◌∷◌, IfOk, OnOk, Some, None, codes, string_bytes, length, map, decimal};
-ghost use Rattle.expr_lang.specs.Terms.{text_term};
+ghost use Rattle.std.specs.Prelude.{◌≡◌, ◌++◌, IfOk, OnOk, Some, None, codes, string_bytes, map};
 ghost use Rattle.par_base.specs.Literals.{literal_of, quoted};
 ghost use Rattle.statements.specs.Views.{op_view, assignment_view, filter_view, statement_view, CreateVersion, DropVersion, Insert, Import, Update, Delete, Select, Materialize};
 ghost use Rattle.bidel_text.specs.OperatorText.{further_text, listed_text};

@@ -1,5 +1,5 @@
 -- Lists of numbers and of values under numbers.
-use Rattle.std.specs.Prelude.{◌<◌, ◌==◌, slice_get}
+use Rattle.std.specs.Prelude.{◌==◌, slice_get}
 use Rattle.std.specs.List.{list_all}
 use Rattle.std.specs.Option.{option_map_or, option_to_list}
 use Rattle.std.proofs.Common.{◌≡◌, ℕ, zero, suc, ◌+◌, List, [], ◌∷◌, ◌++◌, Bool, take, Option, Some, None, inl, inr, refl, sym, ap, ◌∙◌, subst, arith}

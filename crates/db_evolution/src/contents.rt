@@ -1,7 +1,6 @@
 //! What a database keeps after an evolution, beside its graph.
-ghost use Rattle.std.specs.Prelude.{◌≡◌, ◌++◌, IfOk, OnOk};
+ghost use Rattle.std.specs.Prelude.{◌≡◌, ◌++◌, IfOk};
 ghost use Rattle.version_graph.specs.Edges.{AreEdges, IsGraph};
-ghost use Rattle.db_state.specs.Fields.{numbers_in};
 ghost use Rattle.db_evolution.specs.Calls.{Fills, HasPlaces, Installs, MayFill};
 
 use crate::fresh::{

@@ -60,9 +60,9 @@ fn evolve_parts<O: Operator + Drop, L: Ledger>(
 /// the empty one, and names the last working set. The tables of new CREATE TABLE operators are
 /// stored, and no other table comes or goes. It reads the tables that an edge names as a source, each
 /// along its way to storage, and copies the tables on both sides of each new operator. Beside that it
-/// takes time in the number of tables, for each new edge and each table of the working set before it,
-/// and in the square of the number of stored tables and of live operators. After an error all is as
-/// before.
+/// takes time in the logarithm of the number of operators and in the number of tables of one operator,
+/// for each source of a new edge and each table of the working set before it, and in the square of
+/// the number of stored tables and of live operators. After an error all is as before.
 pub fn evolve_db<O: Operator + Drop, L: Ledger>(
     alloc: Global,
     db: &mut Db<O>,

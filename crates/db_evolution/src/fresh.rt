@@ -1,7 +1,6 @@
 //! The new operators of a graph, and lists with a place for each number.
-ghost use Rattle.std.specs.Prelude.{◌≡◌, ◌++◌, [], ℕ, option_to_list, slice_get, map, IfOk, OnOk};
+ghost use Rattle.std.specs.Prelude.{◌≡◌, ◌++◌, [], option_to_list, IfOk, OnOk};
 ghost use Rattle.std.specs.Option.{option_copied};
-ghost use mathlib.Core.List.{reverse};
 ghost use Rattle.version_graph.specs.Edges.{IsGraph};
 ghost use Rattle.db_state.specs.Fields.{numbers_in};
 ghost use Rattle.db_evolution.specs.News.{newer_edges, AddsEdges, IsLaidOver};

@@ -1,44 +1,36 @@
 -- The auxiliary tables of related pairs may stand where the pairs' own tables may.
-use Rattle.std.specs.Prelude.{slice_get, unwrap_or, not}
-use Rattle.std.proofs.Common.{◌≡◌, ℕ, zero, suc, ◌-◌, List, [], ◌∷◌, Bool, true, false, filter, cond, map, Option, Some, None}
+use Rattle.std.proofs.Common.{ℕ, zero, suc, ◌-◌, List, [], ◌∷◌, Bool, true, false, filter, cond, Option, Some, None}
 use Rattle.par_base.specs.declared.value.Value.{Value}
 use Rattle.expr_lang.specs.Terms.{Term}
 use Rattle.row_store.specs.Rows.{Rows, row_of}
-use Rattle.id_memory.specs.Pairs.{Pairs}
-use Rattle.op_law.specs.Tables.{Heading, Tables}
+use Rattle.op_law.specs.Tables.{Tables}
 use Rattle.op_law.specs.Sound.{RowsSound, TablesSound, ValueSound, ValuesSound}
 use Rattle.op_law.specs.Identifiers.{ids_in}
 use Rattle.op_law.specs.Meaning.{Meaning, PairState, flip}
 use Rattle.op_rows.specs.Cells.{CellSound, Cells, CellsSound, first_cell, table_from}
 use Rattle.op_rows.specs.RowMeaning.{RowMeaning, flip_row, rowwise}
-use Rattle.op_rows.specs.inner.CellLemmas.{below_ids}
+use Rattle.op_rows.specs.inner.CellLemmas.{below_ids, nth_sound}
 use Rattle.op_rows.specs.inner.Tabulated.{all_below_from, cells_below}
 use Rattle.row_parts.specs.Places.{pick}
-use Rattle.row_parts.specs.RowCells.{Cell, in_cell, is_there, kept_if, map_cell}
+use Rattle.row_parts.specs.RowCells.{Cell, in_cell, kept_if, map_cell}
 use Rattle.row_parts.specs.RowEdits.{value_at}
 use Rattle.op_tables.specs.SideTables.{first_table, other_tables, second_table}
 use Rattle.op_column.specs.AddColumn.{add_column, column_alone}
 use Rattle.op_column.specs.CreateTable.{create_table}
 use Rattle.op_column.specs.DropTable.{drop_table}
 use Rattle.op_column.specs.Rename.{rename}
-use Rattle.op_split_merge.specs.Sides.{nth_sound as split_nth}
-use Rattle.op_split_merge.specs.Split.{split, split_aux_at_source, split_aux_at_target}
+use Rattle.op_split_merge.specs.Split.{split}
 use Rattle.op_split_merge.specs.Twins as twins
-use Rattle.op_key_join.specs.DecomposePk.{decompose_pk, null_row, row_of_neither}
-use Rattle.op_key_join.specs.DecomposeSingle.{decompose_single, rest_of}
-use Rattle.op_key_join.specs.JoinPk.{join_pk, row_alone}
-use Rattle.op_key_join.specs.Nulls.{is_null_there}
+use Rattle.op_key_join.specs.DecomposePk.{decompose_pk, row_of_neither}
+use Rattle.op_key_join.specs.DecomposeSingle.{decompose_single}
+use Rattle.op_key_join.specs.JoinPk.{join_pk}
 use Rattle.op_key_join.specs.OtherPlaces.{others}
-use Rattle.op_key_join.specs.Sides.{nth_sound}
 use Rattle.foreign_keys.specs.KeyParts.{FkParts}
-use Rattle.foreign_keys.specs.References.{dangles, goal_of, referred}
+use Rattle.foreign_keys.specs.References.{dangles, goal_of}
 use Rattle.op_fk_decompose.specs.Columns.{column_parts, decompose_columns}
 use Rattle.op_fk_decompose.specs.Decompose.{dangling, dangling_at, kept_at, kept_rows, ref_at, refs}
 use Rattle.op_fk_join.specs.Columns.{join_columns, side_parts}
 use Rattle.op_fk_join.specs.Join.{join_refs, key_here, unjoined, unjoined_here, unreferred, unreferred_here}
-use Rattle.pair_rows.specs.Halves.{first_of, second_of}
-use Rattle.pair_rows.specs.Kept.{alone}
-use Rattle.pair_rows.specs.Stays.{stands}
 use Rattle.op_cond_join.specs.JoinOn.{join_on, table_at}
 use Rattle.op_cond_join.specs.Shown.{Joining}
 use Rattle.op_kinds.specs.Operators.{Built, CreateTable, DropTable, Rename, AddColumn, DropColumn, Split, Merge, DecomposeSingle, DecomposePk, OuterJoinPk, JoinPk, DecomposeFk, OuterJoinFk, JoinFk, JoinOn, DecomposeOn, joining_by, meaning_of}
@@ -113,7 +105,7 @@ twin_kept n false c sound = tt
 split_first : (width : ℕ) (first : Term ℕ) (second : Option (Term ℕ)) → RowSound (split width first second)
 split_first width first None n s t source target = (twin_kept n _ (Some []) tt, (twin_kept n _ (Some []) tt, tt))
 split_first width first (Some q) n s t source target =
-    (twin_kept n _ (Some []) tt, (twin_kept n _ (Some []) tt, (twin_kept n _ (Some []) tt, (twin_kept n _ (Some []) tt, (twin_kept n _ _ (split_nth n 1 t target), tt)))))
+    (twin_kept n _ (Some []) tt, (twin_kept n _ (Some []) tt, (twin_kept n _ (Some []) tt, (twin_kept n _ (Some []) tt, (twin_kept n _ _ (nth_sound n 1 t target), tt)))))
 
 twin_rest : (n : ℕ) (c r s : twins.Cell) → CellSound n c → CellSound n (twins.rest_of c r s)
 twin_rest n c (Some r) s sound = tt
@@ -121,7 +113,7 @@ twin_rest n c None (Some s) sound = tt
 twin_rest n c None None sound = sound
 
 split_second : (width : ℕ) (first : Term ℕ) (second : Option (Term ℕ)) → RowSound (flip_row (split width first second))
-split_second width first second n s t source target = (twin_rest n _ _ _ (split_nth n 0 t target), tt)
+split_second width first second n s t source target = (twin_rest n _ _ _ (nth_sound n 0 t target), tt)
 
 single_first : (columns : List ℕ) (width : ℕ) → RowSound (decompose_single columns width)
 single_first columns width n s t source target = tt

@@ -1,11 +1,11 @@
 -- The operators of a graph that is built from texts are built for their tables, and closed for the next identifier.
 use Rattle.std.specs.Prelude.{◌==◌, option_to_list}
 use Rattle.std.specs.Option.{option_map_or}
-use Rattle.std.proofs.Common.{◌≡◌, ℕ, ◌+◌, ◌≤◌, List, [], ◌∷◌, ◌++◌, length, map, Bool, true, false, cond, Option, Some, None, inl, inr, refl, sym, ap, subst, ◌∙◌, arith}
+use Rattle.std.proofs.Common.{◌≡◌, ℕ, ◌≤◌, List, [], ◌∷◌, length, map, true, false, cond, Option, Some, None, inl, inr, refl, sym, ap, subst, ◌∙◌, arith}
 use Rattle.std.proofs.lemmas.List.{length-append, length-map}
 use Rattle.version_graph.specs.Sets.{In, Each, Within}
 use Rattle.version_graph.specs.Tables.{FitsSet, IsHeading, TableVersion, headings_after, headings_of, headings_passing, table_named, table_numbers, taken}
-use Rattle.version_graph.specs.Edges.{AreEdges, Follows, made, made_by_edge, set_after, sources_of, working}
+use Rattle.version_graph.specs.Edges.{AreEdges, Follows, made, made_by_edge, set_after, working}
 use Rattle.version_graph.specs.Forest.{Link, forest, link}
 use Rattle.version_graph.specs.declared.parts.Edge.{Edge}
 use Rattle.version_graph.specs.declared.parts.Heading.{Heading}

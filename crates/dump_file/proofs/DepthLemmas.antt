@@ -1,6 +1,6 @@
 -- The JSON of a dump nests less deep than may be read.
-use Rattle.std.specs.Prelude.{◌≤◌, ℤ, max}
-use Rattle.std.proofs.Common.{◌≡◌, ℕ, ◌+◌, List, [], ◌∷◌, map, arith}
+use Rattle.std.specs.Prelude.{◌≤◌, max}
+use Rattle.std.proofs.Common.{ℕ, ◌+◌, List, [], ◌∷◌, map, arith}
 use Rattle.std.proofs.Math.Nat.{max-le}
 use Rattle.par_base.specs.declared.value.Value.{Value}
 use Rattle.par_base.specs.declared.value.Value.TheVariants.{Null, Int, Text, Reference}

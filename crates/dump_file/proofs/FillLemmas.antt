@@ -1,6 +1,6 @@
 -- Entries that are filled in are those of which the lines tell, and no others.
 use Rattle.std.specs.Prelude.{◌<◌, ◌≤◌, ◌==◌, Option, Some, None, filter, option_map, option_and_then}
-use Rattle.std.proofs.Common.{◌≡◌, ℕ, ◌+◌, List, [], ◌∷◌, ◌++◌, Bool, true, false, cond, drop, get_or, length, map, inl, inr, refl, sym, ap, ◌∙◌, append-nil}
+use Rattle.std.proofs.Common.{◌≡◌, ℕ, ◌+◌, List, [], ◌∷◌, ◌++◌, Bool, true, false, cond, drop, get_or, length, map, inl, refl, sym, ap, ◌∙◌, append-nil}
 use Rattle.std.proofs.lemmas.Bool.{cond-false, cond-true, eq-eqb, eqb-true, false≢true, ne_eqb}
 use Rattle.std.proofs.lemmas.List.{append_assoc, drop_all, drop_more}
 use Rattle.version_graph.specs.Sets.{Distinct, Each, In}

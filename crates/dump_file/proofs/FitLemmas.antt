@@ -1,7 +1,7 @@
 -- The numbers, rows and memories of a database are such as a dump tells.
 use Rattle.std.specs.Prelude.{◌≤◌, ◌<◌, ◌^◌}
 use Rattle.std.specs.Option.{option_map_or}
-use Rattle.std.proofs.Common.{◌≡◌, ℕ, List, [], ◌∷◌, ◌++◌, Bool, true, false, map, Option, inl, inr, refl, sym, ap, ◌∙◌, subst, arith}
+use Rattle.std.proofs.Common.{◌≡◌, ℕ, List, [], ◌∷◌, Bool, true, false, map, Option, inl, inr, refl, sym, ap, ◌∙◌, subst, arith}
 use Rattle.std.proofs.lemmas.List.{map-append}
 use mathlib.Core.List.{reverse}
 use Rattle.par_base.specs.declared.value.Value.{Value}
@@ -22,9 +22,9 @@ use Rattle.op_law.specs.Laws.{HalfLaws}
 use Rattle.op_law.specs.Sound.{IsBelow, PairsSound, RowsSound, TablesSound, ValuesSound}
 use Rattle.op_law.specs.Tables.{AllRise, Tables, contents}
 use Rattle.op_law.specs.declared.side.Aux.{Aux}
-use Rattle.op_kinds.specs.Operators.{AnyView, any_laws, any_meaning, meaning_of}
+use Rattle.op_kinds.specs.Operators.{AnyView, any_laws, any_meaning}
 use Rattle.layout_rules.proofs.ChangeLaws.{number_lives}
-use Rattle.version_model.specs.Kept.{pairs_at, rows_at, value_of}
+use Rattle.version_model.specs.Kept.{pairs_at}
 use Rattle.version_model.specs.States.{State, headings}
 use Rattle.version_model.specs.Steps.{IsRelated, directed}
 use Rattle.version_model.specs.declared.numbered.Numbered.{Numbered}
@@ -32,7 +32,7 @@ use Rattle.storage_law.specs.Storage.{StandsOver, stored_way}
 use Rattle.db_state.specs.Fields.{IsDatabase, auxes_at, numbers_in, state_for, storage_in}
 use Rattle.db_state.specs.declared.parts.Parts.{Parts}
 use Rattle.dump_graph.specs.Told.{operator_line, version_line}
-use Rattle.dump_values.specs.Laws.{AllFit, AuxFits, DumpFits, IdFits, MemoryFits, NumberFits, OperatorFits, PairsFit, RowFits, StoredFits, TableFits, ValueFits, VersionFits}
+use Rattle.dump_values.specs.Laws.{AllFit, AuxFits, DumpFits, IdFits, MemoryFits, NumberFits, OperatorFits, RowFits, StoredFits, TableFits, ValueFits, VersionFits}
 use Rattle.dump_file.specs.Told.{aux_line, dump_told, has_tables, memory_line, remembers, stored_line}
 use Rattle.dump_file.specs.inner.Calls.{AuxHolds, HasWords, IntHolds, RowsHold, StoredHolds, TablesHold}
 use Rattle.dump_file.proofs.AuxLemmas.{AuxSound, aux_sound}

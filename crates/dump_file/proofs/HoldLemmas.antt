@@ -1,6 +1,6 @@
 -- Numbers have the bits of their types, item by item.
 use Rattle.std.specs.Prelude.{◌<◌, ◌≤◌}
-use Rattle.std.proofs.Common.{◌≡◌, ℕ, ◌+◌, List, [], ◌∷◌, ◌++◌, get_or, length, take, sym, ap, ◌∙◌, subst, arith}
+use Rattle.std.proofs.Common.{◌≡◌, ℕ, ◌+◌, List, [], ◌∷◌, ◌++◌, get_or, length, take, sym, ap, ◌∙◌, subst}
 use Rattle.std.proofs.lemmas.List.{take_all, take_more}
 use Rattle.par_base.specs.declared.value.Value.{Value}
 use Rattle.row_store.specs.States.{TableState}

@@ -1,6 +1,6 @@
 -- The JSON of a dump has no float.
 use Rattle.std.specs.Prelude.{pos, negsuc, ◌||◌}
-use Rattle.std.proofs.Common.{◌≡◌, ℕ, List, [], ◌∷◌, Bool, true, false, map, refl, ap, ◌∙◌}
+use Rattle.std.proofs.Common.{◌≡◌, ℕ, List, [], ◌∷◌, Bool, false, map, refl, ap, ◌∙◌}
 use Rattle.par_base.specs.declared.value.Value.{Value}
 use Rattle.par_base.specs.declared.value.Value.TheVariants.{Null, Int, Text, Reference}
 use Rattle.id_memory.specs.Pairs.{Pairs}
@@ -15,7 +15,6 @@ use Rattle.dump_values.specs.Pairs.{pairs_json, triple_json}
 use Rattle.dump_values.specs.Tables.{table_json, tables_json}
 use Rattle.dump_values.specs.Values.{row_json, value_json}
 use Rattle.dump_values.specs.declared.lines.OperatorLine.{OperatorLine}
-use Rattle.dump_values.specs.declared.lines.VersionLine.{VersionLine}
 
 either : (a b : Bool) → a ≡ false → b ≡ false → (a || b) ≡ false
 either a b first second = ap (λ (c : Bool). c || b) first ∙ second

@@ -1,6 +1,6 @@
 -- The auxiliary tables and memories of all operators, from those of which a dump tells.
-use Rattle.std.specs.Prelude.{Option, Some, None, Err}
-use Rattle.std.proofs.Common.{◌≡◌, ℕ, List, [], ◌∷◌, Bool, true, false, map, refl, sym, ap, subst, ◌∙◌}
+use Rattle.std.specs.Prelude.{Some, None, Err}
+use Rattle.std.proofs.Common.{◌≡◌, ℕ, List, [], ◌∷◌, true, false, map, refl, sym, ap, ◌∙◌}
 use mathlib.Core.List.{reverse}
 use Rattle.par_base.specs.declared.fault.Fault.{Fault}
 use Rattle.par_base.specs.declared.fault.Fault.TheVariants.{Refused, Memory}
@@ -20,7 +20,7 @@ use Rattle.db_state.specs.declared.parts.Parts.{Parts}
 use Rattle.dump_values.specs.Dumps.{Kept}
 use Rattle.dump_graph.specs.declared.refused.DumpRefused.{DumpRefused}
 use Rattle.dump_file.specs.Stands.{HasNoOther}
-use Rattle.dump_file.specs.Told.{aux_line, auxes_told, has_tables, is_some_table, kept_told, memories_told, memory_line, remembers, stored_line}
+use Rattle.dump_file.specs.Told.{aux_line, auxes_told, has_tables, is_some_table, memories_told, memory_line, stored_line}
 use Rattle.dump_file.specs.inner.Filled.{filled}
 use Rattle.dump_file.specs.inner.Loading.{AreKept, AreMemories, FillsAuxes, FillsMemories, Keeps, is_told}
 use Rattle.dump_file.proofs.FillLemmas.{AreEntries, IsElseEmpty, fill_sound, none_filled}

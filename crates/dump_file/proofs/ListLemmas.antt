@@ -6,7 +6,6 @@ use Rattle.std.proofs.lemmas.List.Elements.{filter-append}
 use Rattle.par_base.specs.Names.{is_name}
 use Rattle.id_memory.specs.Pairs.{Pairs}
 use Rattle.id_memory.specs.States.{MemoryState}
-use Rattle.row_store.specs.Rows.{Rows}
 use Rattle.serde_json.specs.Data.{Data}
 use Rattle.version_graph.specs.Edges.{Drawn, IsGraph, numbers, version_sets}
 use Rattle.version_graph.specs.Sets.{Distinct, In, Within}

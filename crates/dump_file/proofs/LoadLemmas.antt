@@ -1,20 +1,18 @@
 -- What is loaded stands for the dump, and where nothing is loaded nothing does.
-use Rattle.std.specs.Prelude.{Option, Some, None, Result, Ok, Err}
-use Rattle.std.proofs.Common.{◌≡◌, ℕ, List, [], ◌∷◌, true, map, refl, sym, ap, subst, ◌∙◌}
+use Rattle.std.specs.Prelude.{Some, Result, Ok, Err}
+use Rattle.std.proofs.Common.{◌≡◌, ℕ, List, [], true, map, refl, sym, ap, subst, ◌∙◌}
 use mathlib.Core.List.{reverse}
 use Rattle.par_base.specs.declared.fault.Fault.{Fault}
 use Rattle.par_base.specs.declared.fault.Fault.TheVariants.{Refused, Memory}
 use Rattle.serde_json.specs.Data.{Data}
-use Rattle.version_graph.specs.Edges.{AreEdges, Drawn, IsGraph, numbers}
+use Rattle.version_graph.specs.Edges.{Drawn, IsGraph, numbers}
 use Rattle.version_graph.specs.Finished.{IsFinished}
 use Rattle.version_graph.specs.Forest.{Link, forest}
-use Rattle.version_graph.specs.Sets.{Distinct, Each}
 use Rattle.version_graph.proofs.SetLaws.{each_more}
 use Rattle.op_kinds.specs.Operators.{AnyView, Built, CreateTable, DropTable, Rename, AddColumn, DropColumn, Split, Merge, DecomposeSingle, DecomposePk, OuterJoinPk, JoinPk, DecomposeFk, OuterJoinFk, JoinFk, JoinOn, DecomposeOn, any_meaning, meaning_of}
-use Rattle.storage_law.specs.Reading.{ReadsSources}
 use Rattle.version_model.specs.Kept.{HasSides}
 use Rattle.version_model.specs.States.{headings}
-use Rattle.db_state.specs.Fields.{IsDatabase, numbers_in}
+use Rattle.db_state.specs.Fields.{IsDatabase}
 use Rattle.db_state.specs.declared.parts.Parts.{Parts}
 use Rattle.db_check.specs.Checked.{IsBuilt}
 use Rattle.dump_values.specs.Dumps.{Dump, Kept, dump_of}
@@ -24,9 +22,9 @@ use Rattle.dump_graph.specs.Laws.{ToldGraphsAreOne}
 use Rattle.dump_graph.specs.Texts.{AreFromTexts}
 use Rattle.dump_graph.specs.Told.{graph_told}
 use Rattle.dump_graph.specs.declared.refused.DumpRefused.{DumpRefused}
-use Rattle.dump_file.specs.Stands.{HasNoOther, IsDumpOf, Loads, Spells, Stands}
-use Rattle.dump_file.specs.Told.{aux_line, dump_told, has_tables, kept_told, memories_told, memory_line}
-use Rattle.dump_file.specs.inner.Loading.{AreFields, AreKept, AreMemories, AreOnly, IsSame, Keeps, MakesFields, ReadsLines, Tells, is_told}
+use Rattle.dump_file.specs.Stands.{HasNoOther, IsDumpOf, Loads, Stands}
+use Rattle.dump_file.specs.Told.{aux_line, dump_told, has_tables, kept_told, memory_line}
+use Rattle.dump_file.specs.inner.Loading.{AreFields, AreKept, AreMemories, AreOnly, Keeps, MakesFields, ReadsLines, Tells, is_told}
 use Rattle.dump_file.proofs.BuiltLemmas.{IsBuiltFor, all_built}
 use Rattle.dump_file.proofs.FillLemmas.{one_filling}
 use Rattle.dump_file.proofs.KeptLemmas.{aux_entries, memory_entries}

@@ -1,17 +1,17 @@
 -- What operators remember, as the texts from which they are built say it.
-use Rattle.std.specs.Prelude.{◌==◌, ◌<◌, ◌||◌, count_by, IfOk}
-use Rattle.std.specs.List.{find, remove}
+use Rattle.std.specs.Prelude.{◌==◌, ◌||◌, IfOk}
+use Rattle.std.specs.List.{remove}
 use Rattle.std.specs.Option.{option_map_or}
 use Rattle.std.specs.Str.{bytes_eq}
-use Rattle.std.proofs.Common.{◌≡◌, ℕ, List, [], ◌∷◌, ◌++◌, Bool, true, false, cond, length, Option, Some, None, Ok, Err, Result, inl, inr, refl, sym, ap, ◌∙◌, subst, arith}
+use Rattle.std.proofs.Common.{◌≡◌, ℕ, List, [], ◌∷◌, ◌++◌, Bool, true, false, Option, Some, None, Ok, Err, Result, inl, inr, refl, sym, ap, ◌∙◌, subst, arith}
 use Rattle.std.proofs.lemmas.Bool.{cond-false, cond-true, eq-eqb, false≢true, ne_eqb}
 use Rattle.par_base.specs.Checked.{Checked, ◌then◌}
 use Rattle.expr_lang.specs.Resolved.{place_of, resolved}
-use Rattle.id_memory.specs.Pairs.{IsOneToOne, Pairs, RiseFrom, has_pair}
+use Rattle.id_memory.specs.Pairs.{IsOneToOne, Pairs, RiseFrom}
 use Rattle.statements.specs.Views.{Tree, BranchView, KeyView, OpView, Primary, Foreign, Condition}
 use Rattle.statements.specs.Views as «text»
 use Rattle.version_graph.specs.Edges.{AreEdges, edge_of, numbers}
-use Rattle.version_graph.specs.Forest.{Link, forest, link}
+use Rattle.version_graph.specs.Forest.{Link, forest}
 use Rattle.version_graph.specs.Sets.{In}
 use Rattle.version_graph.specs.declared.parts.Edge.{Edge}
 use Rattle.version_graph.specs.declared.parts.Heading.{Heading}
@@ -21,7 +21,7 @@ use Rattle.op_kinds.specs.Operators.{AnyView, Built, CreateTable, DropTable, Ren
 use Rattle.op_any.specs.NameChecks.{heading_named, is_passing, repeated, known_table, other_table, new_table, known_column, known_places, known_columns, well_divided, new_columns, same_columns, few_columns, known_ids}
 use Rattle.op_any.specs.Build.{adding_column, built, creating_table, dropping_column, dropping_table, merging_tables, planned_edge, renaming_column, renaming_table, splitting_in_one, splitting_in_two, splitting_table, with_text}
 use Rattle.op_any.specs.BuildJoins.{columns_of_both, decomposing_in_one, decomposing_table, divided, joining_tables, meeting, on_fk, on_pk, parting}
-use Rattle.op_any.specs.BuiltOn.{AreBuiltOn, IsBuiltOn}
+use Rattle.op_any.specs.BuiltOn.{AreBuiltOn}
 use Rattle.dump_file.specs.Told.{is_on_condition, remembers}
 
 -- ---- the memory of a related pair

@@ -2,38 +2,33 @@
 use Rattle.std.specs.Prelude.{◌==◌, if◌then◌else◌}
 use Rattle.std.specs.List.{find}
 use Rattle.std.specs.Option.{option_map_or}
-use Rattle.std.proofs.Common.{◌≡◌, ℕ, List, [], ◌∷◌, Bool, true, false, cond, filter, map, Option, Some, None, option_map, inl, inr, refl, sym, ap, ◌∙◌, subst}
+use Rattle.std.proofs.Common.{◌≡◌, ℕ, List, [], ◌∷◌, Bool, true, false, cond, filter, map, Option, Some, option_map, inl, inr, refl, sym, ap, ◌∙◌, subst}
 use Rattle.std.proofs.Math.Path.{fun_ext}
 use Rattle.std.proofs.lemmas.Bool.{cond-false, cond-true, eqb-true, ne_eqb}
 use Rattle.row_store.specs.Rows.{Rows}
 use Rattle.row_store.specs.States.{TableState}
 use Rattle.id_memory.specs.Pairs.{Pairs}
 use Rattle.id_memory.specs.States.{MemoryState}
-use Rattle.serde_json.specs.Data.{Data}
-use Rattle.version_graph.specs.Edges.{Drawn, is_in, made}
+use Rattle.version_graph.specs.Edges.{is_in, made}
 use Rattle.version_graph.specs.Forest.{forest}
-use Rattle.version_graph.specs.Sets.{Distinct, Each, In}
+use Rattle.version_graph.specs.Sets.{Distinct, In}
 use Rattle.version_graph.specs.Tables.{table_numbers}
-use Rattle.version_graph.specs.declared.parts.Placed.{Placed}
 use Rattle.version_graph.proofs.SetLaws.{each_at, origin}
 use Rattle.op_law.specs.Calls.{tables_of}
-use Rattle.op_law.specs.declared.side.Aux.{Aux}
 use Rattle.op_kinds.specs.Operators.{AnyView, any_meaning}
-use Rattle.version_model.specs.Kept.{Database, pairs_at, rows_at, value_of}
-use Rattle.version_model.specs.States.{State}
+use Rattle.version_model.specs.Kept.{pairs_at, rows_at, value_of}
 use Rattle.version_model.specs.declared.numbered.Numbered.{Numbered}
 use Rattle.version_model.proofs.CarryLaws.{some_is}
 use Rattle.storage_law.specs.Reading.{read_all}
-use Rattle.storage_law.specs.Storage.{Storage}
 use Rattle.db_state.specs.Fields.{IsDatabase, auxes_at, database_for, numbers_in, state_for, storage_in}
 use Rattle.db_state.specs.declared.parts.Parts.{Parts}
-use Rattle.dump_values.specs.Dumps.{Dump, dump_of}
+use Rattle.dump_values.specs.Dumps.{Dump}
 use Rattle.dump_graph.specs.Texts.{AreFromTexts}
 use Rattle.dump_graph.specs.Laws.{ToldGraphsAreOne}
 use Rattle.dump_graph.specs.Told.{graph_told}
 use Rattle.dump_file.specs.Laws.{DumpsAreOfOneDatabase}
-use Rattle.dump_file.specs.Stands.{HasNoOther, Stands}
-use Rattle.dump_file.specs.Told.{aux_line, dump_told, has_tables, is_some_table, memory_line, remembers, stored_line}
+use Rattle.dump_file.specs.Stands.{HasNoOther}
+use Rattle.dump_file.specs.Told.{aux_line, dump_told, has_tables, is_some_table, memory_line, remembers}
 use Rattle.dump_file.proofs.ListedLemmas.{numbers_once}
 
 -- ---- look-ups in the lists of a dump

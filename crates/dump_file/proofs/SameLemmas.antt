@@ -2,12 +2,10 @@
 use Rattle.std.specs.Prelude.{◌==◌, ◌↔◌}
 use Rattle.std.specs.List.{find}
 use Rattle.std.specs.Option.{option_map, option_map_or}
-use Rattle.std.proofs.Common.{◌≡◌, ℕ, List, [], ◌∷◌, Bool, true, false, cond, map, Option, Some, None, refl, sym, ap, subst, ◌∙◌}
+use Rattle.std.proofs.Common.{◌≡◌, ℕ, List, [], ◌∷◌, true, false, cond, map, Some, refl, sym, ap, subst, ◌∙◌}
 use Rattle.std.proofs.Math.Path.{fun_ext}
 use mathlib.Core.List.{reverse}
-use Rattle.row_store.specs.Rows.{Rows}
 use Rattle.row_store.specs.States.{TableState}
-use Rattle.id_memory.specs.Pairs.{Pairs}
 use Rattle.id_memory.specs.States.{MemoryState}
 use Rattle.version_graph.specs.Edges.{Drawn, IsGraph, Rises, is_in, made, numbers}
 use Rattle.version_graph.specs.Tables.{table_numbers}
@@ -17,8 +15,6 @@ use Rattle.version_graph.specs.Sets.{Each, In}
 use Rattle.version_graph.proofs.TakenLaws.{map_map}
 use Rattle.layout_rules.specs.Layouts.{IsStored, IsValid}
 use Rattle.op_law.specs.Calls.{tables_of}
-use Rattle.op_law.specs.Tables.{Tables}
-use Rattle.op_law.specs.declared.side.Aux.{Aux}
 use Rattle.op_kinds.specs.Operators.{AnyView, any_meaning}
 use Rattle.storage_law.specs.Reading.{read_all}
 use Rattle.storage_law.specs.Storage.{Stands, Storage}

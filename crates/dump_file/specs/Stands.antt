@@ -1,5 +1,5 @@
 -- When a database stands for a dump.
-use Rattle.std.specs.Prelude.{◌≡◌, ℕ, List, [], ◌∷◌, true, false, Some, Result, Ok, Err, ⊤, IsUtf8}
+use Rattle.std.specs.Prelude.{◌≡◌, ℕ, List, [], false, Some, Result, Ok, Err, ⊤, IsUtf8}
 use Rattle.par_base.specs.declared.fault.Fault.{Fault}
 use Rattle.par_base.specs.declared.fault.Fault.TheVariants.{Refused, Memory}
 use Rattle.id_memory.specs.States.{MemoryState}

@@ -3,8 +3,7 @@
 //! What its fields promise bounds all identifiers, but neither the integers in rows nor the numbers of
 //! tables: that these have 64 and 32 bits is known of their types alone, and so where each is read.
 //! The functions read them, and answer nothing.
-ghost use Rattle.std.specs.Prelude.{◌≤◌};
-ghost use Rattle.dump_values.specs.Laws.{AllFit, IntFits, NumberFits};
+ghost use Rattle.dump_values.specs.Laws.{AllFit, IntFits};
 ghost use Rattle.dump_file.specs.inner.Calls.{AuxHolds, HasWords, IntHolds, RowsHold, StoredHolds, TablesHold};
 
 use db_state::Db;

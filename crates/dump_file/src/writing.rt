@@ -1,12 +1,12 @@
 //! The lists of a dump, written from the fields of a database.
-ghost use Rattle.std.specs.Prelude.{◌≡◌, ◌++◌, filter, map, option_map, option_to_list, IfOk, OnOk};
+ghost use Rattle.std.specs.Prelude.{◌≡◌, ◌++◌, map, option_map, option_to_list, IfOk, OnOk};
 ghost use Rattle.std.specs.Option.{option_copied};
 ghost use mathlib.Core.List.{reverse};
 ghost use Rattle.serde_json.specs.View.{view};
 ghost use Rattle.statements.specs.Views.{key_view, op_view};
 ghost use Rattle.dump_values.specs.Lines.{aux_json, memory_json, operator_json, stored_json, version_json};
 ghost use Rattle.dump_values.specs.Members.{list_json};
-ghost use Rattle.dump_file.specs.Told.{aux_line, auxes_told, is_by_condition as is_by_condition_lem, is_on_condition as is_on_condition_lem, memories_told, remembers as remembers_lem, stored_line};
+ghost use Rattle.dump_file.specs.Told.{auxes_told, is_by_condition as is_by_condition_lem, is_on_condition as is_on_condition_lem, memories_told, remembers as remembers_lem, stored_line};
 ghost use Rattle.dump_graph.specs.Graphs.{AreNames};
 ghost use Rattle.dump_graph.specs.Told.{operator_line, version_line};
 ghost use Rattle.dump_file.specs.inner.Calls.{aux_told, memory_told};

@@ -14,9 +14,9 @@ use version_graph::Graph;
 
 /// The graph of which the lines tell, while `next` is the next identifier, or a refusal where they
 /// tell of none. Nothing is left of what was built before a refusal or want of memory. It takes time
-/// in the length of the texts; in the number of tables, for each table of the working set of each
-/// operator; in the number of operators, for each version; and in the square of the number of
-/// operators.
+/// in the length of the texts; in the logarithm of the number of operators, for each table of the
+/// working set of each operator; in the number of operators, for each version; and in the square of
+/// the number of operators.
 pub fn build_graph(
     alloc: Global,
     lines: &GraphLines,

@@ -74,8 +74,8 @@ fn place_line(
     }
 }
 
-/// Places the operators of lines, in their order. It takes time in the number of tables for each
-/// table of a working set, and in the length of the texts.
+/// Places the operators of lines, in their order. It takes time in the logarithm of the number of
+/// operators, for each line and each table of its working set, and in the length of the texts.
 #[tactic(auto, using(crate::proofs::PlacingLemmas::placed_so_far, crate::proofs::PlacingLemmas::left_behind, crate::proofs::PlacingLemmas::none_left))]
 pub fn place_lines(
     alloc: Global,

@@ -13,7 +13,7 @@ use std::alloc::Global;
 fn read_values(alloc: Global, items: &[Json]) -> Result<Option<Row>, Memory>
     ensures { IfOk result (λ row. row ≡ list_of value_of (items_view items.now)) }
 {
-    let mut row = List::new(alloc);
+    let mut row = List::with_room(alloc, items.len())?;
     for item in items {
         let Some(value) = read_value(alloc, item)? else {
             return Ok(None);

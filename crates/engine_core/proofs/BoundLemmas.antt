@@ -3,8 +3,7 @@ use Rattle.std.proofs.Common.{◌≡◌, ℕ, ◌+◌, ◌*◌, ◌≤◌, lengt
 use Rattle.par_base.specs.Checked.{Checked}
 use Rattle.par_base.specs.declared.fault.Fault.{Fault}
 use Rattle.par_base.specs.declared.refusal.Refusal.{Refusal}
-use Rattle.row_store.specs.declared.change.Change.{Change}
-use Rattle.statements.specs.Views.{StatementView, CreateVersion, DropVersion, Insert, Update, Delete, Select, Materialize, ShowLayout}
+use Rattle.statements.specs.Views.{StatementView, Insert}
 use Rattle.version_graph.specs.Forest.{forest, walk}
 use Rattle.op_kinds.specs.Operators.{AnyView, any_meaning}
 use Rattle.db_state.specs.declared.parts.Parts.{Parts}

@@ -9,11 +9,11 @@ use Rattle.par_base.specs.declared.refusal.Refusal.{Refusal}
 use Rattle.row_store.specs.Rows.{Rows}
 use Rattle.statements.specs.Views.{Tree, OpView, StatementView, CreateVersion, DropVersion, Insert, Import, Update, Delete, Select, Materialize, Step, ShowLayout, Use, Session, Advise}
 use Rattle.statements.specs.declared.statement.TableName.{TableName}
-use Rattle.version_graph.specs.Sets.{In, Each}
+use Rattle.version_graph.specs.Sets.{In}
 use Rattle.version_graph.specs.Edges.{AreEdges, Drawn}
 use Rattle.version_graph.proofs.SetLaws.{each_at, each_of, in_left, in_right}
 use Rattle.layout_rules.specs.Closed.{closing}
-use Rattle.par_base.specs.Checked.{Checked, ◌then◌}
+use Rattle.par_base.specs.Checked.{◌then◌}
 use Rattle.op_kinds.specs.Operators.{AnyView, any_laws, any_meaning}
 use Rattle.op_any.specs.BuiltOn.{AreBuiltOn}
 use Rattle.version_model.specs.Sound.{IsSound}

@@ -1,10 +1,8 @@
 -- Each reply and each refusal ends in a line feed.
 use Rattle.std.specs.Prelude.{codes, decimal}
-use Rattle.std.proofs.Common.{◌≡◌, ℕ, List, [], ◌∷◌, ◌++◌, flat_map, length, refl, sym}
+use Rattle.std.proofs.Common.{ℕ, List, [], ◌∷◌, ◌++◌, flat_map, length, refl, sym}
 use Rattle.std.proofs.lemmas.List.{append_assoc}
-use Rattle.par_base.specs.declared.refusal.Refusal.{Refusal}
 use Rattle.par_base.specs.declared.refusal.Refusal.TheVariants.{NotBuilt, UnknownVersion, VersionExists, UnknownTable, TableExists, UnknownColumn, ColumnExists, WrongCount, UnknownId, IdsSpent, BadPartition, InvalidLayout, NoVersionInUse, TooManyOperators, TooManyColumns, ColumnsDiffer, SameTable, NothingPending}
-use Rattle.engine_state.specs.declared.reply.Reply.{Reply}
 use Rattle.engine_state.specs.declared.reply.Reply.TheVariants.{Done, Inserted, Updated, Deleted, Rows, Moved, Layout}
 use Rattle.engine_core.specs.Laws.{EndsLine, RefusalsAreLines, RepliesAreLines}
 use Rattle.engine_core.specs.Texts.{header_text, line, operator_text, refusal_bytes, reply_bytes, row_text, table_text}

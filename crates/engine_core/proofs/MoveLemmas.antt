@@ -3,16 +3,13 @@ use Rattle.std.specs.Prelude.{Ok, Err}
 use Rattle.std.proofs.Common.{◌≡◌, ℕ, List, [], ◌∷◌, refl, sym, ap, ◌∙◌, subst}
 use Rattle.par_base.specs.declared.limits.Target.{Target}
 use Rattle.version_graph.specs.Sets.{Each}
-use Rattle.version_graph.specs.Edges.{AreEdges}
 use Rattle.par_base.specs.Checked.{Checked, ◌then◌}
 use Rattle.op_kinds.specs.Operators.{AnyView, any_meaning}
 use Rattle.layout_rules.specs.Closed.{IsClosing, closing}
 use Rattle.layout_rules.specs.Closing.{StoresTarget}
 use Rattle.layout_rules.specs.Laws.{ClosingIsRight}
-use Rattle.db_state.specs.Fields.{IsDatabase, database_for}
+use Rattle.db_state.specs.Fields.{database_for}
 use Rattle.db_state.specs.Laws.{StoredOnce}
-use Rattle.db_state.specs.declared.parts.Parts.{Parts}
-use Rattle.engine_state.specs.AnyDatabase.{AnyDatabase}
 use Rattle.engine_layouts.specs.Laid.{Laid, laid_of, materialized, moved_count}
 use Rattle.engine_core.specs.Laws.{MovesRestore, MovesStoreTargets, laid_after, moved_by}
 

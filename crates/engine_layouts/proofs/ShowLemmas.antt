@@ -1,5 +1,5 @@
 -- What is shown of what is kept is what is shown of the state.
-use Rattle.std.specs.Prelude.{◌<◌, ◌↔◌, Option, Some, None, option_map, option_to_list, slice_get}
+use Rattle.std.specs.Prelude.{◌<◌, Option, Some, None, option_map, option_to_list, slice_get}
 use Rattle.std.specs.List.{find}
 use Rattle.std.specs.Option.{IsSome, option_map_or}
 use Rattle.std.proofs.Common.{◌≡◌, ℕ, ◌+◌, ◌==◌, List, [], ◌∷◌, ◌++◌, filter, get_or, length, map, take, inl, inr, refl, sym, ap, ◌∙◌, subst, arith}

@@ -1,5 +1,5 @@
 //! SHOW LAYOUT.
-ghost use Rattle.std.specs.Prelude.{◌≡◌, ◌+◌, ◌++◌, ◌≤◌, map, length, slice_get, option_to_list, option_map, IfOk, OnOk};
+ghost use Rattle.std.specs.Prelude.{◌≡◌, ◌+◌, ◌++◌, map, option_to_list, option_map, IfOk, OnOk};
 ghost use Rattle.std.specs.Option.{option_copied, IsSome};
 ghost use mathlib.Core.List.{reverse};
 ghost use Rattle.version_graph.specs.Edges.{heading_of};
@@ -125,8 +125,8 @@ fn show_operators(
     Ok(made)
 }
 
-/// The stored tables, and the operators with what is stored of each. It takes time in the number of
-/// live tables, for each stored table, and of live operators, for each operator.
+/// The stored tables, and the operators with what is stored of each. It takes time in the logarithm
+/// of the number of live operators, for each stored table, and in that number, for each operator.
 pub fn show_layout(alloc: Global, database: &Db<AnyOp>) -> Result<Reply, Memory>
     ensures { IfOk result (λ reply. reply ≡ Reply.Layout
         (shown_tables (laid_of database.now)) (shown_operators (laid_of database.now))) }

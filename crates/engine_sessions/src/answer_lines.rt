@@ -1,5 +1,5 @@
 //! The lines of an answer.
-ghost use Rattle.std.specs.Prelude.{◌≡◌, ◌++◌, codes, decimal, flat_map, length, string_bytes, IfOk, OnOk};
+ghost use Rattle.std.specs.Prelude.{◌≡◌, ◌++◌, string_bytes, IfOk, OnOk};
 ghost use Rattle.engine_core.specs.Texts.{line};
 ghost use Rattle.engine_state.specs.Replies.{HasWidth};
 ghost use Rattle.engine_sessions.specs.Calls.{IsAnswer};

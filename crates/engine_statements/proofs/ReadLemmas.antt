@@ -1,7 +1,7 @@
 -- Rows that are read alone.
 use Rattle.std.specs.Option.{option_and_then, option_map_or}
 use Rattle.std.specs.Prelude.{IfOk, Result}
-use Rattle.std.proofs.Common.{◌≡◌, ℕ, ◌==◌, List, [], ◌∷◌, Bool, true, false, cond, length, Option, Some, None, Ok, Err, refl, sym, ◌∙◌, ap, subst}
+use Rattle.std.proofs.Common.{◌≡◌, ℕ, ◌==◌, List, [], ◌∷◌, Bool, true, false, cond, length, Option, Some, None, Ok, Err, sym, ap, subst}
 use Rattle.par_base.specs.declared.value.Value.{Value}
 use Rattle.expr_lang.specs.Terms.{Term}
 use Rattle.row_store.specs.Rows.{Rows, RiseFrom, row_of}

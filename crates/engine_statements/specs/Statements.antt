@@ -1,5 +1,5 @@
 -- INSERT, UPDATE, DELETE and SELECT: the checks in their order, and what each makes of its version's table.
-use Rattle.std.specs.Prelude.{ℕ, ◌+◌, ◌==◌, List, [], ◌∷◌, ◌++◌, map, length, Option, Some, None, Ok, Err, false, if◌then◌else◌}
+use Rattle.std.specs.Prelude.{ℕ, ◌+◌, ◌==◌, List, [], ◌∷◌, ◌++◌, map, length, Option, Some, None, Ok, Err, if◌then◌else◌}
 use Rattle.par_base.specs.declared.value.Value.{Value}
 use Rattle.par_base.specs.declared.refusal.Refusal.TheVariants.{WrongCount}
 use Rattle.expr_lang.specs.Resolved.{place_of}

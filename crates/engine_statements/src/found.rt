@@ -71,7 +71,8 @@ fn table_in<'a>(database: &'a Db<AnyOp>, set: u32, name: &Name) -> Option<FoundT
 }
 
 /// The table that a statement names, or the refusal. It reads no row, and takes one comparison for
-/// each version, and time in the number of live tables for each table of the version.
+/// each version, and time in the logarithm of the number of live operators for each table of the
+/// version.
 pub fn find_table<'a>(
     alloc: Global,
     database: &'a Db<AnyOp>,

@@ -43,8 +43,8 @@ fn drawn(alloc: Global, next: u64, rows: &[Row]) -> Result<List<u64>, Memory>
 
 /// What an INSERT makes of its table, or the first of its checks that refuses it.
 ///
-/// It takes time in the number of values of the new rows, and in that of live tables for each table
-/// of the version; it reads no row of the table.
+/// It takes time in the number of values of the new rows, and in the logarithm of the number of live
+/// operators for each table of the version; it reads no row of the table.
 pub fn plan_insert(
     alloc: Global,
     database: &Db<AnyOp>,

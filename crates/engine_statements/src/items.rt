@@ -1,5 +1,5 @@
 //! What a SELECT lists: places among the names that rows show, and the header over them.
-ghost use Rattle.std.specs.Prelude.{◌≡◌, List, ℕ, IfOk, length};
+ghost use Rattle.std.specs.Prelude.{◌≡◌, List, ℕ, IfOk};
 ghost use Rattle.par_base.specs.Checked.{Gives};
 ghost use Rattle.engine_statements.specs.Found.{shown_names};
 ghost use Rattle.engine_statements.specs.Statements.{known_items, places_from, listed_places, listed_names};

@@ -1,6 +1,5 @@
 //! What the operators of an evolution build, one after the other.
-ghost use Rattle.std.specs.Prelude.{◌≡◌, ◌+◌, ◌<◌, ◌≤◌, ◌^◌, ◌++◌, map, length, IfOk, OnOk};
-ghost use Rattle.std.specs.List.{list_any};
+ghost use Rattle.std.specs.Prelude.{◌≡◌, ◌+◌, ◌<◌, ◌++◌, map, length, IfOk, OnOk};
 ghost use Rattle.std.specs.Str.{bytes_eq};
 ghost use Rattle.statements.specs.Views.{op_view};
 ghost use Rattle.version_graph.specs.Tables.{headings_after, headings_of, headings_passing, is_among as is_among_lem};

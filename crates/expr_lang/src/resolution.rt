@@ -1,7 +1,7 @@
 //! From names to places, and the references of a text.
 ghost use Rattle.std.specs.Prelude.{◌≡◌};
 ghost use Rattle.expr_lang.specs.Terms.{text_term};
-ghost use Rattle.expr_lang.specs.Resolved.{Resolves, place_of, first_unknown_id, resolved, is_unknown};
+ghost use Rattle.expr_lang.specs.Resolved.{Resolves, place_of, first_unknown_id, resolved};
 
 use crate::{Expr, ExprText};
 use par_base::{Fault, Name, Value};

@@ -11,7 +11,7 @@ use Rattle.layout_rules.specs.Layouts.{IsCreate, IsValid, Lives, Share}
 use Rattle.layout_rules.specs.Changes.{is_empty}
 use Rattle.layout_rules.specs.Closing.{HasNeeded, IsClosed, IsIn, IsNeeded, NoneIsShared}
 use Rattle.layout_rules.specs.Passes.{meet, needed}
-use Rattle.layout_rules.proofs.LinkLaws.{in_or_out, number_listed, source_made, target_link, target_listed}
+use Rattle.layout_rules.proofs.LinkLaws.{in_or_out, number_listed, source_made, target_link}
 use Rattle.layout_rules.proofs.TreeLemmas.{source_tree}
 
 -- ---- tests

@@ -1,5 +1,5 @@
 -- The layout that closing gives, or its refusal, as a pass finds them.
-use Rattle.std.specs.Prelude.{◌≡◌, ℕ, not, List, filter, Option, Some, None, option_map, option_and_then, Result, Ok, Err}
+use Rattle.std.specs.Prelude.{ℕ, not, List, filter, Option, Some, None, option_map, option_and_then, Result, Ok, Err}
 use Rattle.std.specs.List.{find}
 use Rattle.par_base.specs.declared.fault.Fault.{Fault}
 use Rattle.par_base.specs.declared.fault.Fault.TheVariants.{Refused}

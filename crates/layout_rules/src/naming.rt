@@ -1,5 +1,5 @@
 //! The tables and the trees that targets name.
-ghost use Rattle.std.specs.Prelude.{◌≡◌, ◌++◌, ℕ, None, string_bytes, option_map, IfOk, OnOk};
+ghost use Rattle.std.specs.Prelude.{◌≡◌, ◌++◌, None, string_bytes, option_map, IfOk, OnOk};
 ghost use Rattle.layout_rules.specs.Closing.{chosen, table_text, tables_of as tables_of_lem, target_text as target_text_lem};
 ghost use Rattle.layout_rules.specs.Calls.{AddsTables, TellsTarget};
 

@@ -1,5 +1,5 @@
 //! Which operators of named trees are needed, and which stay in the layout.
-ghost use Rattle.std.specs.Prelude.{◌≡◌, ◌++◌, ◌∷◌, [], filter, option_to_list, slice_get, IfOk, OnOk};
+ghost use Rattle.std.specs.Prelude.{◌≡◌, ◌++◌, filter, option_to_list, slice_get, IfOk, OnOk};
 ghost use mathlib.Core.List.{reverse};
 ghost use Rattle.std.specs.Option.{option_copied};
 ghost use Rattle.version_graph.specs.Edges.{AreEdges};

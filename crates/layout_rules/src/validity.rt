@@ -5,7 +5,7 @@ ghost use Rattle.std.specs.List.{list_all};
 ghost use Rattle.version_graph.specs.Edges.{AreEdges, edge_of};
 ghost use Rattle.version_graph.specs.Forest.{forest};
 ghost use Rattle.layout_rules.specs.Layouts.{IsValid};
-ghost use Rattle.layout_rules.specs.Lookups.{clash as clash_lem, clashes as clashes_lem, has_makers as has_makers_lem, is_valid as is_valid_lem, may_miss as may_miss_lem, may_stand as may_stand_lem, numbers_up, sources_or_none};
+ghost use Rattle.layout_rules.specs.Lookups.{clash as clash_lem, clashes as clashes_lem, has_makers as has_makers_lem, is_valid as is_valid_lem, may_miss as may_miss_lem, may_stand as may_stand_lem, numbers_up};
 ghost use Rattle.layout_rules.specs.Passes.{meet as meet_lem};
 
 use crate::Layout;

@@ -1,7 +1,7 @@
 //! Cases: a related pair of an operator, and what each of its eight calls gives there.
 ghost use Rattle.std.specs.Prelude.{◌≡◌, []};
-ghost use Rattle.op_law.specs.Meaning.{flip, exchanged};
-ghost use Rattle.op_law.specs.Calls.{seen, tables_of};
+ghost use Rattle.op_law.specs.Meaning.{exchanged};
+ghost use Rattle.op_law.specs.Calls.{seen};
 ghost use Rattle.operator_tests.specs.Worked.{IsBuiltFor, IsWorked};
 
 use crate::bench::Bench;

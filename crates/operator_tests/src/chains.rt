@@ -2,7 +2,6 @@
 //! the single operators, with the middle side between them.
 ghost use Rattle.std.specs.Prelude.{◌≡◌, IfOk};
 ghost use Rattle.op_law.specs.Calls.{seen};
-ghost use Rattle.op_law.specs.Meaning.{flip, exchanged};
 ghost use Rattle.operator_tests.specs.WorkedChain.{IsBuiltChain, IsWorkedChain};
 
 use crate::cases::LIMIT;

@@ -1,9 +1,8 @@
 //! Changes of one side of a split, and what they change on its other side.
 ghost use Rattle.std.specs.Prelude.{◌≡◌, [], IfOk};
 ghost use Rattle.op_law.specs.Calls.{seen};
-ghost use Rattle.op_law.specs.Tables.{contents};
 ghost use Rattle.row_changes.specs.Differences.{AreDifferences};
-ghost use Rattle.operator_tests.specs.Worked.{AreTables, IsBuiltFor, IsWorked};
+ghost use Rattle.operator_tests.specs.Worked.{IsBuiltFor, IsWorked};
 
 use crate::bench::Bench;
 use crate::cases::LIMIT;

@@ -1,18 +1,17 @@
 -- The row of the identifier that a condition pins is all that may meet it.
 use Rattle.std.specs.Prelude.{◌&&◌, ◌<◌}
 use Rattle.std.specs.List.{filter}
-use Rattle.std.specs.Option.{option_map_or}
-use Rattle.std.proofs.Common.{◌≡◌, ◌∙◌, ℕ, zero, suc, ◌+◌, ◌≤◌, ◌==◌, List, [], ◌∷◌, Bool, true, false, if◌then◌else◌, cond, Option, Some, None, refl, ap, sym, subst, arith}
+use Rattle.std.proofs.Common.{◌≡◌, ◌∙◌, ℕ, zero, ◌+◌, ◌==◌, List, [], ◌∷◌, Bool, true, false, Option, Some, None, refl, ap, sym, arith}
 use Rattle.std.proofs.lemmas.Bool.Decides.{nat_tests}
-use Rattle.std.proofs.lemmas.Bool.{and_parts, false≢true}
+use Rattle.std.proofs.lemmas.Bool.{and_parts}
 use Rattle.par_base.specs.declared.value.Value.{Value}
-use Rattle.par_base.specs.declared.value.Value.TheVariants.{Null, Int, Text, Reference}
-use Rattle.expr_lang.specs.declared.tree.BinaryOp.TheVariants.{Or, And, Equal, NotEqual, Less, LessOrEqual, Greater, GreaterOrEqual, Add, Subtract, Concat, Multiply, Divide, Remainder}
+use Rattle.par_base.specs.declared.value.Value.TheVariants.{Reference}
+use Rattle.expr_lang.specs.declared.tree.BinaryOp.TheVariants.{And, Equal}
 use Rattle.expr_lang.specs.Operations.{is_true, truth}
-use Rattle.expr_lang.specs.Terms.{Term, Literal, Column, Unary, Binary}
+use Rattle.expr_lang.specs.Terms.{Term, Literal, Column, Binary}
 use Rattle.expr_lang.specs.Val.{holds_at, val}
-use Rattle.row_store.specs.Rows.{Rows, RiseFrom, row_of}
-use Rattle.ordinary_table.specs.Shown.{HasChosen, chosen, meets, row_alone, shown}
+use Rattle.row_store.specs.Rows.{Rows, RiseFrom}
+use Rattle.ordinary_table.specs.Shown.{meets, row_alone, shown}
 use Rattle.ordinary_table.specs.Pinned.{PinnedStandAlone, compared_id, first_of, pinned}
 
 truth_of : (b : Bool) → is_true (truth b) ≡ true → b ≡ true

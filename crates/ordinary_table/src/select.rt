@@ -1,5 +1,5 @@
 //! SELECT.
-ghost use Rattle.std.specs.Prelude.{◌≡◌, ◌+◌, ◌≤◌, IfOk, true, length, slice_get, unwrap_or};
+ghost use Rattle.std.specs.Prelude.{◌≡◌, ◌+◌, ◌≤◌, IfOk, length, slice_get, unwrap_or};
 ghost use Rattle.std.specs.List.{All};
 ghost use Rattle.par_base.specs.declared.value.Value.TheVariants.{Null};
 ghost use Rattle.ordinary_table.specs.Shown.{shown, condition_of};
@@ -30,7 +30,7 @@ fn listed_row(alloc: Global, row: &(u64, Row), places: &[usize]) -> Result<Row, 
     requires { All (λ place. place ≤ length row.now.1) places.now }
     ensures { IfOk result (λ made. made ≡ listed places.now row.now) }
 {
-    let mut made = List::new(alloc);
+    let mut made = List::with_room(alloc, places.len())?;
     for place in places {
         made.push(value_at(alloc, row, *place)?)?;
     }

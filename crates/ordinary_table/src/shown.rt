@@ -1,20 +1,31 @@
 //! Rows as expressions see them, and conditions on them.
-ghost use Rattle.std.specs.Prelude.{◌≡◌, ◌+◌, ◌≤◌, IfOk, true, length};
+ghost use Rattle.std.specs.Prelude.{◌≡◌, ◌+◌, ◌≤◌, ◌++◌, IfOk, OnOk, true, length};
 ghost use Rattle.ordinary_table.specs.Shown.{shown, condition_of, allows, meets};
 ghost use Rattle.ordinary_table.specs.Fits.{condition_fits};
 
 use expr_lang::{Expr, Steps, holds};
-use par_base::{Memory, Row, Value};
+use par_base::{List, Memory, Row, Value, add_counts};
 use std::alloc::Global;
 use std::sync::ledger::Ledger;
+
+fn push_copies(alloc: Global, made: &mut Row, values: &[Value]) -> Result<(), Memory>
+    ensures { OnOk result (made.new ≡ made.old ++ values.now) }
+{
+    for value in values {
+        made.push(value.copy(alloc)?)?;
+    }
+    Ok(())
+}
 
 /// The reference to the row's own identifier, and then its values.
 pub(crate) fn shown_row(alloc: Global, row: &(u64, Row)) -> Result<Row, Memory>
     ensures { IfOk result (λ made. made ≡ shown row.now) }
 {
     let (id, values) = row;
-    let mut made = values.copy(alloc)?;
-    made.insert(0, Value::Reference(*id))?;
+    let count = add_counts(values.len() as u64, 1)?;
+    let mut made = List::with_room(alloc, count as usize)?;
+    made.push(Value::Reference(*id))?;
+    push_copies(alloc, &mut made, values.as_slice())?;
     Ok(made)
 }
 

@@ -2,7 +2,7 @@
 //!
 //! What a source has left, what a sink holds and what a file holds is told by an implementation
 //! that knows it, and is `None` where it doesn't. A count of faults says when a call failed.
-ghost use Rattle.std.specs.Prelude.{◌≡◌, ◌≢◌, ◌<◌, ◌≤◌, ℕ, List, length, take, IfOk, OnOk, Option};
+ghost use Rattle.std.specs.Prelude.{◌≡◌, ◌≢◌, ◌<◌, ℕ, List, length, take, IfOk, OnOk, Option};
 ghost use Rattle.std.specs.Io.{ReadsAtMost, WritesAtMost};
 ghost use Rattle.std.specs.Io.KnownBytes.{ReadConsumes, WriteAppends};
 ghost use Rattle.outside.specs.Causes.{HasCause, HasCauseIf};

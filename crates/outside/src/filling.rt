@@ -1,5 +1,5 @@
 //! Filling a buffer from bytes in memory.
-ghost use Rattle.std.specs.Prelude.{◌≡◌, ◌<◌, ◌≤◌, [], drop, length, take, Some};
+ghost use Rattle.std.specs.Prelude.{◌≡◌, ◌<◌, ◌≤◌, [], length, take, Some};
 ghost use Rattle.outside.specs.FileTold.{ReadsFile};
 
 /// Copies first bytes to the front of the buffer, at most `most` of them, and answers how many.

@@ -1,5 +1,5 @@
 //! Files in memory.
-ghost use Rattle.std.specs.Prelude.{◌≡◌, ◌≢◌, ◌<◌, ◌≤◌, ◌∷◌, [], ℕ, List, None, Some, OnOk, OnErr, MatchOption};
+ghost use Rattle.std.specs.Prelude.{◌≡◌, ◌<◌, ◌∷◌, [], None, Some, OnOk, OnErr, MatchOption};
 ghost use Rattle.outside.specs.InMemory.{bytes_in};
 
 use crate::failures::Failures;

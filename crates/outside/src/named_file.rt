@@ -1,5 +1,5 @@
 //! Files in memory, found by their names.
-ghost use Rattle.std.specs.Prelude.{◌≡◌, ◌≢◌, ◌<◌, ◌≤◌, ℕ, List, None, Some, true, false, IfOk, IfSome, MatchOption, OnOk, OnErr, position, is_some, length, vec_capacity};
+ghost use Rattle.std.specs.Prelude.{◌≡◌, ◌≢◌, ◌<◌, ◌≤◌, ℕ, List, None, Some, true, false, IfOk, IfSome, MatchOption, position, is_some, length, vec_capacity};
 ghost use Rattle.std.specs.Str.{bytes_eq};
 ghost use Rattle.outside.specs.InMemory.{bytes_in};
 

@@ -1,5 +1,5 @@
 //! A `Vec` that contracts see as the list of its items.
-ghost use Rattle.std.specs.Prelude.{◌≡◌, [], ◌∷◌, ◌++◌, ◌<◌, ◌≤◌, ◌==◌, length, take, slice_get, insert, remove, MatchOption, OnOk, OnErr, OnSome};
+ghost use Rattle.std.specs.Prelude.{◌≡◌, [], ◌∷◌, ◌++◌, ◌<◌, ◌≤◌, ◌==◌, length, take, slice_get, insert, remove, MatchOption, IfOk, OnOk, OnErr, OnSome};
 ghost use Rattle.std.specs.Option.{option_copied, option_copied_mut};
 ghost use Rattle.std.specs.Borrow.{sem};
 
@@ -34,6 +34,14 @@ impl<T> List<T> {
         List {
             items: Vec::new(alloc),
         }
+    }
+
+    /// The empty list, with memory taken at once for so many items.
+    pub fn with_room(alloc: Global, items: usize) -> Result<List<T>, Memory>
+        ensures { IfOk result (λ made. made ≡ []) }
+    {
+        let items = Vec::with_capacity(alloc, items)?;
+        Ok(List { items })
     }
 
     /// How many items there are.

@@ -43,7 +43,7 @@ impl List<Value> {
 fn copy_values(alloc: Global, values: &[Value]) -> Result<Row, Memory>
     ensures { IfOk result (λ made. made ≡ values.now) }
 {
-    let mut made = List::new(alloc);
+    let mut made = List::with_room(alloc, values.len())?;
     for value in values {
         made.push(value.copy(alloc)?)?;
     }

@@ -2,7 +2,7 @@
 //!
 //! A page of 65 rows is parted. One of 31 takes a row from the page beside it, or is joined with it
 //! where both fit into one.
-ghost use Rattle.std.specs.Prelude.{◌≡◌, ◌+◌, ◌<◌, ◌≤◌, length, vec_len, vec_capacity, slice_index_or, nat_lt, if◌then◌else◌};
+ghost use Rattle.std.specs.Prelude.{◌≡◌, ◌+◌, ◌<◌, ◌≤◌, length, vec_len, vec_capacity, nat_lt, if◌then◌else◌};
 ghost use Rattle.row_store.specs.inner.Pages.{all_rows, AreSized, AreSizedBut, ArePair, HasRows, IsPage};
 ghost use Rattle.row_store.specs.Rows.{Rows};
 

@@ -1,10 +1,10 @@
 //! Rows of a table exchanged in place with the new rows of changes.
 //!
 //! A pass takes all changes, those that add a row, or the others. It moves rows and copies none.
-ghost use Rattle.std.specs.Prelude.{◌≡◌, ◌+◌, ◌<◌, ◌≤◌, length, vec_len, vec_capacity, Some, None};
-ghost use Rattle.row_store.specs.Rows.{RiseFrom, row_of, place_in, StandsAt};
+ghost use Rattle.std.specs.Prelude.{◌≡◌, ◌+◌, ◌≤◌, length};
+ghost use Rattle.row_store.specs.Rows.{RiseFrom};
 ghost use Rattle.row_store.specs.Changes.{ChangesRise};
-ghost use Rattle.row_store.specs.inner.Passes.{is_in, exchanged, exchanged_one, HasRoom, FindsRoom, PutsAt, ExchangesRow, ExchangesRows};
+ghost use Rattle.row_store.specs.inner.Passes.{is_in, exchanged, exchanged_one, HasRoom, FindsRoom, ExchangesRow, ExchangesRows};
 
 use crate::Change;
 use crate::pages::Pages;

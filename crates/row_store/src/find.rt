@@ -1,5 +1,5 @@
 //! A look-up that counts its comparisons of identifiers.
-ghost use Rattle.std.specs.Prelude.{◌≡◌, ◌+◌, ◌<◌, ◌≤◌, length};
+ghost use Rattle.std.specs.Prelude.{◌≡◌, ◌+◌, ◌<◌, length};
 ghost use Rattle.std.specs.Option.{option_map};
 ghost use Rattle.row_store.specs.Rows.{RiseFrom, row_of};
 ghost use Rattle.row_store.specs.inner.Pages.{all_rows, AreSized, IsPageOf, Halves};

@@ -1,5 +1,5 @@
 //! A page: some rows of a table, with room for one more than a page may keep.
-ghost use Rattle.std.specs.Prelude.{◌≡◌, ◌+◌, ◌<◌, ◌≤◌, [], ◌∷◌, ◌++◌, length, take, drop, slice_index_or, slice_set, vec_capacity, IfOk};
+ghost use Rattle.std.specs.Prelude.{◌≡◌, ◌+◌, ◌<◌, ◌≤◌, [], ◌++◌, length, take, drop, slice_index_or, slice_set, vec_capacity, IfOk};
 ghost use Rattle.std.specs.List.{insert, remove};
 
 use par_base::{Memory, Row};

@@ -3,9 +3,9 @@
 //! No page is empty, none has more than 64 rows, and one that isn't the only one has at least 32.
 //! So the number of rows bounds the pages that it can need, and there are always as many, used or
 //! spare.
-ghost use Rattle.std.specs.Prelude.{◌≡◌, ◌+◌, ◌*◌, ◌^◌, ◌<◌, ◌≤◌, true, if◌then◌else◌, [], ◌∷◌, ◌++◌, length, take, drop, slice_index_or, IfOk, OnOk, OnErr, IsSome, Option, None, vec_len, vec_capacity};
+ghost use Rattle.std.specs.Prelude.{◌≡◌, ◌+◌, ◌*◌, ◌^◌, ◌<◌, ◌≤◌, true, if◌then◌else◌, [], length, IfOk, OnOk, OnErr, IsSome, Option, None, vec_len, vec_capacity};
 ghost use Rattle.std.specs.Option.{option_map};
-ghost use Rattle.row_store.specs.Rows.{RiseFrom, AreBelow, row_of};
+ghost use Rattle.row_store.specs.Rows.{RiseFrom, row_of};
 ghost use Rattle.row_store.specs.inner.Passes.{PutsAt};
 ghost use Rattle.row_store.specs.inner.Pages.{all_rows, AreSized, IsPageOf, count_of};
 ghost use Rattle.row_store.specs.LookUps.{WithinDigits};

@@ -4,7 +4,7 @@ use Rattle.std.proofs.Common.{◌≡◌, if◌then◌else◌, ℕ, ◌==◌, Lis
 use Rattle.std.proofs.lemmas.Bool.{eq-eqb, eqb-true}
 use Rattle.std.proofs.lemmas.List.{set-get_or}
 use Rattle.version_graph.specs.Sets.{Distinct, In}
-use Rattle.row_changes.proofs.OnlyLaws.{by_test}
+use Rattle.op_law.proofs.OnlyLaws.{by_test}
 use Rattle.version_model.specs.Kept.{renewed, value_of}
 use Rattle.version_model.specs.declared.numbered.Numbered.{Numbered}
 use Rattle.version_model.proofs.NumberedLaws.{replaced}

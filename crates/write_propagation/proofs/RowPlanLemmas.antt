@@ -29,7 +29,7 @@ use Rattle.row_changes.specs.Touched.{AllPass}
 use Rattle.row_changes.specs.declared.change.SideChanges.{SideChanges}
 use Rattle.row_changes.proofs.ChangedLaws.{other_changed}
 use Rattle.row_changes.proofs.DifferenceLaws.{difference_of_part, differences_of_part, differences_fit, differences_make}
-use Rattle.row_changes.proofs.OnlyLaws.{not_true}
+use Rattle.op_law.proofs.OnlyLaws.{not_true}
 use Rattle.version_model.specs.Kept.{rows_at}
 use Rattle.version_model.specs.Sound.{IsSound}
 use Rattle.version_model.specs.States.{State, headings}

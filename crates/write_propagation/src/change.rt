@@ -1,5 +1,4 @@
 //! What a write puts into a database, and how it is taken back.
-ghost use Rattle.std.specs.Prelude.{◌≡◌};
 ghost use Rattle.db_state.specs.Fields.{IsDatabase};
 ghost use Rattle.db_state.specs.declared.parts.Parts.{Parts as Fields};
 ghost use Rattle.write_propagation.specs.Plans.{IsSame, Puts, PutsRows, PutsWhole};

@@ -1,6 +1,5 @@
 //! The changes between tables before a write and after it.
-ghost use Rattle.std.specs.Prelude.{◌≡◌, ℕ, length, IfOk};
-ghost use Rattle.version_graph.specs.Sets.{In};
+ghost use Rattle.std.specs.Prelude.{◌≡◌, length, IfOk};
 ghost use Rattle.op_law.specs.Calls.{tables_of};
 ghost use Rattle.op_law.specs.Local.{only};
 ghost use Rattle.row_changes.specs.Differences.{AreDifferences, IsDifference};

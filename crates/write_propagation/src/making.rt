@@ -1,5 +1,5 @@
 //! What a write makes of what is seen of its tree.
-ghost use Rattle.std.specs.Prelude.{◌≡◌, length, map, IfOk};
+ghost use Rattle.std.specs.Prelude.{◌≡◌, length, IfOk};
 ghost use Rattle.row_store.specs.Changes.{AreOld};
 ghost use Rattle.version_graph.specs.Sets.{Each};
 ghost use Rattle.row_changes.specs.Changed.{changed};

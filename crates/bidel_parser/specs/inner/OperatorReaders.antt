@@ -12,7 +12,7 @@ use Rattle.bidel_parser.specs.declared.first_words.KeyWord.{KeyWord}
 use Rattle.bidel_parser.specs.declared.first_words.KeyWord.TheVariants as by
 use Rattle.bidel_parser.specs.Words.{choice_of}
 use Rattle.bidel_parser.specs.inner.WordReaders.{word_at, sign_at, choice_at}
-use Rattle.statements.specs.Views.{KeyView, Primary, Foreign, Condition, BranchView, OpView, CreateTable, DropTable, RenameTable, RenameColumn, AddColumn, DropColumn, Decompose, Join, Split, Merge}
+use Rattle.statements.specs.Views.{KeyView, Primary, Foreign, Condition, BranchView, OpView, CreateTable, DropTable, RenameTable, RenameColumn, AddColumn, DropColumn, Join, Split, Merge}
 use Rattle.bidel_parser.specs.Operators.{operator_words, kinds, key_words, Part, decomposed, part_of, branch_of, begins_operator}
 
 abbrev pub key_rest_at : KeyWord → List Lexeme → Read Lexeme KeyView

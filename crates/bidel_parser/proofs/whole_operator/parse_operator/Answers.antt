@@ -1,4 +1,4 @@
-use Rattle.std.proofs.Common.{sym, ◌∙◌, length, false, true}
+use Rattle.std.proofs.Common.{sym, ◌∙◌, length}
 use Rattle.statements.specs.Views.{op_view}
 use Rattle.bidel_expr.proofs.TokensWithinLaws.{tokens_within}
 use Rattle.bidel_parser.proofs.ParsingLaws.{some_length}

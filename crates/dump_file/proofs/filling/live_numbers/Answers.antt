@@ -1,6 +1,4 @@
-use Rattle.std.proofs.Common.{◌≤◌, ◌≡◌, List, ℕ, length, subst, sym, arith}
-use mathlib.Core.List.{reverse}
-use Rattle.version_graph.specs.Edges.{numbers}
+use Rattle.std.proofs.Common.{◌≤◌, List, ℕ, length, subst, sym, arith}
 use Rattle.version_graph.specs.Sets.{Distinct}
 use Rattle.dump_file.proofs.NumberLemmas.{all_numbers, numbers_once}
 use Rattle.dump_file.proofs.filling.live_numbers.Goals as goal

@@ -1,13 +1,10 @@
-use Rattle.std.proofs.Common.{◌≡◌, ℕ, Ok, Option, length, ap, sym, subst, ◌∙◌}
+use Rattle.std.proofs.Common.{ℕ, Ok, Option, length, ap, sym, subst, ◌∙◌}
 use Rattle.id_memory.specs.States.{CounterState}
 use Rattle.expr_lang.specs.Terms.{Term}
 use Rattle.row_store.specs.Rows.{Rows}
-use Rattle.row_store.specs.Changes.{AreOld}
 use Rattle.row_changes.specs.Changed.{changed}
-use Rattle.op_law.specs.Tables.{RowsWide}
 use Rattle.statements.specs.Views.{filter_view}
 use Rattle.ordinary_table.specs.Shown.{condition_of}
-use Rattle.ordinary_table.specs.Written.{chosen_count, deleted}
 use Rattle.ordinary_table.specs.Laws.{IsTable}
 use Rattle.ordinary_table.proofs.KeptLaws.{delete_keeps}
 use Rattle.engine_statements.specs.Found.{shown_names}

@@ -1,7 +1,6 @@
 use Rattle.std.proofs.Common.{◌≡◌, ◌≤◌, ℕ, List, length, ap, sym, subst, ◌∙◌}
 use Rattle.std.specs.List.{All}
 use Rattle.par_base.specs.declared.value.Value.{Value}
-use Rattle.op_law.specs.Tables.{RowsWide}
 use Rattle.statements.specs.Views.{filter_view}
 use Rattle.ordinary_table.specs.Shown.{condition_of}
 use Rattle.ordinary_table.proofs.ColumnLaws.{selected_wide}

@@ -2,15 +2,12 @@ use Rattle.std.proofs.Common.{◌≡◌, ℕ, List, Ok, Option, length, map, ap,
 use Rattle.std.specs.List.{All}
 use Rattle.expr_lang.specs.Terms.{Term}
 use Rattle.id_memory.specs.States.{CounterState}
-use Rattle.row_store.specs.Rows.{Rows}
-use Rattle.row_store.specs.Changes.{AreOld}
 use Rattle.row_changes.specs.Changed.{changed}
-use Rattle.op_law.specs.Tables.{RowsWide}
 use Rattle.statements.specs.Views.{assignment_view, filter_view}
 use Rattle.ordinary_table.specs.declared.update.SetTo.{SetTo}
 use Rattle.ordinary_table.specs.Shown.{condition_of}
 use Rattle.ordinary_table.specs.Fits.{SetFits}
-use Rattle.ordinary_table.specs.Written.{chosen_count, sets_of, updated}
+use Rattle.ordinary_table.specs.Written.{sets_of, updated}
 use Rattle.engine_statements.specs.Found.{shown_names, condition_list}
 use Rattle.engine_statements.specs.Statements.{known_sets}
 use Rattle.engine_statements.specs.Calls.{condition_term, rows_in}

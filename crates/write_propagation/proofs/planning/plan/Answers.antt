@@ -1,4 +1,4 @@
-use Rattle.std.proofs.Common.{ℕ, List, true, false, sym, subst, arith}
+use Rattle.std.proofs.Common.{ℕ, List, sym, subst, arith}
 use Rattle.version_graph.specs.Edges.{Drawn}
 use Rattle.db_state.specs.Parts.{AreLocalAt}
 use Rattle.write_propagation.specs.Trees.{IsTree}
