@@ -1,11 +1,6 @@
-mod BalanceLemmas
 mod ChangeLemmas
-mod EditLemmas
-mod ExchangeLemmas
-mod FindLemmas
+mod EntryLemmas
 mod OneTable
-mod PagesLemmas
 mod PassLemmas
 mod PlaceLemmas
-mod RowItemLemmas
 pub mod UndoLaws

@@ -1,4 +1,4 @@
-pub mod Pages
+pub mod Entries
 pub mod Passes
 pub mod RowsLeft
 pub mod SameTables

@@ -5,7 +5,8 @@ ghost use Rattle.row_store.specs.Changes.{ChangesRise, IsAbove};
 ghost use Rattle.row_store.specs.inner.Passes.{exchanged, HasRoom, ExchangesRows};
 
 use crate::exchange::{Which, exchange_all};
-use crate::pages::Pages;
+use crate::rows::RowEntry;
+use ordered_pages::Pages;
 use par_base::{Memory, Row};
 use std::alloc::Global;
 use std::marker::Model;
@@ -72,12 +73,12 @@ impl Changes {
     }
 
     /// Exchanges the new rows of the changes that the pass takes with the rows of a table.
-    pub(crate) fn exchange(&mut self, rows: &mut Pages, which: Which)
-        requires rises { RiseFrom 0 rows.old.rows }
-        requires room { HasRoom which rows.old.rows self.old rows.old.capacity }
-        ensures rises { RiseFrom 0 rows.new.rows }
-        ensures rows { ExchangesRows which self.old rows.old.rows rows.new.rows }
-        ensures changes { self.new ≡ exchanged which rows.old.rows self.old }
+    pub(crate) fn exchange(&mut self, rows: &mut Pages<RowEntry>, which: Which)
+        requires rises { RiseFrom 0 rows.old.entries }
+        requires room { HasRoom which rows.old.entries self.old rows.old.capacity }
+        ensures rises { RiseFrom 0 rows.new.entries }
+        ensures rows { ExchangesRows which self.old rows.old.entries rows.new.entries }
+        ensures changes { self.new ≡ exchanged which rows.old.entries self.old }
         ensures order { ChangesRise 0 self.old }
         ensures capacity { rows.new.capacity ≡ rows.old.capacity }
     {

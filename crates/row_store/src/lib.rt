@@ -2,23 +2,18 @@
 //!
 //! It promises the crates above that a table is the ascending list of its identifiers with their
 //! rows, that changes which fit a table are applied and undone without memory once there is room,
-//! that room which was made stays, and that a look-up compares few identifiers. The rows lie in
-//! pages of 32 to 64, so a change moves the rows of one page and never those of the whole table. It
-//! knows nothing of columns, versions or operators.
+//! that room which was made stays, and that a look-up compares few identifiers. The rows lie in the
+//! pages of `ordered_pages`, so a change moves the rows of one page and never those of the whole
+//! table. It knows nothing of columns, versions or operators.
 //!
 //! Lemmas that crates above may use stand in proofs/: `UndoLaws`.
 #![tactic(auto)]
 
-mod balance;
 mod change;
-mod edit;
 mod exchange;
-mod find;
 mod laws;
-mod page;
-mod pages;
-mod place;
 mod row_items;
+mod rows;
 mod same;
 mod table;
 

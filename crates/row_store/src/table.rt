@@ -3,16 +3,15 @@ ghost use Rattle.std.specs.Prelude.{◌≡◌, ◌+◌, ◌≤◌, ◌↔◌, []
 ghost use Rattle.std.specs.Option.{option_map};
 ghost use Rattle.row_store.specs.Rows.{RiseFrom, AreBelow, row_of};
 ghost use Rattle.row_store.specs.Changes.{AreOld, WasApplied};
-ghost use Rattle.row_store.specs.inner.Pages.{all_rows};
 ghost use Rattle.row_store.specs.LookUps.{WithinDigits};
 ghost use Rattle.row_store.specs.Undo.{IsUndoable, Restores};
 
 use crate::exchange::Which;
-use crate::page::Page;
-use crate::pages::Pages;
+use crate::rows::{RowEntry, find_row, get_row, put_row, rows_fit};
 use crate::same::are_same;
 use crate::{Changes, RowItems};
 use expr_lang::Steps;
+use ordered_pages::Pages;
 use par_base::{Memory, Row};
 use std::alloc::Global;
 use std::marker::Model;
@@ -21,7 +20,7 @@ use std::sync::ledger::Ledger;
 /// Rows by ascending identifier, with room for further ones.
 #[derive(Debug, Drop)]
 pub struct Table {
-    pages: Pages,
+    pages: Pages<RowEntry>,
 }
 
 impl Model for Table {
@@ -33,13 +32,13 @@ impl Model for Table {
     ghost use Rattle.row_store.specs.Rows.{RiseFrom};
 
     ghost view = { λ table. record {
-      rows = table.pages.rows;
+      rows = table.pages.entries;
       spare = table.pages.capacity - length
-          table.pages.rows;
+          table.pages.entries;
     } };
 
-    ghost invariant = { λ table. RiseFrom 0 table.pages.rows
-        × (length table.pages.rows ≤ table.pages.capacity) };
+    ghost invariant = { λ table. RiseFrom 0 table.pages.entries
+        × (length table.pages.entries ≤ table.pages.capacity) };
 }
 
 impl Table {
@@ -64,7 +63,7 @@ impl Table {
         ensures value { option_map (λ row. row.now) result ≡ row_of self.now.rows id }
         ensures rise { RiseFrom 0 self.now.rows }
     {
-        self.pages.get(id)
+        get_row(&self.pages, id)
     }
 
     /// As `get`. Each comparison of identifiers takes a step. It takes no memory.
@@ -72,7 +71,7 @@ impl Table {
         ensures value { option_map (λ row. row.now) result ≡ row_of self.now.rows id }
         ensures steps { WithinDigits (length self.now.rows) 7 steps.old steps.new }
     {
-        self.pages.find(id, steps)
+        find_row(&self.pages, id, steps)
     }
 
     /// The identifiers with their rows, in order, from either end. It takes no memory, and each row
@@ -81,7 +80,7 @@ impl Table {
         ensures all { result ≡ self.now.rows }
         ensures rise { RiseFrom 0 self.now.rows }
     {
-        self.pages.iter()
+        RowItems::new(self.pages.iter())
     }
 
     /// Whether both tables have the same rows, found by one pass over both. It takes no memory.
@@ -100,8 +99,8 @@ impl Table {
         ensures room { self.old.spare ≤ self.new.spare + 1 }
     {
         self.pages.reserve(1)?;
-        let _ = self.pages.put(id, Some(row));
-        self.pages.fits();
+        let _ = put_row(&mut self.pages, id, Some(row));
+        rows_fit(&self.pages);
         Ok(())
     }
 
@@ -113,7 +112,7 @@ impl Table {
         ensures room { self.old.spare ≤ self.new.spare }
     {
         self.pages.reserve(more)?;
-        self.pages.fits();
+        rows_fit(&self.pages);
         Ok(())
     }
 
@@ -130,7 +129,7 @@ impl Table {
             ≡ self.old.spare + length self.old.rows }
     {
         changes.exchange(&mut self.pages, Which::All);
-        self.pages.fits();
+        rows_fit(&self.pages);
     }
 
     /// Takes back what was applied: restores the rows, and the changes too. It takes no memory,
@@ -144,36 +143,25 @@ impl Table {
         // Rows that were added go first, so that there is room for those that come back.
         changes.exchange(&mut self.pages, Which::Added);
         changes.exchange(&mut self.pages, Which::Others);
-        self.pages.fits();
+        rows_fit(&self.pages);
     }
 
     /// An equal table, made by one pass over the rows. It has its own room.
     pub fn copy(&self) -> Result<Table, Memory>
         ensures { IfOk result (λ made. made.rows ≡ self.now.rows) }
     {
-        self.pages.fits();
-        copy_pages(self.pages.allocator(), self.pages.as_slice())
+        copied(self.pages.allocator(), self.iter())
     }
 }
 
-/// Adds copies of the rows behind the others.
-fn copy_behind(made: &mut Table, alloc: Global, rows: &[(u64, Row)]) -> Result<(), Memory>
-    requires { RiseFrom 0 (made.old.rows ++ rows.now) }
-    ensures { OnOk result (made.new.rows ≡ made.old.rows ++ rows.now) }
-{
-    for row in rows {
-        made.push(row.0, row.1.copy(alloc)?)?;
-    }
-    Ok(())
-}
-
-fn copy_pages(alloc: Global, pages: &[Page]) -> Result<Table, Memory>
-    requires { RiseFrom 0 (all_rows pages.now) }
-    ensures { IfOk result (λ made. made.rows ≡ all_rows pages.now) }
+/// A table of copies of the rows.
+fn copied(alloc: Global, rows: RowItems<'_>) -> Result<Table, Memory>
+    requires { RiseFrom 0 rows }
+    ensures { IfOk result (λ made. made.rows ≡ rows.entry) }
 {
     let mut made = Table::new(alloc);
-    for page in pages {
-        copy_behind(&mut made, alloc, page.as_slice())?;
+    for row in rows {
+        made.push(row.0, row.1.copy(alloc)?)?;
     }
     Ok(made)
 }

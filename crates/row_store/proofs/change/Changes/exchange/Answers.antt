@@ -8,5 +8,5 @@ use Rattle.row_store.proofs.change.Changes.exchange.Goals as goal
 
 pub invariant_of-self : goal.invariant_of-self
 invariant_of-self c =
-    let is : (with_items c.self.inside.items c.exchange_all.new.changes).items ≡ exchanged c.args.which c.args.rows.now.rows c.self.inside.items.items = grind (arith, common_steps) in
-    subst (ChangesRise 0) (sym is) (exchanged_rise c.args.which c.args.rows.now.rows 0 c.self.inside.items.items c.self.invariant)
+    let is : (with_items c.self.inside.items c.exchange_all.new.changes).items ≡ exchanged c.args.which c.args.rows.now.entries c.self.inside.items.items = grind (arith, common_steps) in
+    subst (ChangesRise 0) (sym is) (exchanged_rise c.args.which c.args.rows.now.entries 0 c.self.inside.items.items c.self.invariant)

@@ -14,7 +14,7 @@ returns-clause-applied c =
       changed = record {
         rises = c.exchange.ensures.rises;
         rows = λ id.
-            c.exchange.ensures.rows id ∙ after_all c.args.changes.now id (row_of c.self.inside.pages.rows id)
+            c.exchange.ensures.rows id ∙ after_all c.args.changes.now id (row_of c.self.inside.pages.entries id)
             ∙ ap (λ (rows : Rows). after c.args.changes.now id (row_of rows id)) same;
       };
       reversed = c.exchange.ensures.changes ∙ ap (λ (rows : Rows). reverse_of rows c.args.changes.now) same;
