@@ -1,4 +1,5 @@
 mod Again
+pub mod BehindLaws
 mod ByteTests
 mod Changes
 mod Characters

@@ -19,6 +19,18 @@ abbrev pub Stable : Type 0
 Stable = (bytes more : List ℕ) (from : ℕ) (ended : Bool)
     → next_of bytes from false ≢ lexed.More → next_of (bytes ++ more) from ended ≡ next_of bytes from false
 
+-- a token that ends at a place or behind it, a fault that isn't before the place, or neither
+abbrev pub IsBehind : ℕ → Lexed → Type 0
+IsBehind place (lexed.Token token) = place ≤ token.end
+IsBehind place (lexed.BadToken at) = place ≤ at
+IsBehind place lexed.More = Unit {0}
+IsBehind place lexed.End = Unit {0}
+
+-- what is found only as more bytes come ends behind those before
+abbrev pub EndsBehind : Type 0
+EndsBehind = (bytes more : List ℕ) (from : ℕ) (ended : Bool) → from ≤ length bytes
+    → next_of bytes from false ≡ lexed.More → IsBehind (length bytes) (next_of (bytes ++ more) from ended)
+
 -- two ways for the bytes to go on to their end, with different answers
 pub record CanChange (bytes : List ℕ) (from : ℕ) : Type 0 where
   pub one : List ℕ

@@ -1,6 +1,6 @@
 //! Laws of the lexer, each the contract of a function that does nothing.
 
-ghost use Rattle.bidel_lex.specs.Laws.{Again, EndExactly, FaultsAreFirst, Listed, MoreExactly, Spelled, Stable, TokenExactly, Within};
+ghost use Rattle.bidel_lex.specs.Laws.{Again, EndExactly, EndsBehind, FaultsAreFirst, Listed, MoreExactly, Spelled, Stable, TokenExactly, Within};
 
 /// Tokens and faults lie within the bytes, from the place on.
 pub fn answers_lie_within()
@@ -10,6 +10,12 @@ pub fn answers_lie_within()
 /// What is found in bytes that may go on, `More` aside, is found however they go on.
 pub fn answers_are_stable()
     ensures { Stable }
+{}
+
+/// What is found only as more bytes come ends behind those before: a token ends at their end or later, and a fault
+/// isn't one of them.
+pub fn answers_end_behind()
+    ensures { EndsBehind }
 {}
 
 /// `More` comes exactly where bytes may follow and could change the answer.

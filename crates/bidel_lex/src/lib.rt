@@ -8,11 +8,12 @@
 //! spell it stand after white space and comments, and before what doesn't make it longer; a token is found again
 //! from its own start. `End` comes exactly where white space and comments alone are left at the end of the input.
 //! `More` comes exactly where bytes that may follow could change the answer, and every other answer stays the same
-//! however the bytes go on. A fault stands at the first byte that shows it. The lexer takes no memory. It knows
-//! nothing of the grammar: reserved words and names are both words here.
+//! however the bytes go on; what takes the place of `More` as bytes come ends behind those before. A fault stands at
+//! the first byte that shows it. The lexer takes no memory. It knows nothing of the grammar: reserved words and names
+//! are both words here.
 //!
-//! Lemmas that crates above may use stand in proofs/: `FoundLaws`, `ListedLaws`, `ReadBackLaws`,
-//! `StableLaws` and `WithinLaws`.
+//! Lemmas that crates above may use stand in proofs/: `BehindLaws`, `FoundLaws`, `ListedLaws`,
+//! `ReadBackLaws`, `StableLaws` and `WithinLaws`.
 #![tactic(auto)]
 
 mod classes;

@@ -19,11 +19,11 @@ use Rattle.bidel_script.proofs.CutTokens.{bad_behind, bad_inside}
 
 -- ---- one byte
 
-comment_passed : (at b : ℕ) (bs : List ℕ) → first_byte true at (b ∷ bs) ≡ first_byte (not (b == 10)) (at + 1) bs
+pub comment_passed : (at b : ℕ) (bs : List ℕ) → first_byte true at (b ∷ bs) ≡ first_byte (not (b == 10)) (at + 1) bs
 unfolding first_byte
 comment_passed at b bs = refl
 
-minuses_passed : (at : ℕ) (cs : List ℕ) → first_byte false at (45 ∷ 45 ∷ cs) ≡ first_byte true (at + 1 + 1) cs
+pub minuses_passed : (at : ℕ) (cs : List ℕ) → first_byte false at (45 ∷ 45 ∷ cs) ≡ first_byte true (at + 1 + 1) cs
 unfolding first_byte
 minuses_passed at cs = refl
 
@@ -31,7 +31,7 @@ minus_stops : (at c : ℕ) (cs : List ℕ) → (c == 45) ≡ false → first_byt
 unfolding first_byte
 minus_stops at c cs e = ap (λ (x : Bool). cond x (first_byte true (at + 1) (c ∷ cs)) at) e
 
-other_passed : (at b : ℕ) (bs : List ℕ) → (b == 45) ≡ false → first_byte false at (b ∷ bs) ≡ cond (is_space b) (first_byte false (at + 1) bs) at
+pub other_passed : (at b : ℕ) (bs : List ℕ) → (b == 45) ≡ false → first_byte false at (b ∷ bs) ≡ cond (is_space b) (first_byte false (at + 1) bs) at
 unfolding first_byte
 other_passed at b [] e = refl
 other_passed at b (c ∷ cs) e =
@@ -148,7 +148,7 @@ scan (suc fuel) at (b ∷ bs) lt = elim (eqb_tells b 45) [
 ]
 
 -- what is found behind some tokens
-last_found : (ended : Bool) (bytes : List ℕ) (from : ℕ) (ts : List Token) (last : Lexed) → HasTokens ended bytes from ts last → next_of bytes (last_end from ts) ended ≡ last
+pub last_found : (ended : Bool) (bytes : List ℕ) (from : ℕ) (ts : List Token) (last : Lexed) → HasTokens ended bytes from ts last → next_of bytes (last_end from ts) ended ≡ last
 last_found ended bytes from [] last h = h.0
 last_found ended bytes from (t ∷ ts) last h = last_found ended bytes t.end ts last h.1
 

@@ -32,10 +32,10 @@ use Rattle.bidel_script.proofs.CutLengths.{tells, still_front, still_short, long
 -- ---- where the first bytes may go on
 
 -- reading found a fault at one of the tokens
-record Faulted (ts : List Lexeme) : Type 0 where
-  left : List Lexeme
-  some : left ≢ []
-  read : statement_at false ts ≡ Err left
+pub record Faulted (ts : List Lexeme) : Type 0 where
+  pub left : List Lexeme
+  pub some : left ≢ []
+  pub read : statement_at false ts ≡ Err left
 
 -- it finds that fault as tokens come
 reads_on : (over : Bool) (ts more : List Lexeme) (f : Faulted ts) → statement_at over (ts ++ more) ≡ Err (f.left ++ more)
@@ -62,7 +62,7 @@ some_length (x ∷ xs) h = omega arith
 
 module _ (front more : List ℕ) (tail tail' : Tail) (open' : is_over tail.last ≡ false) where
   -- the statements stay
-  leads_stay : (ts us : List Token) (sts : List StatementView) (used : ℕ) → Shown front ts → Leads front tail ts sts used → Leads (front ++ more) tail' (ts ++ us) sts used
+  pub leads_stay : (ts us : List Token) (sts : List StatementView) (used : ℕ) → Shown front ts → Leads front tail ts sts used → Leads (front ++ more) tail' (ts ++ us) sts used
   leads_stay ts us [] used sh h = h
   leads_stay ts us (st ∷ sts) used sh h =
       let f : IsFront false (lexemes front ts) st h.0 = subst (λ (b : Bool). IsFront b (lexemes front ts) st h.0) open' h.3 in
@@ -75,9 +75,18 @@ module _ (front more : List ℕ) (tail tail' : Tail) (open' : is_over tail.last 
         subst (λ (l : List Token). Leads (front ++ more) tail' l sts h.1) (sym (drop-append-le h.0 ts us within)) (leads_stay (drop h.0 ts) us sts h.1 (shown_drop front h.0 ts sh) h.5),
       )
 
-  -- a part that isn't too long still isn't
-  part_short : (rest us : List Token) → Shown front rest → NoFront false (lexemes front rest) → Faulted (lexemes front rest) → ¬ IsLong front tail rest → ¬ IsLong (front ++ more) tail' (rest ++ us)
-  part_short rest us sh none f short =
+  -- the first fault of some tokens is the one of all, with the same bytes up to it
+  pub record StaysPart (rest us : List Token) : Type 0 where
+    pub at : ℕ
+    pub within : at < length rest
+    pub none : NoFront true (lexemes front rest)
+    pub first : FirstFault (lexemes front rest) at
+    pub none_more : NoFront true (lexemes (front ++ more) (rest ++ us))
+    pub first_more : FirstFault (lexemes (front ++ more) (rest ++ us)) at
+    pub same : is_long_fault (front ++ more) tail' (rest ++ us) at ≡ is_long_fault front tail rest at
+
+  pub part_stays : (rest us : List Token) → Shown front rest → Faulted (lexemes front rest) → StaysPart rest us
+  part_stays rest us sh f =
       let xs : List Lexeme = lexemes front rest in
       let ys : List Lexeme = lexemes (front ++ more) us in
       let at : ℕ = length xs - length f.left in
@@ -88,17 +97,26 @@ module _ (front more : List ℕ) (tail tail' : Tail) (open' : is_over tail.last 
       let lt : at < length xs = omega (arith, some, sum) in
       let first : FirstFault xs at = first_fault stays_open IsStatement statement_at statement-last script_over false xs f.left f.read in
       let alone : statement_at true xs ≡ Err f.left = ap (statement_at true) (sym (append-nil xs)) ∙ reads_on true xs [] f ∙ ap (λ (l : List Lexeme). Err l) (append-nil f.left) in
-      let nf : NoFront true xs = no_front stays_open IsStatement statement_at statement-last true xs f.left alone in
-      let nf' : NoFront true (xs ++ ys) = no_front stays_open IsStatement statement_at statement-last true (xs ++ ys) (f.left ++ ys) (reads_on true xs ys f) in
       let whole = lexemes_more front more rest us sh in
-      let within : at < length rest = omega (arith, lt, size) in
-      let same : is_long_fault (front ++ more) tail' (rest ++ us) at ≡ is_long_fault front tail rest at =
-      ap (λ (n : ℕ). is_long n (known_end (front ++ more) tail' (rest ++ us) at)) (begin_append tail tail' rest us (omega (arith, within)))
-      ∙ ap (is_long (begin_of tail rest)) (known_some front more tail tail' rest us at within sh) in
-      elim (tells (is_long_fault front tail rest at)) [
-        | inl y ↦ absurd (short (part at (omega (arith, within)) nf first y))
-        | inr n ↦ fault_short (front ++ more) tail' (rest ++ us) at (omega (arith, within, length-append rest us)) (subst (NoFront true) (sym whole) nf')
-            (subst (λ (l : List Lexeme). FirstFault l at) (sym whole) (fault_stays xs ys at lt first)) (same ∙ n)
+      let inside : at < length rest = omega (arith, lt, size) in
+      record {
+        at = at;
+        within = inside;
+        none = no_front stays_open IsStatement statement_at statement-last true xs f.left alone;
+        first = first;
+        none_more = subst (NoFront true) (sym whole) (no_front stays_open IsStatement statement_at statement-last true (xs ++ ys) (f.left ++ ys) (reads_on true xs ys f));
+        first_more = subst (λ (l : List Lexeme). FirstFault l at) (sym whole) (fault_stays xs ys at lt first);
+        same = ap (λ (n : ℕ). is_long n (known_end (front ++ more) tail' (rest ++ us) at)) (begin_append tail tail' rest us (omega (arith, inside)))
+            ∙ ap (is_long (begin_of tail rest)) (known_some front more tail tail' rest us at inside sh);
+      }
+
+  -- a part that isn't too long still isn't
+  part_short : (rest us : List Token) → Shown front rest → Faulted (lexemes front rest) → ¬ IsLong front tail rest → ¬ IsLong (front ++ more) tail' (rest ++ us)
+  part_short rest us sh f short =
+      let p = part_stays rest us sh f in
+      elim (tells (is_long_fault front tail rest p.at)) [
+        | inl y ↦ absurd (short (part p.at (omega (arith, p.within)) p.none p.first y))
+        | inr n ↦ fault_short (front ++ more) tail' (rest ++ us) p.at (omega (arith, p.within, length-append rest us)) p.none_more p.first_more (p.same ∙ n)
       ]
 
   -- a token behind which others come starts before a byte that continues none
@@ -135,7 +153,7 @@ module _ (front more : List ℕ) (tail tail' : Tail) (open' : is_over tail.last 
       record {
         none = subst (NoFront (is_over tail'.last)) (sym says)
             (no_front stays_open IsStatement statement_at statement-last (is_over tail'.last) (lexemes front rest ++ ys) (g.left ++ ys) (reads_on (is_over tail'.last) (lexemes front rest) ys g));
-        short = subst (λ (l : List Token). ¬ IsLong (front ++ more) tail' l) (sym behind) (part_short rest us shr none g f.short);
+        short = subst (λ (l : List Token). ¬ IsLong (front ++ more) tail' l) (sym behind) (part_short rest us shr g f.short);
         token = f.token;
         within = omega (arith, lt, length-append ts us);
         first = subst (λ (l : List Lexeme). FirstFault l f.token) (sym (lexemes_more front more ts us sh)) (fault_stays (lexemes front ts) ys f.token (omega (arith, lt, size)) f.first);
@@ -187,7 +205,7 @@ module _ (front more : List ℕ) (tail : Tail) (bad : ℕ) (e : tail.last ≡ le
   stands_same ts used Open sh h = let clash : lexed.BadToken bad ≡ lexed.More = sym e ∙ h.more in cc
 
 -- what comes of the first bytes comes of all
-bad_comes : (front more : List ℕ) (ended : Bool) (sts : List StatementView) (o : Outcome) (c : Comes front false sts o) (bad : ℕ) → c.tail.last ≡ lexed.BadToken bad → Comes (front ++ more) ended sts o
+pub bad_comes : (front more : List ℕ) (ended : Bool) (sts : List StatementView) (o : Outcome) (c : Comes front false sts o) (bad : ℕ) → c.tail.last ≡ lexed.BadToken bad → Comes (front ++ more) ended sts o
 bad_comes front more ended sts o c bad e =
     let found : HasTokens false front 0 c.tokens (lexed.BadToken bad) = subst (λ (x : Lexed). HasTokens false front 0 c.tokens x) e c.all.found in
     let lt = bad_inside front 0 c.tokens bad found in
@@ -213,7 +231,7 @@ none_last ended bytes from [] last h = h.1
 none_last ended bytes from (t ∷ ts) last h = none_last ended bytes t.end ts last h.1
 
 -- what is behind the tokens of bytes that may go on: a byte that continues none, or more is wanted
-cut_by : (front : List ℕ) (tokens : List Token) (last : Lexed) → HasTokens false front 0 tokens last → {P : Type 0} → (last ≡ lexed.More → P) → ((bad : ℕ) → last ≡ lexed.BadToken bad → P) → P
+pub cut_by : (front : List ℕ) (tokens : List Token) (last : Lexed) → HasTokens false front 0 tokens last → {P : Type 0} → (last ≡ lexed.More → P) → ((bad : ℕ) → last ≡ lexed.BadToken bad → P) → P
 cut_by front tokens (lexed.Token t) h open' bad = absurd (let clash : true ≡ false = none_last false front 0 tokens (lexed.Token t) h in cc)
 cut_by front tokens lexed.More h open' bad = open' refl
 cut_by front tokens lexed.End h open' bad = absurd (ends_not front 0 tokens lexed.End h refl)

@@ -55,20 +55,25 @@ module _ (front more : List ℕ) where
   ]
 
   -- it is the same where others follow
-  deciding_same : (rest us : List Token) → 0 < length rest → Shown front rest → deciding (front ++ more) (rest ++ us) ≡ deciding front rest
+  pub deciding_same : (rest us : List Token) → 0 < length rest → Shown front rest → deciding (front ++ more) (rest ++ us) ≡ deciding front rest
   deciding_same [] us some s = absurd (omega (arith, some))
   deciding_same (t ∷ ts) us some s = ap (λ (x : Lexeme). cond (begins_shared x) 1 0) (lexeme_same front more t s.0)
 
   module _ (tail tail' : Tail) where
-    -- what follows a statement is as long, where its end is known
-    behind_same : (s : StatementView) (rest us : List Token) → stays_open s false (lexemes front rest) ≡ false → Shown front rest
-        → is_long_behind (front ++ more) tail' (rest ++ us) s ≡ is_long_behind front tail rest s
-    behind_same (CreateVersion name origin operators) rest us g s =
-        let within = deciding_within rest g in
+    -- the bytes from the first of some tokens up to where it is known what begins there
+    pub decided_same : (rest us : List Token) → deciding front rest < length rest → Shown front rest
+        → is_long (begin_of tail' (rest ++ us)) (known_end (front ++ more) tail' (rest ++ us) (deciding (front ++ more) (rest ++ us)))
+        ≡ is_long (begin_of tail rest) (known_end front tail rest (deciding front rest))
+    decided_same rest us within s =
         let some : 0 < length rest = omega (arith, within) in
         ap (λ (n : ℕ). is_long n (known_end (front ++ more) tail' (rest ++ us) (deciding (front ++ more) (rest ++ us)))) (begin_append tail tail' rest us some)
         ∙ ap (λ (n : ℕ). is_long (begin_of tail rest) (known_end (front ++ more) tail' (rest ++ us) n)) (deciding_same rest us some s)
         ∙ ap (is_long (begin_of tail rest)) (known_some front more tail tail' rest us (deciding front rest) within s)
+
+    -- what follows a statement is as long, where its end is known
+    behind_same : (s : StatementView) (rest us : List Token) → stays_open s false (lexemes front rest) ≡ false → Shown front rest
+        → is_long_behind (front ++ more) tail' (rest ++ us) s ≡ is_long_behind front tail rest s
+    behind_same (CreateVersion name origin operators) rest us g s = decided_same rest us (deciding_within rest g) s
     behind_same (DropVersion name) rest us g s = refl
     behind_same (Insert table rows) rest us g s = refl
     behind_same (Import table bytes) rest us g s = refl
@@ -83,7 +88,7 @@ module _ (front more : List ℕ) where
     behind_same (Advise name) rest us g s = refl
 
     -- a statement whose end is known is as long
-    front_same : (ts us : List Token) (s : StatementView) (used : ℕ) → IsFront false (lexemes front ts) s used → Shown front ts
+    pub front_same : (ts us : List Token) (s : StatementView) (used : ℕ) → IsFront false (lexemes front ts) s used → Shown front ts
         → is_long_front (front ++ more) tail' (ts ++ us) s used ≡ is_long_front front tail ts s used
     front_same ts us s used f sh =
         let some = front_some false (lexemes front ts) s used f in

@@ -10,4 +10,7 @@ pub mod TextLimitsLaws
 mod CutTokens
 mod CutBlanks
 mod CutLengths
+mod CutPlaces
+mod CutBegins
 pub mod CutLaws
+pub mod LongLaws

@@ -91,3 +91,7 @@ FrontsComeFirst = (front more : List ℕ) (ended : Bool) (before all : List Stat
 -- a fault of some first bytes, which may go on, is the fault of all
 abbrev pub FaultsStay : Type 0
 FaultsStay = (front more : List ℕ) (ended : Bool) (before : List StatementView) (at : ℕ) → Comes front false before (Fault at) → Comes (front ++ more) ended before (Fault at)
+
+-- what is too long in some first bytes, which may go on, is too long in all, behind the same statements
+abbrev pub LongStays : Type 0
+LongStays = (front more : List ℕ) (ended : Bool) (before : List StatementView) → Comes front false before Long → Comes (front ++ more) ended before Long

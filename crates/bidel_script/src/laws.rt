@@ -1,5 +1,5 @@
 //! Laws of scripts, each the contract of a function that does nothing.
-ghost use Rattle.bidel_script.specs.Script.{FaultIsNoScript, FaultsStay, FrontsComeFirst, OneComes, OneScript, OverIsScript};
+ghost use Rattle.bidel_script.specs.Script.{FaultIsNoScript, FaultsStay, FrontsComeFirst, LongStays, OneComes, OneScript, OverIsScript};
 ghost use Rattle.bidel_script.specs.Tails.{TokensAreKnown};
 
 /// Bytes are the script of at most one list of statements.
@@ -35,4 +35,9 @@ pub fn fronts_come_first()
 /// A fault in bytes that are cut off is that of all of them.
 pub fn faults_stay()
     ensures { FaultsStay }
+{}
+
+/// What is too long in bytes that are cut off is too long in all of them.
+pub fn long_stays()
+    ensures { LongStays }
 {}
