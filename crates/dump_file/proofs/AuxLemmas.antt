@@ -33,7 +33,7 @@ use Rattle.op_fk_join.specs.Columns.{join_columns, side_parts}
 use Rattle.op_fk_join.specs.Join.{join_refs, key_here, unjoined, unjoined_here, unreferred, unreferred_here}
 use Rattle.op_cond_join.specs.JoinOn.{join_on, table_at}
 use Rattle.op_cond_join.specs.Shown.{Joining}
-use Rattle.op_kinds.specs.Operators.{Built, CreateTable, DropTable, Rename, AddColumn, DropColumn, Split, Merge, DecomposeSingle, DecomposePk, OuterJoinPk, JoinPk, DecomposeFk, OuterJoinFk, JoinFk, JoinOn, DecomposeOn, joining_by, meaning_of}
+use Rattle.op_any.specs.Operators.{Built, CreateTable, DropTable, Rename, AddColumn, DropColumn, Split, Merge, DecomposeSingle, DecomposePk, OuterJoinPk, JoinPk, DecomposeFk, OuterJoinFk, JoinFk, JoinOn, DecomposeOn, joining_by, meaning_of}
 
 -- where both sides may stand, so may what is kept beside the source
 abbrev pub AuxSound : Meaning → Type 0

@@ -16,7 +16,7 @@ use Rattle.version_graph.proofs.TakenLaws.{found_passes, heading_known}
 use Rattle.version_model.specs.Kept.{HasSides}
 use Rattle.version_model.specs.States.{as_seen, headings}
 use Rattle.op_law.specs.Tables.{Heading as SeenHeading}
-use Rattle.op_kinds.specs.Operators.{AnyView, any_meaning}
+use Rattle.op_any.specs.Operators.{AnyView, any_meaning}
 use Rattle.op_any.specs.BuiltOn.{AreBuiltOn, IsBuiltOn}
 use Rattle.op_any.specs.Laws.{headings_taken}
 use Rattle.op_any.proofs.BuiltLaws.{built_suits}

@@ -4,7 +4,7 @@ use Rattle.serde_json.specs.Data.{Data}
 use Rattle.version_graph.specs.Forest.{Link, crossing, forest}
 use Rattle.version_graph.proofs.SetLaws.{each_at, each_of}
 use Rattle.id_memory.specs.States.{MemoryState}
-use Rattle.op_kinds.specs.Operators.{AnyView, any_meaning}
+use Rattle.op_any.specs.Operators.{AnyView, any_meaning}
 use Rattle.layout_rules.proofs.ChangeLaws.{number_lives}
 use Rattle.version_model.specs.Kept.{pairs_at}
 use Rattle.version_model.specs.States.{headings}

@@ -22,7 +22,7 @@ use Rattle.op_law.specs.Laws.{HalfLaws}
 use Rattle.op_law.specs.Sound.{IsBelow, PairsSound, RowsSound, TablesSound, ValuesSound}
 use Rattle.op_law.specs.Tables.{AllRise, Tables, contents}
 use Rattle.op_law.specs.declared.side.Aux.{Aux}
-use Rattle.op_kinds.specs.Operators.{AnyView, any_laws, any_meaning}
+use Rattle.op_any.specs.Operators.{AnyView, any_laws, any_meaning}
 use Rattle.layout_rules.proofs.ChangeLaws.{number_lives}
 use Rattle.version_model.specs.Kept.{pairs_at}
 use Rattle.version_model.specs.States.{State, headings}

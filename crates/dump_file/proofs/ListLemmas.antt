@@ -12,7 +12,7 @@ use Rattle.version_graph.specs.Sets.{Distinct, In, Within}
 use Rattle.version_graph.specs.declared.parts.Placed.{Placed}
 use Rattle.version_graph.proofs.SetLaws.{each_append, each_at}
 use Rattle.layout_rules.proofs.PassLaws.{take_next}
-use Rattle.op_kinds.specs.Operators.{AnyView}
+use Rattle.op_any.specs.Operators.{AnyView}
 use Rattle.op_law.specs.declared.side.Aux.{Aux}
 use Rattle.version_model.specs.declared.numbered.Numbered.{Numbered}
 use Rattle.dump_values.specs.Lines.{aux_json, memory_json}

@@ -9,7 +9,7 @@ use Rattle.version_graph.specs.Edges.{Drawn, IsGraph, numbers}
 use Rattle.version_graph.specs.Finished.{IsFinished}
 use Rattle.version_graph.specs.Forest.{Link, forest}
 use Rattle.version_graph.proofs.SetLaws.{each_more}
-use Rattle.op_kinds.specs.Operators.{AnyView, Built, CreateTable, DropTable, Rename, AddColumn, DropColumn, Split, Merge, DecomposeSingle, DecomposePk, OuterJoinPk, JoinPk, DecomposeFk, OuterJoinFk, JoinFk, JoinOn, DecomposeOn, any_meaning, meaning_of}
+use Rattle.op_any.specs.Operators.{AnyView, Built, CreateTable, DropTable, Rename, AddColumn, DropColumn, Split, Merge, DecomposeSingle, DecomposePk, OuterJoinPk, JoinPk, DecomposeFk, OuterJoinFk, JoinFk, JoinOn, DecomposeOn, any_meaning, meaning_of}
 use Rattle.version_model.specs.Kept.{HasSides}
 use Rattle.version_model.specs.States.{headings}
 use Rattle.db_state.specs.Fields.{IsDatabase}

@@ -15,7 +15,7 @@ use Rattle.version_graph.specs.Sets.{Distinct, In}
 use Rattle.version_graph.specs.Tables.{table_numbers}
 use Rattle.version_graph.proofs.SetLaws.{each_at, origin}
 use Rattle.op_law.specs.Calls.{tables_of}
-use Rattle.op_kinds.specs.Operators.{AnyView, any_meaning}
+use Rattle.op_any.specs.Operators.{AnyView, any_meaning}
 use Rattle.version_model.specs.Kept.{pairs_at, rows_at, value_of}
 use Rattle.version_model.specs.declared.numbered.Numbered.{Numbered}
 use Rattle.version_model.proofs.CarryLaws.{some_is}

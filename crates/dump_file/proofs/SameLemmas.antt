@@ -15,7 +15,7 @@ use Rattle.version_graph.specs.Sets.{Each, In}
 use Rattle.version_graph.proofs.TakenLaws.{map_map}
 use Rattle.layout_rules.specs.Layouts.{IsStored, IsValid}
 use Rattle.op_law.specs.Calls.{tables_of}
-use Rattle.op_kinds.specs.Operators.{AnyView, any_meaning}
+use Rattle.op_any.specs.Operators.{AnyView, any_meaning}
 use Rattle.storage_law.specs.Reading.{read_all}
 use Rattle.storage_law.specs.Storage.{Stands, Storage}
 use Rattle.version_model.specs.Kept.{HasSides, pairs_at, rows_at, value_of}

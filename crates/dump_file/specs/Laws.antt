@@ -2,7 +2,7 @@
 use Rattle.std.specs.Prelude.{◌≡◌}
 use Rattle.serde_json.specs.Data.{Data}
 use Rattle.dump_values.specs.Laws.{DumpFits}
-use Rattle.op_kinds.specs.Operators.{AnyView, any_meaning}
+use Rattle.op_any.specs.Operators.{AnyView, any_meaning}
 use Rattle.op_any.specs.BuiltOn.{AreBuiltOn}
 use Rattle.db_state.specs.Fields.{IsDatabase, database_for}
 use Rattle.db_state.specs.declared.parts.Parts.{Parts}

@@ -7,7 +7,7 @@ use Rattle.serde_json.specs.Data.{Data}
 use Rattle.serde_json.specs.Read.{read}
 use Rattle.version_graph.specs.Sets.{Each}
 use Rattle.version_graph.specs.declared.parts.Placed.{Placed}
-use Rattle.op_kinds.specs.Operators.{AnyView, any_meaning}
+use Rattle.op_any.specs.Operators.{AnyView, any_meaning}
 use Rattle.version_model.specs.declared.numbered.Numbered.{Numbered}
 use Rattle.db_state.specs.Fields.{IsDatabase}
 use Rattle.db_state.specs.declared.parts.Parts.{Parts}

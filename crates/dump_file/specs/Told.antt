@@ -11,7 +11,7 @@ use Rattle.version_graph.specs.Edges.{edge_of}
 use Rattle.version_graph.specs.declared.parts.Placed.{Placed}
 use Rattle.op_law.specs.Calls.{tables_of}
 use Rattle.op_law.specs.declared.side.Aux.{Aux}
-use Rattle.op_kinds.specs.Operators.{AnyView}
+use Rattle.op_any.specs.Operators.{AnyView}
 use Rattle.version_model.specs.declared.numbered.Numbered.{Numbered}
 use Rattle.db_state.specs.declared.parts.Parts.{Parts}
 use Rattle.dump_values.specs.Dumps.{Dump, Kept, dump_json}

@@ -8,7 +8,7 @@ use Rattle.bidel_text.specs.Laws.{OperatorsAreSaid}
 use Rattle.version_graph.specs.Edges.{Drawn, IsGraph}
 use Rattle.version_graph.specs.Finished.{IsFinished}
 use Rattle.version_graph.specs.Placing.{CanEnd, with_last}
-use Rattle.op_kinds.specs.Operators.{AnyView}
+use Rattle.op_any.specs.Operators.{AnyView}
 use Rattle.dump_values.specs.declared.lines.OperatorLine.{OperatorLine}
 use Rattle.dump_values.specs.declared.lines.VersionLine.{VersionLine}
 use Rattle.dump_values.specs.declared.dumps.GraphLines.{GraphLines}

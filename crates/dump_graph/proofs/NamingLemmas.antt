@@ -8,7 +8,7 @@ use Rattle.std.proofs.lemmas.List.{drop_more, take_more}
 use Rattle.par_base.specs.Names.{begins_with_digit, folded, is_name, is_name_byte, is_reserved}
 use Rattle.version_graph.specs.Edges.{Drawn}
 use Rattle.version_graph.specs.Placing.{with_version}
-use Rattle.op_kinds.specs.Operators.{AnyView}
+use Rattle.op_any.specs.Operators.{AnyView}
 use Rattle.dump_values.specs.declared.lines.VersionLine.{VersionLine}
 use Rattle.dump_graph.specs.inner.Naming.{AreNamed, FindsName, MayName}
 

@@ -13,7 +13,7 @@ use Rattle.version_graph.specs.declared.parts.Heading.{Heading}
 use Rattle.version_graph.specs.declared.parts.Placed.{Placed}
 use Rattle.version_graph.proofs.SetLaws.{each_append, each_at, each_of}
 use Rattle.version_graph.proofs.TableLaws.{headings_next, in_filter}
-use Rattle.op_kinds.specs.Operators.{AnyView}
+use Rattle.op_any.specs.Operators.{AnyView}
 use Rattle.op_any.specs.Build.{built}
 use Rattle.op_any.specs.Texts.{TextsFit}
 use Rattle.op_any.proofs.BuiltLaws.{built_suits}

@@ -7,7 +7,7 @@ use Rattle.version_graph.specs.Sets.{Distinct, Each, In}
 use Rattle.version_graph.specs.Edges.{AreEdges, Drawn, numbers, operator_limit, version_names, version_sets}
 use Rattle.version_graph.specs.declared.parts.Placed.{Placed}
 use Rattle.version_graph.proofs.SetLaws.{each_append}
-use Rattle.op_kinds.specs.Operators.{AnyView}
+use Rattle.op_any.specs.Operators.{AnyView}
 use Rattle.dump_values.specs.declared.lines.OperatorLine.{OperatorLine}
 use Rattle.dump_values.specs.declared.lines.VersionLine.{VersionLine}
 use Rattle.dump_graph.specs.Told.{operator_line, version_line}

@@ -6,7 +6,7 @@ use Rattle.par_base.specs.Names.{is_name}
 use Rattle.version_graph.specs.Sets.{Each}
 use Rattle.version_graph.specs.Edges.{Drawn, IsGraph}
 use Rattle.version_graph.specs.Finished.{IsFinished}
-use Rattle.op_kinds.specs.Operators.{AnyView}
+use Rattle.op_any.specs.Operators.{AnyView}
 use Rattle.dump_values.specs.declared.dumps.GraphLines.{GraphLines}
 use Rattle.dump_graph.specs.Texts.{AreFromTexts}
 use Rattle.dump_graph.specs.Told.{graph_told}

@@ -1,7 +1,7 @@
 -- Laws of graphs and the lines that tell of them.
 use Rattle.std.specs.Prelude.{◌≡◌, ℕ}
 use Rattle.version_graph.specs.Edges.{Drawn}
-use Rattle.op_kinds.specs.Operators.{AnyView}
+use Rattle.op_any.specs.Operators.{AnyView}
 use Rattle.dump_values.specs.declared.dumps.GraphLines.{GraphLines}
 use Rattle.dump_graph.specs.Graphs.{IsToldBy}
 

@@ -6,7 +6,7 @@ use Rattle.statements.specs.Views.{OpView}
 use Rattle.version_graph.specs.Sets.{Each}
 use Rattle.version_graph.specs.declared.parts.Edge.{Edge}
 use Rattle.version_graph.specs.declared.parts.Placed.{Placed}
-use Rattle.op_kinds.specs.Operators.{AnyView}
+use Rattle.op_any.specs.Operators.{AnyView}
 use Rattle.op_any.specs.BuiltOn.{AreBuiltOn, IsBuiltOn}
 
 -- the grammar spells the operator

@@ -4,7 +4,7 @@ use mathlib.Core.List.{reverse}
 use Rattle.bidel_text.specs.OperatorText.{operator_text}
 use Rattle.version_graph.specs.Edges.{Drawn}
 use Rattle.version_graph.specs.declared.parts.Placed.{Placed}
-use Rattle.op_kinds.specs.Operators.{AnyView}
+use Rattle.op_any.specs.Operators.{AnyView}
 use Rattle.dump_values.specs.declared.lines.OperatorLine.{OperatorLine}
 use Rattle.dump_values.specs.declared.lines.VersionLine.{VersionLine}
 use Rattle.dump_values.specs.declared.dumps.GraphLines.{GraphLines}

@@ -14,7 +14,7 @@ use Rattle.version_graph.specs.Edges.{AreEdges, Drawn}
 use Rattle.version_graph.proofs.SetLaws.{each_at, each_of, in_left, in_right}
 use Rattle.layout_rules.specs.Closed.{closing}
 use Rattle.par_base.specs.Checked.{◌then◌}
-use Rattle.op_kinds.specs.Operators.{AnyView, any_laws, any_meaning}
+use Rattle.op_any.specs.Operators.{AnyView, any_laws, any_meaning}
 use Rattle.op_any.specs.BuiltOn.{AreBuiltOn}
 use Rattle.version_model.specs.Sound.{IsSound}
 use Rattle.version_model.specs.Writes.{MayWrite, write}

@@ -4,7 +4,7 @@ use Rattle.std.proofs.Common.{◌≡◌, ℕ, List, [], ◌∷◌, refl, sym, ap
 use Rattle.par_base.specs.declared.limits.Target.{Target}
 use Rattle.version_graph.specs.Sets.{Each}
 use Rattle.par_base.specs.Checked.{Checked, ◌then◌}
-use Rattle.op_kinds.specs.Operators.{AnyView, any_meaning}
+use Rattle.op_any.specs.Operators.{AnyView, any_meaning}
 use Rattle.layout_rules.specs.Closed.{IsClosing, closing}
 use Rattle.layout_rules.specs.Closing.{StoresTarget}
 use Rattle.layout_rules.specs.Laws.{ClosingIsRight}

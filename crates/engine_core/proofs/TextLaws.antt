@@ -11,7 +11,7 @@ use Rattle.statements.specs.Texts.{AssignmentTexts, KeyTexts, OpTexts, RowTexts,
 use Rattle.version_graph.specs.Sets.{Each}
 use Rattle.version_graph.specs.declared.parts.Placed.{Placed}
 use Rattle.version_graph.proofs.SetLaws.{each_append, each_at, each_of}
-use Rattle.op_kinds.specs.Operators.{AnyView}
+use Rattle.op_any.specs.Operators.{AnyView}
 use Rattle.op_any.specs.Texts.{ValueFits, TermFits, TextsFit, key_expressions}
 use Rattle.engine_statements.specs.Calls.{AssignmentFits, RowFits}
 use Rattle.engine_versions.specs.KeptTexts.{texts_of}

@@ -13,7 +13,7 @@ use Rattle.layout_rules.specs.declared.layout.Layout.{Layout}
 use Rattle.layout_rules.proofs.AfterLaws.{same_layout}
 use Rattle.op_law.specs.Calls.{first_refused}
 use Rattle.par_base.specs.Checked.{◌then◌}
-use Rattle.op_kinds.specs.Operators.{AnyView, any_laws, any_meaning}
+use Rattle.op_any.specs.Operators.{AnyView, any_laws, any_meaning}
 use Rattle.db_state.specs.Fields.{IsDatabase, database_for, state_for}
 use Rattle.db_state.specs.declared.parts.Parts.{Parts}
 use Rattle.version_model.specs.Sound.{IsSound}

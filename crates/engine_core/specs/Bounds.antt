@@ -4,7 +4,7 @@ use Rattle.par_base.specs.declared.fault.Fault.{Fault}
 use Rattle.par_base.specs.declared.refusal.Refusal.{Refusal}
 use Rattle.statements.specs.Views.{StatementView, Insert}
 use Rattle.version_graph.specs.Forest.{forest, walk}
-use Rattle.op_kinds.specs.Operators.{any_meaning}
+use Rattle.op_any.specs.Operators.{any_meaning}
 use Rattle.version_model.specs.Bounds.{AreLocal}
 use Rattle.engine_state.specs.AnyDatabase.{AnyDatabase}
 use Rattle.engine_statements.specs.Statements.{Planned, planned_insert}

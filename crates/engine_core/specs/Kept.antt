@@ -3,7 +3,7 @@ use Rattle.std.specs.Prelude.{◌≡◌, ℕ, [], Result}
 use Rattle.par_base.specs.declared.fault.Fault.{Fault}
 use Rattle.par_base.specs.Checked.{Checked, Gives}
 use Rattle.par_base.specs.declared.refusal.Refusal.{Refusal}
-use Rattle.op_kinds.specs.Operators.{AnyView, any_meaning}
+use Rattle.op_any.specs.Operators.{AnyView, any_meaning}
 use Rattle.version_model.specs.Databases.{empty_database}
 use Rattle.layout_rules.specs.Changes.{layout_after}
 use Rattle.db_state.specs.Fields.{database_for}

@@ -5,7 +5,7 @@ use Rattle.par_base.specs.declared.refusal.Refusal.{Refusal}
 use Rattle.version_graph.specs.Sets.{Each}
 use Rattle.version_graph.specs.Edges.{AreEdges}
 use Rattle.par_base.specs.Checked.{Checked}
-use Rattle.op_kinds.specs.Operators.{AnyView, any_meaning}
+use Rattle.op_any.specs.Operators.{AnyView, any_meaning}
 use Rattle.layout_rules.specs.Closing.{StoresTarget}
 use Rattle.storage_law.specs.Canonical.{SameStored}
 use Rattle.db_state.specs.Fields.{IsDatabase, storage_in}

@@ -3,7 +3,7 @@ use Rattle.std.specs.Prelude.{List, [], ◌++◌}
 use Rattle.statements.specs.Views.{OpView, StatementView, CreateVersion}
 use Rattle.version_graph.specs.Sets.{Within}
 use Rattle.version_graph.specs.declared.parts.Placed.{Placed}
-use Rattle.op_kinds.specs.Operators.{AnyView}
+use Rattle.op_any.specs.Operators.{AnyView}
 use Rattle.engine_versions.specs.KeptTexts.{texts_of}
 
 -- the operators that a statement tells: those of a new version

@@ -7,7 +7,7 @@ ghost use Rattle.statements.specs.Texts.{OpTexts, TextsWithin};
 ghost use Rattle.version_graph.specs.Edges.{IsGraph};
 ghost use Rattle.par_base.specs.Checked.{◌then◌, Gives};
 ghost use Rattle.op_any.specs.BuiltOn.{AreBuiltOn};
-ghost use Rattle.op_kinds.specs.Operators.{any_meaning};
+ghost use Rattle.op_any.specs.Operators.{any_meaning};
 ghost use Rattle.version_model.specs.Sound.{IsSound};
 ghost use Rattle.storage_law.specs.Canonical.{SameStored};
 ghost use Rattle.db_state.specs.Fields.{storage_in, IsDatabase};
@@ -47,8 +47,8 @@ pub struct Engine {
 }
 
 impl Model for Engine {
-    ghost use Rattle.op_kinds.specs.Operators.{AnyView};
-    ghost use Rattle.op_kinds.specs.Codes.{coded_any};
+    ghost use Rattle.op_any.specs.Operators.{AnyView};
+    ghost use Rattle.op_any.specs.Codes.{coded_any};
     ghost use Rattle.std.specs.Coded.{codes};
     ghost use Rattle.db_state.specs.declared.parts.Parts.{Parts};
     ghost use Rattle.op_any.specs.BuiltOn.{AreBuiltOn};

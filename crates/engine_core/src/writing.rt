@@ -4,7 +4,7 @@ ghost use Rattle.row_store.specs.Changes.{AreOld};
 ghost use Rattle.version_graph.specs.Sets.{In};
 ghost use Rattle.version_graph.specs.Edges.{numbers};
 ghost use Rattle.op_law.specs.Calls.{first_refused};
-ghost use Rattle.op_kinds.specs.Operators.{any_meaning};
+ghost use Rattle.op_any.specs.Operators.{any_meaning};
 ghost use Rattle.version_model.specs.Writes.{MayWrite};
 ghost use Rattle.version_model.specs.Databases.{Writes};
 ghost use Rattle.db_state.specs.Fields.{database_for};

@@ -7,7 +7,7 @@ use Rattle.par_base.specs.declared.limits.Target.{Target}
 use Rattle.par_base.specs.declared.refusal.Refusal.{Refusal}
 use Rattle.layout_rules.specs.declared.layout.Layout.{Layout}
 use Rattle.par_base.specs.Checked.{◌then◌}
-use Rattle.op_kinds.specs.Operators.{AnyView, any_meaning}
+use Rattle.engine_state.specs.Operators.{AnyView, any_meaning}
 use Rattle.db_state.specs.Fields.{database_for}
 use Rattle.db_state.specs.declared.parts.Parts.{Parts}
 use Rattle.migration.specs.MoveAnswers.{ComputesMove}

@@ -18,7 +18,7 @@ use Rattle.version_graph.proofs.TableLaws.{rises_above, same_rising}
 use Rattle.version_graph.proofs.TakenLaws.{heading_known}
 use Rattle.op_law.specs.Tables.{Tables, contents}
 use Rattle.op_law.specs.declared.side.Aux.{Aux}
-use Rattle.op_kinds.specs.Operators.{AnyView, any_meaning}
+use Rattle.engine_state.specs.Operators.{AnyView, any_meaning}
 use Rattle.layout_rules.specs.Layouts.{IsStored}
 use Rattle.layout_rules.specs.Lookups.{is_stored, tables_up}
 use Rattle.layout_rules.proofs.PassLaws.{reverse_next, stored_listed, stored_rise, take_next, target_up, up_made}

@@ -8,7 +8,7 @@ use Rattle.version_graph.specs.Forest.{Link, forest}
 use Rattle.version_graph.specs.declared.parts.Heading.{Heading}
 use Rattle.version_graph.specs.declared.parts.Placed.{Placed}
 use Rattle.op_law.specs.Tables.{Tables}
-use Rattle.op_kinds.specs.Operators.{AnyView, any_meaning}
+use Rattle.engine_state.specs.Operators.{AnyView, any_meaning}
 use Rattle.layout_rules.specs.Lookups.{is_stored, tables_up}
 use Rattle.storage_law.specs.Storage.{aux_of, stored_way}
 use Rattle.engine_state.specs.AnyDatabase.{AnyDatabase}

@@ -2,9 +2,9 @@
 ghost use Rattle.engine_layouts.specs.Laid.{laid_of, Materializes};
 
 use db_state::Db;
+use engine_state::AnyOp;
 use expr_lang::Steps;
 use migration::{adopt_move, prepare_move};
-use op_any::AnyOp;
 use par_base::{Fault, Refusal, Target};
 use std::alloc::Global;
 use std::sync::ledger::Ledger;

@@ -11,8 +11,7 @@ ghost use Rattle.engine_layouts.specs.Shown.{name_at, row_count as row_count_lem
 
 use crate::kinds::kind_text;
 use db_state::{Db, Numbered};
-use engine_state::{Reply, StoredOperator, StoredTable};
-use op_any::AnyOp;
+use engine_state::{AnyOp, Reply, StoredOperator, StoredTable};
 use op_law::Aux;
 use par_base::{List, Memory, Name, add_counts};
 use row_store::Table;

@@ -9,7 +9,7 @@ use Rattle.csv_io.specs.Tables.{csv_rows}
 use Rattle.engine_state.specs.SharedChecks.{known_version}
 use Rattle.engine_state.specs.declared.reply.Reply.{Reply}
 use Rattle.engine_state.specs.declared.reply.Reply.TheVariants.{Done}
-use Rattle.engine_layouts.specs.Laid.{Laid}
+use Rattle.engine_core.specs.Laid.{Laid}
 use Rattle.engine_core.specs.Act.{act as act_in_full}
 use Rattle.engine_sessions.specs.declared.answer.Answer.TheVariants.{Plain}
 use Rattle.engine_sessions.specs.Standing.{Standing, used_by, with_use}

@@ -15,12 +15,12 @@ use Rattle.statements.specs.Views.{statement_view, OpView, StatementView, Create
 use Rattle.version_graph.specs.Sets.{Within}
 use Rattle.version_graph.specs.declared.parts.Placed.{Placed}
 use Rattle.version_graph.proofs.SetLaws.{in_right}
-use Rattle.op_kinds.specs.Operators.{AnyView}
-use Rattle.engine_versions.specs.KeptTexts.{texts_of}
+use Rattle.op_any.specs.Operators.{AnyView}
+use Rattle.engine_core.specs.KeptTexts.{texts_of}
 use Rattle.csv_io.specs.Tables.{csv_rows}
 use Rattle.csv_io.proofs.TextLaws.{rows_within}
 use Rattle.engine_state.specs.declared.reply.Reply.{Reply}
-use Rattle.engine_layouts.specs.Laid.{Laid}
+use Rattle.engine_core.specs.Laid.{Laid}
 use Rattle.engine_core.specs.Act.{act as act_in_full}
 use Rattle.engine_core.specs.Spoken.{TextsCome, operators_in}
 use Rattle.layout_planner.specs.declared.planning.TableCount.{TableCount}

@@ -5,3 +5,12 @@ pub mod Act
 pub mod Texts
 pub mod Calls
 pub mod Laws
+pub use Rattle.engine_core.specs.Spoken
+pub use Rattle.engine_core.specs.Texts as EngineCoreTexts
+pub use Rattle.engine_core.specs.Act as EngineCoreAct
+pub use Rattle.engine_core.specs.Kept
+pub use Rattle.engine_core.specs.KeptTexts
+pub use Rattle.engine_core.specs.Laid
+pub use Rattle.engine_state.specs.AnyDatabase
+pub use Rattle.engine_state.specs.SharedChecks
+pub use Rattle.engine_state.specs.declared.reply.Reply

@@ -2,9 +2,9 @@
 use Rattle.std.specs.Prelude.{◌==◌, ℕ, not, List, [], ◌∷◌, ◌++◌, filter, Option}
 use Rattle.std.specs.Option.{option_map}
 use Rattle.std.specs.List.{find}
-use Rattle.op_kinds.specs.Operators.{AnyView}
+use Rattle.op_any.specs.Operators.{AnyView}
 use Rattle.db_state.specs.declared.parts.Parts.{Parts}
-use Rattle.engine_layouts.specs.Laid.{Laid}
+use Rattle.engine_core.specs.Laid.{Laid}
 use Rattle.engine_core.specs.Kept.{empty_state, state_of}
 use Rattle.layout_planner.specs.declared.planning.TableCount.{TableCount}
 use Rattle.engine_sessions.specs.declared.uses.VersionInUse.{VersionInUse}

@@ -1,6 +1,6 @@
 //! The counts of accesses.
 ghost use Rattle.std.specs.Prelude.{◌≡◌, IfOk};
-ghost use Rattle.op_kinds.specs.Operators.{any_meaning};
+ghost use Rattle.op_any.specs.Operators.{any_meaning};
 ghost use Rattle.statements.specs.Views.{statement_view};
 ghost use Rattle.db_state.specs.Fields.{database_for};
 ghost use Rattle.engine_statements.specs.Found.{found};

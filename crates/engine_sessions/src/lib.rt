@@ -22,6 +22,7 @@ mod uses;
 
 pub use answer::Answer;
 pub use answer_lines::answer_text;
+pub use engine_core::{Engine, refusal_text};
 pub use laws::{full_statements_need_the_data_alone, uses_are_each_sessions_own};
 pub use sessions::Sessions;
 pub use uses::VersionInUse;

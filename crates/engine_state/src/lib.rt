@@ -11,5 +11,6 @@
 mod reply;
 mod versions;
 
+pub use op_any::AnyOp;
 pub use reply::{Reply, StoredOperator, StoredTable};
 pub use versions::known_set;

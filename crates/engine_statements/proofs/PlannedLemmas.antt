@@ -8,7 +8,7 @@ use Rattle.row_store.specs.Rows.{Rows}
 use Rattle.statements.specs.Views.{Tree, AssignmentView}
 use Rattle.statements.specs.declared.statement.TableName.{TableName}
 use Rattle.version_graph.specs.declared.parts.Heading.{Heading}
-use Rattle.op_kinds.specs.Operators.{AnyView, any_meaning}
+use Rattle.op_any.specs.Operators.{AnyView, any_meaning}
 use Rattle.op_any.specs.NameChecks.{known_id, repeated, unrepeated}
 use Rattle.ordinary_table.specs.Written.{SetTerm, inserted, numbered, updated, deleted, chosen_count}
 use Rattle.db_state.specs.Fields.{database_for}

@@ -11,7 +11,7 @@ use Rattle.version_graph.proofs.SetLaws.{each_at}
 use Rattle.version_graph.proofs.NodeLaws.{set_listed}
 use Rattle.op_law.specs.Tables.{RowsWide}
 use Rattle.par_base.specs.Checked.{Gives}
-use Rattle.op_kinds.specs.Operators.{AnyView, any_meaning}
+use Rattle.op_any.specs.Operators.{AnyView, any_meaning}
 use Rattle.ordinary_table.specs.Laws.{IsTable}
 use Rattle.version_model.specs.States.{as_seen, headings}
 use Rattle.db_state.specs.Fields.{IsDatabase, state_for}

@@ -5,7 +5,7 @@ use Rattle.par_base.specs.declared.value.Value.{Value}
 use Rattle.expr_lang.specs.Terms.{Term}
 use Rattle.row_store.specs.Rows.{Rows}
 use Rattle.statements.specs.Views.{Tree, AssignmentView}
-use Rattle.op_kinds.specs.Operators.{AnyView, any_meaning}
+use Rattle.op_any.specs.Operators.{AnyView, any_meaning}
 use Rattle.ordinary_table.specs.Laws.{IsTable}
 use Rattle.ordinary_table.specs.Written.{SetTerm, inserted, updated}
 use Rattle.ordinary_table.proofs.KeptLaws.{insert_keeps, update_keeps}

@@ -13,7 +13,7 @@ use Rattle.version_graph.specs.Tables.{TableVersion, table_numbers}
 use Rattle.version_graph.specs.Edges.{heading_of, made, numbers, working}
 use Rattle.version_graph.specs.declared.parts.Heading.{Heading}
 use Rattle.version_graph.specs.declared.parts.Placed.{Placed}
-use Rattle.op_kinds.specs.Operators.{AnyView, any_meaning}
+use Rattle.op_any.specs.Operators.{AnyView, any_meaning}
 use Rattle.op_any.specs.Texts.{ValueFits, TermFits}
 use Rattle.ordinary_table.specs.Laws.{IsTable}
 use Rattle.db_state.specs.Fields.{state_for}

@@ -11,7 +11,7 @@ use Rattle.statements.specs.declared.statement.TableName.{TableName}
 use Rattle.version_graph.specs.Sets.{In}
 use Rattle.version_graph.specs.Tables.{table_numbers}
 use Rattle.version_graph.specs.Edges.{AreEdges, working}
-use Rattle.op_kinds.specs.Operators.{any_meaning}
+use Rattle.op_any.specs.Operators.{any_meaning}
 use Rattle.ordinary_table.specs.Shown.{meets}
 use Rattle.ordinary_table.specs.Written.{SetTerm, chosen_count, numbered, updated_row}
 use Rattle.version_model.specs.Sound.{IsSound}

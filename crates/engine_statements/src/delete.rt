@@ -4,7 +4,7 @@ ghost use Rattle.row_store.specs.Changes.{AreOld};
 ghost use Rattle.row_changes.specs.Changed.{changed};
 ghost use Rattle.statements.specs.Views.{filter_view};
 ghost use Rattle.par_base.specs.Checked.{Gives};
-ghost use Rattle.op_kinds.specs.Operators.{any_meaning};
+ghost use Rattle.op_any.specs.Operators.{any_meaning};
 ghost use Rattle.db_state.specs.Fields.{database_for};
 ghost use Rattle.engine_statements.specs.Statements.{planned_delete};
 ghost use Rattle.ordinary_table.specs.Fits.{condition_fits};

@@ -5,7 +5,7 @@ ghost use Rattle.version_graph.specs.Sets.{In};
 ghost use Rattle.version_graph.specs.Tables.{table_named};
 ghost use Rattle.version_graph.specs.Edges.{AreEdges, numbers, working};
 ghost use Rattle.par_base.specs.Checked.{Gives};
-ghost use Rattle.op_kinds.specs.Operators.{any_meaning};
+ghost use Rattle.op_any.specs.Operators.{any_meaning};
 ghost use Rattle.db_state.specs.Fields.{database_for};
 ghost use Rattle.engine_statements.specs.Found.{found, set_of};
 ghost use Rattle.engine_statements.specs.Calls.{found_view, table_of, IsTableOf};

@@ -10,7 +10,7 @@ use Rattle.row_store.specs.Rows.{Rows}
 use Rattle.id_memory.specs.States.{CounterState}
 use Rattle.version_graph.specs.Edges.{Drawn}
 use Rattle.par_base.specs.Checked.{Checked, Gives}
-use Rattle.op_kinds.specs.Operators.{AnyView, any_meaning}
+use Rattle.op_any.specs.Operators.{AnyView, any_meaning}
 use Rattle.version_model.specs.Databases.{Writes}
 use Rattle.version_model.specs.Kept.{Kept, database_of}
 use Rattle.version_model.specs.Writes.{write}

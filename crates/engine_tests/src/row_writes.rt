@@ -1,6 +1,6 @@
 //! Plans of writes: what a database keeps before and after them, and what they put in.
 ghost use Rattle.std.specs.Prelude.{◌≡◌, IfOk};
-ghost use Rattle.op_kinds.specs.Operators.{any_meaning};
+ghost use Rattle.op_any.specs.Operators.{any_meaning};
 ghost use Rattle.write_propagation.specs.Room.{MayCommit};
 
 use crate::Twin;

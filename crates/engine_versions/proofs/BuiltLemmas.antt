@@ -20,7 +20,7 @@ use Rattle.version_model.specs.States.{as_seen, headings}
 use Rattle.version_model.specs.Evolving.{AreBuilt}
 use Rattle.version_model.proofs.HeadingLaws.{made_more}
 use Rattle.op_law.specs.Tables.{Heading as SeenHeading}
-use Rattle.op_kinds.specs.Operators.{AnyView, any_meaning}
+use Rattle.op_any.specs.Operators.{AnyView, any_meaning}
 use Rattle.op_any.specs.Laws.{headings_taken}
 use Rattle.op_any.specs.Texts.{TextsFit}
 use Rattle.op_any.proofs.BuiltLaws.{built_suits}

@@ -17,7 +17,7 @@ use Rattle.version_graph.proofs.EvolveLaws.{can_evolve, no_refusal}
 use Rattle.version_graph.proofs.GrowLaws.{grown_can}
 use Rattle.op_law.specs.Calls.{first_refused}
 use Rattle.par_base.specs.Checked.{◌then◌, Gives}
-use Rattle.op_kinds.specs.Operators.{AnyView, any_laws, any_meaning}
+use Rattle.op_any.specs.Operators.{AnyView, any_laws, any_meaning}
 use Rattle.op_any.specs.Texts.{TextsFit}
 use Rattle.version_model.specs.Sound.{IsSound}
 use Rattle.version_model.specs.Evolving.{AreBuilt, grown_state}

@@ -14,7 +14,7 @@ use Rattle.version_graph.specs.declared.parts.Edge.{Edge}
 use Rattle.version_graph.proofs.SetLaws.{each_append, each_of, each_at}
 use Rattle.version_graph.proofs.TableLaws.{in_filter, headings_next}
 use Rattle.par_base.specs.Checked.{Checked, ◌then◌}
-use Rattle.op_kinds.specs.Operators.{AnyView}
+use Rattle.op_any.specs.Operators.{AnyView}
 use Rattle.op_any.specs.Build.{built}
 use Rattle.op_any.proofs.BuiltLaws.{built_suits}
 use Rattle.version_model.specs.Evolving.{HasFewTables}

@@ -12,7 +12,7 @@ use Rattle.version_graph.specs.Dropped.{other_versions, staying}
 use Rattle.version_graph.specs.declared.parts.Heading.{Heading}
 use Rattle.version_graph.specs.declared.parts.Edge.{Edge}
 use Rattle.version_graph.specs.declared.parts.Placed.{Placed}
-use Rattle.op_kinds.specs.Operators.{AnyView, any_meaning}
+use Rattle.op_any.specs.Operators.{AnyView, any_meaning}
 use Rattle.op_any.specs.Build.{built, planned_edge, with_text}
 use Rattle.op_any.specs.BuiltOn.{AreBuiltOn, IsBuiltOn}
 use Rattle.op_any.specs.Texts.{TextsFit}

@@ -13,7 +13,7 @@ use Rattle.layout_rules.specs.Changes.{evolved_layout, layout_after}
 use Rattle.layout_rules.specs.declared.layout.Layout.{Layout}
 use Rattle.layout_rules.proofs.AfterLaws.{layout_dropped, layout_evolved, same_layout}
 use Rattle.par_base.specs.Checked.{◌then◌, Gives}
-use Rattle.op_kinds.specs.Operators.{AnyView, any_meaning}
+use Rattle.op_any.specs.Operators.{AnyView, any_meaning}
 use Rattle.version_model.specs.Databases.{Evolves, dropped_database, start_in}
 use Rattle.db_state.specs.Fields.{IsDatabase, database_for}
 use Rattle.db_state.specs.declared.parts.Parts.{Parts}

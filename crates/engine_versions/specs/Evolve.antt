@@ -8,7 +8,7 @@ use Rattle.version_graph.specs.Evolve.{evolved, limit_at}
 use Rattle.version_graph.specs.declared.parts.Heading.{Heading}
 use Rattle.version_graph.specs.declared.parts.Edge.{Edge}
 use Rattle.par_base.specs.Checked.{Checked, ◌then◌}
-use Rattle.op_kinds.specs.Operators.{AnyView, any_meaning}
+use Rattle.op_any.specs.Operators.{AnyView, any_meaning}
 use Rattle.op_any.specs.Build.{built}
 use Rattle.version_model.specs.Evolving.{grown_state}
 use Rattle.version_model.specs.Databases.{dropped_database}

@@ -7,7 +7,7 @@ use Rattle.statements.specs.Views.{OpView}
 use Rattle.version_graph.specs.Edges.{Drawn}
 use Rattle.version_graph.specs.declared.parts.Edge.{Edge}
 use Rattle.par_base.specs.Checked.{Gives}
-use Rattle.op_kinds.specs.Operators.{AnyView, any_meaning}
+use Rattle.op_any.specs.Operators.{AnyView, any_meaning}
 use Rattle.version_model.specs.Databases.{Evolves, MayEvolveTo}
 use Rattle.engine_state.specs.AnyDatabase.{AnyDatabase}
 use Rattle.engine_versions.specs.Evolve.{created}

@@ -7,7 +7,7 @@ ghost use Rattle.version_graph.specs.Edges.{set_named};
 ghost use Rattle.par_base.specs.Checked.{Gives};
 ghost use Rattle.op_any.specs.BuiltOn.{AreBuiltOn};
 ghost use Rattle.op_any.specs.Texts.{TextsFit};
-ghost use Rattle.op_kinds.specs.Operators.{any_meaning};
+ghost use Rattle.op_any.specs.Operators.{any_meaning};
 ghost use Rattle.layout_rules.specs.Changes.{layout_after};
 ghost use Rattle.db_state.specs.Fields.{database_for};
 ghost use Rattle.engine_versions.specs.Evolve.{created, start_at, unused};

@@ -2,7 +2,7 @@
 ghost use Rattle.std.specs.Prelude.{◌≡◌, OnErr};
 ghost use Rattle.par_base.specs.Checked.{Gives};
 ghost use Rattle.op_any.specs.BuiltOn.{AreBuiltOn};
-ghost use Rattle.op_kinds.specs.Operators.{any_meaning};
+ghost use Rattle.op_any.specs.Operators.{any_meaning};
 ghost use Rattle.layout_rules.specs.Changes.{layout_after};
 ghost use Rattle.db_state.specs.Fields.{database_for};
 ghost use Rattle.engine_versions.specs.Evolve.{dropped_version};

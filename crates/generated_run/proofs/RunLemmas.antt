@@ -8,12 +8,12 @@ use Rattle.std.proofs.lemmas.List.Filters.{length-filter_both}
 use Rattle.std.proofs.lemmas.List.FromFn.{length-range_with_len}
 use Rattle.par_base.specs.Checked.{Checked}
 use Rattle.statements.specs.Views.{StatementView}
-use Rattle.op_kinds.specs.Operators.{AnyView}
+use Rattle.op_any.specs.Operators.{AnyView}
 use Rattle.db_state.specs.declared.parts.Parts.{Parts}
-use Rattle.engine_core.specs.Spoken.{TextsCome}
-use Rattle.engine_sessions.specs.declared.answer.Answer.{Answer}
-use Rattle.engine_sessions.specs.Standing.{Standing}
-use Rattle.engine_sessions.specs.Act.{act}
+use Rattle.script_run.specs.Spoken.{TextsCome}
+use Rattle.script_run.specs.Answer.{Answer}
+use Rattle.script_run.specs.Standing.{Standing}
+use Rattle.script_run.specs.Act.{act}
 use Rattle.script_generator.specs.Generated.{below, ending, evolution, generated_script, insert_task, insert_todo, is_fourth}
 use Rattle.script_generator.specs.Laws.{IsLikeParsed}
 use Rattle.script_run.specs.Kept.{Keeps}

@@ -3,11 +3,11 @@ use Rattle.std.specs.Prelude.{ℕ, ◌+◌, List, [], ◌∷◌, length, Ok, Err
 use Rattle.par_base.specs.Checked.{Checked}
 use Rattle.statements.specs.Views.{StatementView}
 use Rattle.statements.specs.declared.statement.TableName.{TableName}
-use Rattle.engine_state.specs.AnyDatabase.{AnyDatabase}
+use Rattle.engine_statements.specs.AnyDatabase.{AnyDatabase}
 use Rattle.engine_statements.specs.Found.{Found, found}
-use Rattle.engine_sessions.specs.declared.answer.Answer.{Answer}
-use Rattle.engine_sessions.specs.Standing.{Standing}
-use Rattle.engine_sessions.specs.Act.{act}
+use Rattle.script_run.specs.Answer.{Answer}
+use Rattle.script_run.specs.Standing.{Standing}
+use Rattle.script_run.specs.Act.{act}
 use Rattle.script_generator.specs.Generated.{generated_script, table_of}
 use Rattle.script_generator.specs.declared.summary.Summary.{Summary}
 use Rattle.script_run.specs.Output.{next_state, state_after}

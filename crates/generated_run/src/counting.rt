@@ -1,6 +1,6 @@
 //! How many rows tables have.
 ghost use Rattle.std.specs.Prelude.{◌≡◌, length, IfOk};
-ghost use Rattle.op_kinds.specs.Operators.{any_meaning};
+ghost use Rattle.op_any.specs.Operators.{any_meaning};
 ghost use Rattle.db_state.specs.Fields.{database_for};
 ghost use Rattle.engine_statements.specs.Calls.{rows_in, IsTableOf};
 ghost use Rattle.generated_run.specs.Summed.{rows_at as rows_at_lem};

@@ -4,18 +4,18 @@ use Rattle.std.proofs.Common.{◌≡◌, ℕ, List, [], ◌++◌, length, take, 
 use Rattle.std.specs.Io.KnownBytes.{Appends}
 use Rattle.bidel_script.specs.Script.{Over}
 use Rattle.bidel_script.proofs.UniqueLaws.{one_comes}
-use Rattle.engine_core.specs.Texts.{line}
-use Rattle.engine_layouts.specs.Laid.{Laid}
-use Rattle.engine_sessions.specs.Standing.{Standing, empty_standing}
+use Rattle.generated_run.specs.EngineCoreTexts.{line}
+use Rattle.generated_run.specs.Laid.{Laid}
+use Rattle.generated_run.specs.Standing.{Standing, empty_standing}
 use Rattle.script_generator.specs.Summary.{summary_lines}
 use Rattle.generated_run.specs.Summed.{generated_end, generated_summary}
 use Rattle.run_words.specs.Words.{Asked, Says}
 use Rattle.run_words.specs.Laws.{SayOneThing}
-use Rattle.script_run.specs.Output.{out, state_after}
-use Rattle.script_run.specs.Statuses.{Done, PutsFront, WritesScript, last_line, limit}
-use Rattle.script_run.specs.Statuses as script
-use Rattle.script_run.proofs.EndLaws.{done_told}
-use Rattle.script_run.proofs.FrontLaws.{puts_all, puts_behind, puts_more, puts_none}
+use Rattle.generated_run.specs.Output.{out, state_after}
+use Rattle.generated_run.specs.Statuses.{Done, PutsFront, WritesScript, last_line, limit}
+use Rattle.generated_run.specs.Statuses as script
+use Rattle.generated_run.proofs.EndLaws.{done_told}
+use Rattle.generated_run.proofs.FrontLaws.{puts_all, puts_behind, puts_more, puts_none}
 use Rattle.inverda_run.specs.Files.{IsLonger}
 use Rattle.inverda_run.specs.Starts.{IsDumpText, Told}
 use Rattle.inverda_run.specs.Statuses.{SayNothing, Starts}

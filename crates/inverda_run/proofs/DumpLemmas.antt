@@ -17,7 +17,7 @@ use Rattle.version_graph.proofs.TableLaws.{rises_apart, same_rising}
 use Rattle.layout_rules.specs.Layouts.{IsStored}
 use Rattle.layout_rules.proofs.CloseLaws.{numbers_rise}
 use Rattle.op_law.specs.Calls.{tables_of}
-use Rattle.op_kinds.specs.Operators.{AnyView, any_meaning}
+use Rattle.op_any.specs.Operators.{AnyView, any_meaning}
 use Rattle.version_model.specs.Kept.{value_of}
 use Rattle.version_model.specs.declared.numbered.Numbered.{Numbered}
 use Rattle.storage_law.specs.Canonical.{SameStored}
@@ -25,10 +25,10 @@ use Rattle.db_state.specs.Fields.{IsDatabase, numbers_in, storage_in}
 use Rattle.db_state.specs.Laws.{StoredOnce}
 use Rattle.db_state.specs.declared.parts.Parts.{Parts}
 use Rattle.kept_changes.proofs.ChangesLaws.{value_listed}
-use Rattle.engine_layouts.specs.Laid.{Laid, laid_of}
-use Rattle.engine_sessions.specs.Standing.{begun}
+use Rattle.generated_run.specs.Laid.{Laid, laid_of}
+use Rattle.generated_run.specs.Standing.{begun}
 use Rattle.dump_values.specs.Dumps.{Dump, dump_json}
-use Rattle.dump_graph.specs.Told.{graph_told}
+use Rattle.dump_file.specs.DumpGraphTold.{graph_told}
 use Rattle.dump_file.specs.Laws.{DumpsAreOfOneDatabase}
 use Rattle.dump_file.specs.Stands.{Stands}
 use Rattle.dump_file.specs.Told.{aux_line, dump_told, has_tables, memory_line, remembers, stored_line}

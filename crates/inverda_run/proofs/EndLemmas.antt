@@ -2,16 +2,16 @@
 use Rattle.std.specs.Prelude.{Option, Some, None}
 use Rattle.std.proofs.Common.{◌≡◌, ℕ, List, codes, refl, sym, subst, ◌∙◌, inl, inr}
 use Rattle.outside.specs.Causes.{Rose}
-use Rattle.engine_core.specs.Texts.{line}
-use Rattle.engine_sessions.specs.Standing.{Standing}
+use Rattle.generated_run.specs.EngineCoreTexts.{line}
+use Rattle.generated_run.specs.Standing.{Standing}
 use Rattle.run_words.specs.Words.{Asked, Says}
 use Rattle.run_words.specs.Laws.{SayOneThing}
 use Rattle.script_generator.specs.Summary.{summary_lines}
-use Rattle.script_run.specs.Statuses.{Done, PutsFront, limit}
-use Rattle.script_run.specs.Calls.{Ends as ScriptEnds}
-use Rattle.script_run.specs.declared.end.End.{End as ScriptEnd}
-use Rattle.script_run.specs.declared.end.End.TheVariants as script
-use Rattle.script_run.proofs.FrontLaws.{puts_none}
+use Rattle.generated_run.specs.Statuses.{Done, PutsFront, limit}
+use Rattle.generated_run.specs.ScriptRunCalls.{Ends as ScriptEnds}
+use Rattle.generated_run.specs.End.{End as ScriptEnd}
+use Rattle.generated_run.specs.End.TheVariants as script
+use Rattle.generated_run.proofs.FrontLaws.{puts_none}
 use Rattle.generated_run.specs.Summed.{generated_end, generated_summary}
 use Rattle.inverda_run.specs.Files.{IsLonger}
 use Rattle.inverda_run.specs.Starts.{Told}

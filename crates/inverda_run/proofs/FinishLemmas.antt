@@ -7,13 +7,13 @@ use Rattle.std.proofs.lemmas.Bool.{false≢true}
 use Rattle.std.proofs.lemmas.Slice.Eq.{bytes_eq-Decides}
 use Rattle.outside.specs.Causes.{Rose}
 use Rattle.serde_json.specs.Written.{compact_text}
-use Rattle.op_kinds.specs.Operators.{AnyView}
+use Rattle.op_any.specs.Operators.{AnyView}
 use Rattle.op_any.specs.BuiltOn.{AreBuiltOn}
 use Rattle.db_state.specs.declared.parts.Parts.{Parts}
-use Rattle.engine_layouts.specs.Laid.{Laid}
-use Rattle.engine_core.specs.Kept.{state_of}
-use Rattle.engine_core.specs.Texts.{line}
-use Rattle.dump_graph.specs.Texts.{AreFromTexts, AreSpelled}
+use Rattle.generated_run.specs.Laid.{Laid}
+use Rattle.generated_run.specs.EngineCoreKept.{state_of}
+use Rattle.generated_run.specs.EngineCoreTexts.{line}
+use Rattle.dump_file.specs.Texts.{AreFromTexts, AreSpelled}
 use Rattle.dump_file.specs.Told.{database_json}
 use Rattle.dump_file.specs.Stands.{IsDumpOf}
 use Rattle.inverda_run.specs.Starts.{IsDumpText, Told}

@@ -3,8 +3,8 @@ use Rattle.std.specs.Prelude.{Option}
 use Rattle.std.specs.Io.KnownBytes.{Appends}
 use Rattle.std.proofs.Common.{◌≡◌, ℕ, List, take, sym, ap, subst, ◌∙◌, refl, inl, inr}
 use Rattle.outside.specs.Causes.{Rose}
-use Rattle.engine_layouts.specs.Laid.{Laid}
-use Rattle.engine_sessions.specs.Standing.{Standing}
+use Rattle.generated_run.specs.Laid.{Laid}
+use Rattle.generated_run.specs.Standing.{Standing}
 use Rattle.script_generator.specs.Summary.{summary_lines}
 use Rattle.generated_run.specs.Summed.{generated_end, generated_summary}
 use Rattle.inverda_run.specs.Starts.{Told}

@@ -2,13 +2,13 @@
 use Rattle.std.specs.Prelude.{◌⊎◌, Option, Some, None}
 use Rattle.std.proofs.Common.{◌≡◌, ℕ, List, sym, ap, subst, ◌∙◌, inl, inr}
 use Rattle.outside.specs.Causes.{Rose}
-use Rattle.engine_sessions.specs.Standing.{Standing}
+use Rattle.generated_run.specs.Standing.{Standing}
 use Rattle.run_words.specs.Words.{Asked, Says}
 use Rattle.run_words.specs.Laws.{SayOneThing}
-use Rattle.script_run.specs.Statuses.{Done}
-use Rattle.script_run.specs.Calls.{EndStays as ScriptStays}
-use Rattle.script_run.specs.declared.end.End.{End as ScriptEnd}
-use Rattle.script_run.specs.declared.end.End.TheVariants as script
+use Rattle.generated_run.specs.Statuses.{Done}
+use Rattle.generated_run.specs.ScriptRunCalls.{EndStays as ScriptStays}
+use Rattle.generated_run.specs.End.{End as ScriptEnd}
+use Rattle.generated_run.specs.End.TheVariants as script
 use Rattle.inverda_run.specs.Starts.{Told}
 use Rattle.inverda_run.specs.Statuses.{Generates, Starts, StaysBut}
 use Rattle.inverda_run.specs.Calls.{EndStays, Ends, EndsGenerated, Finishes, PutsLast, WritesTo, ended}

@@ -3,10 +3,10 @@ use Rattle.std.specs.Prelude.{◌<◌, Option, Some, None, IsSome}
 use Rattle.std.proofs.Common.{◌≡◌, ℕ, List, length, refl, sym, ap, subst, ◌∙◌, arith}
 use Rattle.outside.specs.FileTold.{ToldAs}
 use Rattle.dump_file.specs.Stands.{IsDumpOf}
-use Rattle.engine_sessions.specs.Standing.{Standing, empty_standing}
+use Rattle.generated_run.specs.Standing.{Standing, empty_standing}
 use Rattle.run_words.specs.Words.{Asked, Says}
 use Rattle.run_words.specs.Laws.{SayOneThing}
-use Rattle.script_run.specs.Statuses.{limit}
+use Rattle.generated_run.specs.Statuses.{limit}
 use Rattle.inverda_run.specs.Files.{IsLonger}
 use Rattle.inverda_run.specs.Starts.{Loaded, StartsBy, Told}
 use Rattle.inverda_run.specs.Statuses.{Loads, NoDump, SayNothing, Starts}

@@ -2,16 +2,16 @@
 use Rattle.std.specs.Prelude.{◌≤◌, ◌<◌, ◌^◌, Option, Some, None, Result, Ok, Err}
 use Rattle.std.proofs.Common.{◌≡◌, ℕ, List, length, codes, refl, sym, ap, subst, inl, inr, arith}
 use Rattle.outside.specs.FileTold.{ToldAs}
-use Rattle.op_kinds.specs.Operators.{AnyView}
+use Rattle.op_any.specs.Operators.{AnyView}
 use Rattle.op_any.specs.BuiltOn.{AreBuiltOn}
 use Rattle.db_state.specs.declared.parts.Parts.{Parts}
-use Rattle.engine_core.specs.Kept.{empty_state, state_of}
-use Rattle.engine_layouts.specs.Laid.{Laid}
-use Rattle.engine_sessions.specs.Standing.{begun}
-use Rattle.dump_graph.specs.Texts.{AreSpelled}
+use Rattle.generated_run.specs.EngineCoreKept.{empty_state, state_of}
+use Rattle.generated_run.specs.Laid.{Laid}
+use Rattle.generated_run.specs.Standing.{begun}
+use Rattle.dump_file.specs.Texts.{AreSpelled}
 use Rattle.dump_file.specs.Stands.{IsDumpOf}
 use Rattle.run_words.specs.Words.{Asked, IsLimit, Says, value_of}
-use Rattle.script_run.specs.Statuses.{limit}
+use Rattle.generated_run.specs.Statuses.{limit}
 use Rattle.inverda_run.specs.Files.{MissesOnly}
 use Rattle.inverda_run.specs.Starts.{Told}
 use Rattle.inverda_run.specs.Statuses.{Misses}

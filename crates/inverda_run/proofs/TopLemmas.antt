@@ -4,16 +4,16 @@ use Rattle.std.proofs.Common.{◌≡◌, ℕ, List, length, take, codes, sym, ap
 use Rattle.outside.specs.Causes.{Rose}
 use Rattle.bidel_script.specs.Script.{Outcome, Over, Fault, Long, Open}
 use Rattle.bidel_script.proofs.UniqueLaws.{one_comes}
-use Rattle.engine_sessions.specs.Standing.{Standing, empty_standing}
+use Rattle.generated_run.specs.Standing.{Standing, empty_standing}
 use Rattle.generated_run.specs.Summed.{generated_end}
 use Rattle.run_words.specs.Words.{Asked}
 use Rattle.run_words.specs.Laws.{SayOneThing}
-use Rattle.script_run.specs.Moves.{MovesUnseen}
-use Rattle.script_run.specs.Output.{state_after}
-use Rattle.script_run.specs.Statuses.{AnswersScript, Done, FirstReplies, Had, Passed, Stopped, StoppedOfAll, Unread, limit}
-use Rattle.script_run.proofs.EndLaws.{done_answers, done_told, had_done, had_passed, had_stopped}
-use Rattle.script_run.proofs.CutLaws.{passed_first, stopped_of_all, unread_first}
-use Rattle.script_run.proofs.MoveLaws.{moves_unseen}
+use Rattle.generated_run.specs.Moves.{MovesUnseen}
+use Rattle.generated_run.specs.Output.{state_after}
+use Rattle.generated_run.specs.Statuses.{AnswersScript, Done, FirstReplies, Had, Passed, Stopped, StoppedOfAll, Unread, limit}
+use Rattle.generated_run.proofs.EndLaws.{done_answers, done_told, had_done, had_passed, had_stopped}
+use Rattle.generated_run.proofs.CutLaws.{passed_first, stopped_of_all, unread_first}
+use Rattle.generated_run.proofs.MoveLaws.{moves_unseen}
 use Rattle.inverda_run.specs.Starts.{IsDumpText, Told}
 use Rattle.inverda_run.specs.Statuses.{Carried, Loads, LongDump, LongLoad, OfStart, Ran, RefusedDump, RunsSource, SayNothing, Starts, StaysBut, source, generated}
 use Rattle.inverda_run.specs.Decided.{DumpFits, Told', ToldGenerated, ToldLonger, ToldNoDump, ToldWhole}

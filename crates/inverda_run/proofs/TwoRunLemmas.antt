@@ -7,14 +7,14 @@ use Rattle.std.proofs.KnownBytes.{Appends-trans}
 use Rattle.par_base.specs.Checked.{Checked}
 use Rattle.par_base.specs.declared.refusal.Refusal.{Refusal}
 use Rattle.statements.specs.Views.{StatementView}
-use Rattle.engine_core.specs.Texts.{refusal_bytes}
-use Rattle.engine_sessions.specs.Standing.{Standing, begun}
-use Rattle.engine_sessions.specs.Act.{act}
-use Rattle.engine_sessions.specs.Laws.{IsFull, NeedTheDataAlone, SameBehind}
-use Rattle.engine_sessions.specs.Texts.{answer_bytes}
-use Rattle.engine_sessions.specs.declared.answer.Answer.{Answer}
-use Rattle.script_run.specs.Output.{next_state, out, replies, state_after, text_of}
-use Rattle.script_run.proofs.OutputLaws.{out-append}
+use Rattle.generated_run.specs.EngineCoreTexts.{refusal_bytes}
+use Rattle.generated_run.specs.Standing.{Standing, begun}
+use Rattle.generated_run.specs.Act.{act}
+use Rattle.generated_run.specs.Laws.{IsFull, NeedTheDataAlone, SameBehind}
+use Rattle.generated_run.specs.Texts.{answer_bytes}
+use Rattle.generated_run.specs.Answer.{Answer}
+use Rattle.generated_run.specs.Output.{next_state, out, replies, state_after, text_of}
+use Rattle.generated_run.proofs.OutputLaws.{out-append}
 use Rattle.outside.specs.FileTold.{ToldAs}
 use Rattle.inverda_run.specs.Starts.{Loaded, StartsBy}
 use Rattle.inverda_run.specs.Statuses.{Written}

@@ -3,19 +3,19 @@ use Rattle.std.specs.Prelude.{◌≡◌, ◌≢◌, ◌⊎◌, ◌≤◌, ◌<�
 use Rattle.std.specs.Io.KnownBytes.{Appends}
 use Rattle.outside.specs.Causes.{Rose}
 use Rattle.outside.specs.FileTold.{IsMissing, ToldAs}
-use Rattle.op_kinds.specs.Operators.{AnyView}
+use Rattle.op_any.specs.Operators.{AnyView}
 use Rattle.db_state.specs.declared.parts.Parts.{Parts}
-use Rattle.engine_layouts.specs.Laid.{Laid}
-use Rattle.engine_sessions.specs.Standing.{Standing, begun}
-use Rattle.engine_core.specs.Kept.{state_of}
-use Rattle.engine_core.specs.Texts.{line}
-use Rattle.dump_graph.specs.Texts.{AreSpelled}
+use Rattle.generated_run.specs.Laid.{Laid}
+use Rattle.generated_run.specs.Standing.{Standing, begun}
+use Rattle.generated_run.specs.EngineCoreKept.{state_of}
+use Rattle.generated_run.specs.EngineCoreTexts.{line}
+use Rattle.dump_file.specs.Texts.{AreSpelled}
 use Rattle.dump_file.specs.Stands.{IsDumpOf}
 use Rattle.script_generator.specs.Summary.{summary_lines}
 use Rattle.generated_run.specs.Summed.{generated_end, generated_summary}
-use Rattle.script_run.specs.Statuses.{BegunTaken, Passed, PutsFront, Stopped, Unread, limit}
-use Rattle.script_run.specs.declared.end.End.{End as ScriptEnd}
-use Rattle.script_run.specs.declared.end.End.TheVariants as script
+use Rattle.generated_run.specs.Statuses.{BegunTaken, Passed, PutsFront, Stopped, Unread, limit}
+use Rattle.generated_run.specs.End.{End as ScriptEnd}
+use Rattle.generated_run.specs.End.TheVariants as script
 use Rattle.inverda_run.specs.Files.{IsLonger}
 use Rattle.inverda_run.specs.Starts.{IsDumpText, Loaded, StartsBy, Told}
 use Rattle.inverda_run.specs.Statuses.{LongDump, LongLoad, NoDump, OfStart, Ran, RefusedDump, SayNothing, UnreadLoad, UnwrittenDump}

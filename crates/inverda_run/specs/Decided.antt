@@ -1,13 +1,13 @@
 -- What words, files and the source tell decides a run, where no call fails and memory suffices.
 use Rattle.std.specs.Prelude.{◌≡◌, ◌++◌, ◌≤◌, ◌<◌, ◌⊎◌, ℕ, nat_le, List, [], take, length, Option, Some, None, codes, ⊤}
 use Rattle.bidel_script.specs.Script.{Outcome, Over}
-use Rattle.engine_layouts.specs.Laid.{Laid}
-use Rattle.engine_sessions.specs.Standing.{Standing, empty_standing}
-use Rattle.engine_core.specs.Texts.{line}
+use Rattle.generated_run.specs.Laid.{Laid}
+use Rattle.generated_run.specs.Standing.{Standing, empty_standing}
+use Rattle.generated_run.specs.EngineCoreTexts.{line}
 use Rattle.run_words.specs.Words.{Asked, Says}
 use Rattle.script_generator.specs.Summary.{summary_lines}
-use Rattle.script_run.specs.Output.{state_after}
-use Rattle.script_run.specs.Statuses.{Had, PutsFront, WritesScript, limit}
+use Rattle.generated_run.specs.Output.{state_after}
+use Rattle.generated_run.specs.Statuses.{Had, PutsFront, WritesScript, limit}
 use Rattle.generated_run.specs.Summed.{generated_end, generated_summary}
 use Rattle.inverda_run.specs.Starts.{IsDumpText, Told}
 use Rattle.inverda_run.specs.Statuses.{Loads, NoDump, SayNothing, Starts}

@@ -3,11 +3,11 @@ use Rattle.std.specs.Prelude.{◌≡◌, ◌++◌, ◌≤◌, ℕ, List, length,
 use Rattle.std.specs.Io.KnownBytes.{Appends}
 use Rattle.std.specs.List.{All}
 use Rattle.statements.specs.Views.{StatementView}
-use Rattle.engine_layouts.specs.Laid.{Laid}
-use Rattle.engine_sessions.specs.Standing.{Standing, begun}
-use Rattle.engine_sessions.specs.Laws.{IsFull}
-use Rattle.script_run.specs.Output.{out, state_after}
-use Rattle.script_run.specs.Statuses.{Done, limit}
+use Rattle.generated_run.specs.Laid.{Laid}
+use Rattle.generated_run.specs.Standing.{Standing, begun}
+use Rattle.generated_run.specs.Laws.{IsFull}
+use Rattle.generated_run.specs.Output.{out, state_after}
+use Rattle.generated_run.specs.Statuses.{Done, limit}
 use Rattle.inverda_run.specs.Starts.{IsDumpText, Loaded, Told}
 use Rattle.inverda_run.specs.Statuses.{Ran}
 

@@ -2,14 +2,14 @@
 use Rattle.std.specs.Prelude.{◌≡◌, ◌≤◌, ℕ, List, length, Option, Some, None}
 use Rattle.outside.specs.FileTold.{ToldAs}
 use Rattle.serde_json.specs.Written.{compact_text}
-use Rattle.op_kinds.specs.Operators.{AnyView}
+use Rattle.op_any.specs.Operators.{AnyView}
 use Rattle.db_state.specs.declared.parts.Parts.{Parts}
-use Rattle.engine_layouts.specs.Laid.{Laid}
-use Rattle.engine_core.specs.Kept.{state_of}
-use Rattle.engine_sessions.specs.Standing.{Standing, begun, empty_standing}
+use Rattle.generated_run.specs.Laid.{Laid}
+use Rattle.generated_run.specs.EngineCoreKept.{state_of}
+use Rattle.generated_run.specs.Standing.{Standing, begun, empty_standing}
 use Rattle.dump_file.specs.Told.{database_json}
 use Rattle.dump_file.specs.Stands.{IsDumpOf}
-use Rattle.script_run.specs.Statuses.{limit}
+use Rattle.generated_run.specs.Statuses.{limit}
 
 -- what is told of files, by their names
 abbrev pub Told : Type 0

@@ -2,15 +2,15 @@
 use Rattle.std.specs.Prelude.{◌≡◌, ◌≤◌, ◌<◌, ◌⊎◌, ℕ, List, length, Option, Some, None, codes, ⊤}
 use Rattle.std.specs.Io.KnownBytes.{Appends}
 use Rattle.outside.specs.FileTold.{IsMissing, ToldAs}
-use Rattle.op_kinds.specs.Operators.{AnyView}
+use Rattle.op_any.specs.Operators.{AnyView}
 use Rattle.db_state.specs.declared.parts.Parts.{Parts}
-use Rattle.engine_layouts.specs.Laid.{Laid}
-use Rattle.engine_sessions.specs.Standing.{Standing}
-use Rattle.engine_core.specs.Texts.{line}
+use Rattle.generated_run.specs.Laid.{Laid}
+use Rattle.generated_run.specs.Standing.{Standing}
+use Rattle.generated_run.specs.EngineCoreTexts.{line}
 use Rattle.dump_file.specs.Stands.{IsDumpOf}
 use Rattle.run_words.specs.Words.{Asked, Says}
 use Rattle.script_generator.specs.Summary.{summary_lines}
-use Rattle.script_run.specs.Statuses.{Done, limit}
+use Rattle.generated_run.specs.Statuses.{Done, limit}
 use Rattle.generated_run.specs.Summed.{generated_end, generated_summary}
 use Rattle.inverda_run.specs.Files.{IsLonger}
 use Rattle.inverda_run.specs.Starts.{IsDumpText, StartsBy, Told}

@@ -6,8 +6,8 @@ ghost use Rattle.inverda_run.specs.Calls.{Begins, BeginsLoaded, LoadsEngine, Mis
 use crate::file::{FileRead, read_file};
 use crate::limit::LIMIT;
 use dump_file::load;
-use engine_core::Engine;
 use expr_lang::Steps;
+use generated_run::Engine;
 use outside::Files;
 use par_base::{Fault, Limits};
 use std::alloc::Global;

@@ -1,14 +1,14 @@
 //! The dump at the end of a run.
 ghost use Rattle.std.specs.Prelude.{◌≡◌, ◌≤◌, ℕ, List, option_map};
-ghost use Rattle.dump_graph.specs.Texts.{AreSpelled};
-ghost use Rattle.engine_core.specs.Kept.{state_of};
+ghost use Rattle.dump_file.specs.Texts.{AreSpelled};
+ghost use Rattle.generated_run.specs.EngineCoreKept.{state_of};
 ghost use Rattle.inverda_run.specs.Calls.{DumpsTo, Finishes, WritesBut, WritesTo};
 
 use crate::end::End;
 use crate::last::put_last;
 use crate::limit::LIMIT;
 use dump_file::dump;
-use engine_core::Engine;
+use generated_run::Engine;
 use outside::{Failed, Files, Sink};
 use std::alloc::Global;
 

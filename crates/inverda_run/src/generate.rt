@@ -1,16 +1,15 @@
 //! The generated script in place of the source's.
 ghost use Rattle.std.specs.Prelude.{◌≡◌, ◌≤◌, ℕ, List, option_map, IfOk, OnOk};
-ghost use Rattle.dump_graph.specs.Texts.{AreSpelled};
-ghost use Rattle.engine_sessions.specs.Standing.{kept_in, standing_of};
+ghost use Rattle.dump_file.specs.Texts.{AreSpelled};
+ghost use Rattle.generated_run.specs.Standing.{kept_in, standing_of};
 ghost use Rattle.script_generator.specs.Summary.{summary_lines};
-ghost use Rattle.script_run.specs.Kept.{Keeps};
+ghost use Rattle.generated_run.specs.Kept.{Keeps};
 ghost use Rattle.generated_run.specs.Summed.{generated_end, generated_summary};
 ghost use Rattle.inverda_run.specs.Calls.{EndStays, EndsGenerated, WritesTo};
 
 use crate::end::End;
 use crate::finish::finish;
-use engine_sessions::Sessions;
-use generated_run::run_generated;
+use generated_run::{Sessions, run_generated};
 use outside::{Failed, Files, Sink, write_all};
 use par_base::{Memory, Text};
 use script_generator::summary_text;

@@ -3,7 +3,7 @@ ghost use Rattle.inverda_run.specs.Laws.{BeginsAgain, LoadsTheDumped, OneDump, O
 
 use db_state::states_are_stored_once;
 use dump_file::dumps_are_of_one_database;
-use engine_sessions::full_statements_need_the_data_alone;
+use generated_run::full_statements_need_the_data_alone;
 use op_any::AnyOp;
 
 /// A run that loads what another one dumped goes on in the state in which that one ended, where both

@@ -3,9 +3,9 @@ ghost use Rattle.std.specs.Prelude.{◌≡◌, ◌≢◌, ◌⊎◌, ◌≤◌, 
 ghost use Rattle.std.specs.Io.KnownBytes.{Appends};
 ghost use Rattle.bidel_script.specs.Script.{Fault as Misspelled, Long, Open};
 ghost use Rattle.outside.specs.Causes.{Rose};
-ghost use Rattle.engine_core.specs.Texts.{line};
-ghost use Rattle.script_run.specs.Moves.{MovesUnseen};
-ghost use Rattle.script_run.specs.Statuses.{AnswersScript, BegunTaken, FirstReplies, Passed, Stopped, StoppedOfAll, Unread};
+ghost use Rattle.generated_run.specs.EngineCoreTexts.{line};
+ghost use Rattle.generated_run.specs.Moves.{MovesUnseen};
+ghost use Rattle.generated_run.specs.Statuses.{AnswersScript, BegunTaken, FirstReplies, Passed, Stopped, StoppedOfAll, Unread};
 ghost use Rattle.inverda_run.specs.Statuses.{Generates, LongDump, LongLoad, Misses, OfStart, Ran, RefusedDump, RunsSource, SayNothing, StaysBut, UnreadLoad, UnwrittenDump};
 ghost use Rattle.inverda_run.specs.Decided.{Begun, Told', ToldGenerated, ToldLonger, ToldNoDump, ToldWhole};
 ghost use Rattle.inverda_run.specs.Calls.{EndStays, Ends, Untouched, ended as ended_lem};
@@ -17,11 +17,10 @@ use crate::finish::finish;
 use crate::generate::generate;
 use crate::last::put_last;
 use crate::laws::two_runs_are_one;
-use engine_sessions::Sessions;
+use generated_run::{End as ScriptEnd, Sessions, run_source};
 use outside::{Files, Sink, Source};
 use par_base::{Fault, Limits};
 use run_words::{read_words, words_say_one_thing};
-use script_run::{End as ScriptEnd, run_source};
 use std::alloc::Global;
 
 // How a run ends that has carried out its script, but for a dump.

@@ -7,3 +7,5 @@ pub mod BuiltOn
 pub mod Laws
 pub mod Refusals
 pub mod inner
+pub use Rattle.op_kinds.specs.Operators
+pub use Rattle.op_kinds.specs.Codes

@@ -13,10 +13,8 @@ use crate::checks::{
 };
 use crate::edges::{edge_of, from_one_to, from_one_to_both};
 use expr_lang::ExprText;
-use op_cond_join::JoinOn;
-use op_fk_decompose::DecomposeFk;
 use op_key_join::{DecomposePk, DecomposeSingle};
-use op_kinds::BuiltOp;
+use op_kinds::{BuiltOp, DecomposeFk, JoinOn};
 use op_law::Flip;
 use op_rows::Rowwise;
 use par_base::{Fault, List, Memory, Name, Refusal};

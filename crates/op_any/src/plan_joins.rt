@@ -16,11 +16,8 @@ use crate::checks::{
 };
 use crate::edges::{edge_of, from_two_to_one, two_names};
 use expr_lang::{Expr, ExprText};
-use op_cond_join::JoinOn;
-use op_fk_decompose::DecomposeFk;
-use op_fk_join::JoinFk;
 use op_key_join::{DecomposePk, JoinPk};
-use op_kinds::BuiltOp;
+use op_kinds::{BuiltOp, DecomposeFk, JoinFk, JoinOn};
 use op_law::Flip;
 use op_rows::{FlipRow, Rowwise};
 use par_base::{Fault, List, Memory, Name, Refusal, copy_names};

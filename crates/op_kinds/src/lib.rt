@@ -11,3 +11,6 @@ mod copies;
 
 pub use any_op::{AnyOp, BuiltOp};
 pub use copies::copy_text;
+pub use op_cond_join::JoinOn;
+pub use op_fk_decompose::DecomposeFk;
+pub use op_fk_join::JoinFk;

@@ -12,7 +12,7 @@ use Rattle.bidel_script.proofs.TokenLaws.{all_are_tokens}
 use Rattle.bidel_script.proofs.ScriptLaws.{at_within}
 use Rattle.bidel_script.proofs.ComesLaws.{something_comes}
 use Rattle.bidel_script.proofs.CutLaws.{faults_stay, fronts_come_first}
-use Rattle.engine_core.specs.Texts.{line}
+use Rattle.engine_sessions.specs.EngineCoreTexts.{line}
 use Rattle.engine_sessions.specs.Standing.{Standing}
 use Rattle.script_run.specs.Output.{out}
 use Rattle.script_run.specs.Statuses.{limit, Taken, whole, failed, above, Stopped, Unread, Passed, StoppedOfAll, FirstReplies, fault_line}

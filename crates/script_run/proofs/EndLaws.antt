@@ -21,7 +21,7 @@ use Rattle.bidel_script.specs.Calls.{outcome_of}
 use Rattle.bidel_script.proofs.TokenLaws.{all_are_tokens, wants_none}
 use Rattle.bidel_script.proofs.ScriptLaws.{over_is_script, at_within, ended_not_open, open_not_over}
 use Rattle.bidel_script.proofs.UniqueLaws.{one_comes}
-use Rattle.engine_core.specs.Texts.{line}
+use Rattle.engine_sessions.specs.EngineCoreTexts.{line}
 use Rattle.script_run.specs.Output.{out, state_after}
 use Rattle.script_run.specs.Statuses as statuses
 use Rattle.script_run.specs.Statuses.{limit, Taken, whole, failed, above, last_line, WritesScript, Had, PutsFront, AnswersScript, Begun, BegunTaken}

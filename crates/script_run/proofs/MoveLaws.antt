@@ -6,12 +6,12 @@ use Rattle.layout_rules.specs.Closed.{closing}
 use Rattle.statements.specs.Views.{StatementView, CreateVersion, DropVersion, Insert, Import, Update, Delete, Select, Materialize, Step, ShowLayout, Use, Session, Advise}
 use Rattle.version_graph.specs.Edges.{set_named}
 use Rattle.par_base.specs.Checked.{Checked, ◌then◌}
-use Rattle.engine_state.specs.AnyDatabase.{AnyDatabase}
-use Rattle.engine_state.specs.SharedChecks.{known_version}
-use Rattle.engine_state.specs.declared.reply.Reply.{Reply}
-use Rattle.engine_state.specs.declared.reply.Reply.TheVariants.{Moved, Done as ok}
-use Rattle.engine_layouts.specs.Laid.{Laid, moved_count}
-use Rattle.engine_core.specs.Act.{acted_data, is_built, tells_layout, with_data}
+use Rattle.engine_sessions.specs.AnyDatabase.{AnyDatabase}
+use Rattle.engine_sessions.specs.SharedChecks.{known_version}
+use Rattle.engine_sessions.specs.Reply.{Reply}
+use Rattle.engine_sessions.specs.Reply.TheVariants.{Moved, Done as ok}
+use Rattle.engine_sessions.specs.Laid.{Laid, moved_count}
+use Rattle.engine_sessions.specs.EngineCoreAct.{acted_data, is_built, tells_layout, with_data}
 use Rattle.engine_sessions.specs.declared.answer.Answer.{Answer}
 use Rattle.engine_sessions.specs.declared.answer.Answer.TheVariants.{Plain}
 use Rattle.engine_sessions.specs.Standing.{Standing, used_by, with_use}

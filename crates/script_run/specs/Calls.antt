@@ -15,7 +15,7 @@ use Rattle.bidel_script.specs.declared.front.Stop.{Stop}
 use Rattle.bidel_script.specs.declared.front.Stop.TheVariants as stop
 use Rattle.engine_sessions.specs.Standing.{Standing}
 use Rattle.engine_sessions.specs.Act.{act}
-use Rattle.engine_core.specs.Texts.{line}
+use Rattle.engine_sessions.specs.EngineCoreTexts.{line}
 use Rattle.script_run.specs.Output.{text_of, next_state, out, state_after}
 use Rattle.script_run.specs.Statuses.{Done, Stopped, Unread, Passed, PutsFront, WritesScript, Begun, BegunTaken, last_line, limit}
 use Rattle.script_run.specs.declared.turn.Turn.{Turn}

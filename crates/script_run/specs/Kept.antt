@@ -1,6 +1,6 @@
 -- What running statements keeps of a database.
 use Rattle.std.specs.Prelude.{◌≡◌}
-use Rattle.op_kinds.specs.Operators.{AnyView}
+use Rattle.dump_graph.specs.Operators.{AnyView}
 use Rattle.db_state.specs.declared.parts.Parts.{Parts}
 use Rattle.dump_graph.specs.Texts.{AreSpelled}
 

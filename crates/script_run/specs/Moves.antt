@@ -3,7 +3,7 @@ use Rattle.std.specs.Prelude.{◌≡◌, ℕ, Bool, true, false, not, cond, List
 use Rattle.std.specs.Io.KnownBytes.{Consumes, Appends}
 use Rattle.statements.specs.Views.{StatementView, Materialize}
 use Rattle.bidel_script.specs.Script.{IsScript}
-use Rattle.engine_core.specs.Act.{tells_layout}
+use Rattle.engine_sessions.specs.EngineCoreAct.{tells_layout}
 use Rattle.engine_sessions.specs.Standing.{Standing}
 use Rattle.script_run.specs.Output.{replies, joined}
 

@@ -5,7 +5,7 @@ ghost use Rattle.expr_lang.specs.Operations.{text_limit};
 ghost use Rattle.statements.specs.Views.{statement_view};
 ghost use Rattle.statements.specs.Texts.{TextsWithin};
 ghost use Rattle.bidel_script.specs.Tails.{Fits};
-ghost use Rattle.engine_core.specs.Spoken.{TextsCome};
+ghost use Rattle.engine_sessions.specs.Spoken.{TextsCome};
 ghost use Rattle.engine_sessions.specs.Standing.{kept_in, standing_of};
 ghost use Rattle.engine_sessions.specs.Act.{act};
 ghost use Rattle.script_run.specs.Output.{next_state, text_of};
@@ -14,8 +14,7 @@ ghost use Rattle.script_run.specs.Calls.{TurnStays, Turns};
 
 use bidel_lex::Token;
 use bidel_script::{Found, Stop, Tail, find_front};
-use engine_core::refusal_text;
-use engine_sessions::{Sessions, answer_text};
+use engine_sessions::{Sessions, answer_text, refusal_text};
 use expr_lang::Steps;
 use outside::{Failed, Sink, write_all};
 use par_base::{Fault, Memory, Text};

@@ -13,7 +13,7 @@ use Rattle.version_graph.specs.Edges.{Drawn, IsGraph, numbers}
 use Rattle.version_graph.specs.Finished.{IsFinished}
 use Rattle.version_graph.specs.declared.parts.Placed.{Placed}
 use Rattle.op_law.specs.declared.side.Aux.{Aux}
-use Rattle.op_kinds.specs.Operators.{AnyView}
+use Rattle.op_any.specs.Operators.{AnyView}
 use Rattle.version_model.specs.declared.numbered.Numbered.{Numbered}
 use Rattle.db_state.specs.Fields.{numbers_in}
 use Rattle.db_state.specs.declared.parts.Parts.{Parts}

@@ -5,7 +5,7 @@ use Rattle.par_base.specs.declared.fault.Fault.{Fault}
 use Rattle.par_base.specs.declared.fault.Fault.TheVariants.{Refused, Memory}
 use Rattle.version_graph.specs.Edges.{Drawn}
 use Rattle.version_graph.specs.Placing.{CanName, with_version}
-use Rattle.op_kinds.specs.Operators.{AnyView}
+use Rattle.op_any.specs.Operators.{AnyView}
 use Rattle.dump_values.specs.declared.lines.VersionLine.{VersionLine}
 use Rattle.dump_graph.specs.declared.refused.DumpRefused.{DumpRefused}
 

@@ -7,7 +7,7 @@ use Rattle.version_graph.specs.Edges.{Drawn}
 use Rattle.version_graph.specs.Placing.{CanPlace, with_edge}
 use Rattle.version_graph.specs.declared.parts.Edge.{Edge}
 use Rattle.version_graph.specs.declared.parts.Placed.{Placed}
-use Rattle.op_kinds.specs.Operators.{AnyView}
+use Rattle.op_any.specs.Operators.{AnyView}
 use Rattle.dump_values.specs.declared.lines.OperatorLine.{OperatorLine}
 use Rattle.dump_graph.specs.Told.{operator_line}
 use Rattle.dump_graph.specs.Texts.{IsFromText}

@@ -6,7 +6,7 @@ use Rattle.version_graph.specs.Sets.{Each}
 use Rattle.version_graph.specs.Edges.{heading_of, is_in}
 use Rattle.version_graph.specs.declared.parts.Placed.{Placed}
 use Rattle.op_law.specs.declared.side.Aux.{Aux}
-use Rattle.op_kinds.specs.Operators.{AnyView}
+use Rattle.engine_state.specs.Operators.{AnyView}
 use Rattle.version_model.specs.declared.numbered.Numbered.{Numbered}
 use Rattle.db_state.specs.Fields.{auxes_at}
 use Rattle.engine_state.specs.declared.reply.StoredOperator.{StoredOperator}

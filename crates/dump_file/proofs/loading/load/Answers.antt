@@ -1,5 +1,5 @@
 use Rattle.std.proofs.lemmas.Result.{err_from_is_err_and}
-use Rattle.op_kinds.specs.Operators.{any_meaning}
+use Rattle.op_any.specs.Operators.{any_meaning}
 use Rattle.db_state.specs.Fields.{IsDatabase}
 use Rattle.dump_values.specs.Dumps.{dump_seen}
 use Rattle.dump_file.proofs.LoadLemmas.{is_built, none_read, not_loaded}

@@ -1,6 +1,6 @@
 use Rattle.std.proofs.Common.{drop, take}
 use Rattle.version_graph.specs.Edges.{Drawn}
-use Rattle.op_kinds.specs.Operators.{AnyView}
+use Rattle.op_any.specs.Operators.{AnyView}
 use Rattle.dump_graph.specs.inner.Placing.{ArePlaced}
 use Rattle.dump_graph.proofs.placing.place_lines.Given as goal
 

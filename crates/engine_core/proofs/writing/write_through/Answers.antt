@@ -1,6 +1,6 @@
 use Rattle.std.proofs.Common.{Ok, Err, subst, ◌∙◌}
 use Rattle.std.proofs.lemmas.Result.{err_from_is_err_and}
-use Rattle.op_kinds.specs.Operators.{any_meaning}
+use Rattle.op_any.specs.Operators.{any_meaning}
 use Rattle.version_model.specs.Databases.{Writes}
 use Rattle.db_state.specs.Fields.{database_for}
 use Rattle.engine_state.specs.AnyDatabase.{AnyDatabase}

@@ -1,4 +1,4 @@
-use Rattle.op_kinds.specs.Operators.{any_laws, any_meaning}
+use Rattle.op_any.specs.Operators.{any_laws, any_meaning}
 use Rattle.version_model.proofs.WriteLaws.{write_is_ordinary}
 use Rattle.engine_statements.proofs.laws.each_version_is_ordinary.Goals as goal
 

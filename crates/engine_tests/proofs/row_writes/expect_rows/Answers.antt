@@ -3,7 +3,7 @@ use Rattle.version_graph.specs.Sets.{In}
 use Rattle.version_graph.specs.Tables.{table_numbers}
 use Rattle.version_graph.specs.Edges.{Drawn, made}
 use Rattle.version_graph.proofs.SetLaws.{in_of_test}
-use Rattle.op_kinds.specs.Operators.{AnyView}
+use Rattle.op_any.specs.Operators.{AnyView}
 use Rattle.engine_tests.proofs.row_writes.expect_rows.Goals as goal
 
 pub read_table-requires : goal.read_table-requires

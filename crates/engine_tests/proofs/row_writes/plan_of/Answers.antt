@@ -1,4 +1,4 @@
-use Rattle.op_kinds.specs.Operators.{any_meaning}
+use Rattle.op_any.specs.Operators.{any_meaning}
 use Rattle.write_propagation.specs.Plans.{rows_written}
 use Rattle.write_propagation.specs.declared.plans.RowWrite.{RowWrite}
 use Rattle.write_propagation.proofs.PlanLaws.{may_commit}

@@ -4,7 +4,7 @@ use Rattle.std.proofs.lemmas.List.{length-map}
 use Rattle.std.proofs.lemmas.Result.{err_from_is_err_and}
 use Rattle.statements.specs.Views.{op_view}
 use Rattle.id_memory.specs.States.{CounterState}
-use Rattle.op_kinds.specs.Operators.{any_meaning}
+use Rattle.op_any.specs.Operators.{any_meaning}
 use Rattle.db_state.specs.Fields.{database_for}
 use Rattle.engine_versions.specs.Plans.{IsPlanned}
 use Rattle.engine_versions.proofs.CreateLemmas.{edges_fail}

@@ -1,5 +1,5 @@
 use Rattle.std.proofs.Common.{◌-◌, suc, length}
-use Rattle.engine_sessions.specs.Standing.{kept_in, standing_of}
+use Rattle.script_run.specs.Standing.{kept_in, standing_of}
 use Rattle.script_generator.specs.Generated.{generated_script}
 use Rattle.script_run.specs.Kept.{Keeps}
 use Rattle.generated_run.proofs.RunLemmas.{SoFar}

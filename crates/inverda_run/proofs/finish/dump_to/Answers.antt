@@ -1,5 +1,5 @@
 use Rattle.std.proofs.Common.{◌∙◌, refl, inl, inr}
-use Rattle.engine_core.specs.Kept.{state_of}
+use Rattle.generated_run.specs.EngineCoreKept.{state_of}
 use Rattle.inverda_run.specs.declared.end.End.TheVariants as end
 use Rattle.inverda_run.proofs.FinishLemmas.{dump_text, long_dumped, writes_but}
 use Rattle.inverda_run.proofs.finish.dump_to.Goals as goal

@@ -1,8 +1,8 @@
 use Rattle.std.proofs.Common.{ap, ◌∙◌}
 use Rattle.db_state.specs.declared.parts.Parts.{Parts}
-use Rattle.op_kinds.specs.Operators.{AnyView}
-use Rattle.engine_core.specs.Kept.{state_of}
-use Rattle.engine_sessions.specs.Standing.{standing_of}
+use Rattle.op_any.specs.Operators.{AnyView}
+use Rattle.generated_run.specs.EngineCoreKept.{state_of}
+use Rattle.generated_run.specs.Standing.{standing_of}
 use Rattle.inverda_run.proofs.FinishLemmas.{finish_stays}
 use Rattle.inverda_run.proofs.GenerateLemmas.{front_put, summary_put}
 use Rattle.inverda_run.proofs.RunLemmas.{stays_from}

@@ -1,8 +1,8 @@
 use Rattle.std.proofs.Common.{map, string_bytes, sym, subst, ◌∙◌, inl}
-use Rattle.op_kinds.specs.Operators.{AnyView}
+use Rattle.op_any.specs.Operators.{AnyView}
 use Rattle.db_state.specs.declared.parts.Parts.{Parts}
-use Rattle.engine_core.specs.Kept.{state_of}
-use Rattle.engine_sessions.specs.Standing.{Standing, standing_of}
+use Rattle.generated_run.specs.EngineCoreKept.{state_of}
+use Rattle.generated_run.specs.Standing.{Standing, standing_of}
 use Rattle.run_words.specs.Calls.{asked_of}
 use Rattle.inverda_run.specs.Starts.{StartsBy}
 use Rattle.inverda_run.specs.Statuses.{Starts}

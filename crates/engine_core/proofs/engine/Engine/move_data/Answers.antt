@@ -1,6 +1,6 @@
 use Rattle.std.proofs.Common.{Err, subst}
 use Rattle.std.proofs.lemmas.Result.{err_from_is_err_and}
-use Rattle.op_kinds.specs.Operators.{AnyView}
+use Rattle.op_any.specs.Operators.{AnyView}
 use Rattle.db_state.specs.declared.parts.Parts.{Parts}
 use Rattle.engine_layouts.specs.Laid.{Materializes, laid_of}
 use Rattle.engine_core.proofs.LaidLemmas.{move_refused}

@@ -5,7 +5,7 @@ use Rattle.par_base.specs.declared.refusal.Refusal.TheVariants.{IdsSpent}
 use Rattle.op_law.specs.Calls.{first_refused}
 use Rattle.op_any.specs.BuiltOn.{AreBuiltOn}
 use Rattle.id_memory.specs.States.{CounterState}
-use Rattle.op_kinds.specs.Operators.{AnyView, any_meaning}
+use Rattle.op_any.specs.Operators.{AnyView, any_meaning}
 use Rattle.db_state.specs.Fields.{database_for, state_for}
 use Rattle.db_state.specs.declared.parts.Parts.{Parts}
 use Rattle.version_model.specs.Writes.{MayWrite}

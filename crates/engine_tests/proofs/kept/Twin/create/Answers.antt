@@ -4,7 +4,7 @@ use Rattle.std.proofs.lemmas.Result.{err_from_is_err_and}
 use Rattle.statements.specs.Views.{op_view}
 use Rattle.id_memory.specs.States.{CounterState}
 use Rattle.par_base.specs.Checked.{Gives}
-use Rattle.op_kinds.specs.Operators.{any_meaning}
+use Rattle.op_any.specs.Operators.{any_meaning}
 use Rattle.version_model.specs.Databases.{Evolves}
 use Rattle.version_model.specs.Kept.{database_of}
 use Rattle.engine_state.specs.AnyDatabase.{AnyDatabase}

@@ -2,7 +2,7 @@ use Rattle.std.proofs.Common.{◌≡◌, ◌≤◌, ℕ, refl, sym, ap, subst, �
 use Rattle.id_memory.specs.States.{CounterState}
 use Rattle.row_store.specs.Changes.{AreOld}
 use Rattle.op_law.specs.Calls.{first_refused}
-use Rattle.op_kinds.specs.Operators.{any_meaning}
+use Rattle.op_any.specs.Operators.{any_meaning}
 use Rattle.row_changes.specs.Changed.{changed}
 use Rattle.version_model.specs.Writes.{MayWrite}
 use Rattle.db_state.specs.Fields.{state_for}

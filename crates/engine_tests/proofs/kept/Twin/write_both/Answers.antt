@@ -1,6 +1,6 @@
 use Rattle.std.proofs.Common.{sym, ◌∙◌}
 use Rattle.std.proofs.lemmas.Result.{err_from_is_err_and}
-use Rattle.op_kinds.specs.Operators.{any_meaning}
+use Rattle.op_any.specs.Operators.{any_meaning}
 use Rattle.write_propagation.specs.Plans.{rows_written}
 use Rattle.write_propagation.proofs.PlanLaws.{may_commit}
 use Rattle.engine_tests.specs.Twins.{moved_state}
