@@ -21,5 +21,6 @@ mod place;
 
 pub use entry::{Entry, Probe};
 pub use entry_items::EntryItems;
+pub use expr_lang::Steps;
 pub use laws::entries_are_the_list;
 pub use pages::Pages;

@@ -5,8 +5,7 @@ ghost use Rattle.row_store.specs.LookUps.{WithinDigits};
 ghost use Rattle.row_store.specs.Rows.{RiseFrom, row_of};
 ghost use Rattle.row_store.specs.inner.Passes.{PutsAt};
 
-use expr_lang::Steps;
-use ordered_pages::{Entry, Pages, Probe};
+use ordered_pages::{Entry, Pages, Probe, Steps};
 use par_base::Row;
 use std::cmp::Ordering;
 use std::marker::Model;
