@@ -12,7 +12,7 @@ use Rattle.version_graph.specs.Edges.{Drawn}
 use Rattle.par_base.specs.Checked.{Checked, Gives}
 use Rattle.op_any.specs.Operators.{AnyView, any_meaning}
 use Rattle.version_model.specs.Databases.{Writes}
-use Rattle.version_model.specs.Kept.{Kept, database_of}
+use Rattle.plain_database.specs.Kept.{Kept, database_of}
 use Rattle.version_model.specs.Writes.{write}
 use Rattle.version_model.specs.declared.write.Written.{Written}
 use Rattle.db_state.specs.Fields.{database_for}

@@ -9,7 +9,7 @@ use Rattle.version_graph.specs.Sets.{In}
 use Rattle.version_graph.specs.Edges.{numbers}
 use Rattle.op_law.specs.Calls.{first_refused}
 use Rattle.op_any.specs.Operators.{any_meaning}
-use Rattle.version_model.specs.Kept.{database_of}
+use Rattle.plain_database.specs.Kept.{database_of}
 use Rattle.version_model.specs.Writes.{MayWrite}
 use Rattle.version_model.specs.Databases.{Writes}
 use Rattle.version_model.specs.declared.write.Written.{Written}

@@ -18,10 +18,10 @@ use layout_rules::is_valid;
 use migration::{adopt_flip, flipped, prepare_flip};
 use op_any::AnyOp;
 use par_base::{Fault, Limits, Memory, Name, Refusal, Target};
+use plain_database::PlainDatabase;
 use statements::OpText;
 use std::alloc::Global;
 use std::sync::ledger::Ledger;
-use version_model::PlainDatabase;
 
 /// A database twice: with a whole table for each table version, and under a layout.
 #[derive(Drop)]

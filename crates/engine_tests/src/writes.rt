@@ -3,7 +3,7 @@ ghost use Rattle.std.specs.Prelude.{◌≡◌, ◌≤◌, IfOk};
 ghost use Rattle.row_store.specs.Changes.{AreOld};
 ghost use Rattle.op_law.specs.Calls.{first_refused};
 ghost use Rattle.row_changes.specs.Changed.{changed};
-ghost use Rattle.version_model.specs.Kept.{state_of};
+ghost use Rattle.plain_database.specs.Kept.{state_of};
 ghost use Rattle.engine_statements.specs.Calls.{TakesWrite};
 ghost use Rattle.engine_tests.specs.Twins.{IsTakenTwice, IsTwin, WritesMoved, WritesPlan};
 
@@ -14,11 +14,12 @@ use expr_lang::Steps;
 use id_memory::IdCounter;
 use op_any::AnyOp;
 use par_base::{Fault, IdsSpent, Memory, Refusal};
+use plain_database::PlainDatabase;
 use row_changes::changed_copy;
 use row_store::{Changes, Table};
 use std::alloc::Global;
 use std::sync::ledger::Ledger;
-use version_model::{PlainDatabase, Written};
+use version_model::Written;
 use write_propagation::{RowWrite, commit, plan};
 
 /// The counter at a later identifier, where that isn't above the first one that is refused.

@@ -15,7 +15,6 @@ pub mod BoundLaws
 pub mod CarryLaws
 pub mod AscendingLaws
 pub mod MakingLaws
-mod DatabaseLemmas
 mod StillLemmas
 pub mod EvolvedLaws
 pub mod LiveLaws

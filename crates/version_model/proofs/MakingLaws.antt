@@ -1,11 +1,9 @@
 -- New operators are made one after the other.
 use Rattle.std.specs.Prelude.{slice_get}
 use Rattle.std.proofs.Common.{◌≡◌, ℕ, zero, suc, ◌+◌, ◌<◌, ◌≤◌, ◌==◌, ◌⊎◌, inl, inr, Bool, true, false, cond, List, [], ◌∷◌, ◌++◌, Option, Some, None, Ok, Err, length, drop, refl, sym, ap, ◌∙◌, subst, arith}
-use Rattle.std.proofs.Math.Path.{fun_ext}
 use Rattle.std.specs.Option.{option_map_or, IsSome}
 use Rattle.std.proofs.lemmas.Bool.{eq-eqb}
 use Rattle.std.proofs.lemmas.List.{append-nil, append_assoc}
-use mathlib.Core.List.{reverse}
 use Rattle.par_base.specs.declared.fault.Fault.{Fault}
 use Rattle.par_base.specs.declared.fault.Fault.TheVariants.{Refused, Memory as OutOfMemory}
 use Rattle.par_base.specs.declared.refusal.IdsSpent.{IdsSpent}
@@ -25,13 +23,12 @@ use Rattle.version_model.specs.States.{State}
 use Rattle.version_model.specs.Evolving.{with_link}
 use Rattle.version_model.specs.Kept.{latest_of, value_of, rows_at, pairs_at, rows_now, pairs_now, newer_rows, newer_pairs}
 use Rattle.version_model.specs.Calls.{before_state, made_state}
-use Rattle.version_model.specs.Making.{ascending, newer, state_at, with_links, HasMore, Has, Holds, IsKeptFor, WasMade, Makes, MakesAt, MayMake, MayMakeAt}
+use Rattle.version_model.specs.Making.{ascending, newer, with_links, HasMore, Has, WasMade, Makes, MakesAt, MayMake, MayMakeAt}
 use Rattle.version_model.specs.declared.numbered.Numbered.{Numbered}
 use Rattle.version_model.specs.declared.progress.Before.{Before}
 use Rattle.version_model.specs.declared.progress.Made.{Made}
 use Rattle.version_model.proofs.NumberedLaws.{either, looked, value_of_first}
 use Rattle.version_model.proofs.PutLaws.{AsMany}
-use Rattle.version_model.proofs.ProgressLaws.{state_is}
 use Rattle.version_model.proofs.CarryLaws.{same_refused}
 
 -- ---- what was put is there
@@ -217,7 +214,7 @@ module _ {O : Type 0} (meaning : O → Meaning) where
       let all : newer es first ≡ so_far.done = so_far.parted ∙ ap (λ (l : List (Link O)). so_far.done ++ l) none ∙ append-nil so_far.done in
       (subst (λ (s : State). s.next ≤ first_refused ids) end so_far.within, end, so_far.limit, subst (λ (l : List (Link O)). Each (WasMade made) l) (sym all) so_far.are_made)
 
--- ---- what is kept of it
+-- ---- one list in front of another
 
 -- the first of two values that is there
 pub value_over : {T : Type 0} (xs ys : List (Numbered T)) (n : ℕ) → value_of (xs ++ ys) n ≡ either (value_of xs n) (value_of ys n)
@@ -226,48 +223,3 @@ value_over {T} (x ∷ xs) ys n =
     let M : Bool → Type 0 = λ b. looked b x (either (value_of xs n) (value_of ys n)) ≡ either (looked b x (value_of xs n)) (value_of ys n) in
     let both : M (n == x.number) = elim (n == x.number) as (λ b. M b) [ true ↦ refl | false ↦ refl ] in
     value_of_first x (xs ++ ys) n ∙ ap (λ (o : Option T). looked (n == x.number) x o) (value_over xs ys n) ∙ both ∙ ap (λ (o : Option T). either o (value_of ys n)) (sym (value_of_first x xs n))
-
-either_old : {T : Type 0} (a b : Option T) → IsSome b → IsSome (either a b)
-either_old None b h = h
-either_old (Some x) b h = refl
-
-either_new : {T : Type 0} (a b : Option T) → IsSome a → IsSome (either a b)
-either_new None b h = let clash : false ≡ true = h in cc
-either_new (Some x) b h = refl
-
--- what is kept is there still, and so is what was made
-pub old_there : {T : Type 0} (newer old all : List (Numbered T)) → all ≡ reverse newer ++ old → Holds old all
-old_there {T} newer old all is n h = subst (λ (o : Option T). IsSome o) (sym (ap (λ (l : List (Numbered T)). value_of l n) is ∙ value_over (reverse newer) old n)) (either_old (latest_of newer n) (value_of old n) h)
-
-pub new_there : {T : Type 0} (newer old all : List (Numbered T)) → all ≡ reverse newer ++ old → (n : ℕ) → Has newer n → IsSome (value_of all n)
-new_there {T} newer old all is n h = subst (λ (o : Option T). IsSome o) (sym (ap (λ (l : List (Numbered T)). value_of l n) is ∙ value_over (reverse newer) old n)) (either_new (latest_of newer n) (value_of old n) h)
-
-rows_either : (a b : Option TableState) → option_map_or (λ (x : TableState). x.rows) (either a b) [] ≡ newer_rows a (option_map_or (λ (x : TableState). x.rows) b [])
-rows_either None b = refl
-rows_either (Some x) b = refl
-
-pairs_either : (a b : Option MemoryState) → option_map_or (λ (x : MemoryState). x.entries) (either a b) [] ≡ newer_pairs a (option_map_or (λ (x : MemoryState). x.entries) b [])
-pairs_either None b = refl
-pairs_either (Some x) b = refl
-
--- the newer values in front of the kept ones are the state that was made
-pub state_over : (b : Before) (made : Made) (tables all_tables : List (Numbered TableState)) (memories all_memories : List (Numbered MemoryState)) → b.tables.now ≡ tables → b.memories.now ≡ memories → all_tables ≡ reverse made.tables ++ tables → all_memories ≡ reverse made.memories ++ memories
-    → state_at all_tables all_memories made.ids.next ≡ made_state b made
-state_over b made tables all_tables memories all_memories held lent over above =
-    let t : rows_at all_tables ≡ rows_now b.tables.now made.tables = ap (λ (l : List (Numbered TableState)). rows_at l) over
-    ∙ fun_ext (λ n. ap (λ (o : Option TableState). option_map_or (λ (x : TableState). x.rows) o []) (value_over (reverse made.tables) tables n) ∙ rows_either (latest_of made.tables n) (value_of tables n))
-    ∙ ap (λ (l : List (Numbered TableState)). rows_now l made.tables) (sym held) in
-    let m : pairs_at all_memories ≡ pairs_now b.memories.now made.memories = ap (λ (l : List (Numbered MemoryState)). pairs_at l) above
-    ∙ fun_ext (λ n. ap (λ (o : Option MemoryState). option_map_or (λ (x : MemoryState). x.entries) o []) (value_over (reverse made.memories) memories n) ∙ pairs_either (latest_of made.memories n) (value_of memories n))
-    ∙ ap (λ (l : List (Numbered MemoryState)). pairs_now l made.memories) (sym lent) in
-    state_is _ _ _ _ _ _ t m refl
-
-pub start_is : (b : Before) (tables : List (Numbered TableState)) (memories : List (Numbered MemoryState)) (next : ℕ) → b.tables.now ≡ tables → b.memories.now ≡ memories → b.next ≡ next → before_state b ≡ state_at tables memories next
-start_is b tables memories next held lent first = state_is _ _ _ _ _ _ (ap (λ (l : List (Numbered TableState)). rows_at l) held) (ap (λ (l : List (Numbered MemoryState)). pairs_at l) lent) first
-
-pub kept_for : {O : Type 0} (made : Made) (tables all_tables : List (Numbered TableState)) (memories all_memories : List (Numbered MemoryState)) (fs : List (Link O)) → all_tables ≡ reverse made.tables ++ tables → all_memories ≡ reverse made.memories ++ memories → Each (WasMade made) fs → Each (IsKeptFor all_tables all_memories) fs
-kept_for {O} made tables all_tables memories all_memories fs over above are =
-    each_more (WasMade made) (IsKeptFor all_tables all_memories) (λ f is. (
-      each_more (Has made.tables) (λ t. IsSome (value_of all_tables t)) (new_there made.tables tables all_tables over) f.targets is.0,
-      new_there made.memories memories all_memories above f.number is.1,
-    )) fs are

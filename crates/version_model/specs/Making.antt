@@ -7,8 +7,7 @@ use Rattle.par_base.specs.declared.fault.Fault.TheVariants.{Refused, Memory as O
 use Rattle.par_base.specs.declared.refusal.IdsSpent.{IdsSpent}
 use Rattle.par_base.specs.declared.refusal.Refusal.{Refusal}
 use Rattle.par_base.specs.declared.refusal.Refusal.TheVariants.{IdsSpent as SpendsIds}
-use Rattle.id_memory.specs.States.{CounterState, MemoryState}
-use Rattle.row_store.specs.States.{TableState}
+use Rattle.id_memory.specs.States.{CounterState}
 use Rattle.version_graph.specs.Edges.{AreEdges}
 use Rattle.version_graph.specs.Sets.{In, Each}
 use Rattle.version_graph.specs.Forest.{Crossing, Link, crossing, forest}
@@ -19,7 +18,7 @@ use Rattle.op_law.specs.Calls.{first_refused, IsSpent}
 use Rattle.version_model.specs.States.{State, empty_at}
 use Rattle.version_model.specs.Steps.{pair_in}
 use Rattle.version_model.specs.Evolving.{with_link}
-use Rattle.version_model.specs.Kept.{HasSides, latest_of, rows_at, pairs_at, value_of}
+use Rattle.version_model.specs.Kept.{HasSides, latest_of}
 use Rattle.version_model.specs.Calls.{Crosses, before_state, made_state}
 use Rattle.version_model.specs.declared.numbered.Numbered.{Numbered}
 use Rattle.version_model.specs.declared.progress.Before.{Before}
@@ -85,28 +84,6 @@ Makes meaning b ids fs (Ok made) =
     (end.next ≤ first_refused ids) × (made_state b made ≡ end) × (made.ids.limit ≡ ids.limit) × Each (WasMade made) fs
 Makes meaning b ids fs (Err (Refused spent)) = IsSpent (with_links meaning (before_state b) fs).next ids ids spent
 Makes meaning b ids fs (Err (OutOfMemory memory)) = ⊤
-
--- ---- what is kept of it
-
--- the state of what is kept
-abbrev pub state_at : List (Numbered TableState) → List (Numbered MemoryState) → ℕ → State
-state_at tables memories next = record { tables = rows_at tables; memory = pairs_at memories; next = next }
-
--- what is kept for an operator, a table for each target and a memory
-abbrev pub IsKeptFor : {O : Type 0} → List (Numbered TableState) → List (Numbered MemoryState) → Link O → Type 0
-IsKeptFor tables memories f = Each (λ t. IsSome (value_of tables t)) f.targets × IsSome (value_of memories f.number)
-
--- what was kept under a number is, or what is newer
-abbrev pub Holds : {T : Type 0} → List (Numbered T) → List (Numbered T) → Type 0
-Holds old new = (n : ℕ) → IsSome (value_of old n) → IsSome (value_of new n)
-
--- the operators were made and are kept, or one needs an identifier that the counter doesn't give
-abbrev pub Keeps : {O : Type 0} → (O → Meaning) → State → CounterState → List (Link O) → Result (Unit {0}) (Fault IdsSpent) → State → CounterState → Type 0
-Keeps meaning s ids fs (Ok done) new now =
-    let end = with_links meaning s fs in
-    (end.next ≤ first_refused ids) × (new ≡ end) × (now.limit ≡ ids.limit)
-Keeps meaning s ids fs (Err (Refused spent)) new now = IsSpent (with_links meaning s fs).next ids now spent
-Keeps meaning s ids fs (Err (OutOfMemory memory)) new now = ⊤
 
 -- a spent counter as the refusal of a statement
 abbrev pub refusal_for : Fault IdsSpent → Fault Refusal

@@ -6,11 +6,10 @@
 //! operators' mappings (`specs/Writes.antt`); that an evolution makes the tables of its new
 //! operators from their sources and changes no other one (`specs/Evolving.antt`); that a drop takes
 //! the tables of the operators that go and changes no other one (`specs/Dropping.antt`); and that
-//! after each of these every operator relates its two sides (`specs/Sound.antt`). A `PlainDatabase`
-//! keeps a graph with such a state and carries out all three: each write and each evolution is
-//! made whole, or is refused for the cause that `specs/Databases.antt` names, or wants memory, and
-//! then nothing has changed; a drop takes no memory and isn't refused. It knows operators by their
-//! laws alone, and nothing of names in statements, of layouts or of replies.
+//! after each of these every operator relates its two sides (`specs/Sound.antt`). What the calls of a
+//! database answer, whatever it keeps, stands in `specs/Databases.antt`. The calls make the tables of
+//! a write and of an evolution from those that are lent to them, and keep none. The crate knows
+//! operators by their laws alone, and nothing of names in statements, of layouts or of replies.
 //!
 //! Lemmas that crates above may use stand in proofs/: `NumberedLaws`, `NowLaws`, `PutLaws`,
 //! `RunLaws`, `CrossingLaws`, `TreeLaws`, `WriteLaws`, `HeadingLaws`, `EvolveLaws`, `DropLaws`,
@@ -20,7 +19,6 @@
 
 mod carry;
 mod crossing;
-mod database;
 mod evolve;
 mod laws;
 mod live;
@@ -30,7 +28,6 @@ mod progress;
 mod write;
 
 pub use crossing::{Way, way_of};
-pub use database::PlainDatabase;
 pub use evolve::{as_refusal, make_newer};
 pub use laws::{
     drops_keep_the_state, evolutions_keep_the_state, writes_keep_the_state,

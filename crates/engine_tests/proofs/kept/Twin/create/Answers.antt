@@ -6,7 +6,7 @@ use Rattle.id_memory.specs.States.{CounterState}
 use Rattle.par_base.specs.Checked.{Gives}
 use Rattle.op_any.specs.Operators.{any_meaning}
 use Rattle.version_model.specs.Databases.{Evolves}
-use Rattle.version_model.specs.Kept.{database_of}
+use Rattle.plain_database.specs.Kept.{database_of}
 use Rattle.engine_state.specs.AnyDatabase.{AnyDatabase}
 use Rattle.engine_versions.specs.Evolve.{created}
 use Rattle.engine_versions.specs.Plans.{IsPlanned}

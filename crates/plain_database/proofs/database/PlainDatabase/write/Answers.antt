@@ -2,11 +2,11 @@ use Rattle.std.proofs.Common.{◌≡◌, ◌≤◌, Ok, Err, sym, subst}
 use Rattle.std.proofs.lemmas.Result.{err_from_is_err_and}
 use Rattle.op_law.specs.Calls.{first_refused}
 use Rattle.version_model.specs.Writes.{MayWrite}
-use Rattle.version_model.specs.Kept.{Kept, database_of, state_of}
+use Rattle.plain_database.specs.Kept.{Kept, database_of, state_of}
 use Rattle.version_model.specs.Databases.{Writes}
 use Rattle.version_model.specs.declared.progress.Before.{Before}
-use Rattle.version_model.proofs.DatabaseLemmas.{before_is, refused, written_kept, written_database}
-use Rattle.version_model.proofs.database.PlainDatabase.write.Goals as goal
+use Rattle.plain_database.proofs.DatabaseLemmas.{before_is, refused, written_kept, written_database}
+use Rattle.plain_database.proofs.database.PlainDatabase.write.Goals as goal
 
 pub returns-in_err-tables : goal.returns-in_err-tables
 returns-in_err-tables g c =

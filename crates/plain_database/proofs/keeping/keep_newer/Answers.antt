@@ -5,8 +5,8 @@ use Rattle.version_model.specs.States.{State}
 use Rattle.version_model.specs.Calls.{before_state}
 use Rattle.version_model.specs.Making.{newer, with_links}
 use Rattle.version_model.specs.declared.progress.Before.{Before}
-use Rattle.version_model.proofs.MakingLaws.{old_there, kept_for, start_is, state_over}
-use Rattle.version_model.proofs.evolve.keep_newer.Goals as goal
+use Rattle.plain_database.proofs.KeepingLemmas.{old_there, kept_for, start_is, state_over}
+use Rattle.plain_database.proofs.keeping.keep_newer.Goals as goal
 
 pub returns-clause-keeps : goal.returns-clause-keeps
 returns-clause-keeps g c =

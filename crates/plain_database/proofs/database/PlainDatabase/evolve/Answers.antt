@@ -1,10 +1,10 @@
 use Rattle.std.proofs.Common.{◌≡◌, ℕ, Ok, Err, ap, sym, subst}
 use Rattle.std.specs.Option.{option_copied}
-use Rattle.version_model.specs.Kept.{Kept, database_of}
+use Rattle.plain_database.specs.Kept.{Kept, database_of}
 use Rattle.version_model.specs.Databases.{Evolves, MayEvolveTo}
 use Rattle.version_model.specs.Making.{refusal_for}
-use Rattle.version_model.proofs.EvolvedLaws.{may_make_new, is_evolved, still_kept, evolution_refused, evolved_database, evolved_kept}
-use Rattle.version_model.proofs.database.PlainDatabase.evolve.Goals as goal
+use Rattle.plain_database.proofs.EvolvedLemmas.{may_make_new, is_evolved, still_kept, evolution_refused, evolved_database, evolved_kept}
+use Rattle.plain_database.proofs.database.PlainDatabase.evolve.Goals as goal
 
 pub keep_newer-made-requires : goal.keep_newer-made-requires
 keep_newer-made-requires g c =

@@ -5,16 +5,11 @@ ghost use Rattle.version_graph.specs.Sets.{In};
 ghost use Rattle.version_graph.specs.Tables.{table_numbers};
 ghost use Rattle.version_graph.specs.Edges.{numbers, made as made_lem, set_named};
 ghost use Rattle.op_law.specs.Calls.{first_refused};
-ghost use Rattle.version_model.specs.Kept.{database_of, state_of, IsKept};
 ghost use Rattle.version_model.specs.Writes.{MayWrite};
 ghost use Rattle.version_model.specs.Databases.{dropped_database, empty_database, Evolves, MayEvolveTo, Writes};
+ghost use Rattle.plain_database.specs.Kept.{database_of, state_of, IsKept};
 
-use crate::Numbered;
-use crate::evolve::{as_refusal, keep_newer};
-use crate::live::{keep_live_operators, keep_live_tables};
-use crate::numbered::{replace_all, value_of};
-use crate::progress::{Before, Made};
-use crate::write::{Written, write_rows};
+use crate::keeping::keep_newer;
 use expr_lang::Steps;
 use id_memory::{IdCounter, PairMemory};
 use op_law::Operator;
@@ -24,6 +19,10 @@ use std::alloc::Global;
 use std::marker::Model;
 use std::sync::ledger::Ledger;
 use version_graph::{Edge, Graph};
+use version_model::{
+    Before, Made, Numbered, Written, as_refusal, keep_live_operators, keep_live_tables,
+    replace_all, value_of, write_rows,
+};
 
 /// The versions of a database, with a whole table for each table version and a memory for each
 /// operator.
@@ -36,7 +35,7 @@ pub struct PlainDatabase<O: Operator> {
 }
 
 impl<O: Operator> Model for PlainDatabase<O> {
-    ghost use Rattle.version_model.specs.Kept.{Kept, IsKept};
+    ghost use Rattle.plain_database.specs.Kept.{Kept, IsKept};
 
     ghost Value = { Kept O };
 

@@ -21,7 +21,8 @@ use Rattle.op_law.specs.Calls.{first_refused, IsSpent}
 use Rattle.version_model.specs.States.{State}
 use Rattle.version_model.specs.Sound.{IsSound}
 use Rattle.version_model.specs.Writes.{write, MayWrite}
-use Rattle.version_model.specs.Kept.{Kept, Database, IsKept, database_of, state_of, value_of, latest_of, renewed, rows_at, pairs_at, rows_now, pairs_now, newer_rows, newer_pairs}
+use Rattle.version_model.specs.Kept.{Database, value_of, latest_of, renewed, rows_at, pairs_at, rows_now, pairs_now, newer_rows, newer_pairs}
+use Rattle.plain_database.specs.Kept.{Kept, IsKept, database_of, state_of}
 use Rattle.version_model.specs.Databases.{Writes}
 use Rattle.version_model.specs.Calls.{WritesRows, before_state, made_state}
 use Rattle.version_model.specs.declared.numbered.Numbered.{Numbered}

@@ -4,10 +4,11 @@ use Rattle.row_store.specs.States.{TableState}
 use Rattle.version_graph.specs.Tables.{table_numbers}
 use Rattle.version_graph.specs.Edges.{made}
 use Rattle.version_graph.proofs.SetLaws.{each_at}
-use Rattle.version_model.specs.Kept.{Kept, IsKept, value_of}
+use Rattle.version_model.specs.Kept.{value_of}
+use Rattle.plain_database.specs.Kept.{Kept, IsKept}
 use Rattle.version_model.specs.declared.numbered.Numbered.{Numbered}
-use Rattle.version_model.proofs.DatabaseLemmas.{lent_some}
-use Rattle.version_model.proofs.database.PlainDatabase.table.Goals as goal
+use Rattle.plain_database.proofs.DatabaseLemmas.{lent_some}
+use Rattle.plain_database.proofs.database.PlainDatabase.table.Goals as goal
 
 pub returns-clause-live : goal.returns-clause-live
 returns-clause-live g c lives =

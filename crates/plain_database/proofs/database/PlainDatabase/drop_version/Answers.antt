@@ -1,8 +1,8 @@
 use Rattle.std.proofs.Common.{◌≡◌, ap, ◌∙◌}
-use Rattle.version_model.specs.Kept.{Kept, database_of}
+use Rattle.plain_database.specs.Kept.{Kept, database_of}
 use Rattle.version_model.specs.Databases.{dropped_database}
-use Rattle.version_model.proofs.LiveLaws.{dropped_is, dropped_kept}
-use Rattle.version_model.proofs.database.PlainDatabase.drop_version.Goals as goal
+use Rattle.plain_database.proofs.DroppedLemmas.{dropped_is, dropped_kept}
+use Rattle.plain_database.proofs.database.PlainDatabase.drop_version.Goals as goal
 
 pub invariant_of-self : goal.invariant_of-self
 invariant_of-self g c =

@@ -1,0 +1,4 @@
+mod DatabaseLemmas
+mod KeepingLemmas
+mod EvolvedLemmas
+mod DroppedLemmas
