@@ -20,7 +20,7 @@ use Rattle.op_column.specs.CreateTable.{create_table}
 use Rattle.op_column.specs.DropTable.{drop_table}
 use Rattle.op_column.specs.Rename.{rename}
 use Rattle.op_split_merge.specs.Split.{split}
-use Rattle.op_split_merge.specs.Twins as twins
+use Rattle.op_split_merge.specs.Twins.{rest_of}
 use Rattle.op_key_join.specs.DecomposePk.{decompose_pk, row_of_neither}
 use Rattle.op_key_join.specs.DecomposeSingle.{decompose_single}
 use Rattle.op_key_join.specs.JoinPk.{join_pk}
@@ -98,16 +98,12 @@ add_second : (place : ℕ) (e : Term ℕ) → RowSound (flip_row (add_column pla
 add_second place e n s t source target = tt
 
 -- SPLIT keeps identifiers without values, and rows of its targets
-twin_kept : (n : ℕ) (b : Bool) (c : twins.Cell) → CellSound n c → CellSound n (twins.kept_if b c)
-twin_kept n true c sound = sound
-twin_kept n false c sound = tt
-
 split_first : (width : ℕ) (first : Term ℕ) (second : Option (Term ℕ)) → RowSound (split width first second)
-split_first width first None n s t source target = (twin_kept n _ (Some []) tt, (twin_kept n _ (Some []) tt, tt))
+split_first width first None n s t source target = (kept_sound n _ (Some []) tt, (kept_sound n _ (Some []) tt, tt))
 split_first width first (Some q) n s t source target =
-    (twin_kept n _ (Some []) tt, (twin_kept n _ (Some []) tt, (twin_kept n _ (Some []) tt, (twin_kept n _ (Some []) tt, (twin_kept n _ _ (nth_sound n 1 t target), tt)))))
+    (kept_sound n _ (Some []) tt, (kept_sound n _ (Some []) tt, (kept_sound n _ (Some []) tt, (kept_sound n _ (Some []) tt, (kept_sound n _ _ (nth_sound n 1 t target), tt)))))
 
-twin_rest : (n : ℕ) (c r s : twins.Cell) → CellSound n c → CellSound n (twins.rest_of c r s)
+twin_rest : (n : ℕ) (c r s : Cell) → CellSound n c → CellSound n (rest_of c r s)
 twin_rest n c (Some r) s sound = tt
 twin_rest n c None (Some s) sound = tt
 twin_rest n c None None sound = sound

@@ -4,10 +4,11 @@ ghost use Rattle.std.specs.Option.{option_copied};
 ghost use Rattle.op_key_join.specs.JoinPk.{joined as the_joined, row_alone as the_row_alone, sources_of as the_sources_of};
 ghost use Rattle.op_key_join.specs.inner.Calls.{MayStandAlone};
 
-use crate::cells::{has_row, is_wide, row_if};
+use crate::cells::is_wide;
 use op_law::copied;
 use op_rows::{Cells, one_cell, two_cells};
 use par_base::{List, Memory, Row, Value};
+use row_parts::{has_row, row_if};
 use std::alloc::Global;
 
 /// The row with these values more behind it.

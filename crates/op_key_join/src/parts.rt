@@ -4,12 +4,11 @@ ghost use Rattle.std.specs.Option.{option_copied};
 ghost use Rattle.op_key_join.specs.DecomposePk.{joined_parts as the_joined, null_row as the_null_row, row_of_neither as the_row_of_neither, row_of_parts as the_row_of_parts, shown_part as the_shown, shown_parts as the_shown_parts};
 ghost use Rattle.op_key_join.specs.inner.Calls.{MayBeOfNeither};
 
-use crate::cells::{has_row, row_if};
 use crate::null_rows::{has_null_row, is_null, row_or_nulls};
 use op_law::copied;
 use op_rows::{Cells, one_cell, two_cells};
 use par_base::{Memory, Row};
-use row_parts::{pick, row_of_both};
+use row_parts::{has_row, pick, row_if, row_of_both};
 use std::alloc::Global;
 
 /// The part of the source's row where it isn't null, or where a null row is to stand.

@@ -5,7 +5,7 @@ use Rattle.op_law.specs.Tables.{Heading}
 use Rattle.op_rows.specs.Cells.{Cells, nth_cell, CellWide, AreCellsOf}
 use Rattle.op_rows.specs.RowMeaning.{flip_row}
 use Rattle.op_rows.specs.RowCalls.{NearRows, SomeRows, MayRows, StoredRows, AdmitsRows}
-use Rattle.op_split_merge.specs.Twins.{Cell}
+use Rattle.row_parts.specs.RowCells.{Cell}
 use Rattle.op_split_merge.specs.Sides.{widths, targets_of, source_wide, target_wide}
 use Rattle.op_split_merge.specs.Split.{reads_within, SplitFits, split_read_target, split_read_source, split}
 use Rattle.op_split_merge.specs.inner.SplitLaws.{source_of, target_of, split_laws}

@@ -6,7 +6,7 @@ use Rattle.expr_lang.specs.Terms.{Term}
 use Rattle.par_base.specs.SameRows.{same_row}
 use Rattle.par_base.specs.inner.SameLaws.{row_equal}
 use Rattle.expr_lang.specs.Val.{holds_at}
-use Rattle.op_split_merge.specs.Twins.{Cell}
+use Rattle.row_parts.specs.RowCells.{Cell}
 use Rattle.op_split_merge.specs.Shown.{shown, split_ways, merge_ways, NewInBoth, NewInFirst, NewInSecond, NewInNeither, LostFirstStays, LostSecondStays, SeparatedStay, FirstComesIn, SecondComesIn, DeletedGoes, AgainstStays, OneTargetShows, NewRowsMerged, TwinsMerged, OneTwinWritten}
 
 -- rows that differ are told apart

@@ -2,7 +2,8 @@
 use Rattle.std.specs.Prelude.{ℕ, [], ◌∷◌, not, ◌&&◌, ◌||◌, Option, Some, None}
 use Rattle.expr_lang.specs.Terms.{Term}
 use Rattle.op_rows.specs.Cells.{Cells}
-use Rattle.op_split_merge.specs.Twins.{Cell, Test, is_there, meets, fails, are_separated, kept_if, noted_if, or_else}
+use Rattle.row_parts.specs.RowCells.{Cell, is_there, or_else, kept_if}
+use Rattle.op_split_merge.specs.Twins.{Test, meets, fails, are_separated, noted_if}
 
 -- lost: in the source and not in the target, and the source's row meets the target's condition
 abbrev pub lost : Test → Cell → Cell → Cell

@@ -5,7 +5,7 @@ use Rattle.expr_lang.specs.Terms.{Term}
 use Rattle.expr_lang.specs.Val.{holds_at}
 use Rattle.op_rows.specs.Cells.{Cells, nth_cell}
 use Rattle.op_rows.specs.RowMeaning.{RowMeaning, flip_row}
-use Rattle.op_split_merge.specs.Twins.{Cell}
+use Rattle.row_parts.specs.RowCells.{Cell}
 use Rattle.op_split_merge.specs.Split.{split}
 
 -- what an operator does at one identifier, whatever it computes

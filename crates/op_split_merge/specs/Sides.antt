@@ -4,7 +4,7 @@ use Rattle.std.proofs.Common.{subst}
 use Rattle.expr_lang.specs.Terms.{Term}
 use Rattle.op_law.specs.Tables.{Heading}
 use Rattle.op_rows.specs.Cells.{Cells, nth_cell, CellWide, AreCellsOf, CellSound, CellsSound}
-use Rattle.op_split_merge.specs.Twins.{Cell}
+use Rattle.row_parts.specs.RowCells.{Cell}
 
 -- how many columns each table has
 abbrev pub widths : List Heading → List ℕ

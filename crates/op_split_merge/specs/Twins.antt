@@ -1,20 +1,12 @@
 -- One identifier of SPLIT: its rows in the two targets, which are twins, and which target takes a new row of the source.
-use Rattle.std.specs.Prelude.{◌≡◌, List, [], Bool, true, false, not, ◌&&◌, ◌||◌, if◌then◌else◌, Option, Some, None}
+use Rattle.std.specs.Prelude.{◌≡◌, List, [], Bool, false, not, ◌&&◌, ◌||◌, if◌then◌else◌, Some, None}
 use Rattle.par_base.specs.declared.value.Value.{Value}
 use Rattle.par_base.specs.SameRows.{same_row}
-
--- what one table has at the identifier
-abbrev pub Cell : Type 0
-Cell = Option (List Value)
+use Rattle.row_parts.specs.RowCells.{Cell, is_there, or_else, kept_if}
 
 -- whether a row meets a condition
 abbrev pub Test : Type 0
 Test = List Value → Bool
-
--- the table has the identifier
-abbrev pub is_there : Cell → Bool
-is_there None = false
-is_there (Some row) = true
 
 -- there is a row, and it meets the condition
 abbrev pub meets : Test → Cell → Bool
@@ -40,19 +32,9 @@ is_lost test here there = not (is_there here) && meets test there
 abbrev pub wants : Test → Cell → Cell → Bool → Bool
 wants test here there new_meets = fails test here || (new_meets && not (is_lost test here there))
 
--- the row where so, else none
-abbrev pub kept_if : Bool → Cell → Cell
-kept_if true cell = cell
-kept_if false cell = None
-
 -- the identifier alone where so, without values
 abbrev pub noted_if : Bool → Cell
 noted_if test = kept_if test (Some [])
-
--- this row, or else the other
-abbrev pub or_else : Cell → Cell → Cell
-or_else (Some row) other = Some row
-or_else None other = other
 
 module _ (first second : Test) where
   abbrev pub wants_first : Cell → Cell → List Value → Bool

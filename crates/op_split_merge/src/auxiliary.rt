@@ -9,12 +9,13 @@ ghost use Rattle.op_split_merge.specs.Split.{test_of};
 ghost use Rattle.op_split_merge.specs.inner.Calls.{CanTest, CanTestBoth};
 
 use crate::Split;
-use crate::cells::{has_row, noted, row_if};
+use crate::cells::noted;
 use crate::twins::{fails, is_separated, meets};
 use expr_lang::{Expr, Steps};
 use op_law::copied;
 use op_rows::{Cells, one_cell};
 use par_base::{List, Memory, Row};
+use row_parts::{has_row, row_if};
 use std::alloc::Global;
 use std::sync::ledger::Ledger;
 

@@ -9,12 +9,13 @@ ghost use Rattle.op_split_merge.specs.Split.{test_of};
 ghost use Rattle.op_split_merge.specs.inner.Calls.{CanTestBoth};
 
 use crate::Split;
-use crate::cells::{or_other, row_if};
+use crate::cells::or_other;
 use crate::twins::{is_separated, meets, wants};
 use expr_lang::{Expr, Steps};
 use op_law::copied;
 use op_rows::{Cells, one_cell};
 use par_base::{List, Memory, Row};
+use row_parts::row_if;
 use std::alloc::Global;
 use std::sync::ledger::Ledger;
 

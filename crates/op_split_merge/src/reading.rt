@@ -8,12 +8,13 @@ ghost use Rattle.op_split_merge.specs.Split.{test_of, split_read_target};
 ghost use Rattle.op_split_merge.specs.inner.Calls.{CanTest, CanTestBoth};
 
 use crate::Split;
-use crate::cells::{has_row, or_other, row_if};
+use crate::cells::or_other;
 use crate::mapping::targets;
 use crate::twins::meets;
 use expr_lang::{Expr, Steps};
 use op_rows::{Cells, row_at};
 use par_base::{Memory, Row};
+use row_parts::{has_row, row_if};
 use std::alloc::Global;
 use std::sync::ledger::Ledger;
 

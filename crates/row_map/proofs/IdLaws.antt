@@ -11,8 +11,7 @@ use Rattle.std.specs.Cmp.{unsigned_tied}
 use Rattle.std.proofs.lemmas.Cmp.{ranked}
 use Rattle.std.proofs.lemmas.Map.Keys.{sorted_head, sorted_tail}
 use Rattle.std.proofs.lemmas.Bool.Decides.{nat_tests}
-use Rattle.op_law.specs.Identifiers.{put_id}
-use Rattle.op_rows.specs.inner.CellLemmas.{has_id, IdsRise}
+use Rattle.op_law.specs.Identifiers.{put_id, has_id, IdsRise}
 
 -- a choice by an order is a choice by two tests
 by_order : {X : Type 0} (below same : Bool) (a b c : X) → match_ordering (cond below Less (cond same Equal Greater)) a b c ≡ (if below then a else if same then b else c)

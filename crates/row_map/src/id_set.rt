@@ -1,7 +1,6 @@
 //! Sets of identifiers, in a search tree.
 ghost use Rattle.std.specs.Prelude.{◌≡◌, [], OnOk, OnErr, IfOk};
-ghost use Rattle.op_law.specs.Identifiers.{put_id};
-ghost use Rattle.op_rows.specs.inner.CellLemmas.{has_id, IdsRise};
+ghost use Rattle.op_law.specs.Identifiers.{put_id, has_id, IdsRise};
 
 use par_base::{List, Memory};
 use std::alloc::Global;

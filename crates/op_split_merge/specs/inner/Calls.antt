@@ -3,7 +3,7 @@ use Rattle.std.specs.Prelude.{◌≡◌, ℕ, length, true, Option, Some, None}
 use Rattle.expr_lang.specs.Terms.{Term}
 use Rattle.expr_lang.specs.Val.{fits_row}
 use Rattle.op_rows.specs.Cells.{Cells, nth_cell, CellWide}
-use Rattle.op_split_merge.specs.Twins.{Cell}
+use Rattle.row_parts.specs.RowCells.{Cell}
 use Rattle.op_split_merge.specs.Split.{reads_within, SplitRelated, split_aux_at_source, split_aux_at_target}
 
 -- the condition can be tested at the row, where there is one

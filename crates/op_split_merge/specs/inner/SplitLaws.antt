@@ -8,7 +8,8 @@ use Rattle.op_law.proofs.SoundTermLaws.{term_more}
 use Rattle.op_rows.specs.Cells.{Cells, nth_cell, nones, CellWide, AreCellsOf, CellSound}
 use Rattle.op_rows.specs.inner.CellLemmas.{nth_sound}
 use Rattle.op_rows.specs.RowMeaning.{RowHalf, RowLaws, flip_row}
-use Rattle.op_split_merge.specs.Twins.{Cell, first_to, second_to, AreTwinsOf, rest_of}
+use Rattle.row_parts.specs.RowCells.{Cell}
+use Rattle.op_split_merge.specs.Twins.{first_to, second_to, AreTwinsOf, rest_of}
 use Rattle.op_split_merge.specs.Sides.{targets_of, SourceCells, TargetCells, source_cells, target_cells, source_wide, target_wide, source_long, target_long, targets_sound}
 use Rattle.op_split_merge.specs.Auxiliary.{split_aux}
 use Rattle.op_split_merge.specs.Split.{test_of, ConditionSound, aux_count, SplitFits, SplitRelated, split_forward, split_aux_at_source, split_read_target, split}

@@ -3,7 +3,8 @@ use Rattle.std.specs.Prelude.{◌≡◌, List, Bool, true, false, not, ◌&&◌,
 use Rattle.std.proofs.Common.{sym, arith}
 use Rattle.par_base.specs.declared.value.Value.{Value}
 use Rattle.par_base.specs.inner.SameLaws.{row_equal}
-use Rattle.op_split_merge.specs.Twins.{Cell, Test, kept_if, or_else, first_to, second_to, AreTwinsOf, rest_of, source_to}
+use Rattle.row_parts.specs.RowCells.{Cell, or_else, kept_if}
+use Rattle.op_split_merge.specs.Twins.{Test, first_to, second_to, AreTwinsOf, rest_of, source_to}
 use Rattle.op_split_merge.specs.Auxiliary.{lost, against_first, against_second, separated, shown_by, second_by}
 
 -- a row that goes to neither target meets neither condition

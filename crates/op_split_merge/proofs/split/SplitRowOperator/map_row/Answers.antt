@@ -1,7 +1,7 @@
 use Rattle.std.specs.Option.{option_map}
 use Rattle.std.proofs.Common.{sym, subst}
 use Rattle.expr_lang.specs.Terms.{expr_term}
-use Rattle.op_split_merge.specs.Twins.{Cell}
+use Rattle.row_parts.specs.RowCells.{Cell}
 use Rattle.op_split_merge.specs.inner.Calls.{CanTestBoth}
 use Rattle.op_rows.specs.declared.near_side.NearSide.{NearSide}
 use Rattle.op_rows.specs.NearSides.{seen_from}
