@@ -1,7 +1,6 @@
 //! Events of one engine, and the lines that answer them.
 ghost use Rattle.std.specs.Prelude.{◌≡◌};
 
-use crate::spelled::statement_in;
 use engine_core::{Engine, refusal_text, reply_text};
 use engine_state::Reply;
 use expr_lang::Steps;
@@ -11,6 +10,7 @@ use std::marker::Brand;
 use std::process::Abort;
 use std::sync::ledger::{Blank, Ledger};
 use std::test::Fail;
+use twin_database::statement_in;
 
 /// A statement, and the lines that answer it.
 pub type Given = (&'static str, &'static str);
