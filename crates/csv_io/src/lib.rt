@@ -15,8 +15,6 @@
 mod fields;
 mod laws;
 mod read;
-#[cfg(test)]
-mod tests;
 mod write;
 
 pub use laws::{fields_are_read_back, texts_are_within};

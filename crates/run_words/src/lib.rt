@@ -13,8 +13,6 @@ mod command;
 mod fair;
 mod laws;
 mod numbers;
-#[cfg(test)]
-mod tests;
 mod words;
 
 pub use laws::words_say_one_thing;

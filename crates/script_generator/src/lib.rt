@@ -17,8 +17,6 @@ mod places;
 mod script;
 mod summary;
 mod tables;
-#[cfg(test)]
-mod tests;
 
 pub use laws::statements_are_like_parsed;
 pub use places::generated_count;

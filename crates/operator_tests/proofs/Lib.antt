@@ -1,3 +1,0 @@
-mod BuiltLemmas
-mod ChainLemmas
-mod SideLemmas

@@ -1,4 +1,0 @@
-mod DatabaseLemmas
-mod KeepingLemmas
-mod EvolvedLemmas
-mod DroppedLemmas

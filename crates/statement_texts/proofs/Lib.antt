@@ -1,2 +1,0 @@
-mod TokenLemmas
-mod ParsingLemmas

@@ -1,6 +1,0 @@
-use Rattle.twin_database.specs.Twins.{IsTwin}
-use Rattle.storage_tests.proofs.runs.twin_after.Given as goal
-
--- both stand for one state
-abbrev pub invariant-loop-given : goal.invariant-loop-given
-invariant-loop-given g l = IsTwin l.twin
