@@ -1,12 +1,8 @@
 //! The program: `inverda` over standard input, standard output and real files.
 #![tactic(auto)]
 
-mod adapters;
-mod disk;
-
-use adapters::{Input, Output};
-use disk::Disk;
 use inverda_run::inverda;
+use real_files::{Disk, Input, Output};
 use std::alloc::Global;
 use std::process::ExitCode;
 use std::rt::Env;

@@ -7,7 +7,7 @@ use Rattle.generated_run.specs.Standing.{Standing}
 use Rattle.run_words.specs.Words.{Asked, Says}
 use Rattle.run_words.specs.Laws.{SayOneThing}
 use Rattle.script_generator.specs.Summary.{summary_lines}
-use Rattle.generated_run.specs.Statuses.{Done, PutsFront, limit}
+use Rattle.generated_run.specs.Statuses.{CutShort, Done, PutsFront, limit}
 use Rattle.generated_run.specs.ScriptRunCalls.{Ends as ScriptEnds}
 use Rattle.generated_run.specs.End.{End as ScriptEnd}
 use Rattle.generated_run.specs.End.TheVariants as script
@@ -16,9 +16,9 @@ use Rattle.generated_run.specs.Summed.{generated_end, generated_summary}
 use Rattle.inverda_run.specs.Files.{IsLonger}
 use Rattle.inverda_run.specs.Starts.{Told}
 use Rattle.inverda_run.specs.Statuses.{Carried, OfStart, SayNothing, Starts, Written, source, generated}
-use Rattle.inverda_run.specs.Calls.{DumpsTo, Early, Ends, EndsGenerated, Finishes, HoldsNoDump, IsLongDump, PutsLast, ended}
+use Rattle.inverda_run.specs.Calls.{DumpsTo, Ends, EndsGenerated, Finishes, HoldsNoDump, IsLongDump, PutsLast, ended}
 use Rattle.inverda_run.specs.Laws.{OneDump, OneStart}
-use Rattle.inverda_run.specs.Decided.{Begun}
+use Rattle.inverda_run.specs.Decided.{Begun, Early, no_fault, of_source, of_load, of_dump}
 use Rattle.inverda_run.specs.declared.end.End.{End}
 use Rattle.inverda_run.specs.declared.end.End.TheVariants as end
 use Rattle.inverda_run.proofs.BegunLemmas.{bad_begun, done_begun, long_begun, longer_begun, none_begun, refused_begun, script_begun, summary_begun, summed_begun, summed_long}
@@ -29,37 +29,37 @@ module _ (words : List (List ℕ)) (told told' : Told) (left : Option (List ℕ)
   abbrev Here : End → Type 0
   Here e = Ends words told told' left left read read held held' put put' filed filed' e
 
-  early : ((¬ Rose filed filed') → Begun words told left held held') → Early words told left left read read held held' filed filed'
-  early begun = record { begun = λ source files. begun files; taken = λ differs. absurd (differs refl) }
+  early : filed' ≡ filed → Begun words told left held held' → Early words told left left read read held held' filed filed'
+  early same begun = no_fault refl same begun
 
   -- memory ran out before anything was put
-  pub memory_ends : held' ≡ held → Here end.Memory
-  memory_ends same = early (λ files. none_begun words told left held held' same)
+  pub memory_ends : held' ≡ held → filed' ≡ filed → Here end.Memory
+  memory_ends same files = (early files (none_begun words told left held held' same), files)
 
   -- the words say nothing
-  pub bad_ends : SayNothing words → (e : End) → PutsLast end.BadWords (line (codes "bad words")) held held' put put' e → Here e
-  bad_ends none e (inl p) = subst Here (sym p.0) (none, p.1, (refl, refl))
-  bad_ends none e (inr p) = subst Here (sym p.0) (p.1, early (λ files. bad_begun words told left held held' none p.2))
+  pub bad_ends : SayNothing words → filed' ≡ filed → (e : End) → PutsLast end.BadWords (line (codes "bad words")) held held' put put' e → Here e
+  bad_ends none files e (inl p) = subst Here (sym p.0) (none, p.1, (refl, refl), files)
+  bad_ends none files e (inr p) = subst Here (sym p.0) (p.1, early files (bad_begun words told left held held' none p.2))
 
   module _ (one : SayOneThing) (asked : Asked) (says : Says words asked) (name : List ℕ) (load : asked.load ≡ Some name) where
     abbrev loads : Rattle.inverda_run.specs.Statuses.Loads words name
     loads = record { asked = asked; says = says; load = load }
 
     -- the loaded file holds no dump
-    pub refused_ends : HoldsNoDump (told name) → (e : End) → PutsLast end.Refused (line (codes "dump refused")) held held' put put' e → Here e
-    refused_ends h e (inl p) =
-        subst Here (sym p.0) (record { name = name; loads = loads; bytes = h.bytes; within = h.within; holds = h.holds; none = h.none; put = p.1 }, (refl, refl))
-    refused_ends h e (inr p) = subst Here (sym p.0) (p.1, early (λ files. refused_begun words told left held held' one asked says name load h p.2))
+    pub refused_ends : HoldsNoDump (told name) → filed' ≡ filed → (e : End) → PutsLast end.Refused (line (codes "dump refused")) held held' put put' e → Here e
+    refused_ends h files e (inl p) =
+        subst Here (sym p.0) (record { name = name; loads = loads; bytes = h.bytes; within = h.within; holds = h.holds; none = h.none; put = p.1 }, (refl, refl), files)
+    refused_ends h files e (inr p) = subst Here (sym p.0) (p.1, early files (refused_begun words told left held held' one asked says name load h p.2))
 
     -- it is too long
-    pub longer_ends : IsLonger limit (told name) → (e : End) → PutsLast end.LongLoad (line (codes "too long")) held held' put put' e → Here e
-    longer_ends h e (inl p) = subst Here (sym p.0) (record { name = name; loads = loads; longer = h; put = p.1 }, (refl, refl))
-    longer_ends h e (inr p) = subst Here (sym p.0) (p.1, early (λ files. longer_begun words told left held held' one asked says name load h p.2))
+    pub longer_ends : IsLonger limit (told name) → filed' ≡ filed → (e : End) → PutsLast end.LongLoad (line (codes "too long")) held held' put put' e → Here e
+    longer_ends h files e (inl p) = subst Here (sym p.0) (record { name = name; loads = loads; longer = h; untouched = (refl, refl); put = p.1 }, files)
+    longer_ends h files e (inr p) = subst Here (sym p.0) (p.1, early files (longer_begun words told left held held' one asked says name load h p.2))
 
     -- it couldn't be read
     pub unread_ends : Rose filed filed' → (e : End) → PutsLast end.UnreadLoad (line (codes "file fault")) held held' put put' e → Here e
-    unread_ends rose e (inl p) = subst Here (sym p.0) (rose, record { name = name; loads = loads; put = p.1 }, (refl, refl))
-    unread_ends rose e (inr p) = subst Here (sym p.0) (p.1, early (λ files. absurd (files rose)))
+    unread_ends rose e (inl p) = subst Here (sym p.0) (rose, record { name = name; loads = loads; untouched = (refl, refl); put = p.1 })
+    unread_ends rose e (inr p) = subst Here (sym p.0) (p.1, of_load rose (record { name = name; loads = loads; untouched = (refl, refl); put = p.2 }))
 
 -- a script was run
 module _ (words : List (List ℕ)) (told told' : Told) (left left' : Option (List ℕ)) (read read' : ℕ) (held : Option (List ℕ)) (put filed filed' : ℕ)
@@ -70,9 +70,6 @@ module _ (words : List (List ℕ)) (told told' : Told) (left left' : Option (Lis
       (long : (name : List ℕ) → asked.dump ≡ Some name → IsLongDump to.laid → PutsFront between held' (line (codes "too long")) → Begun words told left held held') where
     abbrev There : End → Type 0
     There e = Ends words told told' left left' read read' held held' put put' filed filed' e
-
-    early_done : ((¬ Rose filed filed') → Begun words told left held held') → Early words told left left' read read' held held' filed filed'
-    early_done begun = record { begun = λ source files. begun files; taken = λ differs. absurd (differs same) }
 
     ran : held' ≡ between → Written asked.dump told' to.laid → filed' ≡ filed → There end.Done
     ran is written files = (
@@ -92,31 +89,34 @@ module _ (words : List (List ℕ)) (told told' : Told) (left left' : Option (Lis
     dumped : (name : List ℕ) → asked.dump ≡ Some name → (e : End) → DumpsTo to.laid (told' name) between held' put put' filed filed' e → There e
     dumped name is end.Done h =
         ran h.1 (subst (λ (d : Option (List ℕ)). Written d told' to.laid) (sym is) (h.0.text, h.0.dump, h.0.within, h.0.holds)) h.3
-    dumped name is end.Memory h = early_done (λ files. none h.0)
-    dumped name is end.LongDump h = record {
-      to = to;
-      ran = record { asked = asked; from = from; starts = starts; between = between; carried = carried; put = h.1 };
-      name = name;
-      dumps = record { asked = asked; says = starts.says; dump = is };
-      text = h.0.text;
-      dump = h.0.dump;
-      above = h.0.above;
-    }
+    dumped name is end.Memory h = (no_fault same h.2 (none h.0), h.2)
+    dumped name is end.LongDump h = (
+      record {
+        to = to;
+        ran = record { asked = asked; from = from; starts = starts; between = between; carried = carried; calm = same; put = h.1 };
+        name = name;
+        dumps = record { asked = asked; says = starts.says; dump = is };
+        text = h.0.text;
+        dump = h.0.dump;
+        above = h.0.above;
+      },
+      h.3,
+    )
     dumped name is end.UnwrittenDump h = (
       h.0,
       record {
         to = to;
-        ran = record { asked = asked; from = from; starts = starts; between = between; carried = carried; put = h.1 };
+        ran = record { asked = asked; from = from; starts = starts; between = between; carried = carried; calm = same; put = h.1 };
         name = name;
         dumps = record { asked = asked; says = starts.says; dump = is };
       },
     )
     dumped name is end.Unwritten h = (
       h.0,
-      early_done (λ files. elim h.1 [
-        | inl more ↦ long name is more.0 more.1
-        | inr rose ↦ absurd (files rose)
-      ]),
+      elim h.1 [
+        | inl more ↦ no_fault same more.2 (long name is more.0 more.1)
+        | inr less ↦ of_dump less.0 (record { asked = asked; from = from; to = to; starts = starts; between = between; carried = carried; calm = same; name = name; dump = is; put = less.1 })
+      ],
     )
     dumped name is end.BadWords h = absurd h
     dumped name is end.Syntax h = absurd h
@@ -139,24 +139,20 @@ module _ (words : List (List ℕ)) (told told' : Told) (left left' : Option (Lis
   ofStart : {P : Standing → Type 0} → P from → OfStart words told P
   ofStart p = (asked, from, starts, own, p)
 
+  -- memory or the sink ended it
+  early_run : (held' : Option (List ℕ)) → filed' ≡ filed → CutShort from left left' read read' held held' → Early words told left left' read read' held held' filed filed'
+  early_run held' files (inl h) = no_fault h.0 files (script_begun words told left held held' one start asked from starts own h.1)
+  early_run held' files (inr h) = of_source h.0 files (ofStart h.1)
+
   -- it came to no end of its own
-  pub script_ends : (held' : Option (List ℕ)) (put' : ℕ) (e : ScriptEnd) → (e ≡ script.Done → ⊥) → ScriptEnds from to left left' read read' held held' put put' e
+  pub script_ends : (held' : Option (List ℕ)) (put' : ℕ) → filed' ≡ filed → (e : ScriptEnd) → (e ≡ script.Done → ⊥) → ScriptEnds from to left left' read read' held held' put put' e
       → Ends words told told' left left' read read' held held' put put' filed filed' (ended e)
-  script_ends held' put' script.Done n h = absurd (n refl)
-  script_ends held' put' script.Memory n h = record {
-    begun = λ source files. script_begun words told left held held' one start asked from starts own (h.0 source);
-    taken = λ differs. ofStart (h.1 differs);
-  }
-  script_ends held' put' script.Syntax n h = ofStart h
-  script_ends held' put' script.Unread n h = ofStart h
-  script_ends held' put' script.Unwritten n h = (
-    h.0,
-    record {
-      begun = λ source files. script_begun words told left held held' one start asked from starts own (h.1 source);
-      taken = λ differs. ofStart (h.2 differs);
-    },
-  )
-  script_ends held' put' script.TooLong n h = ofStart h
+  script_ends held' put' files script.Done n h = absurd (n refl)
+  script_ends held' put' files script.Memory n h = (early_run held' files h, files)
+  script_ends held' put' files script.Syntax n h = (ofStart h, files)
+  script_ends held' put' files script.Unread n h = (ofStart h, files)
+  script_ends held' put' files script.Unwritten n h = (h.0, early_run held' files h.1)
+  script_ends held' put' files script.TooLong n h = (ofStart h, files)
 
   -- it came to its end
   pub finish_ends : OneDump → (between held' : Option (List ℕ)) (put' : ℕ) → Done from to left left' held between → to.laid.database.limit ≡ asked.max_id → read' ≡ read → (e : End) → Finishes to.laid asked.dump told' between held' put put' filed filed' e
@@ -172,13 +168,13 @@ module _ (words : List (List ℕ)) (told told' : Told) (left : Option (List ℕ)
   abbrev So : End → Type 0
   So e = Ends words told told' left left read read held held' put put' filed filed' e
 
-  early_so : Begun words told left held held' → Early words told left left read read held held' filed filed'
-  early_so begun = record { begun = λ source files. begun; taken = λ differs. absurd (differs refl) }
+  early_so : filed' ≡ filed → Begun words told left held held' → Early words told left left read read held held' filed filed'
+  early_so files begun = no_fault refl files begun
 
   pub generated_ends : (e : End) → EndsGenerated from n asked.dump told' held held' put put' filed filed' e → So e
   generated_ends e (inl memory) =
-      subst So (sym memory.0) (early_so (summary_begun words told left held held' one asked from starts n is (puts_none held held' (summary_lines (generated_summary from n)) memory.1)))
-  generated_ends e (inr (inl front)) = subst So (sym front.0) (front.1, early_so (summary_begun words told left held held' one asked from starts n is front.2))
+      subst So (sym memory.0) (early_so memory.3 (summary_begun words told left held held' one asked from starts n is (puts_none held held' (summary_lines (generated_summary from n)) memory.1)), memory.3)
+  generated_ends e (inr (inl front)) = subst So (sym front.0) (front.1, early_so front.3 (summary_begun words told left held held' one asked from starts n is front.2))
   generated_ends e (inr (inr finished)) =
       finishes_so words told told' left left read read held put filed filed' asked from (generated_end from n) starts finished.0 held' put'
       (generated n is refl finished.1 refl) (finished.2 ∙ starts_limit words told asked from starts) refl

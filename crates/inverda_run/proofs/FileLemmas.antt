@@ -1,10 +1,11 @@
 -- The bytes of a file, read one piece after the other.
-use Rattle.std.specs.Prelude.{◌<◌, min, Option, Some, None, ⊤}
-use Rattle.std.proofs.Common.{◌≡◌, ℕ, List, [], ◌++◌, length, take, refl, sym, ap, subst, ◌∙◌, arith}
+use Rattle.std.specs.Prelude.{◌<◌, ◌⊎◌, min, Option, Some, None, ⊤}
+use Rattle.std.proofs.Common.{◌≡◌, ℕ, List, [], ◌++◌, length, take, refl, inl, inr, sym, ap, subst, ◌∙◌, arith}
 use Rattle.std.proofs.Math.Seq.{take-add}
 use Rattle.std.proofs.lemmas.List.{length-append, length-take, take_all}
-use Rattle.outside.specs.FileTold.{ReadsFile, ToldAs}
-use Rattle.inverda_run.specs.Files.{IsLonger}
+use Rattle.outside.specs.Causes.{Rose}
+use Rattle.outside.specs.FileTold.{IsMissing, ReadsFile, ToldAs}
+use Rattle.inverda_run.specs.Files.{IsLonger, MissesOnly}
 
 -- the bytes are the first ones of the file, where it is told
 abbrev pub IsFront : Option (Option (List ℕ)) → List ℕ → Type 0
@@ -44,3 +45,9 @@ pub front_kept : (told now : Option (Option (List ℕ))) (bytes piece new : List
 front_kept told now bytes piece new at same front from reads is =
     let here : ReadsFile told (length bytes) piece = subst (λ (x : Option (Option (List ℕ)) × ℕ). ReadsFile x.0 x.1 piece) (λ i. (same i, from i)) reads in
     subst (λ (l : List ℕ). IsFront told l) (sym is) (more_front told bytes piece front here)
+
+-- a name is missing, by what is told of the file and counted at the call
+pub misses_more : (told now : Option (Option (List ℕ))) (was mid is : ℕ) → now ≡ told → mid ≡ was → (is ≡ mid) ⊎ (IsMissing now × Rose mid is) → MissesOnly told was is
+misses_more told now was mid is same stays (inl h) = inl (h ∙ stays)
+misses_more told now was mid is same stays (inr m) =
+    inr (subst (λ (t : Option (Option (List ℕ))). IsMissing t) same m.0, subst (λ (n : ℕ). Rose n is) stays m.1)

@@ -37,12 +37,12 @@ module _ (to : Laid) (file : Option (Option (List ℕ))) (held held' : Option (L
   -- it is too long
   pub long_dumped : IsLongDump to → filed' ≡ filed → (e : End) → PutsLast end.LongDump (line (codes "too long")) held held' put put' e → DumpsTo to file held held' put put' filed filed' e
   long_dumped long same e (inl p) = subst (DumpsTo to file held held' put put' filed filed') (sym p.0) (long, p.1, p.2, same)
-  long_dumped long same e (inr p) = subst (DumpsTo to file held held' put put' filed filed') (sym p.0) (p.1, inl (long, p.2))
+  long_dumped long same e (inr p) = subst (DumpsTo to file held held' put put' filed filed') (sym p.0) (p.1, inl (long, p.2, same))
 
   -- it couldn't be written
   pub unwritten_dumped : Rose filed filed' → (e : End) → PutsLast end.UnwrittenDump (line (codes "file fault")) held held' put put' e → DumpsTo to file held held' put put' filed filed' e
   unwritten_dumped rose e (inl p) = subst (DumpsTo to file held held' put put' filed filed') (sym p.0) (rose, p.1, p.2)
-  unwritten_dumped rose e (inr p) = subst (DumpsTo to file held held' put put' filed filed') (sym p.0) (p.1, inr rose)
+  unwritten_dumped rose e (inr p) = subst (DumpsTo to file held held' put put' filed filed') (sym p.0) (p.1, inr (rose, p.2))
 
   -- the sink failed only where that ends the run
   dump_stays : (e : End) → DumpsTo to file held held' put put' filed filed' e → EndStays put put' e

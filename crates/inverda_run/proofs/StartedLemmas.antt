@@ -46,7 +46,7 @@ begins_named told name max_id was is (Err begins.Fault) b = (name, refl, b)
 
 pub misses_named : (told : Told) (name : List ℕ) (was is : ℕ) → MissesOnly (told name) was is → MissesLoad told (Some name) was is
 misses_named told name was is (inl same) = inl same
-misses_named told name was is (inr missing) = inr (name, refl, missing)
+misses_named told name was is (inr missing) = inr (name, refl, missing.0, missing.1)
 
 -- none was
 pub begins_empty : (told : Told) (max_id was : ℕ) (k : Parts AnyView) → state_of k ≡ empty_state max_id → Begins told None max_id was was (Ok k)
@@ -65,4 +65,4 @@ asks_within words asked says = limited (value_of (codes "max-ids") says.given) a
 -- a name that is missing is one that the words load
 pub misses_loaded : (words : List (List ℕ)) (told : Told) (asked : Asked) (was is : ℕ) → Says words asked → MissesLoad told asked.load was is → Misses words told was is
 misses_loaded words told asked was is says (inl same) = inl same
-misses_loaded words told asked was is says (inr m) = inr (m.0, record { asked = asked; says = says; load = m.1 }, m.2)
+misses_loaded words told asked was is says (inr m) = inr (m.0, record { asked = asked; says = says; load = m.1 }, m.2, m.3)

@@ -1,7 +1,7 @@
 -- What the statuses say, by how a run ends.
-use Rattle.std.specs.Prelude.{◌⊎◌, ◌≤◌, nat_le, Option, Some, None}
+use Rattle.std.specs.Prelude.{◌⊎◌, ◌≤◌, Bool, nat_le, Option, Some, None}
 use Rattle.std.proofs.Common.{◌≡◌, ℕ, List, length, take, codes, sym, ap, subst, ◌∙◌, inl, inr, arith}
-use Rattle.outside.specs.Causes.{Rose}
+use Rattle.outside.specs.Causes.{Rose, RoseOnce}
 use Rattle.bidel_script.specs.Script.{Outcome, Over, Fault, Long, Open}
 use Rattle.bidel_script.proofs.UniqueLaws.{one_comes}
 use Rattle.generated_run.specs.Standing.{Standing, empty_standing}
@@ -10,13 +10,13 @@ use Rattle.run_words.specs.Words.{Asked}
 use Rattle.run_words.specs.Laws.{SayOneThing}
 use Rattle.generated_run.specs.Moves.{MovesUnseen}
 use Rattle.generated_run.specs.Output.{state_after}
-use Rattle.generated_run.specs.Statuses.{AnswersScript, Done, FirstReplies, Had, Passed, Stopped, StoppedOfAll, Unread, limit}
+use Rattle.generated_run.specs.Statuses.{AnswersScript, Done, FirstReplies, Had, Passed, Stopped, StoppedOfAll, Taken, Unread, above, failed, limit, whole}
 use Rattle.generated_run.proofs.EndLaws.{done_answers, done_told, had_done, had_passed, had_stopped}
 use Rattle.generated_run.proofs.CutLaws.{passed_first, stopped_of_all, unread_first}
 use Rattle.generated_run.proofs.MoveLaws.{moves_unseen}
 use Rattle.inverda_run.specs.Starts.{IsDumpText, Told}
 use Rattle.inverda_run.specs.Statuses.{Carried, Loads, LongDump, LongLoad, OfStart, Ran, RefusedDump, RunsSource, SayNothing, Starts, StaysBut, source, generated}
-use Rattle.inverda_run.specs.Decided.{DumpFits, Told', ToldGenerated, ToldLonger, ToldNoDump, ToldWhole}
+use Rattle.inverda_run.specs.Decided.{DumpFits, Early, Told', ToldGenerated, ToldLonger, ToldNoDump, ToldWhole, no_fault, of_source as of_source_fault, of_load, of_dump}
 use Rattle.inverda_run.specs.Calls.{HoldsNoDump}
 use Rattle.inverda_run.proofs.StartLemmas.{loads_none, longer_no_start, longer_not_refused, nothing_starts, refused_no_start, refused_not_longer, start_not_longer, start_not_refused, starts_empty}
 
@@ -36,8 +36,8 @@ pub ran_unseen : {words : List (List ℕ)} {told told' : Told} {left left' held 
 ran_unseen {words} {told} {told'} {left} {left'} {held} {held'} r none = of_source r.starts none r.carried (λ own done. (r.asked, r.from, r.starts, own, moves_unseen r.from r.to left left' held held' done))
 
 -- the source told a script, where the script was carried out
-pub done_is_over : (read read' : ℕ) → {left left' held : Option (List ℕ)} {from to : Standing} {between : Option (List ℕ)} {o : Outcome} → Done from to left left' held between → ¬ Rose read read' → Had left o → o ≡ Over
-done_is_over read read' {left} {left'} {held} {from} {to} {between} {o} d safe had = had_done from to left left' held between read read' o had safe d
+pub done_is_over : {left left' held : Option (List ℕ)} {from to : Standing} {between : Option (List ℕ)} {o : Outcome} → Done from to left left' held between → Had left o → o ≡ Over
+done_is_over {left} {left'} {held} {from} {to} {between} {o} d had = had_done from to left left' held between o had d
 
 -- a run that is told to read the source has carried out its script
 carried_done : {words : List (List ℕ)} {told : Told} {asked : Asked} {from to : Standing} {left left' held between : Option (List ℕ)} {o : Outcome} → SayOneThing → Starts words told asked from
@@ -51,8 +51,8 @@ carried_done {words} {told} {asked} {from} {to} {left} {left'} {held} {between} 
         let own = t.source in
         cc
 
-pub ran_is_over : SayOneThing → (read read' : ℕ) → {words : List (List ℕ)} {told told' : Told} {left left' held held' : Option (List ℕ)} {o : Outcome} → Ran words told told' left left' held held' → ¬ Rose read read' → Told' words told left o → o ≡ Over
-ran_is_over one read read' {words} {told} {told'} {left} {left'} {held} {held'} r safe t = done_is_over read read' (carried_done one r.starts r.carried t) safe t.had
+pub ran_is_over : SayOneThing → {words : List (List ℕ)} {told told' : Told} {left left' held held' : Option (List ℕ)} {o : Outcome} → Ran words told told' left left' held held' → Told' words told left o → o ≡ Over
+ran_is_over one {words} {told} {told'} {left} {left'} {held} {held'} r t = done_is_over (carried_done one r.starts r.carried t) t.had
 
 -- ---- a run that a fault ended
 
@@ -100,23 +100,23 @@ module _ (one : SayOneThing) where
   pub refused_is_not_longer : {words : List (List ℕ)} {told : Told} {held held' : Option (List ℕ)} → RefusedDump words told held held' → ToldLonger words told → ⊥
   refused_is_not_longer {words} {told} {held} {held'} r d = refused_not_longer words told one r.loads.asked r.name r.loads.says r.loads.load (holds_none r) d
 
-  pub long_not_told : {words : List (List ℕ)} {told : Told} {left held held' : Option (List ℕ)} {o : Outcome} → LongLoad words told held held' → Told' words told left o → ⊥
-  long_not_told {words} {told} {left} {held} {held'} r t = longer_no_start words told one r.loads.asked r.name t.from r.loads.says r.loads.load r.longer t.asked t.starts t.load
+  pub long_not_told : {words : List (List ℕ)} {told : Told} {left left' held held' : Option (List ℕ)} {read read' : ℕ} {o : Outcome} → LongLoad words told left left' read read' held held' → Told' words told left o → ⊥
+  long_not_told {words} {told} {left} {left'} {held} {held'} {read} {read'} r t = longer_no_start words told one r.loads.asked r.name t.from r.loads.says r.loads.load r.longer t.asked t.starts t.load
 
-  pub long_is_not_refused : {words : List (List ℕ)} {told : Told} {held held' : Option (List ℕ)} → LongLoad words told held held' → ToldNoDump words told → ⊥
-  long_is_not_refused {words} {told} {held} {held'} r d = longer_not_refused words told one r.loads.asked r.name r.loads.says r.loads.load r.longer d
+  pub long_is_not_refused : {words : List (List ℕ)} {told : Told} {left left' held held' : Option (List ℕ)} {read read' : ℕ} → LongLoad words told left left' read read' held held' → ToldNoDump words told → ⊥
+  long_is_not_refused {words} {told} {left} {left'} {held} {held'} {read} {read'} r d = longer_not_refused words told one r.loads.asked r.name r.loads.says r.loads.load r.longer d
 
   -- ---- a dump that is too long
 
-  pub long_dump_not_refused : {words : List (List ℕ)} {told : Told} {left left' held held' : Option (List ℕ)} → LongDump words told left left' held held' → ToldNoDump words told → ⊥
-  long_dump_not_refused {words} {told} {left} {left'} {held} {held'} r d = start_not_refused words told one r.ran.asked r.ran.from r.ran.starts d
+  pub long_dump_not_refused : {words : List (List ℕ)} {told : Told} {left left' held held' : Option (List ℕ)} {read read' : ℕ} → LongDump words told left left' read read' held held' → ToldNoDump words told → ⊥
+  long_dump_not_refused {words} {told} {left} {left'} {held} {held'} {read} {read'} r d = start_not_refused words told one r.ran.asked r.ran.from r.ran.starts d
 
-  pub long_dump_is_over : (read read' : ℕ) → {words : List (List ℕ)} {told : Told} {left left' held held' : Option (List ℕ)} {o : Outcome} → LongDump words told left left' held held' → ¬ Rose read read' → Told' words told left o → o ≡ Over
-  long_dump_is_over read read' {words} {told} {left} {left'} {held} {held'} r safe t = done_is_over read read' (carried_done one r.ran.starts r.ran.carried t) safe t.had
+  pub long_dump_is_over : {words : List (List ℕ)} {told : Told} {left left' held held' : Option (List ℕ)} {read read' : ℕ} {o : Outcome} → LongDump words told left left' read read' held held' → Told' words told left o → o ≡ Over
+  long_dump_is_over {words} {told} {left} {left'} {held} {held'} {read} {read'} r t = done_is_over (carried_done one r.ran.starts r.ran.carried t) t.had
 
   -- a run whose dump fits has none that is too long
-  pub long_dump_not_whole : {words : List (List ℕ)} {told : Told} {left left' held held' : Option (List ℕ)} → LongDump words told left left' held held' → ToldWhole words told left → ⊥
-  long_dump_not_whole {words} {told} {left} {left'} {held} {held'} r w =
+  pub long_dump_not_whole : {words : List (List ℕ)} {told : Told} {left left' held held' : Option (List ℕ)} {read read' : ℕ} → LongDump words told left left' read read' held held' → ToldWhole words told left → ⊥
+  long_dump_not_whole {words} {told} {left} {left'} {held} {held'} {read} {read'} r w =
       let had = w.script.had in
       let done = carried_done one r.ran.starts r.ran.carried w.script in
       let comes = done_told r.ran.from r.to left left' held r.ran.between had.bytes had.told done in
@@ -149,8 +149,8 @@ module _ (one : SayOneThing) where
       cc
 
   -- its dump fits
-  pub long_dump_not_generated : {words : List (List ℕ)} {told : Told} {left left' held held' : Option (List ℕ)} → LongDump words told left left' held held' → ToldGenerated words → ⊥
-  long_dump_not_generated {words} {told} {left} {left'} {held} {held'} r d = go r.ran.carried
+  pub long_dump_not_generated : {words : List (List ℕ)} {told : Told} {left left' held held' : Option (List ℕ)} {read read' : ℕ} → LongDump words told left left' read read' held held' → ToldGenerated words → ⊥
+  long_dump_not_generated {words} {told} {left} {left'} {held} {held'} {read} {read'} r d = go r.ran.carried
     where
       go : Carried r.ran.asked r.ran.from r.to left left' held r.ran.between → ⊥
       go (source own done) =
@@ -178,3 +178,30 @@ nothing_started {words} {told} none s = nothing_starts words told s.0 s.1 none s
 -- a file stays where one condition holds, and so where a weaker one does
 pub stays_for : {words : List (List ℕ)} {told told' : Told} {P Q : Type 0} → (P → Q) → StaysBut words told told' P → StaysBut words told told' Q
 stays_for f stays file = elim (stays file) [ inl same ↦ inl same | inr dumped ↦ inr (dumped.0, f dumped.1) ]
+
+-- ---- at most one call of the source failed
+
+taken_once : {left left' : Option (List ℕ)} {read read' : ℕ} {bytes : List ℕ} {ended : Bool} → Taken left left' read read' bytes ended → RoseOnce read read'
+taken_once (whole consumed end within same fixed) = inl same
+taken_once (failed consumed within rose fixed) = inr rose
+taken_once (above taken consumed over is same fixed) = inl same
+
+pub stopped_once : {words : List (List ℕ)} {told : Told} {left left' held held' : Option (List ℕ)} {read read' : ℕ} → OfStart words told (λ from. Stopped from left left' read read' held held') → RoseOnce read read'
+stopped_once s = taken_once s.4.taken
+
+pub passed_once : {words : List (List ℕ)} {told : Told} {left left' held held' : Option (List ℕ)} {read read' : ℕ} → OfStart words told (λ from. Passed from left left' read read' held held') → RoseOnce read read'
+passed_once s = taken_once s.4.taken
+
+module _ {words : List (List ℕ)} {told : Told} {left left' held held' : Option (List ℕ)} {read read' filed filed' : ℕ} where
+  pub early_once : Early words told left left' read read' held held' filed filed' → RoseOnce read read'
+  early_once (no_fault read_is files begun) = inl read_is
+  early_once (of_source_fault read_is files begun) = inr read_is
+  early_once (of_load files begun) = inl begun.untouched.1
+  early_once (of_dump files begun) = inl begun.calm
+
+  -- nor did more than one call of the files
+  pub early_once_filed : Early words told left left' read read' held held' filed filed' → RoseOnce filed filed'
+  early_once_filed (no_fault read_is files begun) = inl files
+  early_once_filed (of_source_fault read_is files begun) = inl files
+  early_once_filed (of_load files begun) = inr files
+  early_once_filed (of_dump files begun) = inr files

@@ -1,5 +1,5 @@
 -- What the inner calls give.
-use Rattle.std.specs.Prelude.{◌≡◌, ◌≢◌, ◌⊎◌, ◌≤◌, ◌<◌, ℕ, List, length, Option, Some, None, codes, Result, Ok, Err, ⊤}
+use Rattle.std.specs.Prelude.{◌≡◌, ◌⊎◌, ◌≤◌, ◌<◌, ℕ, List, length, Option, Some, None, codes, Result, Ok, Err, ⊤}
 use Rattle.std.specs.Io.KnownBytes.{Appends}
 use Rattle.outside.specs.Causes.{Rose}
 use Rattle.outside.specs.FileTold.{IsMissing, ToldAs}
@@ -13,13 +13,13 @@ use Rattle.dump_file.specs.Texts.{AreSpelled}
 use Rattle.dump_file.specs.Stands.{IsDumpOf}
 use Rattle.script_generator.specs.Summary.{summary_lines}
 use Rattle.generated_run.specs.Summed.{generated_end, generated_summary}
-use Rattle.generated_run.specs.Statuses.{BegunTaken, Passed, PutsFront, Stopped, Unread, limit}
+use Rattle.generated_run.specs.Statuses.{Passed, PutsFront, Stopped, Unread, limit}
 use Rattle.generated_run.specs.End.{End as ScriptEnd}
 use Rattle.generated_run.specs.End.TheVariants as script
 use Rattle.inverda_run.specs.Files.{IsLonger}
 use Rattle.inverda_run.specs.Starts.{IsDumpText, Loaded, StartsBy, Told}
-use Rattle.inverda_run.specs.Statuses.{LongDump, LongLoad, NoDump, OfStart, Ran, RefusedDump, SayNothing, UnreadLoad, UnwrittenDump}
-use Rattle.inverda_run.specs.Decided.{Begun}
+use Rattle.inverda_run.specs.Statuses.{LongDump, LongLoad, NoDump, OfStart, Ran, RefusedDump, SayNothing, UnreadLoad, UnwrittenDump, Untouched}
+use Rattle.inverda_run.specs.Decided.{Early}
 use Rattle.inverda_run.specs.declared.begin.NotBegun.{NotBegun}
 use Rattle.inverda_run.specs.declared.begin.NotBegun.TheVariants as begins
 use Rattle.inverda_run.specs.declared.end.End.{End}
@@ -57,9 +57,9 @@ BeginsLoaded file max_id was is (Err begins.Refused) = HoldsNoDump file × (is �
 BeginsLoaded file max_id was is (Err begins.TooLong) = IsLonger limit file × (is ≡ was)
 BeginsLoaded file max_id was is (Err begins.Fault) = Rose was is
 
--- the count of missing names stays, or a file is loaded of which it isn't told that it is there
+-- the count of missing names stays, or it is one more and a file is loaded of which it isn't told that it is there
 abbrev pub MissesLoad : Told → Option (List ℕ) → ℕ → ℕ → Type 0
-MissesLoad told load was is = (is ≡ was) ⊎ ((name : List ℕ) × (load ≡ Some name) × IsMissing (told name))
+MissesLoad told load was is = (is ≡ was) ⊎ ((name : List ℕ) × (load ≡ Some name) × IsMissing (told name) × Rose was is)
 
 -- ---- the last line
 
@@ -99,7 +99,8 @@ DumpsTo to file held held' put put' filed filed' end.Memory = (held' ≡ held) �
 DumpsTo to file held held' put put' filed filed' end.LongDump = IsLongDump to × Appends held held' (line (codes "too long")) × (put' ≡ put) × (filed' ≡ filed)
 DumpsTo to file held held' put put' filed filed' end.UnwrittenDump = Rose filed filed' × Appends held held' (line (codes "file fault")) × (put' ≡ put)
 DumpsTo to file held held' put put' filed filed' end.Unwritten =
-    Rose put put' × ((IsLongDump to × PutsFront held held' (line (codes "too long"))) ⊎ Rose filed filed')
+    Rose put put' × ((IsLongDump to × PutsFront held held' (line (codes "too long")) × (filed' ≡ filed))
+    ⊎ (Rose filed filed' × PutsFront held held' (line (codes "file fault"))))
 DumpsTo to file held held' put put' filed filed' _ = ⊥
 
 -- how a run ends that has carried out its script
@@ -124,32 +125,22 @@ WritesBut name told told' filed filed' e file = (told' file ≡ told file) ⊎ (
 abbrev pub WritesTo : Option (List ℕ) → Told → Told → ℕ → ℕ → End → List ℕ → Type 0
 WritesTo dump told told' filed filed' e file = (told' file ≡ told file) ⊎ ((dump ≡ Some file) × ((e ≡ end.Done) ⊎ Rose filed filed'))
 
--- nothing was taken from the source
-abbrev pub Untouched : Option (List ℕ) → Option (List ℕ) → ℕ → ℕ → Type 0
-Untouched left left' read read' = (left' ≡ left) × (read' ≡ read)
-
--- where memory ran out or the sink failed, a front was put of what would be otherwise
-pub record Early (words : List (List ℕ)) (told : Told) (left left' : Option (List ℕ)) (read read' : ℕ) (held held' : Option (List ℕ)) (filed filed' : ℕ) : Type 0 where
-  pub begun : ¬ Rose read read' → ¬ Rose filed filed' → Begun words told left held held'
-  pub taken : read' ≢ read → OfStart words told (λ from. BegunTaken from left left' held held')
-
 -- what a run leaves: of the files what is told, of the source what is left, of the sink its bytes, and their counts of faults, before and
 -- now
 abbrev pub Ends : List (List ℕ) → Told → Told → Option (List ℕ) → Option (List ℕ) → ℕ → ℕ → Option (List ℕ) → Option (List ℕ) → ℕ → ℕ → ℕ → ℕ → End → Type 0
 Ends words told told' left left' read read' held held' put put' filed filed' end.Done = Ran words told told' left left' held held' × (read' ≡ read) × (filed' ≡ filed)
-Ends words told told' left left' read read' held held' put put' filed filed' end.Memory = Early words told left left' read read' held held' filed filed'
+Ends words told told' left left' read read' held held' put put' filed filed' end.Memory = Early words told left left' read read' held held' filed filed' × (filed' ≡ filed)
 Ends words told told' left left' read read' held held' put put' filed filed' end.BadWords =
-    SayNothing words × Appends held held' (line (codes "bad words")) × Untouched left left' read read'
-Ends words told told' left left' read read' held held' put put' filed filed' end.Syntax = OfStart words told (λ from. Stopped from left left' read read' held held')
-Ends words told told' left left' read read' held held' put put' filed filed' end.Refused = RefusedDump words told held held' × Untouched left left' read read'
-Ends words told told' left left' read read' held held' put put' filed filed' end.Unread = OfStart words told (λ from. Unread from left left' read read' held held')
+    SayNothing words × Appends held held' (line (codes "bad words")) × Untouched left left' read read' × (filed' ≡ filed)
+Ends words told told' left left' read read' held held' put put' filed filed' end.Syntax = OfStart words told (λ from. Stopped from left left' read read' held held') × (filed' ≡ filed)
+Ends words told told' left left' read read' held held' put put' filed filed' end.Refused = RefusedDump words told held held' × Untouched left left' read read' × (filed' ≡ filed)
+Ends words told told' left left' read read' held held' put put' filed filed' end.Unread = OfStart words told (λ from. Unread from left left' read read' held held') × (filed' ≡ filed)
 Ends words told told' left left' read read' held held' put put' filed filed' end.Unwritten = Rose put put' × Early words told left left' read read' held held' filed filed'
-Ends words told told' left left' read read' held held' put put' filed filed' end.LongScript = OfStart words told (λ from. Passed from left left' read read' held held')
-Ends words told told' left left' read read' held held' put put' filed filed' end.LongLoad = LongLoad words told held held' × Untouched left left' read read'
-Ends words told told' left left' read read' held held' put put' filed filed' end.LongDump = LongDump words told left left' held held'
-Ends words told told' left left' read read' held held' put put' filed filed' end.UnreadLoad =
-    Rose filed filed' × UnreadLoad words held held' × Untouched left left' read read'
-Ends words told told' left left' read read' held held' put put' filed filed' end.UnwrittenDump = Rose filed filed' × UnwrittenDump words told left left' held held'
+Ends words told told' left left' read read' held held' put put' filed filed' end.LongScript = OfStart words told (λ from. Passed from left left' read read' held held') × (filed' ≡ filed)
+Ends words told told' left left' read read' held held' put put' filed filed' end.LongLoad = LongLoad words told left left' read read' held held' × (filed' ≡ filed)
+Ends words told told' left left' read read' held held' put put' filed filed' end.LongDump = LongDump words told left left' read read' held held' × (filed' ≡ filed)
+Ends words told told' left left' read read' held held' put put' filed filed' end.UnreadLoad = Rose filed filed' × UnreadLoad words left left' read read' held held'
+Ends words told told' left left' read read' held held' put put' filed filed' end.UnwrittenDump = Rose filed filed' × UnwrittenDump words told left left' read read' held held'
 
 -- the run counts no fault of the sink where it isn't the sink that failed
 abbrev pub EndStays : ℕ → ℕ → End → Type 0

@@ -1,5 +1,6 @@
 -- What words, files and the source tell decides a run, where no call fails and memory suffices.
 use Rattle.std.specs.Prelude.{◌≡◌, ◌++◌, ◌≤◌, ◌<◌, ◌⊎◌, ℕ, nat_le, List, [], take, length, Option, Some, None, codes, ⊤}
+use Rattle.outside.specs.Causes.{Rose}
 use Rattle.bidel_script.specs.Script.{Outcome, Over}
 use Rattle.generated_run.specs.Laid.{Laid}
 use Rattle.generated_run.specs.Standing.{Standing, empty_standing}
@@ -7,10 +8,10 @@ use Rattle.generated_run.specs.EngineCoreTexts.{line}
 use Rattle.run_words.specs.Words.{Asked, Says}
 use Rattle.script_generator.specs.Summary.{summary_lines}
 use Rattle.generated_run.specs.Output.{state_after}
-use Rattle.generated_run.specs.Statuses.{Had, PutsFront, WritesScript, limit}
+use Rattle.generated_run.specs.Statuses.{BegunTaken, Had, PutsFront, WritesScript, limit}
 use Rattle.generated_run.specs.Summed.{generated_end, generated_summary}
 use Rattle.inverda_run.specs.Starts.{IsDumpText, Told}
-use Rattle.inverda_run.specs.Statuses.{Loads, NoDump, SayNothing, Starts}
+use Rattle.inverda_run.specs.Statuses.{Carried, Loads, NoDump, OfStart, SayNothing, Starts, Untouched}
 
 -- the file that is loaded is told, where there is one
 abbrev pub IsTold : Told → Option (List ℕ) → Type 0
@@ -106,3 +107,35 @@ pub data Puts (words : List (List ℕ)) (told : Told) (left : Option (List ℕ))
 -- a front of it was put
 abbrev pub Begun : List (List ℕ) → Told → Option (List ℕ) → Option (List ℕ) → Option (List ℕ) → Type 0
 Begun words told left held held' = (text : List ℕ) → Puts words told left text → PutsFront held held' text
+
+-- ---- where memory or the sink ended the run
+
+-- the loaded file couldn't be read, and a front of this line was put
+pub record BegunUnread (words : List (List ℕ)) (left left' : Option (List ℕ)) (read read' : ℕ) (held held' : Option (List ℕ)) : Type 0 where
+  pub name : List ℕ
+  pub loads : Loads words name
+  pub untouched : Untouched left left' read read'
+  pub put : PutsFront held held' (line (codes "file fault"))
+
+-- the script was carried out from the start to its end, the dump couldn't be written, and behind all that the script puts, or its summary,
+-- a front of this line was put
+pub record BegunUnwritten (words : List (List ℕ)) (told : Told) (left left' : Option (List ℕ)) (read read' : ℕ) (held held' : Option (List ℕ)) : Type 0 where
+  pub asked : Asked
+  pub from : Standing
+  pub to : Standing
+  pub starts : Starts words told asked from
+  pub between : Option (List ℕ)
+  pub carried : Carried asked from to left left' held between
+  pub calm : read' ≡ read
+  pub name : List ℕ
+  pub dump : asked.dump ≡ Some name
+  pub put : PutsFront between held' (line (codes "file fault"))
+
+-- no call of source and files failed, and a front was put of what the run puts otherwise; or a call of the source failed, and a front was
+-- put of what the run of the bytes that were taken puts; or the loaded file couldn't be read; or the dump couldn't be written
+pub data Early (words : List (List ℕ)) (told : Told) (left left' : Option (List ℕ)) (read read' : ℕ) (held held' : Option (List ℕ)) (filed filed' : ℕ) : Type 0 where
+  no_fault : read' ≡ read → filed' ≡ filed → Begun words told left held held' → Early words told left left' read read' held held' filed filed'
+  of_source : Rose read read' → filed' ≡ filed → OfStart words told (λ from. BegunTaken from left left' held held')
+      → Early words told left left' read read' held held' filed filed'
+  of_load : Rose filed filed' → BegunUnread words left left' read read' held held' → Early words told left left' read read' held held' filed filed'
+  of_dump : Rose filed filed' → BegunUnwritten words told left left' read read' held held' → Early words told left left' read read' held held' filed filed'

@@ -18,6 +18,6 @@ ReadsWhole limit told was is (Whole bytes) = ToldAs told bytes.items × (length 
 ReadsWhole limit told was is TooLong = IsLonger limit told × (is ≡ was)
 ReadsWhole limit told was is Fault = Rose was is
 
--- the count of missing names stays, or it isn't told that the file is there
+-- the count of missing names stays, or it is one more and it isn't told that the file is there
 abbrev pub MissesOnly : Option (Option (List ℕ)) → ℕ → ℕ → Type 0
-MissesOnly told was is = (is ≡ was) ⊎ IsMissing told
+MissesOnly told was is = (is ≡ was) ⊎ (IsMissing told × Rose was is)

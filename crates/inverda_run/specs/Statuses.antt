@@ -1,6 +1,7 @@
 -- What the statuses of a run say. Source and sink tell their bytes, and files what they hold, before and now, where they know it.
 use Rattle.std.specs.Prelude.{◌≡◌, ◌≤◌, ◌<◌, ◌⊎◌, ℕ, List, length, Option, Some, None, codes, ⊤}
 use Rattle.std.specs.Io.KnownBytes.{Appends}
+use Rattle.outside.specs.Causes.{Rose}
 use Rattle.outside.specs.FileTold.{IsMissing, ToldAs}
 use Rattle.op_any.specs.Operators.{AnyView}
 use Rattle.db_state.specs.declared.parts.Parts.{Parts}
@@ -90,26 +91,33 @@ pub record RefusedDump (words : List (List ℕ)) (told : Told) (held held' : Opt
   pub none : NoDump bytes
   pub put : Appends held held' (line (codes "dump refused"))
 
+-- nothing was taken from the source, and no call of it failed
+abbrev pub Untouched : Option (List ℕ) → Option (List ℕ) → ℕ → ℕ → Type 0
+Untouched left left' read read' = (left' ≡ left) × (read' ≡ read)
+
 -- the loaded file is longer than the limit
-pub record LongLoad (words : List (List ℕ)) (told : Told) (held held' : Option (List ℕ)) : Type 0 where
+pub record LongLoad (words : List (List ℕ)) (told : Told) (left left' : Option (List ℕ)) (read read' : ℕ) (held held' : Option (List ℕ)) : Type 0 where
   pub name : List ℕ
   pub loads : Loads words name
   pub longer : IsLonger limit (told name)
+  pub untouched : Untouched left left' read read'
   pub put : Appends held held' (line (codes "too long"))
 
--- the script was carried out from the start to its end, and this line stands behind what was put instead of a dump
-pub record RanBefore (words : List (List ℕ)) (told : Told) (left left' held held' : Option (List ℕ)) (last : List ℕ) (to : Standing) : Type 0 where
+-- the script was carried out from the start to its end, no call of the source failed, and this line stands behind what was put instead of
+-- a dump
+pub record RanBefore (words : List (List ℕ)) (told : Told) (left left' : Option (List ℕ)) (read read' : ℕ) (held held' : Option (List ℕ)) (last : List ℕ) (to : Standing) : Type 0 where
   pub asked : Asked
   pub from : Standing
   pub starts : Starts words told asked from
   pub between : Option (List ℕ)
   pub carried : Carried asked from to left left' held between
+  pub calm : read' ≡ read
   pub put : Appends between held' (line last)
 
 -- the dump would be longer than the limit
-pub record LongDump (words : List (List ℕ)) (told : Told) (left left' held held' : Option (List ℕ)) : Type 0 where
+pub record LongDump (words : List (List ℕ)) (told : Told) (left left' : Option (List ℕ)) (read read' : ℕ) (held held' : Option (List ℕ)) : Type 0 where
   pub to : Standing
-  pub ran : RanBefore words told left left' held held' (codes "too long") to
+  pub ran : RanBefore words told left left' read read' held held' (codes "too long") to
   pub name : List ℕ
   pub dumps : Dumps words name
   pub text : List ℕ
@@ -117,23 +125,24 @@ pub record LongDump (words : List (List ℕ)) (told : Told) (left left' held hel
   pub above : limit < length text
 
 -- the loaded file couldn't be read
-pub record UnreadLoad (words : List (List ℕ)) (held held' : Option (List ℕ)) : Type 0 where
+pub record UnreadLoad (words : List (List ℕ)) (left left' : Option (List ℕ)) (read read' : ℕ) (held held' : Option (List ℕ)) : Type 0 where
   pub name : List ℕ
   pub loads : Loads words name
+  pub untouched : Untouched left left' read read'
   pub put : Appends held held' (line (codes "file fault"))
 
 -- the dump couldn't be written
-pub record UnwrittenDump (words : List (List ℕ)) (told : Told) (left left' held held' : Option (List ℕ)) : Type 0 where
+pub record UnwrittenDump (words : List (List ℕ)) (told : Told) (left left' : Option (List ℕ)) (read read' : ℕ) (held held' : Option (List ℕ)) : Type 0 where
   pub to : Standing
-  pub ran : RanBefore words told left left' held held' (codes "file fault") to
+  pub ran : RanBefore words told left left' read read' held held' (codes "file fault") to
   pub name : List ℕ
   pub dumps : Dumps words name
 
 -- ---- files
 
--- the count of missing names stays, or the words load a file of which it isn't told that it is there
+-- the count of missing names stays, or it is one more and the words load a file of which it isn't told that it is there
 abbrev pub Misses : List (List ℕ) → Told → ℕ → ℕ → Type 0
-Misses words told was is = (is ≡ was) ⊎ ((name : List ℕ) × Loads words name × IsMissing (told name))
+Misses words told was is = (is ≡ was) ⊎ ((name : List ℕ) × Loads words name × IsMissing (told name) × Rose was is)
 
 -- a file is as it was, or the words name it to be written and P holds
 abbrev pub StaysBut : List (List ℕ) → Told → Told → Type 0 → Type 0

@@ -8,9 +8,10 @@
 //! A program that calls it is promised that a run of status 0 took a script, put exactly the lines
 //! that answer its statements, from the empty or the loaded database on, and left the dump of the
 //! state behind them (`Ran`); that every other status comes for its cause alone; that where source,
-//! sink and files don't fail and memory suffices, words, files and bytes decide the status; and that
-//! a run which memory or the sink ends has put a front of what it puts otherwise. The crate knows
-//! nothing of how words, scripts or dumps are written.
+//! sink and files don't fail and memory suffices, words, files and bytes decide the status; that a run
+//! which memory or the sink ends has put a front of what it puts otherwise, by what failed before
+//! (`Early`); and that the first call that fails on source, sink or files is the last one. The crate
+//! knows nothing of how words, scripts or dumps are written.
 #![tactic(auto)]
 
 mod begin;

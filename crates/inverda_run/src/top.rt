@@ -2,13 +2,13 @@
 ghost use Rattle.std.specs.Prelude.{◌≡◌, ◌≢◌, ◌⊎◌, ◌≤◌, ℕ, codes, map, string_bytes};
 ghost use Rattle.std.specs.Io.KnownBytes.{Appends};
 ghost use Rattle.bidel_script.specs.Script.{Fault as Misspelled, Long, Open};
-ghost use Rattle.outside.specs.Causes.{Rose};
+ghost use Rattle.outside.specs.Causes.{Rose, RoseOnce};
 ghost use Rattle.generated_run.specs.EngineCoreTexts.{line};
 ghost use Rattle.generated_run.specs.Moves.{MovesUnseen};
-ghost use Rattle.generated_run.specs.Statuses.{AnswersScript, BegunTaken, FirstReplies, Passed, Stopped, StoppedOfAll, Unread};
-ghost use Rattle.inverda_run.specs.Statuses.{Generates, LongDump, LongLoad, Misses, OfStart, Ran, RefusedDump, RunsSource, SayNothing, StaysBut, UnreadLoad, UnwrittenDump};
-ghost use Rattle.inverda_run.specs.Decided.{Begun, Told', ToldGenerated, ToldLonger, ToldNoDump, ToldWhole};
-ghost use Rattle.inverda_run.specs.Calls.{EndStays, Ends, Untouched, ended as ended_lem};
+ghost use Rattle.generated_run.specs.Statuses.{AnswersScript, FirstReplies, Passed, Stopped, StoppedOfAll, Unread};
+ghost use Rattle.inverda_run.specs.Statuses.{Generates, LongDump, LongLoad, Misses, OfStart, Ran, RefusedDump, RunsSource, SayNothing, StaysBut, UnreadLoad, Untouched, UnwrittenDump};
+ghost use Rattle.inverda_run.specs.Decided.{Early, Told', ToldGenerated, ToldLonger, ToldNoDump, ToldWhole};
+ghost use Rattle.inverda_run.specs.Calls.{EndStays, Ends, ended as ended_lem};
 ghost use Rattle.inverda_run.specs.declared.end.End.TheVariants as end;
 
 use crate::begin::{NotBegun, begin};
@@ -108,7 +108,9 @@ fn run<S: Source, K: Sink, F: Files>(
 /// - 8: the loaded file couldn't be read, or the dump not be written; the last line is `file fault`
 ///
 /// Before the last line of 3, 5, of 7 on the script or the dump, and of 8 on the dump stand the replies
-/// to the statements that were known to end. After 2 and 4 nothing was taken from the source.
+/// to the statements that were known to end. After 2 and 4, and where the loaded file is too long or
+/// couldn't be read, nothing was taken from the source. After 1 and 6 a front was put of what would be
+/// put otherwise.
 /// Takes memory in the number of bytes and tokens, and in that of a dump's values.
 pub fn inverda<S: Source, K: Sink, F: Files>(
     alloc: Global,
@@ -180,14 +182,18 @@ pub fn inverda<S: Source, K: Sink, F: Files>(
     ensures long { result ≡ 7 → OfStart (map string_bytes words.now) (F.told files.old)
         (λ from. Passed from (S.left script.old) (S.left script.new) (S.faults script.old)
         (S.faults script.new) (K.held out.old) (K.held out.new))
-        ⊎ LongLoad (map string_bytes words.now) (F.told files.old) (K.held out.old)
+        ⊎ LongLoad (map string_bytes words.now) (F.told files.old) (S.left script.old)
+        (S.left script.new) (S.faults script.old) (S.faults script.new) (K.held out.old)
         (K.held out.new)
         ⊎ LongDump (map string_bytes words.now) (F.told files.old) (S.left script.old)
-        (S.left script.new) (K.held out.old) (K.held out.new) }
+        (S.left script.new) (S.faults script.old) (S.faults script.new) (K.held out.old)
+        (K.held out.new) }
     ensures fault { result ≡ 8 → Rose (F.faults files.old) (F.faults files.new)
-        × (UnreadLoad (map string_bytes words.now) (K.held out.old) (K.held out.new)
+        × (UnreadLoad (map string_bytes words.now) (S.left script.old) (S.left script.new)
+        (S.faults script.old) (S.faults script.new) (K.held out.old) (K.held out.new)
         ⊎ UnwrittenDump (map string_bytes words.now) (F.told files.old) (S.left script.old)
-        (S.left script.new) (K.held out.old) (K.held out.new)) }
+        (S.left script.new) (S.faults script.old) (S.faults script.new) (K.held out.old)
+        (K.held out.new)) }
 
     // The replies after 3, 5 and 7 are those of all bytes that the source told, up to their first fault
     // or to where they were cut off.
@@ -199,21 +205,28 @@ pub fn inverda<S: Source, K: Sink, F: Files>(
     ensures cut_long { result ≡ 7 → OfStart (map string_bytes words.now) (F.told files.old)
         (λ from. FirstReplies from (S.left script.old) (K.held out.old) (K.held out.new)
         (codes "too long"))
-        ⊎ LongLoad (map string_bytes words.now) (F.told files.old) (K.held out.old)
+        ⊎ LongLoad (map string_bytes words.now) (F.told files.old) (S.left script.old)
+        (S.left script.new) (S.faults script.old) (S.faults script.new) (K.held out.old)
         (K.held out.new)
         ⊎ LongDump (map string_bytes words.now) (F.told files.old) (S.left script.old)
-        (S.left script.new) (K.held out.old) (K.held out.new) }
+        (S.left script.new) (S.faults script.old) (S.faults script.new) (K.held out.old)
+        (K.held out.new) }
 
-    // Where memory ran out or the sink failed, a front was put of what would be otherwise.
+    // Where memory ran out or the sink failed, a front was put of what would be otherwise, by what
+    // failed before.
     ensures begun { (result ≡ 1) ⊎ (result ≡ 6)
-        → ¬ Rose (S.faults script.old) (S.faults script.new)
-        → ¬ Rose (F.faults files.old) (F.faults files.new)
-        → Begun (map string_bytes words.now) (F.told files.old) (S.left script.old)
-        (K.held out.old) (K.held out.new) }
-    ensures begun_taken { (result ≡ 1) ⊎ (result ≡ 6)
-        → S.faults script.new ≢ S.faults script.old
-        → OfStart (map string_bytes words.now) (F.told files.old) (λ from. BegunTaken from
-        (S.left script.old) (S.left script.new) (K.held out.old) (K.held out.new)) }
+        → Early (map string_bytes words.now) (F.told files.old) (S.left script.old)
+        (S.left script.new) (S.faults script.old) (S.faults script.new) (K.held out.old)
+        (K.held out.new) (F.faults files.old) (F.faults files.new) }
+
+    // The first call that fails is the last one on its object, and the status tells of it, but for a
+    // fault in the bytes that were taken before.
+    ensures once_read { RoseOnce (S.faults script.old) (S.faults script.new) }
+    ensures once_write { RoseOnce (K.faults out.old) (K.faults out.new) }
+    ensures once_file { RoseOnce (F.faults files.old) (F.faults files.new) }
+    ensures source { S.faults script.new ≢ S.faults script.old
+        → (result ≡ 1) ⊎ (result ≡ 3) ⊎ (result ≡ 5) ⊎ (result ≡ 6) ⊎ (result ≡ 7) }
+    ensures file { F.faults files.new ≢ F.faults files.old → (result ≡ 6) ⊎ (result ≡ 8) }
 
     // No count falls, and a file stays as it was, but for the one that the words name to be written.
     ensures files { StaysBut (map string_bytes words.now) (F.told files.old) (F.told files.new)

@@ -1,5 +1,5 @@
 //! Reading a source to its end, and putting all of some bytes.
-ghost use Rattle.std.specs.Prelude.{◌<◌, ◌≤◌, ◌+◌, ◌-◌, ℕ, take, IfOk, OnOk, OnErr};
+ghost use Rattle.std.specs.Prelude.{◌≡◌, ◌<◌, ◌≤◌, ◌+◌, ◌-◌, ℕ, take, IfOk, OnOk, OnErr};
 ghost use Rattle.std.specs.Io.KnownBytes.{Appends};
 ghost use Rattle.outside.specs.Causes.{HasCause};
 ghost use Rattle.outside.specs.Reading.{ReadsAll};
@@ -27,6 +27,7 @@ pub fn read_all<S: Source>(alloc: Global, source: &mut S, limit: u32) -> Result<
     ensures later { S.faults source.old ≤ S.faults source.new }
     ensures reads { IfOk result (λ answer. ReadsAll limit (S.left source.old) (S.left source.new)
         (S.faults source.old) (S.faults source.new) answer) }
+    ensures stays { OnErr result (S.faults source.new ≡ S.faults source.old) }
 {
     let mut bytes = Vec::new(alloc);
     let mut piece = [0u8; PIECE];

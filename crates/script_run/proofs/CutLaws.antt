@@ -25,7 +25,7 @@ record Cut (told bytes : List ℕ) (ended : Bool) : Type 0 where
   rest : ((more ≡ []) × (nat_le (length told) limit ≡ ended)) ⊎ (ended ≡ false)
 
 taken_cut : (told : List ℕ) (left' : Option (List ℕ)) (was is : ℕ) (bytes : List ℕ) (ended : Bool) → Taken (Some told) left' was is bytes ended → Cut told bytes ended
-taken_cut told left' was is bytes ended (whole c e le fixed) =
+taken_cut told left' was is bytes ended (whole c e le stay fixed) =
     let same = whole_told (Some told) left' told bytes refl c e in
     record {
       more = [];
@@ -40,7 +40,7 @@ taken_cut told (Some left) was is bytes ended (failed c le rose fixed) =
       same = ap (take limit) c ∙ ap (λ (n : ℕ). take n (bytes ++ left)) count ∙ take-append-add bytes left (limit - length bytes);
       rest = inr fixed;
     }
-taken_cut told left' was is bytes ended (above taken c lt same fixed) =
+taken_cut told left' was is bytes ended (above taken c lt same stay fixed) =
     let a = above_told (Some told) left' told taken refl c lt in
     record {
       more = [];
@@ -111,5 +111,5 @@ module _ (from : Standing) where
   passed_first (Some told) left' held held' was is p = elim p.long [
     | inl long ↦ replies_first told p.bytes p.ended p.before Long held held' (codes "too long") (taken_cut told left' was is p.bytes p.ended p.taken) long p.put
     | inr open' ↦ replies_first told p.bytes false p.before Open held held' (codes "too long")
-        (taken_cut told left' was is p.bytes false (above open'.1 open'.2 open'.3 open'.4 refl)) open'.0 p.put
+        (taken_cut told left' was is p.bytes false (above open'.1 open'.2 open'.3 open'.4 open'.5 refl)) open'.0 p.put
   ]

@@ -1,5 +1,5 @@
 -- How the run of a script ends.
-use Rattle.std.proofs.Common.{◌≡◌, ◌≢◌, ◌≤◌, ◌⊎◌, ℕ, List, [], ◌++◌, Option, None, Some, Bool, true, false, inl, inr, refl, sym, ap, subst, ◌∙◌, append-nil, take, length, arith}
+use Rattle.std.proofs.Common.{◌≡◌, ◌≤◌, ◌⊎◌, ℕ, List, [], ◌++◌, Option, None, Some, Bool, true, false, inl, inr, refl, sym, ap, subst, ◌∙◌, append-nil, take, length, arith}
 use Rattle.std.specs.Prelude.{nat_le, codes}
 use Rattle.std.proofs.lemmas.List.{append_cancel_right, take_all}
 use Rattle.std.proofs.lemmas.Bool.{le-leb}
@@ -24,7 +24,7 @@ use Rattle.bidel_script.proofs.UniqueLaws.{one_comes}
 use Rattle.engine_sessions.specs.EngineCoreTexts.{line}
 use Rattle.script_run.specs.Output.{out, state_after}
 use Rattle.script_run.specs.Statuses as statuses
-use Rattle.script_run.specs.Statuses.{limit, Taken, whole, failed, above, last_line, WritesScript, Had, PutsFront, AnswersScript, Begun, BegunTaken}
+use Rattle.script_run.specs.Statuses.{limit, Taken, whole, failed, above, last_line, WritesScript, Had, PutsFront, AnswersScript, Begun, BegunTaken, CutShort}
 use Rattle.script_run.specs.Calls.{Runs, RunsTo, RunsFront, RunsScript, RunsBytes, AtWithin, BeginsRun, PutsLine, PutsAll, EndsScript, Counts, ended_by, Ends, EndStays, RunStays}
 use Rattle.script_run.specs.declared.run.Ran.{Ran}
 use Rattle.script_run.specs.declared.run.Ran.TheVariants as ran
@@ -32,7 +32,7 @@ use Rattle.script_run.specs.declared.source.Counted.{Counted}
 use Rattle.script_run.specs.declared.end.End.{End}
 use Rattle.script_run.specs.declared.end.End.TheVariants as end
 use Rattle.script_run.proofs.FrontLaws.{puts_none, puts_behind, begins_run}
-use Rattle.script_run.proofs.ToldLemmas.{counts_told, whole_told}
+use Rattle.script_run.proofs.ToldLemmas.{CountsAll, above_counts, counts_told, whole_counts, whole_told}
 use Rattle.engine_sessions.specs.Standing.{Standing}
 
 module _ (from to : Standing) where
@@ -84,15 +84,15 @@ module _ (from to : Standing) where
       subst (PutsFront held held') text_is (puts_behind held mid held' (out from h.statements) (last_line bytes stopped (outcome_of s)) h.put p)
 
   -- the last line was put, or a front of it
-  pub ends_script : (bytes : List ℕ) (ended : Bool) (stopped : List ℕ) (held mid held' : Option (List ℕ)) (was between is : ℕ) (s : Stop) (r : Ran) → RunsBytes from to bytes ended held mid s → was ≤ between
+  pub ends_script : (bytes : List ℕ) (ended : Bool) (stopped : List ℕ) (held mid held' : Option (List ℕ)) (was between is : ℕ) (s : Stop) (r : Ran) → RunsBytes from to bytes ended held mid s → between ≡ was
       → PutsLine s (last_line bytes stopped (outcome_of s)) mid held' between is r → EndsScript from to bytes ended stopped held held' was is r
-  ends_script bytes ended stopped held mid held' was between is s (ran.Stops t) h later p =
+  ends_script bytes ended stopped held mid held' was between is s (ran.Stops t) h stays p =
       subst (λ (x : Stop). PutsAll from to bytes ended stopped held held' (outcome_of x)) (sym p.0)
       (record { statements = h.statements; comes = h.comes; put = Appends-trans held mid held' (out from h.statements) (last_line bytes stopped (outcome_of s)) h.put p.1; next = h.next })
-  ends_script bytes ended stopped held mid held' was between is s ran.Memory h later p =
+  ends_script bytes ended stopped held mid held' was between is s ran.Memory h stays p =
       line_begins bytes ended stopped held mid held' s h (puts_none mid held' (last_line bytes stopped (outcome_of s)) p)
-  ends_script bytes ended stopped held mid held' was between is s ran.Unwritten h later p =
-      (omega (arith, later, p.0), line_begins bytes ended stopped held mid held' s h p.1)
+  ends_script bytes ended stopped held mid held' was between is s ran.Unwritten h stays p =
+      (subst (λ (n : ℕ). Rose n is) stays p.0, line_begins bytes ended stopped held mid held' s h p.1)
 
   -- nothing is put at the end of a script
   pub puts_nothing : (s : Stop) (held held' : Option (List ℕ)) (was is : ℕ) → held' ≡ held → PutsLine s [] held held' was is (ran.Stops s)
@@ -103,27 +103,25 @@ module _ (from to : Standing) where
   -- the run of the bytes that count, for what was taken from the source
   ends_as : (left left' : Option (List ℕ)) (read read' : ℕ) (held held' : Option (List ℕ)) (was is : ℕ) (bytes : List ℕ) (ended : Bool) (stopped : List ℕ) (e : End) (r : Ran)
       → Taken left left' read read' bytes ended
-      → (Begins : (¬ Rose read read') → BeginsRun from bytes ended stopped held held' → Begun from left held held')
-      → (BeginsTaken : (read' ≢ read) → BeginsRun from bytes ended stopped held held' → BegunTaken from left left' held held')
+      → (cut : BeginsRun from bytes ended stopped held held' → CutShort from left left' read read' held held')
       → (done : (statements : List StatementView) → Comes bytes ended statements Over → Appends held held' (out from statements ++ []) → to ≡ state_after from statements → statuses.Done from to left left' held held' × (read' ≡ read))
       → (open' : (statements : List StatementView) → Comes bytes ended statements Open → Appends held held' (out from statements ++ stopped) → Ends from to left left' read read' held held' was is e)
       → EndsScript from to bytes ended stopped held held' was is r → Ends from to left left' read read' held held' was is (ended_by e r)
-  ends_as left left' read read' held held' was is bytes ended stopped e (ran.Stops stop.Over) t begins taken done open' h = done h.statements h.comes h.put h.next
-  ends_as left left' read read' held held' was is bytes ended stopped e (ran.Stops (stop.Fault at)) t begins taken done open' h =
+  ends_as left left' read read' held held' was is bytes ended stopped e (ran.Stops stop.Over) t cut done open' h = done h.statements h.comes h.put h.next
+  ends_as left left' read read' held held' was is bytes ended stopped e (ran.Stops (stop.Fault at)) t cut done open' h =
       record { bytes = bytes; ended = ended; before = h.statements; at = at; taken = t; fault = h.comes; put = h.put }
-  ends_as left left' read read' held held' was is bytes ended stopped e (ran.Stops stop.Long) t begins taken done open' h =
+  ends_as left left' read read' held held' was is bytes ended stopped e (ran.Stops stop.Long) t cut done open' h =
       record { bytes = bytes; ended = ended; before = h.statements; taken = t; long = inl h.comes; put = h.put }
-  ends_as left left' read read' held held' was is bytes ended stopped e (ran.Stops stop.Open) t begins taken done open' h = open' h.statements h.comes h.put
-  ends_as left left' read read' held held' was is bytes ended stopped e ran.Memory t begins taken done open' h = (λ safe. begins safe h, λ fails. taken fails h)
-  ends_as left left' read read' held held' was is bytes ended stopped e ran.Unwritten t begins taken done open' h =
-      (h.0, λ safe. begins safe h.1, λ fails. taken fails h.1)
+  ends_as left left' read read' held held' was is bytes ended stopped e (ran.Stops stop.Open) t cut done open' h = open' h.statements h.comes h.put
+  ends_as left left' read read' held held' was is bytes ended stopped e ran.Memory t cut done open' h = cut h
+  ends_as left left' read read' held held' was is bytes ended stopped e ran.Unwritten t cut done open' h = (h.0, cut h.1)
 
   -- what was put begins what the run of the bytes that the source told puts
-  begun_counts : (left left' held held' : Option (List ℕ)) (was is : ℕ) (bytes : List ℕ) (ended : Bool) (stopped : List ℕ) → Taken left left' was is bytes ended
-      → (ended ≡ false → stopped ≡ line (codes "too long")) → ¬ Rose was is → BeginsRun from bytes ended stopped held held' → Begun from left held held'
-  begun_counts None left' held held' was is bytes ended stopped t said safe h = tt
-  begun_counts (Some told) left' held held' was is bytes ended stopped t said safe h = λ text w.
-      let c = counts_told (Some told) left' was is told bytes ended refl safe t in
+  begun_counts : (left held held' : Option (List ℕ)) (bytes : List ℕ) (ended : Bool) (stopped : List ℕ) → ((told : List ℕ) → left ≡ Some told → CountsAll told bytes ended)
+      → (ended ≡ false → stopped ≡ line (codes "too long")) → BeginsRun from bytes ended stopped held held' → Begun from left held held'
+  begun_counts None held held' bytes ended stopped counts said h = tt
+  begun_counts (Some told) held held' bytes ended stopped counts said h = λ text w.
+      let c = counts told refl in
       h text (written w.statements w.outcome (subst (λ (b : Bool). Comes bytes b w.statements w.outcome) c.1
       (subst (λ (l : List ℕ). Comes l (nat_le (length told) limit) w.statements w.outcome) c.0 w.comes)) (ap (λ (l : List ℕ). out from w.statements ++ last_line l (line (codes "too long")) w.outcome) c.0) text w.same)
     where
@@ -165,10 +163,14 @@ module _ (from to : Standing) where
       → ReadsAll limit left left' read' read2 r → Counts r c → EndsScript from to c.bytes.now c.ended c.stopped.now held held' was is x
       → Ends from to left left' read' read2 held held' was is (ended_by c.end x)
   ends_run left left' read' read2 held held' was is (read.Whole bytes) c x t k h =
-      let taken : Taken left left' read' read2 c.bytes.now c.ended = whole (subst (Consumes left left') (sym k.0) t.0) t.1 (omega (arith, t.2, ap length k.0)) k.1 in
-      ends_as left left' read' read2 held held' was is c.bytes.now c.ended c.stopped.now c.end x taken
-      (λ safe b. begun_counts left left' held held' read' read2 c.bytes.now c.ended c.stopped.now taken (λ f. let clash : true ≡ false = sym k.1 ∙ f in cc) safe b)
-      (λ fails b. absurd (fails t.3))
+      let consumed = subst (Consumes left left') (sym k.0) t.0 in
+      let within : length c.bytes.now ≤ limit = omega (arith, t.2, ap length k.0) in
+      ends_as left left' read' read2 held held' was is c.bytes.now c.ended c.stopped.now c.end x (whole consumed t.1 within t.3 k.1)
+      (λ b. inl (
+        t.3,
+        begun_counts left held held' c.bytes.now c.ended c.stopped.now
+            (λ told h. whole_counts left left' told c.bytes.now c.ended h consumed t.1 within k.1) (λ f. let clash : true ≡ false = sym k.1 ∙ f in cc) b,
+      ))
       (λ statements comes put next. done statements (subst (λ (b : Bool). Comes c.bytes.now b statements Over) k.1 comes) put next)
       (λ statements comes put. absurd (ended_not_open c.bytes.now statements (subst (λ (b : Bool). Comes c.bytes.now b statements Open) k.1 comes))) h
     where
@@ -188,10 +190,13 @@ module _ (from to : Standing) where
         t.3,
       )
   ends_run left left' read' read2 held held' was is (read.TooLong bytes) c x t k h =
-      let taken : Taken left left' read' read2 c.bytes.now c.ended = above bytes.items t.0 t.1 k.0 k.1 in
+      let taken : Taken left left' read' read2 c.bytes.now c.ended = above bytes.items t.0 t.1 k.0 t.2 k.1 in
       ends_as left left' read' read2 held held' was is c.bytes.now c.ended c.stopped.now c.end x taken
-      (λ safe b. begun_counts left left' held held' read' read2 c.bytes.now c.ended c.stopped.now taken (λ f. k.2) safe b)
-      (λ fails b. absurd (fails t.2))
+      (λ b. inl (
+        t.2,
+        begun_counts left held held' c.bytes.now c.ended c.stopped.now
+            (λ told h. above_counts left left' told bytes.items c.bytes.now c.ended h t.0 t.1 k.0 k.1) (λ f. k.2) b,
+      ))
       (λ statements comes put next. absurd (open_not_over c.bytes.now statements (subst (λ (b : Bool). Comes c.bytes.now b statements Over) k.1 comes)))
       (λ statements comes put. subst (Ends from to left left' read' read2 held held' was is) (sym k.3) (
       record {
@@ -199,7 +204,7 @@ module _ (from to : Standing) where
         ended = c.ended;
         before = statements;
         taken = taken;
-        long = inr (subst (λ (b : Bool). Comes c.bytes.now b statements Open) k.1 comes, bytes.items, t.0, t.1, k.0);
+        long = inr (subst (λ (b : Bool). Comes c.bytes.now b statements Open) k.1 comes, bytes.items, t.0, t.1, k.0, t.2);
         put = subst (λ (l : List ℕ). Appends held held' (out from statements ++ l)) k.2 put;
       }
       )) h
@@ -207,8 +212,7 @@ module _ (from to : Standing) where
       let consumed = subst (Consumes left left') (sym k.0) t.0 in
       let within : length c.bytes.now ≤ limit = omega (arith, t.1, ap length k.0) in
       ends_as left left' read' read2 held held' was is c.bytes.now c.ended c.stopped.now c.end x (failed consumed within t.2 k.1)
-      (λ safe b. absurd (safe t.2))
-      (λ fails b. begun_taken left left' held held' c.bytes.now c.ended c.stopped.now consumed k.1 k.2 b)
+      (λ b. inr (t.2, begun_taken left left' held held' c.bytes.now c.ended c.stopped.now consumed k.1 k.2 b))
       (λ statements comes put next. absurd (open_not_over c.bytes.now statements (subst (λ (b : Bool). Comes c.bytes.now b statements Over) k.1 comes)))
       (λ statements comes put. subst (Ends from to left left' read' read2 held held' was is) (sym k.3) (
       record {
@@ -239,30 +243,32 @@ module _ (from to : Standing) where
   -- ---- what the source told decides the status
 
   -- what comes of the bytes that count comes of those that the source told
-  had_comes : (left left' : Option (List ℕ)) (was is : ℕ) (o p : Outcome) (bytes : List ℕ) (ended : Bool) (sts : List StatementView) → Had left o → ¬ Rose was is → Taken left left' was is bytes ended
-      → Comes bytes ended sts p → o ≡ p
-  had_comes left left' was is o p bytes ended sts had safe t c =
-      let told = counts_told left left' was is had.bytes bytes ended had.told safe t in
+  had_comes : (left : Option (List ℕ)) (o p : Outcome) (bytes : List ℕ) (ended : Bool) (sts : List StatementView) → (had : Had left o) → CountsAll had.bytes bytes ended → Comes bytes ended sts p → o ≡ p
+  had_comes left o p bytes ended sts had told c =
       (one_comes bytes ended had.statements sts o p
       (subst (λ (b : Bool). Comes bytes b had.statements o) told.1 (subst (λ (l : List ℕ). Comes l (nat_le (length had.bytes) limit) had.statements o) told.0 had.comes)) c).1
 
-  pub had_done : (left left' held held' : Option (List ℕ)) (was is : ℕ) (o : Outcome) → Had left o → ¬ Rose was is → statuses.Done from to left left' held held' → o ≡ Over
-  had_done left left' held held' was is o had safe d =
-      had_comes left left' was is o Over d.bytes true d.statements had safe (whole d.taken d.whole d.within refl) d.comes
+  pub had_done : (left left' held held' : Option (List ℕ)) (o : Outcome) → Had left o → statuses.Done from to left left' held held' → o ≡ Over
+  had_done left left' held held' o had d =
+      had_comes left o Over d.bytes true d.statements had (whole_counts left left' had.bytes d.bytes true had.told d.taken d.whole d.within refl) d.comes
 
   pub had_stopped : (left left' held held' : Option (List ℕ)) (was is : ℕ) (o : Outcome) → Had left o → ¬ Rose was is → statuses.Stopped from left left' was is held held' → (at : ℕ) × (o ≡ Fault at)
-  had_stopped left left' held held' was is o had safe s = (s.at, had_comes left left' was is o (Fault s.at) s.bytes s.ended s.before had safe s.taken s.fault)
+  had_stopped left left' held held' was is o had safe s =
+      (s.at, had_comes left o (Fault s.at) s.bytes s.ended s.before had (counts_told left left' was is had.bytes s.bytes s.ended had.told safe s.taken) s.fault)
 
   pub had_passed : (left left' held held' : Option (List ℕ)) (was is : ℕ) (o : Outcome) → Had left o → ¬ Rose was is → statuses.Passed from left left' was is held held' → (o ≡ Long) ⊎ (o ≡ Open)
   had_passed left left' held held' was is o had safe p = elim p.long [
-    | inl long ↦ inl (had_comes left left' was is o Long p.bytes p.ended p.before had safe p.taken long)
-    | inr open' ↦ inr (had_comes left left' was is o Open p.bytes false p.before had safe (above open'.1 open'.2 open'.3 open'.4 refl) open'.0)
+    | inl long ↦ inl (had_comes left o Long p.bytes p.ended p.before had (counts_told left left' was is had.bytes p.bytes p.ended had.told safe p.taken) long)
+    | inr open' ↦ inr (had_comes left o Open p.bytes false p.before had (above_counts left left' had.bytes open'.1 p.bytes false had.told open'.2 open'.3 open'.4 refl) open'.0)
   ]
 
   -- nothing was put before the source was read
   pub begun_none : (left held held' : Option (List ℕ)) → held' ≡ held → Begun from left held held'
   begun_none None held held' same = tt
   begun_none (Some told) held held' same = λ text w. puts_none held held' text same
+
+  pub cut_none : (left left' : Option (List ℕ)) (was is : ℕ) (held held' : Option (List ℕ)) → is ≡ was → held' ≡ held → CutShort from left left' was is held held'
+  cut_none left left' was is held held' stays same = inl (stays, begun_none left held held' same)
 
   -- ---- a run that is done
 

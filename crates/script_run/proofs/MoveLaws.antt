@@ -3,7 +3,7 @@ use Rattle.std.specs.Prelude.{if◌then◌else◌, Ok, Err, Option, None}
 use Rattle.std.proofs.Common.{◌≡◌, ℕ, List, [], ◌∷◌, Bool, true, false, not, cond, refl, sym, ap, ◌∙◌, subst}
 use Rattle.par_base.specs.declared.refusal.Refusal.TheVariants.{NotBuilt}
 use Rattle.layout_rules.specs.Closed.{closing}
-use Rattle.statements.specs.Views.{StatementView, CreateVersion, DropVersion, Insert, Import, Update, Delete, Select, Materialize, Step, ShowLayout, Use, Session, Advise}
+use Rattle.statements.specs.Views.{StatementView, CreateVersion, DropVersion, Insert, Import, Update, Delete, Select, Materialize, Step, ShowLayout, Use, Session, Advise, Watch, Unwatch, Begin, Commit, Rollback}
 use Rattle.version_graph.specs.Edges.{set_named}
 use Rattle.par_base.specs.Checked.{Checked, ◌then◌}
 use Rattle.engine_sessions.specs.AnyDatabase.{AnyDatabase}
@@ -78,6 +78,11 @@ module _ (s : Standing) (layout : List ℕ) where
   same_act (Use name) off = same_used name (known_version name (set_named s.laid.database.graph.versions name))
   same_act (Session number) off = record { text = refl; layout = layout; next = refl }
   same_act (Advise name) off = same_advised (advice_on s name) (known_version name (set_named s.laid.database.graph.versions name))
+  same_act (Watch name) off = same_refused NotBuilt
+  same_act (Unwatch number) off = same_refused NotBuilt
+  same_act Begin off = same_refused NotBuilt
+  same_act Commit off = same_refused NotBuilt
+  same_act Rollback off = same_refused NotBuilt
 
 -- what a MATERIALIZE makes of what closing gives, and its reply
 abbrev moved_laid : Laid → Checked (List ℕ) → Checked (ℕ × Laid)
@@ -140,6 +145,11 @@ module _ (xs : List StatementView) (more : (s : Standing) (layout : List ℕ) �
   one_more s layout (Use name) = told s layout (Use name) refl
   one_more s layout (Session number) = told s layout (Session number) refl
   one_more s layout (Advise name) = told s layout (Advise name) refl
+  one_more s layout (Watch name) = told s layout (Watch name) refl
+  one_more s layout (Unwatch number) = told s layout (Unwatch number) refl
+  one_more s layout Begin = told s layout Begin refl
+  one_more s layout Commit = told s layout Commit refl
+  one_more s layout Rollback = told s layout Rollback refl
 
 -- ALL OTHER STATEMENTS ARE ANSWERED THE SAME
 pub same_replies : (xs : List StatementView) (s : Standing) (layout : List ℕ) → heard xs (replies s xs) ≡ heard (without_moves xs) (replies (with_layout s layout) (without_moves xs))

@@ -11,7 +11,7 @@ use Rattle.bidel_parser.specs.Words.{Sign}
 use Rattle.bidel_parser.specs.Operators.{ClosedOperator, ListedOperators, Operator}
 use Rattle.bidel_parser.specs.Statements.{IsStatement, StatementRest}
 use Rattle.bidel_parser.specs.Parsing.{IsFront}
-use Rattle.statements.specs.Views.{OpView, StatementView, CreateVersion, DropVersion, Insert, Import, Update, Delete, Select, Materialize, Step, ShowLayout, Use, Session, Advise}
+use Rattle.statements.specs.Views.{OpView, StatementView, CreateVersion, DropVersion, Insert, Import, Update, Delete, Select, Materialize, Step, ShowLayout, Use, Session, Advise, Watch, Unwatch, Begin, Commit, Rollback}
 use Rattle.version_graph.specs.Sets.{In}
 use Rattle.version_graph.specs.declared.parts.Placed.{Placed}
 use Rattle.version_graph.proofs.SetLaws.{in_append}
@@ -63,6 +63,11 @@ rest-spelled statement.Show = behind-carries (λ _. ended-spelled ShowLayout non
 rest-spelled statement.Use = behind-carries (λ name. ended-spelled (Use name) none_spelled)
 rest-spelled statement.Session = behind-carries (λ number. ended-spelled (Session number) none_spelled)
 rest-spelled statement.Advise = behind-carries (λ name. ended-spelled (Advise name) none_spelled)
+rest-spelled statement.Watch = behind-carries (λ name. ended-spelled (Watch name) none_spelled)
+rest-spelled statement.Unwatch = behind-carries (λ number. ended-spelled (Unwatch number) none_spelled)
+rest-spelled statement.Begin = ended-spelled Begin none_spelled
+rest-spelled statement.Commit = ended-spelled Commit none_spelled
+rest-spelled statement.Rollback = ended-spelled Rollback none_spelled
 
 statement-spelled : Carries Any SpelledIn IsStatement
 statement-spelled = behind-carries rest-spelled

@@ -1,5 +1,5 @@
 -- What was taken of the bytes that the source told.
-use Rattle.std.proofs.Common.{◌≡◌, ◌<◌, ℕ, List, ◌++◌, Option, None, Some, Bool, inl, inr, sym, ap, ◌∙◌, append-nil, take, length, arith, length-append}
+use Rattle.std.proofs.Common.{◌≡◌, ◌<◌, ◌≤◌, ℕ, List, ◌++◌, Option, None, Some, Bool, true, false, inl, inr, sym, ap, ◌∙◌, append-nil, take, length, arith, length-append}
 use Rattle.std.specs.Prelude.{nat_le, min}
 use Rattle.std.proofs.lemmas.List.{take_all, take-append-le}
 use Rattle.std.proofs.lemmas.Bool.{le-leb, lt-leb}
@@ -27,20 +27,34 @@ above_told (Some b) (Some rest) told taken h c lt =
     let same : told ≡ taken ++ rest = sym (some_same b told h) ∙ c in
     (omega (arith, lt, ap length same, length-append taken rest), ap (take limit) same ∙ take-append-le limit taken rest (omega (arith, lt)))
 
--- of what the source told these bytes count
-pub counts_told : (left left' : Option (List ℕ)) (was is : ℕ) (told bytes : List ℕ) (ended : Bool) → left ≡ Some told → ¬ Rose was is → Taken left left' was is bytes ended
-    → (take limit told ≡ bytes) × (nat_le (length told) limit ≡ ended)
-counts_told left left' was is told bytes ended h safe (whole c e le fixed) =
+-- of what the source told these bytes count, and it ends behind them where there are no more
+abbrev pub CountsAll : List ℕ → List ℕ → Bool → Type 0
+CountsAll told bytes ended = (take limit told ≡ bytes) × (nat_le (length told) limit ≡ ended)
+
+-- what was read to its end
+pub whole_counts : (left left' : Option (List ℕ)) (told bytes : List ℕ) (ended : Bool) → left ≡ Some told → Consumes left left' bytes → IsAtEnd left' → length bytes ≤ limit → ended ≡ true
+    → CountsAll told bytes ended
+whole_counts left left' told bytes ended h c e le fixed =
     let same = whole_told left left' told bytes h c e in (
       ap (take limit) same ∙ take_all limit bytes le,
       le-leb (length told) limit (omega (arith, ap length same, le)) ∙ sym fixed,
     )
-counts_told left left' was is told bytes ended h safe (failed c le rose fixed) = absurd (safe rose)
-counts_told left left' was is told bytes ended h safe (above taken c lt same fixed) =
+
+-- what passes the limit
+pub above_counts : (left left' : Option (List ℕ)) (told taken bytes : List ℕ) (ended : Bool) → left ≡ Some told → Consumes left left' taken → limit < length taken → bytes ≡ take limit taken
+    → ended ≡ false → CountsAll told bytes ended
+above_counts left left' told taken bytes ended h c lt same fixed =
     let a = above_told left left' told taken h c lt in (
       a.1 ∙ sym same,
       lt-leb (length told) limit a.0 ∙ sym fixed,
     )
+
+-- what was taken, where no call failed
+pub counts_told : (left left' : Option (List ℕ)) (was is : ℕ) (told bytes : List ℕ) (ended : Bool) → left ≡ Some told → ¬ Rose was is → Taken left left' was is bytes ended
+    → CountsAll told bytes ended
+counts_told left left' was is told bytes ended h safe (whole c e le stay fixed) = whole_counts left left' told bytes ended h c e le fixed
+counts_told left left' was is told bytes ended h safe (failed c le rose fixed) = absurd (safe rose)
+counts_told left left' was is told bytes ended h safe (above taken c lt same stay fixed) = above_counts left left' told taken bytes ended h c lt same fixed
 
 -- the first bytes, so many where there are as many
 pub take_min : (n : ℕ) (xs : List ℕ) (m : ℕ) → m ≡ min (length xs) n → take m xs ≡ take n xs

@@ -1,5 +1,5 @@
 -- What the inner calls give.
-use Rattle.std.specs.Prelude.{◌≡◌, ◌≢◌, ◌≤◌, ◌++◌, ℕ, Bool, true, false, List, take, length, Option, codes, ⊤}
+use Rattle.std.specs.Prelude.{◌≡◌, ◌≤◌, ◌++◌, ℕ, Bool, true, false, List, take, length, Option, codes, ⊤}
 use Rattle.std.specs.Io.KnownBytes.{Appends}
 use Rattle.outside.specs.Causes.{Rose}
 use Rattle.bidel_lex.specs.declared.tokens.Token.{Token}
@@ -17,7 +17,7 @@ use Rattle.engine_sessions.specs.Standing.{Standing}
 use Rattle.engine_sessions.specs.Act.{act}
 use Rattle.engine_sessions.specs.EngineCoreTexts.{line}
 use Rattle.script_run.specs.Output.{text_of, next_state, out, state_after}
-use Rattle.script_run.specs.Statuses.{Done, Stopped, Unread, Passed, PutsFront, WritesScript, Begun, BegunTaken, last_line, limit}
+use Rattle.script_run.specs.Statuses.{Done, Stopped, Unread, Passed, PutsFront, WritesScript, CutShort, last_line, limit}
 use Rattle.script_run.specs.declared.turn.Turn.{Turn}
 use Rattle.script_run.specs.declared.turn.Turn.TheVariants as turn
 use Rattle.script_run.specs.declared.run.Ran.{Ran}
@@ -150,9 +150,8 @@ EndStays was is _ = is ≡ was
 -- the engine's state before and now
 abbrev pub Ends : Standing → Standing → Option (List ℕ) → Option (List ℕ) → ℕ → ℕ → Option (List ℕ) → Option (List ℕ) → ℕ → ℕ → End → Type 0
 Ends from to left left' read read' held held' was is end.Done = Done from to left left' held held' × (read' ≡ read)
-Ends from to left left' read read' held held' was is end.Memory = (¬ Rose read read' → Begun from left held held') × (read' ≢ read → BegunTaken from left left' held held')
+Ends from to left left' read read' held held' was is end.Memory = CutShort from left left' read read' held held'
 Ends from to left left' read read' held held' was is end.Syntax = Stopped from left left' read read' held held'
 Ends from to left left' read read' held held' was is end.Unread = Unread from left left' read read' held held'
-Ends from to left left' read read' held held' was is end.Unwritten =
-    Rose was is × (¬ Rose read read' → Begun from left held held') × (read' ≢ read → BegunTaken from left left' held held')
+Ends from to left left' read read' held held' was is end.Unwritten = Rose was is × CutShort from left left' read read' held held'
 Ends from to left left' read read' held held' was is end.TooLong = Passed from left left' read read' held held'

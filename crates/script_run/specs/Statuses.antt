@@ -16,11 +16,12 @@ limit = 268435456
 -- ---- what was taken from the source
 
 -- the bytes that were taken and count, and whether the input ended behind them, by the source's count of faults before and now: it was
--- read to its end, or a call failed, or the limit was passed, whose first bytes count
+-- read to its end, or a call failed, or the limit was passed, whose first bytes count; only the failed call is counted
 pub data Taken (left left' : Option (List ℕ)) (was is : ℕ) (bytes : List ℕ) (ended : Bool) : Type 0 where
-  whole : Consumes left left' bytes → IsAtEnd left' → length bytes ≤ limit → ended ≡ true → Taken left left' was is bytes ended
+  whole : Consumes left left' bytes → IsAtEnd left' → length bytes ≤ limit → is ≡ was → ended ≡ true → Taken left left' was is bytes ended
   failed : Consumes left left' bytes → length bytes ≤ limit → Rose was is → ended ≡ false → Taken left left' was is bytes ended
-  above : (taken : List ℕ) → Consumes left left' taken → limit < length taken → bytes ≡ take limit taken → ended ≡ false → Taken left left' was is bytes ended
+  above : (taken : List ℕ) → Consumes left left' taken → limit < length taken → bytes ≡ take limit taken → is ≡ was → ended ≡ false
+      → Taken left left' was is bytes ended
 
 -- ---- what was put
 
@@ -88,7 +89,8 @@ pub record Passed (from : Standing) (left left' : Option (List ℕ)) (was is : �
   pub ended : Bool
   pub before : List StatementView
   pub taken : Taken left left' was is bytes ended
-  pub long : Comes bytes ended before Long ⊎ (Comes bytes false before Open × (more : List ℕ) × Consumes left left' more × (limit < length more) × (bytes ≡ take limit more))
+  pub long : Comes bytes ended before Long
+      ⊎ (Comes bytes false before Open × (more : List ℕ) × Consumes left left' more × (limit < length more) × (bytes ≡ take limit more) × (is ≡ was))
   pub put : Appends held held' (out from before ++ line (codes "too long"))
 
 -- ---- what a source told
@@ -129,6 +131,11 @@ abbrev pub BegunTaken : Standing → Option (List ℕ) → Option (List ℕ) →
 BegunTaken from None left' held held' = ⊤
 BegunTaken from (Some told) left' held held' =
     (bytes text : List ℕ) → Consumes (Some told) left' bytes → WritesScript from bytes false (line (codes "read fault")) text → PutsFront held held' text
+
+-- where memory or the sink ended the run: no call of the source failed, and a front was put of what the run of its bytes puts, or one
+-- failed, and a front was put of what the run of those that were taken puts
+abbrev pub CutShort : Standing → Option (List ℕ) → Option (List ℕ) → ℕ → ℕ → Option (List ℕ) → Option (List ℕ) → Type 0
+CutShort from left left' was is held held' = ((is ≡ was) × Begun from left held held') ⊎ (Rose was is × BegunTaken from left left' held held')
 
 -- ---- what was cut off
 

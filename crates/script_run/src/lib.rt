@@ -9,7 +9,7 @@
 //! answer its statements and left the state behind them (`Done`); that a run which a fault, a failed
 //! read or too many bytes ended put the lines of the statements that are known to end before that,
 //! and its last line (`Stopped`, `Unread`, `Passed`); and that a run which memory or the sink ends has
-//! put a front of what it puts otherwise (`Begun`). The laws say that the run of any bytes puts one
+//! put a front of what it puts otherwise (`CutShort`). The laws say that the run of any bytes puts one
 //! text where nothing fails, and that with every MATERIALIZE struck out all other statements but
 //! SHOW LAYOUT have the same lines (`specs/Moves.antt`). The crate knows nothing of how statements are
 //! written, nor of files or options.

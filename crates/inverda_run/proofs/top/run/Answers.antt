@@ -1,4 +1,4 @@
-use Rattle.std.proofs.Common.{map, string_bytes, sym, subst, ◌∙◌, inl}
+use Rattle.std.proofs.Common.{map, string_bytes, refl, sym, subst, ◌∙◌, inl}
 use Rattle.op_any.specs.Operators.{AnyView}
 use Rattle.db_state.specs.declared.parts.Parts.{Parts}
 use Rattle.generated_run.specs.EngineCoreKept.{state_of}
@@ -8,7 +8,7 @@ use Rattle.inverda_run.specs.Starts.{StartsBy}
 use Rattle.inverda_run.specs.Statuses.{Starts}
 use Rattle.inverda_run.specs.Calls.{EndStays, Ends, Finishes}
 use Rattle.inverda_run.specs.declared.end.End.{End}
-use Rattle.inverda_run.proofs.EndLemmas.{bad_ends, longer_ends, refused_ends, script_ends}
+use Rattle.inverda_run.proofs.EndLemmas.{bad_ends, longer_ends, memory_ends, refused_ends, script_ends, unread_ends}
 use Rattle.inverda_run.proofs.FinishLemmas.{finish_stays}
 use Rattle.inverda_run.proofs.RunLemmas.{finished, generated_so, script_stays, source_touched, stays_from}
 use Rattle.inverda_run.proofs.StartLemmas.{starts_limit}
@@ -20,7 +20,7 @@ returns-in-Err-Refused-clause-ends g c =
     let told = g.F.Files.told c.args.files.now in
     let filed = g.F.Files.faults c.args.files.now in
     bad_ends (map string_bytes c.args.words.now) told told (g.S.Source.left c.args.script.now) (g.S.Source.faults c.args.script.now) (g.K.Sink.held c.args.out.now) (g.K.Sink.held c.put_last.new.out)
-    (g.K.Sink.faults c.args.out.now) (g.K.Sink.faults c.put_last.new.out) filed filed (rw c.in-Err-Refused.field-0-is at c.in-Err-Refused.ensures) c.put_last.result c.put_last.ensures.puts
+    (g.K.Sink.faults c.args.out.now) (g.K.Sink.faults c.put_last.new.out) filed filed (rw c.in-Err-Refused.field-0-is at c.in-Err-Refused.ensures) refl c.put_last.result c.put_last.ensures.puts
 
 pub returns-in-Err-Refused-begin-clause-ends : goal.returns-in-Err-Refused-begin-clause-ends
 returns-in-Err-Refused-begin-clause-ends g c =
@@ -28,13 +28,36 @@ returns-in-Err-Refused-begin-clause-ends g c =
     let begun = rw c.in-Err-Refused-begin.field-0-is at c.in-Err-Refused-begin.ensures.begins in
     refused_ends (map string_bytes c.args.words.now) (g.F.Files.told c.args.files.now) (g.F.Files.told c.begin.new.files) (g.S.Source.left c.args.script.now) (g.S.Source.faults c.args.script.now)
     (g.K.Sink.held c.args.out.now) (g.K.Sink.held last.new.out) (g.K.Sink.faults c.args.out.now) (g.K.Sink.faults last.new.out) (g.F.Files.faults c.args.files.now) (g.F.Files.faults c.begin.new.files)
-    c.words_say_one_thing.ensures (asked_of c.in-Ok.asked) c.in-Ok.ensures begun.0 begun.1 begun.2 last.result last.ensures.puts
+    c.words_say_one_thing.ensures (asked_of c.in-Ok.asked) c.in-Ok.ensures begun.0 begun.1 begun.2 begun.3 last.result last.ensures.puts
 
 pub returns-in-Err-TooLong-clause-ends : goal.returns-in-Err-TooLong-clause-ends
 returns-in-Err-TooLong-clause-ends g c =
     let last = c.put_last-in-Err-TooLong in
     let begun = rw c.in-Err-TooLong.field-0-is at c.in-Err-TooLong.ensures.begins in
     longer_ends (map string_bytes c.args.words.now) (g.F.Files.told c.args.files.now) (g.F.Files.told c.begin.new.files) (g.S.Source.left c.args.script.now) (g.S.Source.faults c.args.script.now)
+    (g.K.Sink.held c.args.out.now) (g.K.Sink.held last.new.out) (g.K.Sink.faults c.args.out.now) (g.K.Sink.faults last.new.out) (g.F.Files.faults c.args.files.now) (g.F.Files.faults c.begin.new.files)
+    c.words_say_one_thing.ensures (asked_of c.in-Ok.asked) c.in-Ok.ensures begun.0 begun.1 begun.2 begun.3 last.result last.ensures.puts
+
+pub returns-in-Err-Memory-clause-ends : goal.returns-in-Err-Memory-clause-ends
+returns-in-Err-Memory-clause-ends g c =
+    let told = g.F.Files.told c.args.files.now in
+    let held = g.K.Sink.held c.args.out.now in
+    let put = g.K.Sink.faults c.args.out.now in
+    let filed = g.F.Files.faults c.args.files.now in
+    memory_ends (map string_bytes c.args.words.now) told told (g.S.Source.left c.args.script.now) (g.S.Source.faults c.args.script.now) held held put put filed filed refl refl
+
+pub returns-in-Err-Memory-begin-clause-ends : goal.returns-in-Err-Memory-begin-clause-ends
+returns-in-Err-Memory-begin-clause-ends g c =
+    let held = g.K.Sink.held c.args.out.now in
+    let put = g.K.Sink.faults c.args.out.now in
+    memory_ends (map string_bytes c.args.words.now) (g.F.Files.told c.args.files.now) (g.F.Files.told c.begin.new.files) (g.S.Source.left c.args.script.now) (g.S.Source.faults c.args.script.now) held held put put
+    (g.F.Files.faults c.args.files.now) (g.F.Files.faults c.begin.new.files) refl (rw c.in-Err-Memory-begin.field-0-is at c.in-Err-Memory-begin.ensures.begins)
+
+pub returns-in-Err-Fault-clause-ends : goal.returns-in-Err-Fault-clause-ends
+returns-in-Err-Fault-clause-ends g c =
+    let last = c.put_last-in-Err-Fault in
+    let begun = rw c.in-Err-Fault.field-0-is at c.in-Err-Fault.ensures.begins in
+    unread_ends (map string_bytes c.args.words.now) (g.F.Files.told c.args.files.now) (g.F.Files.told c.begin.new.files) (g.S.Source.left c.args.script.now) (g.S.Source.faults c.args.script.now)
     (g.K.Sink.held c.args.out.now) (g.K.Sink.held last.new.out) (g.K.Sink.faults c.args.out.now) (g.K.Sink.faults last.new.out) (g.F.Files.faults c.args.files.now) (g.F.Files.faults c.begin.new.files)
     c.words_say_one_thing.ensures (asked_of c.in-Ok.asked) c.in-Ok.ensures begun.0 begun.1 begun.2 last.result last.ensures.puts
 
@@ -78,7 +101,7 @@ returns g c =
     record {
       ends = subst (λ (e : End). Ends words told told' left left' read read' held held' put put' filed filed' e) (sym c.ended.ensures)
           (script_ends words told told' left left' read read' held put filed filed' c.words_say_one_thing.ensures c.two_runs_are_one.ensures.start asked from (standing_of c.run_source.new.sessions) starts own
-          held' put' c.run_source.result c.in_default-run_source.not-Done c.run_source.ensures.ends);
+          held' put' c.in-Ok-begin.ensures.begins.2 c.run_source.result c.in_default-run_source.not-Done c.run_source.ensures.ends);
       stays = subst (λ (e : End). EndStays put put' e) (sym c.ended.ensures) (script_stays put put' c.run_source.result c.run_source.ensures.stays);
       files = λ file. inl (c.begin.ensures.same file);
       misses = misses_loaded words told asked (g.F.Files.missing c.args.files.now) (g.F.Files.missing c.begin.new.files) c.in-Ok.ensures c.begin.ensures.missing;

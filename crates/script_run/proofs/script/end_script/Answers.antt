@@ -8,7 +8,7 @@ pub returns-in-Stops-clause-ends : goal.returns-in-Stops-clause-ends
 returns-in-Stops-clause-ends g c =
     ends_script (standing_of c.args.sessions.now) (standing_of c.run_script.new.sessions) c.args.bytes.now c.args.ended c.args.stopped.now (g.K.Sink.held c.args.out.now) (g.K.Sink.held c.run_script.new.out) (g.K.Sink.held c.put_last.new.out)
     (g.K.Sink.faults c.args.out.now) (g.K.Sink.faults c.run_script.new.out) (g.K.Sink.faults c.put_last.new.out) c.in-Stops.stop c.put_last.result
-    c.in-Stops.ensures.runs c.in-Stops.ensures.later c.put_last.ensures.puts
+    c.in-Stops.ensures.runs c.in-Stops.ensures.stays c.put_last.ensures.puts
 
 pub returns-in-Stops-clause-stays : goal.returns-in-Stops-clause-stays
 returns-in-Stops-clause-stays g c =

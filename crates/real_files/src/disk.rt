@@ -5,11 +5,11 @@
 ghost use Rattle.std.specs.Prelude.{None};
 ghost use Rattle.std.specs.Io.{ReadsAtMost};
 
+use crate::replacing::replace_file;
 use outside::{Failed, Files};
 use std::alloc::Global;
 use std::fs;
-use std::fs::OpenFile;
-use std::io::{self, ErrorKind, Read, Seek, SeekFrom, Write};
+use std::io::{self, ErrorKind, Read, Seek, SeekFrom};
 
 /// The files of a file system.
 #[derive(Drop)]
@@ -43,44 +43,6 @@ fn read_piece<R: fs::Files>(
     let mut file = fs::open(system, name)?;
     file.seek(SeekFrom::Start(offset))?;
     file.read(buf)
-}
-
-// Makes a file hold the bytes, and waits until they are on the disk.
-fn write_file<R: fs::Files>(system: &R, name: &str, bytes: &[u8]) -> io::Result<()> {
-    let mut file = fs::create(system, name)?;
-    file.write_all(bytes)?;
-    file.sync_all()
-}
-
-// Writes the bytes to a file beside the name, and gives that file the name.
-fn write_beside<R: fs::Files>(
-    system: &R,
-    alloc: Global,
-    name: &str,
-    bytes: &[u8],
-) -> io::Result<()> {
-    let beside = format!(in alloc; "{name}.inverda-new")?;
-    match write_file(system, beside.as_str(), bytes) {
-        Ok(()) => fs::rename(system, beside.as_str(), name),
-        Err(error) => {
-            let _ = fs::remove_file(system, beside.as_str());
-            Err(error)
-        }
-    }
-}
-
-// A plain file, or a name that isn't there, changes whole or not at all; anything else, as a device or a
-// link, is written where it stands.
-fn replace_file<R: fs::Files>(
-    system: &R,
-    alloc: Global,
-    name: &str,
-    bytes: &[u8],
-) -> io::Result<()> {
-    match fs::symlink_metadata(system, name) {
-        Ok(found) if !found.is_file() => write_file(system, name, bytes),
-        _ => write_beside(system, alloc, name, bytes),
-    }
 }
 
 impl<'a, R: fs::Files> Files for Disk<'a, R> {
