@@ -1,0 +1,6 @@
+mod ReferringLemmas
+mod DecomposedLemmas
+mod JoinedByKeyLemmas
+mod PairsShownLemmas
+mod PairsGivenLemmas
+mod SidesShownLemmas
