@@ -1,6 +1,6 @@
 -- Expressions are read as their grammar says.
-use Rattle.std.proofs.Common.{◌≡◌, ◌++◌, [], ℕ, zero, suc, ◌+◌, ◌-◌, ◌≤◌, ◌<◌, List, Bool, true, false, refl, ap, append-nil, ◌∙◌, sym, subst, inl, inr, arith, length, length-append, ◌∷◌, Ok}
-use Rattle.std.specs.Prelude.{Some, codes, pos, neg_ℤ, bytes_eq, Option}
+use Rattle.std.proofs.Common.{◌≡◌, ◌++◌, [], ℕ, zero, suc, ◌+◌, ◌-◌, ◌≤◌, ◌<◌, List, Bool, true, false, refl, ap, append-nil, ◌∙◌, sym, subst, inl, inr, arith, length, length-append, ◌∷◌}
+use Rattle.std.specs.Prelude.{Some, codes, pos, neg_ℤ, Option}
 use Rattle.par_base.specs.Names.{is_name, is_reserved}
 use Rattle.par_base.specs.declared.value.Value.{Value}
 use Rattle.par_base.specs.declared.value.Value.TheVariants.{Int}
@@ -25,9 +25,9 @@ use Rattle.bidel_expr.specs.Literals.{open_of, close_of, minus_of}
 use Rattle.bidel_expr.specs.Operators.{or_of, and_of, not_of, is_of, compare_of, sum_of, product_of}
 pub use Rattle.bidel_expr.specs.Expressions.{expression_goes}
 use Rattle.bidel_expr.specs.Expressions.{Tree, Spelling, cost, weight, Atom, PrimaryRule, UnaryRule, ProductRule, SumRule, CompRule, NegRule, ConjRule, Levels, PrimaryIn, IsExpr, Expression, most_operators, most_parentheses, atom_at, atom_item, unary_item, product_item, sum_item, comp_item, neg_item, conj_item, expr_item, primary_item, expression_at}
-use Rattle.bidel_expr.proofs.WordLaws.{by_keyword, by_sign, keyword_is, sign_is, name_is, name_not, name_differs, by_unsigned, by_negative}
+use Rattle.bidel_expr.proofs.WordLaws.{by_keyword, by_sign, keyword_is, sign_is, name_is, name_not, by_unsigned, by_negative}
 use Rattle.bidel_expr.proofs.OperatorLemmas.{by_or, by_and, by_compare, by_sum, by_product}
-use Rattle.bidel_expr.proofs.LiteralLaws.{name_x, name-reads, unsigned-reads}
+use Rattle.bidel_expr.proofs.LiteralLaws.{name-reads, unsigned-reads}
 use Rattle.bidel_expr.proofs.Comparisons.{halves, one_free, comp-reads, comp_bounded}
 
 -- ---- one token: a literal or a name
@@ -289,53 +289,7 @@ expr-reads l p = respell expression_goes expression_goes _ _ _
 pub expression-reads : Reads expression_goes Expression expression_at
 expression-reads = expr-reads most_operators most_parentheses
 
--- a name continues no expression
-or_reserved : is_name (codes "or") ≡ false
-unfolding is_name is_reserved
-or_reserved = refl
-
-and_reserved : is_name (codes "and") ≡ false
-unfolding is_name is_reserved
-and_reserved = refl
-
-is_is_reserved : is_name (codes "is") ≡ false
-unfolding is_name is_reserved
-is_is_reserved = refl
-
-no_word : (w : List ℕ) → bytes_eq (codes "or") w ≡ false → bytes_eq (codes "and") w ≡ false → bytes_eq (codes "is") w ≡ false → expression_goes (word w) ≡ false
-no_word w a b c = rw (a, b, c) refl
-
-pub name_ends_expression : (t : Lexeme) (w : List ℕ) → name_of t ≡ Some w → expression_goes t ≡ false
-name_ends_expression t w h =
-    let p = name_is t w h in
-    ap expression_goes p.0 ∙ no_word w (name_differs (codes "or") w or_reserved p.1) (name_differs (codes "and") w and_reserved p.1) (name_differs (codes "is") w is_is_reserved p.1)
-
 -- ---- an expression of one token
 
 lone : (op : Lexeme → Option BinaryOp) (I : Spelling) (ts : List Lexeme) (e : Tree) → I ts e → Chain Binary op I ts e
 lone op I ts e h = record { first = e; further = 0; left = ts; right = []; whole = sym (append-nil ts); item = h; rest = (refl, refl) }
-
--- a literal without a sign, or a name, is an expression
-pub atom_expression : (ts : List Lexeme) (e : Tree) → Atom ts e → Expression ts e
-atom_expression ts e h = record {
-  depth = 0;
-  spelled = lone or_of _ ts e (lone and_of _ ts e (record {
-    count = 0;
-    spelled = record {
-      value = e;
-      left = ts;
-      right = [];
-      whole = sym (append-nil ts);
-      first = lone sum_of _ ts e (lone product_of _ ts e (record { minuses = 0; spelled = inr h }));
-      second = inr (inr (refl, refl));
-    };
-  }));
-  few = omega (arith, (atom_free ts e h).0);
-  open' = omega (arith, (atom_free ts e h).1);
-}
-
--- the name x, before what continues no expression
-pub expression_x : (us : List Lexeme) → starts expression_goes us ≡ false → expression_at (word (codes "x") ∷ us) ≡ Ok (Column (codes "x"), us)
-expression_x us clear = expression-reads.reads (word (codes "x") ∷ []) us (Column (codes "x"))
-    (atom_expression _ _ (inr (record { value = codes "x"; left = word (codes "x") ∷ []; right = []; whole = refl; first = (word (codes "x"), refl, name_x); second = (refl, refl) })))
-    clear

@@ -9,4 +9,3 @@ mod Comparisons
 pub mod ExpressionLaws
 mod ExpressionSteps
 mod TokenValues
-mod WorkedExpressions

@@ -1,7 +1,6 @@
 -- Names, literals and lists of them are read as their grammar says.
-use Rattle.std.proofs.Common.{◌≡◌, ◌++◌, List, [], Bool, true, false, refl, ap, cond, inl, inr}
-use Rattle.std.specs.Prelude.{Some, None, codes, pos, neg_ℤ}
-use Rattle.std.proofs.lemmas.Str.{IsUtf8-nil, is_utf8-from_IsUtf8}
+use Rattle.std.proofs.Common.{◌≡◌, ◌++◌, List, [], true, false, refl, inl, inr}
+use Rattle.std.specs.Prelude.{Some, codes, pos, neg_ℤ}
 use Rattle.par_base.specs.Names.{is_name, is_reserved}
 use Rattle.par_base.specs.declared.value.Value.{Value}
 use Rattle.par_base.specs.declared.value.Value.TheVariants.{Null, Int}
@@ -10,7 +9,7 @@ use Rattle.phrases.specs.Reading.{starts, is, none, or, one_at, behind_at}
 use Rattle.phrases.specs.Reads.{Reads}
 use Rattle.phrases.proofs.ReadersLaws.{either-reads, one-reads, word as then_word, begins_one, begins_token, known}
 use Rattle.phrases.proofs.ListsLaws.{enclosed-reads}
-use Rattle.bidel_expr.specs.Lexemes.{Lexeme, word, number, «text», symbol, name_of, number_of, negative_of, text_of, unsigned_of}
+use Rattle.bidel_expr.specs.Lexemes.{Lexeme, word, number, «text», symbol, name_of, negative_of, unsigned_of}
 use Rattle.bidel_expr.specs.Literals.{comma_of, open_of, close_of, minus_of, Names, Literal, Tuple, name_at, names_at, literal_at, begins_literal, tuple_at}
 use Rattle.bidel_expr.proofs.WordLaws.{by_sign, by_unsigned}
 
@@ -44,14 +43,3 @@ names-reads = enclosed-reads none comma_of (symbol (codes ",")) tt refl (OneOf n
 pub tuple-reads : Reads none Tuple tuple_at
 tuple-reads = enclosed-reads none comma_of (symbol (codes ",")) tt refl Literal literal_at literal-reads (λ t h. refl) begins_literal open_of (symbol (codes "(")) tt refl
     close_of (symbol (codes ")")) tt refl begins-literal (by_sign (or begins_literal (or (is comma_of) none)) false (codes ")") refl)
-
--- a number of at most 2^63, and a text
-pub number-reads : Reads none (OneOf number_of) (one_at number_of)
-number-reads = one-reads none number_of (number 0) 0 refl
-
--- one text of many
-pub text_empty : text_of («text» []) ≡ Some []
-text_empty = ap (λ (b : Bool). cond b (Some []) None) (is_utf8-from_IsUtf8 [] IsUtf8-nil)
-
-pub text-reads : Reads none (OneOf text_of) (one_at text_of)
-text-reads = one-reads none text_of («text» []) [] text_empty

@@ -135,7 +135,10 @@ pub fn take_names<'a>(
 }
 
 // The literals between parentheses.
-fn enclosed_literals<'a>(alloc: Global, cursor: Cursor<'a>) -> Result<(Row, Cursor<'a>), ReadError>
+fn enclosed_literals<'a>(
+    alloc: Global,
+    cursor: Cursor<'a>,
+) -> Result<(List<Value>, Cursor<'a>), ReadError>
     ensures { ReadsAs (λ x. x) (listed_at begins_literal literal_at) cursor.entry result }
 {
     if is_literal_next(cursor) {
@@ -152,7 +155,7 @@ pub fn take_tuple<'a>(alloc: Global, cursor: Cursor<'a>) -> Result<(Row, Cursor<
     let rest = take_sign(cursor, "(")?;
     let (literals, rest) = enclosed_literals(alloc, rest)?;
     let rest = take_sign(rest, ")")?;
-    Ok((literals, rest))
+    Ok((Row::from_list(alloc, literals)?, rest))
 }
 
 impl Item for Tuples {

@@ -1,12 +1,12 @@
 -- Operators are read as their grammar says.
 use Rattle.std.proofs.Common.{◌++◌, List, Bool, true, false, refl, ap, ◌∙◌}
-use Rattle.std.specs.Prelude.{Some, None, codes}
+use Rattle.std.specs.Prelude.{◌≡◌, ◌||◌, Some, None, codes}
 use Rattle.phrases.specs.Phrases.{Nothing, Seq, Behind, Optional}
 use Rattle.phrases.specs.Reading.{Read, and_then, starts, is, none, or, done, behind_at}
 use Rattle.phrases.specs.Reads.{Reads}
-use Rattle.phrases.proofs.ReadersLaws.{then-reads, done-reads, respell, word as then_word, closed, or_right, starts_right}
+use Rattle.phrases.proofs.ReadersLaws.{then-reads, done-reads, respell, word as then_word, closed, or_left, or_right, starts_right, begins_token, known}
 use Rattle.phrases.proofs.ListsLaws.{made-reads, optional-reads}
-use Rattle.bidel_expr.specs.Lexemes.{Lexeme, word}
+use Rattle.bidel_expr.specs.Lexemes.{Lexeme, word, keyword}
 use Rattle.bidel_expr.specs.Literals.{comma_of, Names, name_at, names_at}
 use Rattle.bidel_expr.specs.Expressions.{Expression, expression_goes, expression_at}
 use Rattle.bidel_expr.proofs.LiteralLaws.{names-reads}
@@ -15,22 +15,30 @@ use Rattle.bidel_parser.specs.declared.first_words.OperatorWord.{OperatorWord}
 use Rattle.bidel_parser.specs.declared.first_words.OperatorWord.TheVariants as first
 use Rattle.bidel_parser.specs.declared.first_words.Kind.{Kind}
 use Rattle.bidel_parser.specs.declared.first_words.Kind.TheVariants as kind
-use Rattle.bidel_parser.specs.Words.{Sign, Name, choice_of}
+use Rattle.bidel_parser.specs.Words.{Word, Sign, Name, Flag, choice_of, is_word}
 use Rattle.bidel_parser.specs.inner.WordReaders.{sign_at}
 use Rattle.statements.specs.Views.{OpView, CreateTable, DropTable, RenameTable, RenameColumn, AddColumn, DropColumn, Join, Split, Merge}
 use Rattle.bidel_parser.specs.Operators.{operator_words, kinds, Key, CreateRest, DropRest, RenameRest, AddRest, decomposed, part_of, SecondPart, DecomposeRest, JoinRest, branch_of, SplitBranch, SplitRest, MergeBranch, MergeRest, OperatorRest, Operator, ClosedOperator}
-use Rattle.bidel_parser.specs.inner.OperatorReaders.{key_at, create_rest_at, drop_rest_at, rename_rest_at, add_rest_at, second_part_at, optional_part_at, decompose_rest_at, join_rest_at, split_branch_at, second_branch_at, split_rest_at, merge_branch_at, merge_rest_at, operator_rest_at, operator_at, closed_operator_at}
-use Rattle.bidel_parser.proofs.WordLaws.{then_keyword, then_sign, then_name, keyword_begins, sign_begins}
-use Rattle.bidel_parser.proofs.ChoiceLaws.{maybe_begins}
+use Rattle.bidel_parser.specs.inner.OperatorReaders.{key_at, create_rest_at, drop_rest_at, rename_rest_at, tracked_at, add_rest_at, second_part_at, optional_part_at, decompose_rest_at, join_rest_at, split_branch_at, second_branch_at, split_rest_at, merge_branch_at, merge_rest_at, operator_rest_at, operator_at, closed_operator_at}
+use Rattle.bidel_parser.proofs.WordLaws.{then_keyword, then_sign, then_name, keyword_reads, keyword_begins, sign_begins}
+use Rattle.bidel_parser.proofs.ChoiceLaws.{maybe_begins, flag-reads}
 use Rattle.bidel_parser.proofs.KeyLaws.{key-reads}
 
--- what may continue an operator: its last expression goes on, or a second part comes
+-- what may continue an operator that ends with an expression or a second part
+abbrev parts_go : Lexeme → Bool
+parts_go = or (is comma_of) expression_goes
+
+-- what may continue an operator: its last expression goes on, a second part comes, or TRACKED
 abbrev pub operator_goes : Lexeme → Bool
-operator_goes = or (is comma_of) expression_goes
+operator_goes = or (is_word "tracked") parts_go
+
+-- a part that ends as those do
+with_parts : {A : Type 0} (S : List Lexeme → A → Type 0) (p : List Lexeme → Read Lexeme A) → Reads parts_go S p → Reads operator_goes S p
+with_parts S p r = respell parts_go operator_goes S S p r (λ front a h. h) (λ front a h. h) (λ t h. or_right (is_word "tracked" t) (parts_go t) h)
 
 -- a part that ends as an expression does
 widened : {A : Type 0} (S : List Lexeme → A → Type 0) (p : List Lexeme → Read Lexeme A) → Reads expression_goes S p → Reads operator_goes S p
-widened S p r = respell expression_goes operator_goes S S p r (λ front a h. h) (λ front a h. h) (λ t h. or_right (is comma_of t) (expression_goes t) h)
+widened S p r = with_parts S p (respell expression_goes parts_go S S p r (λ front a h. h) (λ front a h. h) (λ t h. or_right (is comma_of t) (expression_goes t) h))
 
 -- CREATE TABLE, from the name on
 pub create-table-reads : Reads operator_goes (Seq Name λ table. Seq Names λ columns. Nothing (CreateTable table columns)) (and_then name_at λ table. and_then names_at λ columns. done (CreateTable table columns))
@@ -60,6 +68,19 @@ rename-rest-reads kind.Column =
     then_keyword operator_goes "to" _ _ (
     then_name operator_goes _ _ (λ new. done-reads operator_goes (RenameColumn column table new))))))
 
+-- what may continue the table of ADD COLUMN
+abbrev tracked_goes : Lexeme → Bool
+tracked_goes = or (is_word "tracked") none
+
+tracked-reads : Reads operator_goes (Flag (Word "tracked")) tracked_at
+tracked-reads = respell tracked_goes operator_goes _ _ _
+    (flag-reads none (is_word "tracked") (Word "tracked") _ (keyword_reads none "tracked")
+    (λ front us a h. begins_token (is_word "tracked") (keyword (codes "tracked")) true (known (keyword (codes "tracked"))) front us a h))
+    (λ front a h. h) (λ front a h. h) (λ t h. only t (or_left (is_word "tracked" t) (parts_go t) h))
+  where
+    only : (t : Lexeme) → is_word "tracked" t ≡ false → tracked_goes t ≡ false
+    only t h = ap (λ (b : Bool). b || false) h
+
 add-rest-reads : Reads operator_goes AddRest add_rest_at
 add-rest-reads =
     then_keyword operator_goes "column" _ _ (
@@ -67,7 +88,7 @@ add-rest-reads =
     then_keyword operator_goes "as" _ _ (
     then-reads operator_goes expression_goes Expression _ expression_at _ expression-reads (λ value.
     then_keyword operator_goes "into" _ _ (
-    then_name operator_goes _ _ (λ table. done-reads operator_goes (AddColumn column value table))))
+    then_name operator_goes _ _ (λ table. made-reads operator_goes (Flag (Word "tracked")) tracked_at (λ tracked. AddColumn column value table tracked) tracked-reads)))
     (λ value right us o h clear. keyword_begins expression_goes false "into" refl _ right us o h))))
 
 -- ---- DECOMPOSE and JOIN
@@ -80,9 +101,9 @@ second-part-reads =
     made-reads expression_goes Key key_at (λ key. part_of table columns key) key-reads)))
 
 optional-part-reads : Reads operator_goes (Optional (Behind comma_of SecondPart)) optional_part_at
-optional-part-reads = optional-reads expression_goes (is comma_of) (Behind comma_of SecondPart) (behind_at comma_of second_part_at)
+optional-part-reads = with_parts _ _ (optional-reads expression_goes (is comma_of) (Behind comma_of SecondPart) (behind_at comma_of second_part_at)
     (then_sign expression_goes "," SecondPart second_part_at second-part-reads)
-    (λ front us part h. sign_begins (is comma_of) true "," refl SecondPart front us part h)
+    (λ front us part h. sign_begins (is comma_of) true "," refl SecondPart front us part h))
 
 decompose-rest-reads : Reads operator_goes DecomposeRest decompose_rest_at
 decompose-rest-reads =
@@ -112,7 +133,7 @@ split-branch-reads =
     then_keyword expression_goes "with" _ _ (
     made-reads expression_goes Expression expression_at (λ condition. branch_of table condition) expression-reads))
 
-second-branch-reads : Reads operator_goes (Optional (Behind comma_of SplitBranch)) second_branch_at
+second-branch-reads : Reads parts_go (Optional (Behind comma_of SplitBranch)) second_branch_at
 second-branch-reads = optional-reads expression_goes (is comma_of) (Behind comma_of SplitBranch) (behind_at comma_of split_branch_at)
     (then_sign expression_goes "," SplitBranch split_branch_at split-branch-reads)
     (λ front us branch h. sign_begins (is comma_of) true "," refl SplitBranch front us branch h)
@@ -122,11 +143,12 @@ split-rest-reads =
     then_keyword operator_goes "table" _ _ (
     then_name operator_goes _ _ (λ table.
     then_keyword operator_goes "into" _ _ (
-    then-reads operator_goes expression_goes SplitBranch _ split_branch_at _ split-branch-reads (λ one.
-    made-reads operator_goes (Optional (Behind comma_of SplitBranch)) second_branch_at (λ two. Split table one two) second-branch-reads)
+    with_parts _ _ (
+    then-reads parts_go expression_goes SplitBranch _ split_branch_at _ split-branch-reads (λ one.
+    made-reads parts_go (Optional (Behind comma_of SplitBranch)) second_branch_at (λ two. Split table one two) second-branch-reads)
     (λ one right us o h clear. maybe_begins expression_goes false (Behind comma_of SplitBranch) (λ b. Nothing (Some b)) None (λ two. Nothing (Split table one two)) us
     (λ front us b h. sign_begins expression_goes false "," refl SplitBranch front us b h)
-    (λ two front o h. ap (λ (l : List Lexeme). starts expression_goes (l ++ us)) h.0 ∙ starts_right (is comma_of) expression_goes us clear) right o h))))
+    (λ two front o h. ap (λ (l : List Lexeme). starts expression_goes (l ++ us)) h.0 ∙ starts_right (is comma_of) expression_goes us clear) right o h)))))
 
 merge-branch-reads : Reads none MergeBranch merge_branch_at
 merge-branch-reads =

@@ -10,7 +10,7 @@ use Rattle.bidel_parser.specs.declared.first_words.OperatorWord.{OperatorWord}
 use Rattle.bidel_parser.specs.declared.first_words.StatementWord.{StatementWord}
 use Rattle.bidel_parser.specs.declared.first_words.StatementWord.TheVariants as first
 use Rattle.bidel_parser.specs.Words.{choice_of}
-use Rattle.statements.specs.Views.{StatementView, CreateVersion, DropVersion, Insert, Import, Update, Delete, Select, Materialize, Step, ShowLayout, Use, Session, Advise}
+use Rattle.statements.specs.Views.{StatementView, CreateVersion, DropVersion, Insert, Import, Update, Delete, Select, Materialize, Step, ShowLayout, Use, Session, Advise, Watch, Unwatch, Begin, Commit, Rollback}
 use Rattle.bidel_parser.specs.Operators.{shared_words, begins_operator}
 use Rattle.bidel_parser.specs.Statements.{statement_words, StatementRest, IsStatement, Script, stays_open}
 use Rattle.bidel_parser.specs.inner.StatementReaders.{statement_at}
@@ -34,6 +34,11 @@ shown ended ShowLayout us more h = refl
 shown ended (Use name) us more h = refl
 shown ended (Session number) us more h = refl
 shown ended (Advise name) us more h = refl
+shown ended (Watch name) us more h = refl
+shown ended (Unwatch number) us more h = refl
+shown ended Begin us more h = refl
+shown ended Commit us more h = refl
+shown ended Rollback us more h = refl
 
 -- a script begins with each word that begins operators too
 begins_script : (t : Lexeme) (k : OperatorWord) → choice_of shared_words t ≡ Some k → Begins Script (t ∷ [])
@@ -71,6 +76,11 @@ shows_end ShowLayout ts more at lt h none = refl
 shows_end (Use name) ts more at lt h none = refl
 shows_end (Session number) ts more at lt h none = refl
 shows_end (Advise name) ts more at lt h none = refl
+shows_end (Watch name) ts more at lt h none = refl
+shows_end (Unwatch number) ts more at lt h none = refl
+shows_end Begin ts more at lt h none = refl
+shows_end Commit ts more at lt h none = refl
+shows_end Rollback ts more at lt h none = refl
 
 pub one_front : OneFront
 one_front = fronts.one_front stays_open IsStatement statement_at statement-last

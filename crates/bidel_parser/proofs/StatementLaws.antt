@@ -14,13 +14,13 @@ use Rattle.bidel_expr.specs.Literals.{comma_of, Tuple, tuple_at}
 use Rattle.bidel_expr.proofs.WordLaws.{keyword_is}
 use Rattle.bidel_parser.specs.declared.first_words.StatementWord.{StatementWord}
 use Rattle.bidel_parser.specs.declared.first_words.StatementWord.TheVariants as first
-use Rattle.bidel_parser.specs.Words.{Word, Sign, Name, Flag, choice_of, session_of}
+use Rattle.bidel_parser.specs.Words.{Word, Sign, Name, Flag, choice_of, session_of, watch_of}
 use Rattle.bidel_parser.specs.inner.WordReaders.{sign_at}
-use Rattle.statements.specs.Views.{StatementView, CreateVersion, DropVersion, Insert, Import, Update, Delete, Select, Materialize, Step, ShowLayout, Use, Session, Advise}
+use Rattle.statements.specs.Views.{StatementView, CreateVersion, DropVersion, Insert, Import, Update, Delete, Select, Materialize, Step, ShowLayout, Use, Session, Advise, Watch, Unwatch, Begin, Commit, Rollback}
 use Rattle.bidel_parser.specs.Operators.{ListedOperators, begins_operator}
 use Rattle.bidel_parser.specs.inner.OperatorReaders.{listed_operators_at}
-use Rattle.bidel_parser.specs.Statements.{statement_words, TableOf, TargetOf, AssignmentOf, Filter, Items, CreateVersionRest, DropVersionRest, InsertRest, ImportRest, UpdateRest, DeleteRest, SelectRest, MaterializeRest, SessionRest, StatementRest, IsStatement, stays_open}
-use Rattle.bidel_parser.specs.inner.StatementReaders.{table_at, target_at, assignment_at, filter_at, items_at, origin_at, csv_at, in_steps_at, create_version_rest_at, drop_version_rest_at, insert_rest_at, import_rest_at, update_rest_at, delete_rest_at, select_rest_at, materialize_rest_at, session_rest_at, statement_rest_at, statement_at}
+use Rattle.bidel_parser.specs.Statements.{statement_words, TableOf, TargetOf, AssignmentOf, Filter, Items, CreateVersionRest, DropVersionRest, InsertRest, ImportRest, UpdateRest, DeleteRest, SelectRest, MaterializeRest, SessionRest, UnwatchRest, StatementRest, IsStatement, stays_open}
+use Rattle.bidel_parser.specs.inner.StatementReaders.{table_at, target_at, assignment_at, filter_at, items_at, origin_at, csv_at, in_steps_at, create_version_rest_at, drop_version_rest_at, insert_rest_at, import_rest_at, update_rest_at, delete_rest_at, select_rest_at, materialize_rest_at, session_rest_at, unwatch_rest_at, statement_rest_at, statement_at}
 use Rattle.bidel_parser.proofs.WordLaws.{then_keyword, then_sign, then_name, keyword_last, name_last, keyword_begins, sign_begins}
 use Rattle.bidel_parser.proofs.ChoiceLaws.{◌&◌, by_choice, maybe_begins}
 use Rattle.bidel_parser.proofs.TableLaws.{table_goes, names_go, targets_go, assignments_go, filter_goes, origin_goes, csv_goes, in_steps_goes, table-reads, rows-reads, targets-reads, assignments-reads, items-reads, filter-reads, origin-reads, csv-reads, in-steps-reads}
@@ -121,6 +121,9 @@ materialize-reads =
 session-reads : Reads none SessionRest session_rest_at
 session-reads = then_one none session_of (number 0) 0 refl _ _ (λ n. ended-reads (Session n))
 
+unwatch-reads : Reads none UnwatchRest unwatch_rest_at
+unwatch-reads = then_one none watch_of (number 0) 0 refl _ _ (λ n. ended-reads (Unwatch n))
+
 -- ---- statements
 
 -- a statement that is none of operators is over at its semicolon
@@ -147,6 +150,11 @@ rest-last first.Show = closed _ _ (then_keyword none "layout" _ _ (ended-reads S
 rest-last first.Use = closed _ _ (then_name none _ _ (λ name. ended-reads (Use name))) (λ front s h. is_over _ s h.second.second.1 (λ ended us. refl))
 rest-last first.Session = closed SessionRest _ session-reads (λ front s h. is_over _ s h.second.second.1 (λ ended us. refl))
 rest-last first.Advise = closed _ _ (then_name none _ _ (λ name. ended-reads (Advise name))) (λ front s h. is_over _ s h.second.second.1 (λ ended us. refl))
+rest-last first.Watch = closed _ _ (then_name none _ _ (λ name. ended-reads (Watch name))) (λ front s h. is_over _ s h.second.second.1 (λ ended us. refl))
+rest-last first.Unwatch = closed UnwatchRest _ unwatch-reads (λ front s h. is_over _ s h.second.second.1 (λ ended us. refl))
+rest-last first.Begin = closed _ _ (ended-reads Begin) (λ front s h. is_over _ s h.second.1 (λ ended us. refl))
+rest-last first.Commit = closed _ _ (ended-reads Commit) (λ front s h. is_over _ s h.second.1 (λ ended us. refl))
+rest-last first.Rollback = closed _ _ (ended-reads Rollback) (λ front s h. is_over _ s h.second.1 (λ ended us. refl))
 
 pub statement-last : ReadsLast stays_open IsStatement statement_at
 statement-last = word-last stays_open (choice_of statement_words) (word (codes "create")) first.Create refl StatementRest statement_rest_at rest-last
@@ -177,10 +185,15 @@ statement_word first.Show = codes "show"
 statement_word first.Use = codes "use"
 statement_word first.Session = codes "session"
 statement_word first.Advise = codes "advise"
+statement_word first.Watch = codes "watch"
+statement_word first.Unwatch = codes "unwatch"
+statement_word first.Begin = codes "begin"
+statement_word first.Commit = codes "commit"
+statement_word first.Rollback = codes "rollback"
 
 -- a word that stands for the beginning of a statement is its first word
 word_is : (t : Lexeme) (k : StatementWord) → choice_of statement_words t ≡ Some k → t ≡ word (statement_word k)
-word_is = by_choice (λ t k. t ≡ word (statement_word k)) statement_words (refl & refl & refl & refl & refl & refl & refl & refl & refl & refl & refl & refl & refl & tt)
+word_is = by_choice (λ t k. t ≡ word (statement_word k)) statement_words (refl & refl & refl & refl & refl & refl & refl & refl & refl & refl & refl & refl & refl & refl & refl & refl & refl & refl & tt)
 
 -- SCHEMA comes
 schema_next : {B : Type 0} (T : List Lexeme → B → Type 0) (ts : List Lexeme) (b : B) (h : Seq (Word "schema") (λ _. T) ts b) → ts ≡ word (codes "schema") ∷ h.right
@@ -201,6 +214,11 @@ begun_at first.Show ts s h = by_word (word (codes "show")) ts refl refl refl
 begun_at first.Use ts s h = by_word (word (codes "use")) ts refl refl refl
 begun_at first.Session ts s h = by_word (word (codes "session")) ts refl refl refl
 begun_at first.Advise ts s h = by_word (word (codes "advise")) ts refl refl refl
+begun_at first.Watch ts s h = by_word (word (codes "watch")) ts refl refl refl
+begun_at first.Unwatch ts s h = by_word (word (codes "unwatch")) ts refl refl refl
+begun_at first.Begin ts s h = by_word (word (codes "begin")) ts refl refl refl
+begun_at first.Commit ts s h = by_word (word (codes "commit")) ts refl refl refl
+begun_at first.Rollback ts s h = by_word (word (codes "rollback")) ts refl refl refl
 
 -- how a statement begins
 begun : (front : List Lexeme) (s : StatementView) → IsStatement front s → Begun front
@@ -229,6 +247,11 @@ over_at ShowLayout ts g = refl
 over_at (Use name) ts g = refl
 over_at (Session n) ts g = refl
 over_at (Advise name) ts g = refl
+over_at (Watch name) ts g = refl
+over_at (Unwatch n) ts g = refl
+over_at Begin ts g = refl
+over_at Commit ts g = refl
+over_at Rollback ts g = refl
 
 pub script_over : IsOver stays_open IsStatement
 script_over s [] ts h = over_at s ts (ap (begins_operator true) h)

@@ -25,7 +25,7 @@ use Rattle.bidel_parser.specs.declared.first_words.Kind.TheVariants as kind
 use Rattle.bidel_parser.specs.declared.first_words.StatementWord.{StatementWord}
 use Rattle.bidel_parser.specs.declared.first_words.StatementWord.TheVariants as statement
 use Rattle.bidel_parser.specs.Words.{Sign}
-use Rattle.statements.specs.Views.{Primary, Foreign, Condition, CreateTable, DropTable, RenameTable, RenameColumn, AddColumn, DropColumn, Join, Split, Merge, StatementView, CreateVersion, DropVersion, Insert, Import, Update, Delete, Select, Materialize, Step, ShowLayout, Use, Session, Advise}
+use Rattle.statements.specs.Views.{Primary, Foreign, Condition, CreateTable, DropTable, RenameTable, RenameColumn, AddColumn, DropColumn, Join, Split, Merge, StatementView, CreateVersion, DropVersion, Insert, Import, Update, Delete, Select, Materialize, Step, ShowLayout, Use, Session, Advise, Watch, Unwatch, Begin, Commit, Rollback}
 use Rattle.bidel_parser.specs.Operators.{KeyRest, Key, branch_of, SplitBranch, MergeBranch, Part, part_of, SecondPart, decomposed, DropRest, RenameRest, JoinRest, OperatorRest, ClosedOperator, ListedOperators}
 use Rattle.bidel_parser.specs.Statements.{assigned, AssignmentOf, Filter, StatementRest, IsStatement}
 use Rattle.statements.specs.Texts.{ValueTexts, RowTexts, TermTexts, KeyTexts, BranchTexts, OpTexts, AssignmentTexts, StatementTexts}
@@ -161,7 +161,7 @@ module _ (P : List ℕ → Type 0) where
   operator-rest-texts operator.Drop = behind-carries drop-texts
   operator-rest-texts operator.Rename = behind-carries rename-texts
   operator-rest-texts operator.Add = behind-carries (λ _. behind-carries (λ column. behind-carries (λ _. then-carries expression-texts (λ value p.
-      behind-carries (λ _. behind-carries (λ table. nothing-carries (AddColumn column value table) p))))))
+      behind-carries (λ _. behind-carries (λ table. behind-carries (λ tracked. nothing-carries (AddColumn column value table tracked) p)))))))
   operator-rest-texts operator.Decompose = behind-carries (λ _. behind-carries (λ table. behind-carries (λ _. behind-carries (λ target. behind-carries (λ columns.
       made-carries (decomposed table target columns) (optional-carries (behind-carries (λ _. part-texts))) (decomposed_texts table target columns))))))
   operator-rest-texts operator.Outer = behind-carries (λ _. join-texts true)
@@ -208,6 +208,11 @@ module _ (P : List ℕ → Type 0) where
   statement-rest-texts statement.Use = behind-carries (λ name. ended-texts (Use name) tt)
   statement-rest-texts statement.Session = behind-carries (λ number. ended-texts (Session number) tt)
   statement-rest-texts statement.Advise = behind-carries (λ name. ended-texts (Advise name) tt)
+  statement-rest-texts statement.Watch = behind-carries (λ name. ended-texts (Watch name) tt)
+  statement-rest-texts statement.Unwatch = behind-carries (λ number. ended-texts (Unwatch number) tt)
+  statement-rest-texts statement.Begin = ended-texts Begin tt
+  statement-rest-texts statement.Commit = ended-texts Commit tt
+  statement-rest-texts statement.Rollback = ended-texts Rollback tt
 
   pub statement-texts : Texts (StatementTexts P) IsStatement
   statement-texts = behind-carries statement-rest-texts

@@ -11,7 +11,7 @@ use Rattle.bidel_parser.specs.declared.first_words.Kind.{Kind}
 use Rattle.bidel_parser.specs.declared.first_words.Kind.TheVariants as kind
 use Rattle.bidel_parser.specs.declared.first_words.KeyWord.{KeyWord}
 use Rattle.bidel_parser.specs.declared.first_words.KeyWord.TheVariants as by
-use Rattle.bidel_parser.specs.Words.{Word, Sign, Name, choice_of, Choice, is_word}
+use Rattle.bidel_parser.specs.Words.{Word, Sign, Name, choice_of, Choice, Flag, is_word}
 use Rattle.bidel_parser.specs.declared.decompose.Second.{Second}
 use Rattle.statements.specs.Views.{Tree, key_view, KeyView, Primary, Foreign, Condition, BranchView, OpView, CreateTable, DropTable, RenameTable, RenameColumn, AddColumn, DropColumn, DecomposeSingle, Decompose, Join, Split, Merge}
 
@@ -61,9 +61,10 @@ abbrev pub RenameRest : Kind → List Lexeme → OpView → Type 0
 RenameRest kind.Table = Seq Name λ table. Seq (Word "into") λ _. Seq Name λ new. Nothing (RenameTable table new)
 RenameRest kind.Column = Seq Name λ column. Seq (Word "in") λ _. Seq Name λ table. Seq (Word "to") λ _. Seq Name λ new. Nothing (RenameColumn column table new)
 
--- ADD COLUMN name AS expr INTO name
+-- ADD COLUMN name AS expr INTO name [ TRACKED ]
 abbrev pub AddRest : List Lexeme → OpView → Type 0
-AddRest = Seq (Word "column") λ _. Seq Name λ column. Seq (Word "as") λ _. Seq Expression λ value. Seq (Word "into") λ _. Seq Name λ table. Nothing (AddColumn column value table)
+AddRest = Seq (Word "column") λ _. Seq Name λ column. Seq (Word "as") λ _. Seq Expression λ value. Seq (Word "into") λ _. Seq Name λ table.
+    Seq (Flag (Word "tracked")) λ tracked. Nothing (AddColumn column value table tracked)
 
 -- the second table of a DECOMPOSE
 pub record Part : Type 0 where

@@ -8,16 +8,17 @@ use Rattle.bidel_expr.specs.Expressions.{Expression}
 use Rattle.statements.specs.declared.statement.TableName.{TableName}
 use Rattle.bidel_parser.specs.declared.first_words.StatementWord.{StatementWord}
 use Rattle.bidel_parser.specs.declared.first_words.StatementWord.TheVariants as first
-use Rattle.bidel_parser.specs.Words.{Word, Sign, Name, Choice, Flag, session_of}
+use Rattle.bidel_parser.specs.Words.{Word, Sign, Name, Choice, Flag, session_of, watch_of}
 use Rattle.bidel_parser.specs.Operators.{ListedOperators, begins_operator}
-use Rattle.statements.specs.Views.{Tree, AssignmentView, StatementView, CreateVersion, DropVersion, Insert, Import, Update, Delete, Select, Materialize, Step, ShowLayout, Use, Session, Advise}
+use Rattle.statements.specs.Views.{Tree, AssignmentView, StatementView, CreateVersion, DropVersion, Insert, Import, Update, Delete, Select, Materialize, Step, ShowLayout, Use, Session, Advise, Watch, Unwatch, Begin, Commit, Rollback}
 
 -- ---- the words that tell them apart
 
 abbrev pub statement_words : List (List ℕ × StatementWord)
 statement_words = (codes "create", first.Create) ∷ (codes "drop", first.Drop) ∷ (codes "insert", first.Insert) ∷ (codes "import", first.Import) ∷ (codes "update", first.Update)
     ∷ (codes "delete", first.Delete) ∷ (codes "select", first.Select) ∷ (codes "materialize", first.Materialize) ∷ (codes "step", first.Step) ∷ (codes "show", first.Show)
-    ∷ (codes "use", first.Use) ∷ (codes "session", first.Session) ∷ (codes "advise", first.Advise) ∷ []
+    ∷ (codes "use", first.Use) ∷ (codes "session", first.Session) ∷ (codes "advise", first.Advise) ∷ (codes "watch", first.Watch) ∷ (codes "unwatch", first.Unwatch)
+    ∷ (codes "begin", first.Begin) ∷ (codes "commit", first.Commit) ∷ (codes "rollback", first.Rollback) ∷ []
 
 -- ---- the grammar of what statements name
 
@@ -99,7 +100,11 @@ ShowRest = Seq (Word "layout") λ _. Seq (Sign ";") λ _. Nothing ShowLayout
 abbrev pub SessionRest : List Lexeme → StatementView → Type 0
 SessionRest = Seq (OneOf session_of) λ number. Seq (Sign ";") λ _. Nothing (Session number)
 
--- what may stand behind the first word; besides, STEP ";" | USE name ";" | ADVISE name ";"
+-- UNWATCH number ";"
+abbrev pub UnwatchRest : List Lexeme → StatementView → Type 0
+UnwatchRest = Seq (OneOf watch_of) λ number. Seq (Sign ";") λ _. Nothing (Unwatch number)
+
+-- what may stand behind the first word; besides, STEP ";" | USE name ";" | ADVISE name ";" | WATCH name ";" | BEGIN ";" | COMMIT ";" | ROLLBACK ";"
 abbrev pub StatementRest : StatementWord → List Lexeme → StatementView → Type 0
 StatementRest first.Create = CreateVersionRest
 StatementRest first.Drop = DropVersionRest
@@ -114,6 +119,11 @@ StatementRest first.Show = ShowRest
 StatementRest first.Use = Seq Name λ name. Seq (Sign ";") λ _. Nothing (Use name)
 StatementRest first.Session = SessionRest
 StatementRest first.Advise = Seq Name λ name. Seq (Sign ";") λ _. Nothing (Advise name)
+StatementRest first.Watch = Seq Name λ name. Seq (Sign ";") λ _. Nothing (Watch name)
+StatementRest first.Unwatch = UnwatchRest
+StatementRest first.Begin = Seq (Sign ";") λ _. Nothing Begin
+StatementRest first.Commit = Seq (Sign ";") λ _. Nothing Commit
+StatementRest first.Rollback = Seq (Sign ";") λ _. Nothing Rollback
 
 -- a statement, by its first word
 abbrev pub IsStatement : List Lexeme → StatementView → Type 0

@@ -1,5 +1,5 @@
 -- Reserved words, signs, choices between words, and parts that may be left out.
-use Rattle.std.specs.Prelude.{ℕ, List, [], ◌∷◌, Bool, true, false, Option, Some, None, codes, map, nat_le, if◌then◌else◌}
+use Rattle.std.specs.Prelude.{ℕ, List, [], ◌∷◌, Bool, true, false, Option, Some, None, codes, map, nat_le, if◌then◌else◌, ◌^◌, ◌-◌}
 use Prim.Native.String.{String}
 use Rattle.std.specs.Borrow.{Bor}
 use Rattle.phrases.specs.Phrases.{Nothing, Seq, OneOf, Either}
@@ -41,6 +41,11 @@ Flag S = Either (Seq S λ _. Nothing true) (Nothing false)
 abbrev pub session_of : Lexeme → Option ℕ
 session_of (number n) = if nat_le n 255 then Some n else None
 session_of _ = None
+
+-- the number of a watch
+abbrev pub watch_of : Lexeme → Option ℕ
+watch_of (number n) = if nat_le n (2 ^ 63 - 1) then Some n else None
+watch_of _ = None
 
 -- ---- reading
 

@@ -10,7 +10,7 @@ use crate::first_words::{KeyWord, Kind, OperatorWord, StatementWord};
 use bidel_expr::{Cursor, ReadError, next_keyword};
 
 // The first words of statements.
-const STATEMENT_WORDS: [(&str, StatementWord); 13] = [
+const STATEMENT_WORDS: [(&str, StatementWord); 18] = [
     ("create", StatementWord::Create),
     ("drop", StatementWord::Drop),
     ("insert", StatementWord::Insert),
@@ -24,6 +24,11 @@ const STATEMENT_WORDS: [(&str, StatementWord); 13] = [
     ("use", StatementWord::Use),
     ("session", StatementWord::Session),
     ("advise", StatementWord::Advise),
+    ("watch", StatementWord::Watch),
+    ("unwatch", StatementWord::Unwatch),
+    ("begin", StatementWord::Begin),
+    ("commit", StatementWord::Commit),
+    ("rollback", StatementWord::Rollback),
 ];
 
 // The first words of operators.

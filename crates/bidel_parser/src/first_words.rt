@@ -16,6 +16,11 @@ pub enum StatementWord {
     Use,
     Session,
     Advise,
+    Watch,
+    Unwatch,
+    Begin,
+    Commit,
+    Rollback,
 }
 
 /// The first words of operators.

@@ -1,6 +1,6 @@
 //! Operators, behind their first words.
 ghost use Rattle.statements.specs.Views.{op_view, branch_view, second_view};
-ghost use Rattle.bidel_parser.specs.inner.OperatorReaders.{create_rest_at, drop_rest_at, rename_rest_at, add_rest_at, join_rest_at, split_branch_at, second_branch_at, split_rest_at, merge_branch_at, merge_rest_at, operator_rest_at, operator_at};
+ghost use Rattle.bidel_parser.specs.inner.OperatorReaders.{create_rest_at, drop_rest_at, rename_rest_at, tracked_at, add_rest_at, join_rest_at, split_branch_at, second_branch_at, split_rest_at, merge_branch_at, merge_rest_at, operator_rest_at, operator_at};
 ghost use Rattle.bidel_expr.specs.ReadAnswers.{ReadsAs};
 
 use crate::choices::{take_kind, take_operator_word};
@@ -8,7 +8,8 @@ use crate::decompose::decompose_rest;
 use crate::first_words::{Kind, OperatorWord};
 use crate::keys::take_key;
 use bidel_expr::{
-    Cursor, ReadError, next_sign, take_expression, take_keyword, take_name, take_names, take_sign,
+    Cursor, ReadError, next_keyword, next_sign, take_expression, take_keyword, take_name,
+    take_names, take_sign,
 };
 use statements::{Branch, OpText};
 use std::alloc::Global;
@@ -89,7 +90,17 @@ fn rename_rest<'a>(
     }
 }
 
-// ADD COLUMN name AS expr INTO name
+// Whether TRACKED comes.
+fn take_tracked(cursor: Cursor<'_>) -> Result<(bool, Cursor<'_>), ReadError>
+    ensures { ReadsAs (λ x. x) tracked_at cursor.entry result }
+{
+    match next_keyword(cursor, "tracked") {
+        Some(rest) => Ok((true, rest)),
+        None => Ok((false, cursor)),
+    }
+}
+
+// ADD COLUMN name AS expr INTO name [ TRACKED ]
 fn add_rest<'a>(alloc: Global, cursor: Cursor<'a>) -> Result<(OpText, Cursor<'a>), ReadError>
     ensures { ReadsAs op_view add_rest_at cursor.entry result }
 {
@@ -99,11 +110,13 @@ fn add_rest<'a>(alloc: Global, cursor: Cursor<'a>) -> Result<(OpText, Cursor<'a>
     let (value, rest) = take_expression(alloc, rest)?;
     let rest = take_keyword(rest, "into")?;
     let (table, rest) = take_name(alloc, rest)?;
+    let (tracked, rest) = take_tracked(rest)?;
     Ok((
         OpText::AddColumn {
             column,
             value,
             table,
+            tracked,
         },
         rest,
     ))

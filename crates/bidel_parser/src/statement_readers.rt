@@ -1,6 +1,6 @@
 //! Statements.
-ghost use Rattle.bidel_parser.specs.inner.StatementReaders.{create_version_rest_at, drop_version_rest_at, insert_rest_at, import_rest_at, update_rest_at, delete_rest_at, select_rest_at, materialize_rest_at, show_rest_at, closed_name_at, session_rest_at, statement_rest_at, statement_at};
-ghost use Rattle.statements.specs.Views.{statement_view};
+ghost use Rattle.bidel_parser.specs.inner.StatementReaders.{create_version_rest_at, drop_version_rest_at, insert_rest_at, import_rest_at, update_rest_at, delete_rest_at, select_rest_at, materialize_rest_at, show_rest_at, closed_at, closed_name_at, use_rest_at, session_rest_at, advise_rest_at, watch_rest_at, unwatch_rest_at, statement_rest_at, statement_at};
+ghost use Rattle.statements.specs.Views.{statement_view, Step, Begin, Commit, Rollback};
 ghost use Rattle.bidel_expr.specs.ReadAnswers.{ReadsAs};
 
 use crate::choices::take_statement_word;
@@ -8,7 +8,7 @@ use crate::first_words::StatementWord;
 use crate::operator_list::take_operators;
 use crate::tables::{
     Assignments, Targets, take_csv, take_filter, take_in_steps, take_items, take_origin,
-    take_session, take_table,
+    take_session, take_table, take_watch,
 };
 use bidel_expr::{
     Cursor, ReadError, Tuples, take_keyword, take_name, take_separated, take_sign, take_text,
@@ -161,6 +161,15 @@ fn session_rest(cursor: Cursor<'_>) -> Result<(Statement, Cursor<'_>), ReadError
     Ok((Statement::Session { number }, rest))
 }
 
+// UNWATCH number ";"
+fn unwatch_rest(cursor: Cursor<'_>) -> Result<(Statement, Cursor<'_>), ReadError>
+    ensures { ReadsAs statement_view unwatch_rest_at cursor.entry result }
+{
+    let (number, rest) = take_watch(cursor)?;
+    let rest = take_sign(rest, ";")?;
+    Ok((Statement::Unwatch { number }, rest))
+}
+
 // name ";"
 fn closed_name<'a>(alloc: Global, cursor: Cursor<'a>) -> Result<(Name, Cursor<'a>), ReadError>
     ensures { ReadsAs (λ x. x) closed_name_at cursor.entry result }
@@ -170,7 +179,64 @@ fn closed_name<'a>(alloc: Global, cursor: Cursor<'a>) -> Result<(Name, Cursor<'a
     Ok((name, rest))
 }
 
-// What may stand behind the first word.
+// USE name ";"
+fn use_rest<'a>(alloc: Global, cursor: Cursor<'a>) -> Result<(Statement, Cursor<'a>), ReadError>
+    ensures { ReadsAs statement_view use_rest_at cursor.entry result }
+{
+    let (name, rest) = closed_name(alloc, cursor)?;
+    Ok((Statement::Use { name }, rest))
+}
+
+// ADVISE name ";"
+fn advise_rest<'a>(alloc: Global, cursor: Cursor<'a>) -> Result<(Statement, Cursor<'a>), ReadError>
+    ensures { ReadsAs statement_view advise_rest_at cursor.entry result }
+{
+    let (name, rest) = closed_name(alloc, cursor)?;
+    Ok((Statement::Advise { name }, rest))
+}
+
+// WATCH name ";"
+fn watch_rest<'a>(alloc: Global, cursor: Cursor<'a>) -> Result<(Statement, Cursor<'a>), ReadError>
+    ensures { ReadsAs statement_view watch_rest_at cursor.entry result }
+{
+    let (name, rest) = closed_name(alloc, cursor)?;
+    Ok((Statement::Watch { name }, rest))
+}
+
+// STEP ";"
+fn step_rest(cursor: Cursor<'_>) -> Result<(Statement, Cursor<'_>), ReadError>
+    ensures { ReadsAs statement_view (closed_at Step) cursor.entry result }
+{
+    let rest = take_sign(cursor, ";")?;
+    Ok((Statement::Step, rest))
+}
+
+// BEGIN ";"
+fn begin_rest(cursor: Cursor<'_>) -> Result<(Statement, Cursor<'_>), ReadError>
+    ensures { ReadsAs statement_view (closed_at Begin) cursor.entry result }
+{
+    let rest = take_sign(cursor, ";")?;
+    Ok((Statement::Begin, rest))
+}
+
+// COMMIT ";"
+fn commit_rest(cursor: Cursor<'_>) -> Result<(Statement, Cursor<'_>), ReadError>
+    ensures { ReadsAs statement_view (closed_at Commit) cursor.entry result }
+{
+    let rest = take_sign(cursor, ";")?;
+    Ok((Statement::Commit, rest))
+}
+
+// ROLLBACK ";"
+fn rollback_rest(cursor: Cursor<'_>) -> Result<(Statement, Cursor<'_>), ReadError>
+    ensures { ReadsAs statement_view (closed_at Rollback) cursor.entry result }
+{
+    let rest = take_sign(cursor, ";")?;
+    Ok((Statement::Rollback, rest))
+}
+
+// What may stand behind the first word. Each arm only calls: with their readings here the proof
+// grows past all bounds.
 fn statement_rest<'a>(
     alloc: Global,
     word: StatementWord,
@@ -188,17 +254,16 @@ fn statement_rest<'a>(
         StatementWord::Delete => delete_rest(alloc, cursor),
         StatementWord::Select => select_rest(alloc, cursor),
         StatementWord::Materialize => materialize_rest(alloc, cursor),
-        StatementWord::Step => Ok((Statement::Step, take_sign(cursor, ";")?)),
+        StatementWord::Step => step_rest(cursor),
         StatementWord::Show => show_rest(cursor),
-        StatementWord::Use => {
-            let (name, rest) = closed_name(alloc, cursor)?;
-            Ok((Statement::Use { name }, rest))
-        }
+        StatementWord::Use => use_rest(alloc, cursor),
         StatementWord::Session => session_rest(cursor),
-        StatementWord::Advise => {
-            let (name, rest) = closed_name(alloc, cursor)?;
-            Ok((Statement::Advise { name }, rest))
-        }
+        StatementWord::Advise => advise_rest(alloc, cursor),
+        StatementWord::Watch => watch_rest(alloc, cursor),
+        StatementWord::Unwatch => unwatch_rest(cursor),
+        StatementWord::Begin => begin_rest(cursor),
+        StatementWord::Commit => commit_rest(cursor),
+        StatementWord::Rollback => rollback_rest(cursor),
     }
 }
 

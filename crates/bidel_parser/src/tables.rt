@@ -1,6 +1,6 @@
 //! What statements name: tables and versions, what is assigned, and which rows.
 ghost use Rattle.par_base.specs.declared.limits.Target.{Target};
-ghost use Rattle.bidel_parser.specs.Words.{session_of};
+ghost use Rattle.bidel_parser.specs.Words.{session_of, watch_of};
 ghost use Rattle.statements.specs.Views.{AssignmentView, assignment_view, filter_view};
 ghost use Rattle.bidel_parser.specs.inner.StatementReaders.{second_name_at, table_at, target_at, assignment_at, filter_at, items_at, origin_at, csv_at, in_steps_at};
 ghost use Rattle.phrases.specs.Reading.{one_at};
@@ -172,6 +172,16 @@ pub fn take_session(cursor: Cursor<'_>) -> Result<(u8, Cursor<'_>), ReadError>
 {
     match next_number(cursor) {
         Some((number, rest)) if number <= 255 => Ok((number as u8, rest)),
+        _ => Err(ReadError::Left(cursor.tokens.len())),
+    }
+}
+
+/// The number of a watch: any but 2^63, which is written behind a minus alone.
+pub fn take_watch(cursor: Cursor<'_>) -> Result<(u64, Cursor<'_>), ReadError>
+    ensures { ReadsAs (λ x. x) (one_at watch_of) cursor.entry result }
+{
+    match next_number(cursor) {
+        Some((number, rest)) if number <= 9_223_372_036_854_775_807 => Ok((number, rest)),
         _ => Err(ReadError::Left(cursor.tokens.len())),
     }
 }

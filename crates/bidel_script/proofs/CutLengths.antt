@@ -7,7 +7,7 @@ use Rattle.phrases.specs.Reading.{is, is_some}
 use Rattle.bidel_lex.specs.declared.tokens.Token.{Token}
 use Rattle.bidel_lex.specs.declared.tokens.Lexed.TheVariants as lexed
 use Rattle.bidel_expr.specs.Lexemes.{Lexeme, keyword, lexeme, lexemes}
-use Rattle.statements.specs.Views.{StatementView, CreateVersion, DropVersion, Insert, Import, Update, Delete, Select, Materialize, Step, ShowLayout, Use, Session, Advise}
+use Rattle.statements.specs.Views.{StatementView, CreateVersion, DropVersion, Insert, Import, Update, Delete, Select, Materialize, Step, ShowLayout, Use, Session, Advise, Watch, Unwatch, Begin, Commit, Rollback}
 use Rattle.bidel_parser.specs.declared.first_words.OperatorWord.TheVariants as first
 use Rattle.bidel_parser.specs.Operators.{shared_words, begins_operator}
 use Rattle.bidel_parser.specs.Words.{choice_of}
@@ -86,6 +86,11 @@ module _ (front more : List ℕ) where
     behind_same (Use name) rest us g s = refl
     behind_same (Session n) rest us g s = refl
     behind_same (Advise name) rest us g s = refl
+    behind_same (Watch name) rest us g s = refl
+    behind_same (Unwatch number) rest us g s = refl
+    behind_same Begin rest us g s = refl
+    behind_same Commit rest us g s = refl
+    behind_same Rollback rest us g s = refl
 
     -- a statement whose end is known is as long
     pub front_same : (ts us : List Token) (s : StatementView) (used : ℕ) → IsFront false (lexemes front ts) s used → Shown front ts
@@ -139,6 +144,11 @@ module _ (front more : List ℕ) where
     behind_all (Use name) rest s = refl
     behind_all (Session n) rest s = refl
     behind_all (Advise name) rest s = refl
+    behind_all (Watch name) rest s = refl
+    behind_all (Unwatch number) rest s = refl
+    behind_all Begin rest s = refl
+    behind_all Commit rest s = refl
+    behind_all Rollback rest s = refl
 
     front_all : (ts : List Token) (s : StatementView) (used : ℕ) → Shown front ts → is_long_front (front ++ more) tail ts s used ≡ is_long_front front tail ts s used
     front_all ts s used sh = ap (λ (b : Bool). is_long (begin_of tail ts) (end_of ts used) || b) (behind_all s (drop used ts) (shown_drop front used ts sh))

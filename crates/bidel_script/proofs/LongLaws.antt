@@ -13,7 +13,7 @@ use Rattle.bidel_lex.specs.declared.tokens.Lexed.TheVariants as lexed
 use Rattle.bidel_lex.specs.Next.{next_of}
 use Rattle.bidel_lex.specs.Tokens.{HasTokens}
 use Rattle.bidel_expr.specs.Lexemes.{Lexeme, lexeme, lexemes}
-use Rattle.statements.specs.Views.{StatementView, CreateVersion, DropVersion, Insert, Import, Update, Delete, Select, Materialize, Step, ShowLayout, Use, Session, Advise}
+use Rattle.statements.specs.Views.{StatementView, CreateVersion, DropVersion, Insert, Import, Update, Delete, Select, Materialize, Step, ShowLayout, Use, Session, Advise, Watch, Unwatch, Begin, Commit, Rollback}
 use Rattle.bidel_parser.specs.Statements.{IsStatement, Script, stays_open}
 use Rattle.bidel_parser.specs.inner.StatementReaders.{statement_at}
 use Rattle.bidel_parser.specs.Operators.{begins_operator}
@@ -73,6 +73,11 @@ behind_says ShowLayout bytes tail rest h = cc
 behind_says (Use name) bytes tail rest h = cc
 behind_says (Session n) bytes tail rest h = cc
 behind_says (Advise name) bytes tail rest h = cc
+behind_says (Watch name) bytes tail rest h = cc
+behind_says (Unwatch number) bytes tail rest h = cc
+behind_says Begin bytes tail rest h = cc
+behind_says Commit bytes tail rest h = cc
+behind_says Rollback bytes tail rest h = cc
 
 -- ---- fronts of fewer tokens
 
@@ -102,6 +107,11 @@ less_open ShowLayout ts us h = refl
 less_open (Use name) ts us h = refl
 less_open (Session n) ts us h = refl
 less_open (Advise name) ts us h = refl
+less_open (Watch name) ts us h = refl
+less_open (Unwatch number) ts us h = refl
+less_open Begin ts us h = refl
+less_open Commit ts us h = refl
+less_open Rollback ts us h = refl
 
 -- a front of tokens and more that takes none of those is one of the tokens
 less_front : (ts us : List Lexeme) (s : StatementView) (used : ℕ) → used ≤ length ts → IsFront true (ts ++ us) s used → IsFront true ts s used

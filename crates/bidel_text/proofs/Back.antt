@@ -12,7 +12,7 @@ use Rattle.statements.specs.declared.statement.OpText.{OpText}
 use Rattle.bidel_parser.specs.declared.parsed.Parsed.{Parsed}
 use Rattle.bidel_parser.specs.declared.parsed.Parsed.TheVariants.{Whole, More, Nothing}
 use Rattle.bidel_parser.specs.declared.parsed.Syntax.{Syntax}
-use Rattle.statements.specs.Views.{OpView, op_view, StatementView, statement_view, CreateVersion, DropVersion, Insert, Import, Update, Delete, Select, Materialize, Step, ShowLayout, Use, Session, Advise}
+use Rattle.statements.specs.Views.{OpView, op_view, StatementView, statement_view, CreateVersion, DropVersion, Insert, Import, Update, Delete, Select, Materialize, Step, ShowLayout, Use, Session, Advise, Watch, Unwatch, Begin, Commit, Rollback}
 use Rattle.bidel_parser.specs.Operators.{Operator}
 use Rattle.bidel_parser.specs.Statements.{IsStatement, stays_open}
 use Rattle.bidel_parser.specs.Parsing.{IsFront, Parses, ParsesOperator}
@@ -53,6 +53,11 @@ over_at_end ShowLayout = refl
 over_at_end (Use name) = refl
 over_at_end (Session n) = refl
 over_at_end (Advise name) = refl
+over_at_end (Watch name) = refl
+over_at_end (Unwatch n) = refl
+over_at_end Begin = refl
+over_at_end Commit = refl
+over_at_end Rollback = refl
 
 -- no statement is empty
 some_tokens : (ts : List Lexeme) (s : StatementView) → IsStatement ts s → ts ≡ [] → ⊥

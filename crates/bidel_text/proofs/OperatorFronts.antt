@@ -1,5 +1,5 @@
 -- The canonical text of an operator spells it.
-use Rattle.std.proofs.Common.{◌≡◌, ◌++◌, ◌∷◌, [], ℕ, List, Bool, true, false, refl, ap, ◌∙◌, subst, append-nil, inl, inr}
+use Rattle.std.proofs.Common.{◌≡◌, ◌++◌, ◌∷◌, [], ℕ, List, Bool, true, false, refl, subst, append-nil, inl, inr}
 use Rattle.std.specs.Prelude.{Option, Some, None, IfSome, codes}
 use Rattle.std.specs.List.{All}
 use Rattle.bidel_lex.specs.declared.tokens.TokenKind.TheVariants as kind
@@ -10,14 +10,14 @@ use Rattle.bidel_expr.specs.Expressions.{Tree, Expression}
 use Rattle.bidel_parser.specs.declared.first_words.KeyWord.TheVariants as by
 use Rattle.bidel_parser.specs.declared.first_words.OperatorWord.TheVariants as first
 use Rattle.bidel_parser.specs.declared.first_words.Kind.TheVariants as what
-use Rattle.bidel_parser.specs.Words.{choice_of}
+use Rattle.bidel_parser.specs.Words.{choice_of, Flag, Word}
 use Rattle.statements.specs.Views.{KeyView, Primary, Foreign, Condition, BranchView, OpView, CreateTable, DropTable, RenameTable, RenameColumn, AddColumn, DropColumn, DecomposeSingle, Decompose, Join, Split, Merge}
 use Rattle.bidel_parser.specs.Operators.{operator_words, kinds, key_words, KeyRest, Key, branch_of, SplitBranch, MergeBranch, part_of, SecondPart, decomposed, DropRest, RenameRest, JoinRest, OperatorRest, Operator}
 use Rattle.bidel_text.specs.ExpressionText.{expression_text}
-use Rattle.bidel_text.specs.OperatorText.{names_text, key_text, split_text, second_text, merge_text, operator_text}
+use Rattle.bidel_text.specs.OperatorText.{names_text, key_text, split_text, second_text, merge_text, flag_text, operator_text}
 use Rattle.bidel_text.proofs.Written.{Front, ends}
-use Rattle.bidel_text.proofs.Tokens.{nothing_front, spaced, name_spelled, name_said, word_follows}
-use Rattle.bidel_text.proofs.Fronts.{respelled, then_front, then_word, then_sign, then_name, then_choice, made_front, enclosed_front}
+use Rattle.bidel_text.proofs.Tokens.{nothing_front, spaced, name_spelled, name_said, word_spelled, word_follows}
+use Rattle.bidel_text.proofs.Fronts.{respelled, bare, no_flag, flag_true, then_front, then_word, then_sign, then_name, then_choice, made_front, enclosed_front}
 use Rattle.bidel_text.proofs.ExpressionFronts.{alone, expression_front}
 use Rattle.bidel_text.proofs.OperatorParts.{IsName, Good, KeyGood, BranchGood, OpGood}
 
@@ -26,9 +26,7 @@ pub last_name : {B : Type 0} (make : List ℕ → B) (name : List ℕ) → IsNam
 last_name make name h = alone name_of name make kind.Word name (name_spelled name h) (name_said name h) (word_follows name)
 
 pub name_front : (name : List ℕ) → IsName name → Front (OneOf name_of) name name
-name_front name h = respelled (Seq (OneOf name_of) λ n. Nothing n) (OneOf name_of) name name name
-    (λ ts s. (s.first.0, s.whole ∙ ap (λ (l : List Lexeme). s.left ++ l) s.second.0 ∙ append-nil s.left ∙ s.first.1, s.first.2 ∙ ap (λ (n : List ℕ). Some n) s.second.1))
-    (last_name (λ n. n) name h)
+name_front name h = bare name_of name name (last_name (λ n. n) name h)
 
 pub names_front : (names : List (List ℕ)) → All IsName names → Front Names (names_text names) names
 names_front names h = enclosed_front (OneOf name_of) (λ name. name) IsName name_front names h
@@ -117,6 +115,16 @@ second_front None g = respelled (Nothing None) _ [] None None (λ ts h. inr h) (
 second_front (Some b) g = respelled (Seq (Behind comma_of SplitBranch) λ b. Nothing (Some b)) _ _ (Some b) (Some b) (λ ts h. inl h)
     (made_front (Behind comma_of SplitBranch) (λ b. Some b) (second_text (Some b)) b (comma_then SplitBranch (split_text b) b (split_front b g)))
 
+-- TRACKED, where it stands
+tracked_ends : (tracked : Bool) → ends (flag_text (codes " TRACKED") tracked) ≡ true
+tracked_ends false = refl
+tracked_ends true = refl
+
+tracked_front : (tracked : Bool) → Front (Flag (Word "tracked")) (flag_text (codes " TRACKED") tracked) tracked
+tracked_front false = no_flag _
+tracked_front true = flag_true (Word "tracked") (codes " TRACKED") tt (spaced (Word "tracked") (codes "TRACKED") tt (bare (keyword (codes "tracked")) (codes "TRACKED") tt
+    (alone (keyword (codes "tracked")) tt (λ x. x) kind.Word (codes "TRACKED") (word_spelled (codes "TRACKED") refl) refl (word_follows (codes "TRACKED")))))
+
 pub operator_front : (o : OpView) → OpGood o → Front Operator (operator_text o) o
 operator_front (CreateTable table columns) g = first_then first.Create _ _ (codes "CREATE") refl refl
     (table_then _ _ _ (then_name _ table _ _ g.0 refl (made_front Names (λ cs. CreateTable table cs) (names_text columns) columns (names_front columns g.1))))
@@ -128,9 +136,10 @@ operator_front (RenameTable table new) g = first_then first.Rename _ _ (codes "R
 operator_front (RenameColumn column table new) g = first_then first.Rename _ _ (codes "RENAME") refl refl
     (then_choice (choice_of kinds) what.Column RenameRest _ (RenameColumn column table new) (codes "COLUMN") refl refl refl (spaced _ _ _
     (then_name _ column _ _ g.0 refl (in_then _ _ _ (then_name _ table _ _ g.1 refl (to_then _ _ _ (last_name (λ n. RenameColumn column table n) new g.2)))))))
-operator_front (AddColumn column value table) g = first_then first.Add _ _ (codes "ADD") refl refl
+operator_front (AddColumn column value table tracked) g = first_then first.Add _ _ (codes "ADD") refl refl
     (column_then _ _ _ (then_name _ column _ _ g.0 refl (as_then _ _ _ (then_front Expression _ (expression_text value) _ value _ refl (good_front value g.1)
-    (into_then _ _ _ (last_name (λ n. AddColumn column value n) table g.2))))))
+    (into_then _ _ _ (then_name _ table _ _ g.2 (tracked_ends tracked)
+    (made_front (Flag (Word "tracked")) (λ t. AddColumn column value table t) (flag_text (codes " TRACKED") tracked) tracked (tracked_front tracked))))))))
 operator_front (DropColumn column table value) g = first_then first.Drop _ _ (codes "DROP") refl refl
     (then_choice (choice_of kinds) what.Column DropRest _ (DropColumn column table value) (codes "COLUMN") refl refl refl (spaced _ _ _
     (then_name _ column _ _ g.0 refl (from_then _ _ _ (then_name _ table _ _ g.1 refl (default_then _ _ _

@@ -37,7 +37,7 @@ OpGood (CreateTable table columns) = IsName table × All IsName columns
 OpGood (DropTable table) = IsName table
 OpGood (RenameTable table new) = IsName table × IsName new
 OpGood (RenameColumn column table new) = IsName column × IsName table × IsName new
-OpGood (AddColumn column value table) = IsName column × Good value × IsName table
+OpGood (AddColumn column value table tracked) = IsName column × Good value × IsName table
 OpGood (DropColumn column table value) = IsName column × IsName table × Good value
 OpGood (DecomposeSingle table target columns) = IsName table × IsName target × All IsName columns
 OpGood (Decompose table first first_columns second second_columns key) = IsName table × IsName first × All IsName first_columns × IsName second × All IsName second_columns × KeyGood key
@@ -92,7 +92,7 @@ rest-holds operator.Create = behind-carries (λ _. then-carries name-holds (λ t
 rest-holds operator.Drop = behind-carries drop-holds
 rest-holds operator.Rename = behind-carries rename-holds
 rest-holds operator.Add = behind-carries (λ _. then-carries name-holds (λ column p. behind-carries (λ _. then-carries expression-holds (λ value q.
-    behind-carries (λ _. then-carries name-holds (λ table r. nothing-carries (AddColumn column value table) (p, q, r)))))))
+    behind-carries (λ _. then-carries name-holds (λ table r. behind-carries (λ tracked. nothing-carries (AddColumn column value table tracked) (p, q, r))))))))
 rest-holds operator.Decompose = behind-carries (λ _. then-carries name-holds (λ table p. behind-carries (λ _. then-carries name-holds (λ target q. then-carries names-hold (λ columns r.
     made-carries (decomposed table target columns) (optional-carries (behind-carries (λ _. part-holds))) (λ second s. decomposed_good table target columns second p q r s))))))
 rest-holds operator.Outer = behind-carries (λ _. join-holds true)

@@ -1,5 +1,5 @@
 -- The canonical text of a statement spells it.
-use Rattle.std.proofs.Common.{◌≡◌, ◌++◌, ◌∷◌, [], ℕ, suc, ◌≤◌, List, Bool, true, false, cond, refl, ap, ◌∙◌, subst, append-nil, inl, inr, arith}
+use Rattle.std.proofs.Common.{◌≡◌, ◌++◌, ◌∷◌, [], ℕ, suc, ◌-◌, ◌^◌, ◌≤◌, List, Bool, true, false, cond, refl, ap, ◌∙◌, subst, append-nil, inl, inr, arith}
 use Rattle.std.specs.Prelude.{Option, Some, None, IfSome, codes, decimal, pos, negsuc, map}
 use Rattle.std.specs.List.{All}
 use Rattle.std.proofs.lemmas.Str.{is_utf8-from_IsUtf8}
@@ -18,25 +18,20 @@ use Rattle.bidel_expr.specs.Literals.{comma_of, dot_of, semicolon_of, minus_of, 
 use Rattle.bidel_expr.specs.Expressions.{Tree, Expression}
 use Rattle.statements.specs.declared.statement.TableName.{TableName}
 use Rattle.bidel_parser.specs.declared.first_words.StatementWord.TheVariants as first
-use Rattle.bidel_parser.specs.Words.{choice_of, Name, Flag, Word, session_of}
+use Rattle.bidel_parser.specs.Words.{choice_of, Name, Flag, Word, session_of, watch_of}
 use Rattle.bidel_parser.specs.Operators.{Operator, ClosedOperator, ListedOperators}
 use Rattle.bidel_parser.specs.Statements.{statement_words, table_named, TableOf, target_named, TargetOf, assigned, AssignmentOf, Filter, Items, StatementRest, IsStatement}
-use Rattle.statements.specs.Views.{AssignmentView, OpView, StatementView, CreateVersion, DropVersion, Insert, Import, Update, Delete, Select, Materialize, Step, ShowLayout, Use, Session, Advise}
+use Rattle.statements.specs.Views.{AssignmentView, OpView, StatementView, CreateVersion, DropVersion, Insert, Import, Update, Delete, Select, Materialize, Step, ShowLayout, Use, Session, Advise, Watch, Unwatch, Begin, Commit, Rollback}
 use Rattle.bidel_text.specs.ExpressionText.{expression_text}
-use Rattle.bidel_text.specs.OperatorText.{listed_text, operator_text}
-use Rattle.bidel_text.specs.StatementText.{dotted_text, version_text, table_text, target_text, tuple_text, assignment_text, filter_text, items_text, flag_text, origin_text, operators_text, statement_text}
+use Rattle.bidel_text.specs.OperatorText.{flag_text, listed_text, operator_text}
+use Rattle.bidel_text.specs.StatementText.{dotted_text, version_text, table_text, target_text, tuple_text, assignment_text, filter_text, items_text, origin_text, operators_text, statement_text}
 use Rattle.bidel_text.proofs.Written.{Front, ends}
 use Rattle.bidel_text.proofs.Tokens.{IsWritable, one_token, is_negative, negative_said, number_spelled, number_follows, number_value, text_spelled, text_said, text_follows, then_token, nothing_front, spaced, is_word_text}
-use Rattle.bidel_text.proofs.Fronts.{respelled, both_written, then_front, then_word, then_sign, then_name, then_choice, made_front, separated_front, enclosed_front}
+use Rattle.bidel_text.proofs.Fronts.{respelled, bare, flag_ends, no_flag, flag_true, both_written, then_front, then_word, then_sign, then_name, then_choice, made_front, separated_front, enclosed_front}
 use Rattle.bidel_text.proofs.ExpressionFronts.{alone, digits_follow}
 use Rattle.bidel_text.proofs.OperatorParts.{IsName, Good, OpGood}
 use Rattle.bidel_text.proofs.OperatorFronts.{name_front, good_front, operator_front}
 use Rattle.bidel_text.proofs.StatementParts.{TableGood, TargetGood, AssignmentGood, RowGood, Some', StatementGood}
-
--- a phrase of one token, without what is made of it
-pub bare : {X : Type 0} (f : Lexeme → Option X) (w : List ℕ) (x : X) → Front (Seq (OneOf f) λ x. Nothing x) w x → Front (OneOf f) w x
-bare f w x h = respelled (Seq (OneOf f) λ x. Nothing x) (OneOf f) w x x
-    (λ ts s. (s.first.0, s.whole ∙ ap (λ (l : List Lexeme). s.left ++ l) s.second.0 ∙ append-nil s.left ∙ s.first.1, s.first.2 ∙ ap (λ v. Some v) s.second.1)) h
 
 -- ---- the parts
 
@@ -111,16 +106,6 @@ items_front None g = respelled _ Items _ None None (λ ts h. inl h) (then_sign (
 items_front (Some names) g = respelled _ Items _ (Some names) (Some names) (λ ts h. inr h)
     (made_front (Separated comma_of Name) (λ names. Some names) (listed_text (λ name. name) names) names (some_front Name (λ name. name) IsName name_front names g))
 
-flag_ends : (w : List ℕ) (flag : Bool) (more : List ℕ) → ends more ≡ true → ends (32 ∷ w) ≡ true → ends (flag_text (32 ∷ w) flag ++ more) ≡ true
-flag_ends w false more h k = h
-flag_ends w true more h k = refl
-
-no_flag : {A : Type 0} (S : List Lexeme → A → Type 0) → Front (Flag S) [] false
-no_flag S = respelled (Nothing false) (Flag S) [] false false (λ ts h. inr h) (nothing_front false)
-
-flag_true : {A : Type 0} (S : List Lexeme → A → Type 0) (bytes : List ℕ) (a : A) → Front S bytes a → Front (Flag S) bytes true
-flag_true S bytes a h = respelled (Seq S λ _. Nothing true) (Flag S) bytes true true (λ ts s. inl s) (made_front S (λ _. true) bytes a h)
-
 two_words : (a b : List ℕ) (u v : List ℕ) → is_word_text u ≡ true → is_word_text v ≡ true → keyword a (word (map folded u)) ≡ Some tt → keyword b (word (map folded v)) ≡ Some tt
     → Front (Seq (OneOf (keyword a)) λ _. OneOf (keyword b)) (32 ∷ (u ++ 32 ∷ v)) tt
 two_words a b u v p q r s = spaced _ _ tt (then_word (OneOf (keyword b)) (32 ∷ v) tt a u p r refl (spaced _ v tt
@@ -193,6 +178,9 @@ name_end make name g = then_name (λ n. Seq (OneOf semicolon_of) λ _. Nothing (
 number_said : (n : ℕ) → n ≤ 255 → session_of (number n) ≡ Some n
 number_said n h = ap (λ (b : Bool). cond b (Some n) None) (le-leb n 255 h)
 
+watch_said : (n : ℕ) → n ≤ 2 ^ 63 - 1 → watch_of (number n) ≡ Some n
+watch_said n h = ap (λ (b : Bool). cond b (Some n) None) (le-leb n (2 ^ 63 - 1) h)
+
 pub statement_front : (s : StatementView) → StatementGood s → Front IsStatement (statement_text s) s
 statement_front (CreateVersion name origin operators) g = statement_then first.Create _ _ (codes "CREATE") refl refl refl
     (after_space _ _ _ (codes "schema") (codes "SCHEMA") refl refl refl
@@ -245,3 +233,10 @@ statement_front (Session n) g = statement_then first.Session _ _ (codes "SESSION
     (spaced _ _ _ (then_token session_of n kind.Number (decimal n) (number_spelled n (omega (arith, g))) (ap (λ (m : ℕ). session_of (number m)) (number_value n (omega (arith, g))) ∙ number_said n g)
     (λ n. Seq (OneOf semicolon_of) λ _. Nothing (Session n)) (codes ";") (Session n) (λ rest e. number_follows (decimal n) (codes ";" ++ rest) refl) (end_front (Session n))))
 statement_front (Advise name) g = statement_then first.Advise _ _ (codes "ADVISE") refl refl refl (spaced _ _ _ (name_end (λ n. Advise n) name g))
+statement_front (Watch name) g = statement_then first.Watch _ _ (codes "WATCH") refl refl refl (spaced _ _ _ (name_end (λ n. Watch n) name g))
+statement_front (Unwatch n) g = statement_then first.Unwatch _ _ (codes "UNWATCH") refl refl refl
+    (spaced _ _ _ (then_token watch_of n kind.Number (decimal n) (number_spelled n (omega (arith, g))) (ap (λ (m : ℕ). watch_of (number m)) (number_value n (omega (arith, g))) ∙ watch_said n g)
+    (λ n. Seq (OneOf semicolon_of) λ _. Nothing (Unwatch n)) (codes ";") (Unwatch n) (λ rest e. number_follows (decimal n) (codes ";" ++ rest) refl) (end_front (Unwatch n))))
+statement_front Begin g = statement_then first.Begin (codes ";") Begin (codes "BEGIN") refl refl refl (end_front Begin)
+statement_front Commit g = statement_then first.Commit (codes ";") Commit (codes "COMMIT") refl refl refl (end_front Commit)
+statement_front Rollback g = statement_then first.Rollback (codes ";") Rollback (codes "ROLLBACK") refl refl refl (end_front Rollback)

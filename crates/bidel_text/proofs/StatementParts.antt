@@ -1,5 +1,5 @@
 -- What the grammar spells has statements whose names are names, whose literals can be written and whose expressions are within the limits.
-use Rattle.std.proofs.Common.{◌≡◌, ◌∷◌, [], ℕ, ◌≤◌, List, true, subst}
+use Rattle.std.proofs.Common.{◌≡◌, ◌∷◌, [], ℕ, ◌-◌, ◌^◌, ◌≤◌, List, true, subst}
 use Rattle.std.specs.Prelude.{Option, Some, None, IfSome, IsUtf8, nat_le}
 use Rattle.std.specs.List.{All}
 use Rattle.std.specs.Str.{is_utf8}
@@ -16,10 +16,10 @@ use Rattle.bidel_expr.proofs.WordLaws.{when_some}
 use Rattle.statements.specs.declared.statement.TableName.{TableName}
 use Rattle.bidel_parser.specs.declared.first_words.StatementWord.{StatementWord}
 use Rattle.bidel_parser.specs.declared.first_words.StatementWord.TheVariants as statement
-use Rattle.bidel_parser.specs.Words.{Sign, Name, session_of}
+use Rattle.bidel_parser.specs.Words.{Sign, Name, session_of, watch_of}
 use Rattle.bidel_parser.specs.Operators.{ClosedOperator, ListedOperators}
 use Rattle.bidel_parser.specs.Statements.{table_named, TableOf, target_named, TargetOf, assigned, AssignmentOf, Filter, Items, StatementRest, IsStatement}
-use Rattle.statements.specs.Views.{AssignmentView, StatementView, CreateVersion, DropVersion, Insert, Import, Update, Delete, Select, Materialize, Step, ShowLayout, Use, Session, Advise}
+use Rattle.statements.specs.Views.{AssignmentView, StatementView, CreateVersion, DropVersion, Insert, Import, Update, Delete, Select, Materialize, Step, ShowLayout, Use, Session, Advise, Watch, Unwatch, Begin, Commit, Rollback}
 use Rattle.bidel_text.proofs.Tokens.{IsWritable}
 use Rattle.bidel_text.proofs.Writable.{any_all, Holds, name-holds, unsigned_writable, negative_writable}
 use Rattle.bidel_text.proofs.OperatorParts.{IsName, Good, OpGood, expression-holds, operator-holds}
@@ -55,6 +55,11 @@ StatementGood ShowLayout = Unit {0}
 StatementGood (Use name) = IsName name
 StatementGood (Session n) = n ≤ 255
 StatementGood (Advise name) = IsName name
+StatementGood (Watch name) = IsName name
+StatementGood (Unwatch n) = n ≤ 2 ^ 63 - 1
+StatementGood Begin = Unit {0}
+StatementGood Commit = Unit {0}
+StatementGood Rollback = Unit {0}
 
 -- a list with one item at least
 some-hold : {A : Type 0} (G : A → Type 0) (S : List Lexeme → A → Type 0) → Holds G S → Holds (Some' G) (Separated comma_of S)
@@ -108,6 +113,13 @@ session_good («text» b) n h = cc
 session_good (reference m) n h = cc
 session_good (symbol s) n h = cc
 
+watch_good : (t : Lexeme) (n : ℕ) → watch_of t ≡ Some n → n ≤ 2 ^ 63 - 1
+watch_good (number m) n h = let p = when_some (nat_le m (2 ^ 63 - 1)) m n h in subst (λ (k : ℕ). k ≤ 2 ^ 63 - 1) p.1 (leb-true m (2 ^ 63 - 1) p.0)
+watch_good (word w) n h = cc
+watch_good («text» b) n h = cc
+watch_good (reference m) n h = cc
+watch_good (symbol s) n h = cc
+
 ended-holds : (s : StatementView) → StatementGood s → Holds StatementGood (Seq (Sign ";") λ _. Nothing s)
 ended-holds s p = behind-carries (λ _. nothing-carries s p)
 
@@ -129,6 +141,11 @@ rest-holds statement.Show = behind-carries (λ _. ended-holds ShowLayout tt)
 rest-holds statement.Use = then-carries name-holds (λ name p. ended-holds (Use name) p)
 rest-holds statement.Session = then-carries (one-carries {F = λ n. n ≤ 255} session_of (λ t n h _. session_good t n h)) (λ n p. ended-holds (Session n) p)
 rest-holds statement.Advise = then-carries name-holds (λ name p. ended-holds (Advise name) p)
+rest-holds statement.Watch = then-carries name-holds (λ name p. ended-holds (Watch name) p)
+rest-holds statement.Unwatch = then-carries (one-carries {F = λ n. n ≤ 2 ^ 63 - 1} watch_of (λ t n h _. watch_good t n h)) (λ n p. ended-holds (Unwatch n) p)
+rest-holds statement.Begin = ended-holds Begin tt
+rest-holds statement.Commit = ended-holds Commit tt
+rest-holds statement.Rollback = ended-holds Rollback tt
 
 pub statement_good : (ts : List Lexeme) (s : StatementView) → IsStatement ts s → StatementGood s
 statement_good ts s h = (behind-carries {F = StatementGood} rest-holds).holds ts s h (any_all ts)

@@ -40,6 +40,11 @@ abbrev pub outer_text : Bool → List ℕ
 outer_text false = []
 outer_text true = codes "OUTER "
 
+-- words that stand where this is so
+abbrev pub flag_text : List ℕ → Bool → List ℕ
+flag_text words false = []
+flag_text words true = words
+
 -- an operator, without `;`
 abbrev pub operator_text : OpView → List ℕ
 operator_text (CreateTable table columns) = codes "CREATE TABLE " ++ (table ++ names_text columns)
@@ -47,9 +52,9 @@ operator_text (DropTable table) = codes "DROP TABLE " ++ table
 operator_text (RenameTable table new) = codes "RENAME TABLE " ++ (table ++ (codes " INTO " ++ new))
 operator_text (RenameColumn column table new) =
     codes "RENAME COLUMN " ++ (column ++ (codes " IN " ++ (table ++ (codes " TO " ++ new))))
-operator_text (AddColumn column value table) =
+operator_text (AddColumn column value table tracked) =
     codes "ADD COLUMN " ++ (column ++ (codes " AS " ++ (expression_text value
-    ++ (codes " INTO " ++ table))))
+    ++ (codes " INTO " ++ (table ++ flag_text (codes " TRACKED") tracked)))))
 operator_text (DropColumn column table value) =
     codes "DROP COLUMN " ++ (column ++ (codes " FROM " ++ (table
     ++ (codes " DEFAULT " ++ expression_text value))))

@@ -1,12 +1,12 @@
 -- The canonical text of statements. Texts are put together from the right, part by part.
-use Rattle.std.specs.Prelude.{ℕ, List, [], ◌++◌, Bool, true, false, Option, Some, None, codes, flat_map, decimal}
+use Rattle.std.specs.Prelude.{ℕ, List, [], ◌++◌, Option, Some, None, codes, flat_map, decimal}
 use Rattle.par_base.specs.declared.limits.Target.{Target}
 use Rattle.par_base.specs.declared.value.Value.{Value}
 use Rattle.par_base.specs.Literals.{literal_of, quoted}
 use Rattle.statements.specs.declared.statement.TableName.{TableName}
-use Rattle.statements.specs.Views.{Tree, AssignmentView, OpView, StatementView, CreateVersion, DropVersion, Insert, Import, Update, Delete, Select, Materialize, Step, ShowLayout, Use, Session, Advise}
+use Rattle.statements.specs.Views.{Tree, AssignmentView, OpView, StatementView, CreateVersion, DropVersion, Insert, Import, Update, Delete, Select, Materialize, Step, ShowLayout, Use, Session, Advise, Watch, Unwatch, Begin, Commit, Rollback}
 use Rattle.bidel_text.specs.ExpressionText.{expression_text}
-use Rattle.bidel_text.specs.OperatorText.{listed_text, operator_text}
+use Rattle.bidel_text.specs.OperatorText.{flag_text, listed_text, operator_text}
 
 -- a name, and one behind a dot
 abbrev pub dotted_text : List ℕ → Option (List ℕ) → List ℕ
@@ -44,11 +44,6 @@ abbrev pub items_text : Option (List (List ℕ)) → List ℕ
 items_text None = codes "*"
 items_text (Some names) = listed_text (λ name. name) names
 
--- words that stand where this is so
-abbrev pub flag_text : List ℕ → Bool → List ℕ
-flag_text words false = []
-flag_text words true = words
-
 -- the version from which a new one is made
 abbrev pub origin_text : Option (List ℕ) → List ℕ
 origin_text None = []
@@ -85,3 +80,8 @@ statement_text ShowLayout = codes "SHOW LAYOUT;"
 statement_text (Use name) = codes "USE " ++ (name ++ codes ";")
 statement_text (Session number) = codes "SESSION " ++ (decimal number ++ codes ";")
 statement_text (Advise name) = codes "ADVISE " ++ (name ++ codes ";")
+statement_text (Watch name) = codes "WATCH " ++ (name ++ codes ";")
+statement_text (Unwatch number) = codes "UNWATCH " ++ (decimal number ++ codes ";")
+statement_text Begin = codes "BEGIN;"
+statement_text Commit = codes "COMMIT;"
+statement_text Rollback = codes "ROLLBACK;"

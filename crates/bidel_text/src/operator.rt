@@ -2,7 +2,7 @@
 ghost use Rattle.std.specs.Prelude.{◌≡◌, ◌++◌, IfOk, OnOk, Some, None, codes, string_bytes};
 ghost use Rattle.expr_lang.specs.Terms.{text_term};
 ghost use Rattle.statements.specs.Views.{key_view, branch_view, second_view, op_view, CreateTable, RenameTable, RenameColumn, AddColumn, DropColumn, DecomposeSingle, Join, Split, Merge};
-ghost use Rattle.bidel_text.specs.OperatorText.{further_text, listed_text, names_text, key_text, split_text, second_text, merge_text, outer_text, operator_text};
+ghost use Rattle.bidel_text.specs.OperatorText.{further_text, listed_text, names_text, key_text, split_text, second_text, merge_text, outer_text, flag_text, operator_text};
 
 use crate::expression::print_expression;
 use expr_lang::ExprText;
@@ -94,6 +94,12 @@ fn outer_word(outer: bool) -> &'static str
     if outer { "OUTER " } else { "" }
 }
 
+fn tracked_word(tracked: bool) -> &'static str
+    ensures { result.now ≡ flag_text (codes " TRACKED") tracked }
+{
+    if tracked { " TRACKED" } else { "" }
+}
+
 fn print_create(alloc: Global, table: &Name, columns: &[Name]) -> Result<Text, Memory>
     ensures { IfOk result (λ made. made ≡ operator_text (CreateTable table.now columns.now)) }
 {
@@ -131,16 +137,23 @@ fn print_rename_column(
     Ok(Text::from_string(made))
 }
 
-fn print_add(alloc: Global, column: &Name, value: &ExprText, table: &Name) -> Result<Text, Memory>
+fn print_add(
+    alloc: Global,
+    column: &Name,
+    value: &ExprText,
+    table: &Name,
+    tracked: bool,
+) -> Result<Text, Memory>
     ensures { IfOk result (λ made. made
-        ≡ operator_text (AddColumn column.now (text_term value.now) table.now)) }
+        ≡ operator_text (AddColumn column.now (text_term value.now) table.now tracked)) }
 {
     let value = print_expression(alloc, value)?;
     let made = format!(in alloc;
-        "ADD COLUMN {} AS {} INTO {}",
+        "ADD COLUMN {} AS {} INTO {}{}",
         column.as_str(),
         value.as_str(),
         table.as_str(),
+        tracked_word(tracked),
     )?;
     Ok(Text::from_string(made))
 }
@@ -292,7 +305,8 @@ pub fn print_operator(alloc: Global, operator: &OpText) -> Result<Text, Memory>
             column,
             value,
             table,
-        } => print_add(alloc, column, value, table),
+            tracked,
+        } => print_add(alloc, column, value, table, *tracked),
         OpText::DropColumn {
             column,
             table,

@@ -1,9 +1,9 @@
 //! The canonical text of a statement.
 ghost use Rattle.std.specs.Prelude.{◌≡◌, ◌++◌, IfOk, OnOk, Some, None, codes, string_bytes, map};
 ghost use Rattle.par_base.specs.Literals.{literal_of, quoted};
-ghost use Rattle.statements.specs.Views.{op_view, assignment_view, filter_view, statement_view, CreateVersion, DropVersion, Insert, Import, Update, Delete, Select, Materialize};
-ghost use Rattle.bidel_text.specs.OperatorText.{further_text, listed_text};
-ghost use Rattle.bidel_text.specs.StatementText.{table_text, target_text, tuple_text, assignment_text, filter_text, items_text, flag_text, origin_text, operators_text, statement_text};
+ghost use Rattle.statements.specs.Views.{op_view, assignment_view, filter_view, statement_view, CreateVersion, DropVersion, Insert, Import, Update, Delete, Select, Materialize, Session, Unwatch};
+ghost use Rattle.bidel_text.specs.OperatorText.{flag_text, further_text, listed_text};
+ghost use Rattle.bidel_text.specs.StatementText.{table_text, target_text, tuple_text, assignment_text, filter_text, items_text, origin_text, operators_text, statement_text};
 
 use crate::expression::print_expression;
 use crate::operator::{print_operator, push_names};
@@ -350,47 +350,78 @@ fn print_materialize(alloc: Global, named: &[Target], in_steps: bool) -> Result<
     Ok(made)
 }
 
-/// The canonical text of a statement.
-pub fn print_statement(alloc: Global, statement: &Statement) -> Result<Text, Memory>
-    ensures { IfOk result (λ made. made ≡ statement_text (statement_view statement.now)) }
+// Some words, a name and the end.
+fn print_named(alloc: Global, words: &str, name: &Name) -> Result<String, Memory>
+    ensures { IfOk result (λ made. string_bytes made ≡ words.now ++ (name.now ++ codes ";")) }
 {
-    let made = match statement {
+    Ok(format!(in alloc; "{words}{};", name.as_str())?)
+}
+
+fn print_session(alloc: Global, number: u8) -> Result<String, Memory>
+    ensures { IfOk result (λ made. string_bytes made ≡ statement_text (Session number)) }
+{
+    Ok(format!(in alloc; "SESSION {number};")?)
+}
+
+fn print_unwatch(alloc: Global, number: u64) -> Result<String, Memory>
+    ensures { IfOk result (λ made. string_bytes made ≡ statement_text (Unwatch number)) }
+{
+    Ok(format!(in alloc; "UNWATCH {number};")?)
+}
+
+// A text with no parts.
+fn print_words(alloc: Global, words: &str) -> Result<String, Memory>
+    ensures { IfOk result (λ made. string_bytes made ≡ words.now) }
+{
+    Ok(String::from_str(alloc, words)?)
+}
+
+// Each arm only calls: with their writing here the proof grows past all bounds.
+fn print_form(alloc: Global, statement: &Statement) -> Result<String, Memory>
+    ensures { IfOk result (λ made. string_bytes made
+        ≡ statement_text (statement_view statement.now)) }
+{
+    match statement {
         Statement::CreateVersion {
             name,
             from,
             operators,
-        } => print_create(alloc, name, from, operators.as_slice())?,
-        Statement::DropVersion { name } => format!(in alloc;
-            "DROP SCHEMA VERSION {};",
-            name.as_str()
-        )?,
-        Statement::Insert { table, rows } => print_insert(alloc, table, rows.as_slice())?,
-        Statement::Import { table, text } => print_import(alloc, table, text)?,
+        } => print_create(alloc, name, from, operators.as_slice()),
+        Statement::DropVersion { name } => print_named(alloc, "DROP SCHEMA VERSION ", name),
+        Statement::Insert { table, rows } => print_insert(alloc, table, rows.as_slice()),
+        Statement::Import { table, text } => print_import(alloc, table, text),
         Statement::Update {
             table,
             assignments,
             filter,
-        } => print_update(alloc, table, assignments.as_slice(), filter)?,
-        Statement::Delete { table, filter } => print_delete(alloc, table, filter)?,
+        } => print_update(alloc, table, assignments.as_slice(), filter),
+        Statement::Delete { table, filter } => print_delete(alloc, table, filter),
         Statement::Select {
             table,
             items,
             filter,
             csv,
-        } => print_select(alloc, table, items, filter, *csv)?,
-        Statement::Materialize { named, in_steps } => print_materialize(
-            alloc,
-            named.as_slice(),
-            *in_steps,
-        )?,
-        Statement::Step => String::from_str(alloc, "STEP;")?,
-        Statement::ShowLayout => String::from_str(alloc, "SHOW LAYOUT;")?,
-        Statement::Use { name } => format!(in alloc; "USE {};", name.as_str())?,
-        Statement::Session { number } => {
-            let number = *number;
-            format!(in alloc; "SESSION {number};")?
+        } => print_select(alloc, table, items, filter, *csv),
+        Statement::Materialize { named, in_steps } => {
+            print_materialize(alloc, named.as_slice(), *in_steps)
         }
-        Statement::Advise { name } => format!(in alloc; "ADVISE {};", name.as_str())?,
-    };
+        Statement::Step => print_words(alloc, "STEP;"),
+        Statement::ShowLayout => print_words(alloc, "SHOW LAYOUT;"),
+        Statement::Use { name } => print_named(alloc, "USE ", name),
+        Statement::Session { number } => print_session(alloc, *number),
+        Statement::Advise { name } => print_named(alloc, "ADVISE ", name),
+        Statement::Watch { name } => print_named(alloc, "WATCH ", name),
+        Statement::Unwatch { number } => print_unwatch(alloc, *number),
+        Statement::Begin => print_words(alloc, "BEGIN;"),
+        Statement::Commit => print_words(alloc, "COMMIT;"),
+        Statement::Rollback => print_words(alloc, "ROLLBACK;"),
+    }
+}
+
+/// The canonical text of a statement.
+pub fn print_statement(alloc: Global, statement: &Statement) -> Result<Text, Memory>
+    ensures { IfOk result (λ made. made ≡ statement_text (statement_view statement.now)) }
+{
+    let made = print_form(alloc, statement)?;
     Ok(Text::from_string(made))
 }

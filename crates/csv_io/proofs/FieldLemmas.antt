@@ -75,14 +75,6 @@ int_none field other = turn (int_in field) (int_text field)
 pub int_unparsed : {E : Type 0} (field : List ℕ) (r : Result ℤ E) (e : E) → ParsesSigned w64 10 field r → r ≡ Err e → None ≡ int_in field
 int_unparsed field r e parses is = int_none field (λ z fits text. let read = parse-signed_decimal w64 z field r fits fits.sfits text parses in cc)
 
--- what parses and is another text
-pub int_other : {E : Type 0} (field : List ℕ) (r : Result ℤ E) (z : ℤ) → ParsesSigned w64 10 field r → r ≡ Ok z → (field ≡ signed_decimal z → ⊥) → None ≡ int_in field
-int_other field r z parses is other =
-    int_none field (λ n fits text.
-    let read = parse-signed_decimal w64 n field r fits fits.sfits text parses in
-    let one : n ≡ z = cc in
-    other (text ∙ ap signed_decimal one))
-
 -- ---- identifiers
 
 pub id_is : (digits : List ℕ) (id : ℕ) → id < 2 ^ 64 → digits ≡ decimal id → Some id ≡ id_in digits

@@ -11,7 +11,7 @@ ghost use Rattle.csv_io.specs.Tables.{csv_rows};
 
 use crate::fields::read_field;
 use csv::{Error, ReaderBuilder, StringRecord};
-use par_base::{List, Memory, Row, Text};
+use par_base::{List, Memory, Row, Text, Value};
 use std::alloc::{AllocError, Global};
 
 // What stops a reader of a slice: memory ran out.
@@ -21,14 +21,21 @@ fn ran_out(_error: Error) -> Memory
     Memory::from(AllocError)
 }
 
+// The value of each field.
+fn read_values(alloc: Global, fields: &StringRecord) -> Result<List<Value>, Memory>
+    ensures { IfOk result (λ values. values ≡ map field_value (fields_of fields.now)) }
+{
+    let mut values = List::new(alloc);
+    for field in fields {
+        values.push(read_field(alloc, field)?)?;
+    }
+    Ok(values)
+}
+
 fn read_row(alloc: Global, fields: &StringRecord) -> Result<Row, Memory>
     ensures { IfOk result (λ row. row ≡ map field_value (fields_of fields.now)) }
 {
-    let mut row = List::new(alloc);
-    for field in fields {
-        row.push(read_field(alloc, field)?)?;
-    }
-    Ok(row)
+    Row::from_list(alloc, read_values(alloc, fields)?)
 }
 
 /// The rows of a text of CSV without a header, one for each record, of any length. An empty field

@@ -15,7 +15,7 @@ use Rattle.version_model.specs.States.{State}
 use Rattle.version_model.specs.Steps.{directed, pair_in}
 use Rattle.version_model.proofs.RunLaws.{way_laws}
 use Rattle.storage_law.specs.Storage.{StandsOver, Storage, aux_of}
-use Rattle.db_state.specs.Parts.{AreLocalAt, Ascends, MaySee, passes, seen_of}
+use Rattle.db_state.specs.Parts.{Ascends, MaySee, passes, seen_of}
 use Rattle.db_state.specs.inner.Passes.{SeesOver}
 use Rattle.db_state.specs.declared.sight.Sight.{Sight}
 use Rattle.db_state.specs.declared.sight.Sight.TheVariants.{All, Of}
@@ -77,11 +77,6 @@ ascends_of meaning es ns (Of ids) may = may.0
 pub sees_of : {O : Type 0} (meaning : O → Meaning) (es : List (Placed O)) (ns : List ℕ) (sight : Sight) → MaySee meaning es ns sight → (e : Link O) → In e (forest es) → In e.number ns → SeesOver sight (meaning e.operator)
 sees_of {O} meaning es ns All may e at mine = tt
 sees_of {O} meaning es ns (Of ids) may e at mine = may.1 e at mine
-
--- over operators that treat each identifier by itself every list may be seen
-pub may_of : {O : Type 0} (meaning : O → Meaning) (es : List (Placed O)) (ns : List ℕ) (sight : Sight) → Ascends sight → AreLocalAt meaning es ns → MaySee meaning es ns sight
-may_of meaning es ns All ascends local = tt
-may_of meaning es ns (Of ids) ascends local = (ascends, local)
 
 -- ---- states and what is stored
 

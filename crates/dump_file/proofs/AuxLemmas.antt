@@ -16,6 +16,8 @@ use Rattle.row_parts.specs.RowCells.{Cell, in_cell, kept_if, map_cell}
 use Rattle.row_parts.specs.RowEdits.{value_at}
 use Rattle.op_tables.specs.SideTables.{first_table, other_tables, second_table}
 use Rattle.op_column.specs.AddColumn.{add_column, column_alone}
+use Rattle.op_column.specs.AddTracked.{add_tracked}
+use Rattle.op_column.specs.inner.AddTrackedLaws.{deviating_sound}
 use Rattle.op_column.specs.CreateTable.{create_table}
 use Rattle.op_column.specs.DropTable.{drop_table}
 use Rattle.op_column.specs.Rename.{rename}
@@ -31,9 +33,10 @@ use Rattle.op_fk_decompose.specs.Columns.{column_parts, decompose_columns}
 use Rattle.op_fk_decompose.specs.Decompose.{dangling, dangling_at, kept_at, kept_rows, ref_at, refs}
 use Rattle.op_fk_join.specs.Columns.{join_columns, side_parts}
 use Rattle.op_fk_join.specs.Join.{join_refs, key_here, unjoined, unjoined_here, unreferred, unreferred_here}
-use Rattle.op_cond_join.specs.JoinOn.{join_on, table_at}
-use Rattle.op_cond_join.specs.Shown.{Joining}
-use Rattle.op_any.specs.Operators.{Built, CreateTable, DropTable, Rename, AddColumn, DropColumn, Split, Merge, DecomposeSingle, DecomposePk, OuterJoinPk, JoinPk, DecomposeFk, OuterJoinFk, JoinFk, JoinOn, DecomposeOn, joining_by, meaning_of}
+use Rattle.op_any.specs.Operators.{Built, CreateTable, DropTable, Rename, AddColumn, AddTracked, DropColumn, Split, Merge, DecomposeSingle, DecomposePk, OuterJoinPk, JoinPk, DecomposeFk, OuterJoinFk, JoinFk, JoinOn, DecomposeOn, joining_by, meaning_of}
+use Rattle.op_cond_join.specs.JoinOn.{join_on}
+use Rattle.pair_rows.specs.Sides.{table_at}
+use Rattle.pair_rows.specs.Shown.{Joining}
 
 -- where both sides may stand, so may what is kept beside the source
 abbrev pub AuxSound : Meaning → Type 0
@@ -96,6 +99,12 @@ add_first place e n s t source target = (column_sound n place (first_cell t) (fi
 
 add_second : (place : ℕ) (e : Term ℕ) → RowSound (flip_row (add_column place e))
 add_second place e n s t source target = tt
+
+tracked_first : (e : Term ℕ) → RowSound (add_tracked e)
+tracked_first e n s t source target = (deviating_sound n e (first_cell s) (first_cell t) (first_sound n t target), tt)
+
+tracked_second : (e : Term ℕ) → RowSound (flip_row (add_tracked e))
+tracked_second e n s t source target = tt
 
 -- SPLIT keeps identifiers without values, and rows of its targets
 split_first : (width : ℕ) (first : Term ℕ) (second : Option (Term ℕ)) → RowSound (split width first second)
@@ -245,6 +254,7 @@ aux_sound CreateTable = (rowwise_sound create_table create_first, rowwise_sound 
 aux_sound (DropTable width) = (rowwise_sound (drop_table width) (drop_first width), rowwise_sound (flip_row (drop_table width)) (drop_second width))
 aux_sound Rename = (rowwise_sound rename rename_first, rowwise_sound (flip_row rename) rename_second)
 aux_sound (AddColumn place e) = (rowwise_sound (add_column place e) (add_first place e), rowwise_sound (flip_row (add_column place e)) (add_second place e))
+aux_sound (AddTracked e) = (rowwise_sound (add_tracked e) (tracked_first e), rowwise_sound (flip_row (add_tracked e)) (tracked_second e))
 aux_sound (DropColumn place e) = (rowwise_sound (flip_row (add_column place e)) (add_second place e), rowwise_sound (add_column place e) (add_first place e))
 aux_sound (Split width first second) =
     (rowwise_sound (split width first second) (split_first width first second), rowwise_sound (flip_row (split width first second)) (split_second width first second))

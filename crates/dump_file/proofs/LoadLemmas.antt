@@ -9,7 +9,7 @@ use Rattle.version_graph.specs.Edges.{Drawn, IsGraph, numbers}
 use Rattle.version_graph.specs.Finished.{IsFinished}
 use Rattle.version_graph.specs.Forest.{Link, forest}
 use Rattle.version_graph.proofs.SetLaws.{each_more}
-use Rattle.op_any.specs.Operators.{AnyView, Built, CreateTable, DropTable, Rename, AddColumn, DropColumn, Split, Merge, DecomposeSingle, DecomposePk, OuterJoinPk, JoinPk, DecomposeFk, OuterJoinFk, JoinFk, JoinOn, DecomposeOn, any_meaning, meaning_of}
+use Rattle.op_any.specs.Operators.{AnyView, Built, CreateTable, DropTable, Rename, AddColumn, AddTracked, DropColumn, Split, Merge, DecomposeSingle, DecomposePk, OuterJoinPk, JoinPk, DecomposeFk, OuterJoinFk, JoinFk, JoinOn, DecomposeOn, any_meaning, meaning_of}
 use Rattle.version_model.specs.Kept.{HasSides}
 use Rattle.version_model.specs.States.{headings}
 use Rattle.db_state.specs.Fields.{IsDatabase}
@@ -39,6 +39,7 @@ built_reads CreateTable = refl
 built_reads (DropTable width) = refl
 built_reads Rename = refl
 built_reads (AddColumn place e) = refl
+built_reads (AddTracked e) = refl
 built_reads (DropColumn place e) = refl
 built_reads (Split width first second) = refl
 built_reads (Merge width first second) = refl

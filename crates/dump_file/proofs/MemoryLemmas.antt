@@ -3,7 +3,7 @@ use Rattle.std.specs.Prelude.{◌==◌, ◌||◌, IfOk}
 use Rattle.std.specs.List.{remove}
 use Rattle.std.specs.Option.{option_map_or}
 use Rattle.std.specs.Str.{bytes_eq}
-use Rattle.std.proofs.Common.{◌≡◌, ℕ, List, [], ◌∷◌, ◌++◌, Bool, true, false, Option, Some, None, Ok, Err, Result, inl, inr, refl, sym, ap, ◌∙◌, subst, arith}
+use Rattle.std.proofs.Common.{◌≡◌, ℕ, List, [], ◌∷◌, ◌++◌, length, Bool, true, false, Option, Some, None, Ok, Err, Result, inl, inr, refl, sym, ap, ◌∙◌, subst, arith}
 use Rattle.std.proofs.lemmas.Bool.{cond-false, cond-true, eq-eqb, false≢true, ne_eqb}
 use Rattle.par_base.specs.Checked.{Checked, ◌then◌}
 use Rattle.expr_lang.specs.Resolved.{place_of, resolved}
@@ -17,9 +17,10 @@ use Rattle.version_graph.specs.declared.parts.Edge.{Edge}
 use Rattle.version_graph.specs.declared.parts.Heading.{Heading}
 use Rattle.version_graph.specs.declared.parts.Placed.{Placed}
 use Rattle.op_law.specs.Tables.{Tables}
-use Rattle.op_any.specs.Operators.{AnyView, Built, CreateTable, DropTable, Rename, AddColumn, DropColumn, Split, Merge, DecomposeSingle, DecomposePk, OuterJoinPk, JoinPk, DecomposeFk, OuterJoinFk, JoinFk, JoinOn, DecomposeOn, meaning_of}
+use Rattle.expr_lang.specs.Terms.{Term}
+use Rattle.op_any.specs.Operators.{AnyView, Built, CreateTable, DropTable, Rename, AddColumn, AddTracked, DropColumn, Split, Merge, DecomposeSingle, DecomposePk, OuterJoinPk, JoinPk, DecomposeFk, OuterJoinFk, JoinFk, JoinOn, DecomposeOn, meaning_of}
 use Rattle.op_any.specs.NameChecks.{heading_named, is_passing, repeated, known_table, other_table, new_table, known_column, known_places, known_columns, well_divided, new_columns, same_columns, few_columns, known_ids}
-use Rattle.op_any.specs.Build.{adding_column, built, creating_table, dropping_column, dropping_table, merging_tables, planned_edge, renaming_column, renaming_table, splitting_in_one, splitting_in_two, splitting_table, with_text}
+use Rattle.op_any.specs.Build.{adding_column, built, column_adder, creating_table, dropping_column, dropping_table, merging_tables, planned_edge, renaming_column, renaming_table, splitting_in_one, splitting_in_two, splitting_table, with_text}
 use Rattle.op_any.specs.BuildJoins.{columns_of_both, decomposing_in_one, decomposing_table, divided, joining_tables, meeting, on_fk, on_pk, parting}
 use Rattle.op_any.specs.BuiltOn.{AreBuiltOn}
 use Rattle.dump_file.specs.Told.{is_on_condition, remembers}
@@ -38,6 +39,7 @@ no_pairs CreateTable is s t m related = related.0
 no_pairs (DropTable width) is s t m related = related.0
 no_pairs Rename is s t m related = related.0
 no_pairs (AddColumn place e) is s t m related = related.0
+no_pairs (AddTracked e) is s t m related = related.0
 no_pairs (DropColumn place e) is s t m related = related.0
 no_pairs (Split width first second) is s t m related = related.0
 no_pairs (Merge width first second) is s t m related = related.0
@@ -63,6 +65,7 @@ are_pairs CreateTable s t m related = none_remembered m related.0
 are_pairs (DropTable width) s t m related = none_remembered m related.0
 are_pairs Rename s t m related = none_remembered m related.0
 are_pairs (AddColumn place e) s t m related = none_remembered m related.0
+are_pairs (AddTracked e) s t m related = none_remembered m related.0
 are_pairs (DropColumn place e) s t m related = none_remembered m related.0
 are_pairs (Split width first second) s t m related = none_remembered m related.0
 are_pairs (Merge width first second) s t m related = none_remembered m related.0
@@ -87,6 +90,10 @@ at_ok {A} {E} P c x e h = subst (λ (r : Result A E). IfOk r P) e h
 
 abbrev Unkept : Edge Built → Type 0
 Unkept e = keeps_pairs e.operator ≡ false
+
+adder_unkept : (tracked : Bool) (count : ℕ) (e : Term ℕ) → keeps_pairs (column_adder tracked count e) ≡ false
+adder_unkept true count e = refl
+adder_unkept false count e = refl
 
 on_pk_unkept : (outer : Bool) (first second : ℕ) → keeps_pairs (on_pk outer first second) ≡ false
 on_pk_unkept false first second = refl
@@ -121,14 +128,14 @@ module _ (set : List Heading) (next : ℕ) where
       if_then Unkept (known_column column (place_of h.columns column)) _ (λ place b.
       if_then Unkept (new_columns (remove h.columns place) (new ∷ [])) _ (λ u c. refl)))
 
-  adding : (column : List ℕ) (value : Tree) (table : List ℕ) → IfOk (adding_column set next column value table) Unkept
+  adding : (column : List ℕ) (value : Tree) (table : List ℕ) (tracked : Bool) → IfOk (adding_column set next column value table tracked) Unkept
   unfolding adding_column
-  adding column value table =
+  adding column value table tracked =
       if_then Unkept (known_table table (heading_named set table)) _ (λ h a.
       if_then Unkept (known_columns (resolved h.columns value)) _ (λ e b.
       if_then Unkept (new_columns h.columns (column ∷ [])) _ (λ u c.
       if_then Unkept (few_columns table (h.columns ++ column ∷ [])) _ (λ v d.
-      if_then Unkept (known_ids next value) _ (λ w f. refl)))))
+      if_then Unkept (known_ids next value) _ (λ w f. adder_unkept tracked (length h.columns) e)))))
 
   dropping_a_column : (column table : List ℕ) (value : Tree) → IfOk (dropping_column set next column table value) Unkept
   unfolding dropping_column
@@ -209,7 +216,7 @@ module _ (set : List Heading) (next : ℕ) where
   planned («text».DropTable table) is = dropping table
   planned («text».RenameTable table new) is = renaming table new
   planned («text».RenameColumn column table new) is = renaming_a_column column table new
-  planned («text».AddColumn column value table) is = adding column value table
+  planned («text».AddColumn column value table tracked) is = adding column value table tracked
   planned («text».DropColumn column table value) is = dropping_a_column column table value
   planned («text».DecomposeSingle table target columns) is = decomposing table (record { name = target; columns = columns })
   planned («text».Decompose table first first_columns second second_columns key) is =

@@ -20,7 +20,7 @@ fn read_values(alloc: Global, items: &[Json]) -> Result<Option<Row>, Memory>
         };
         row.push(value)?;
     }
-    Ok(Some(row))
+    Ok(Some(Row::from_list(alloc, row)?))
 }
 
 /// The identifier and the row that the JSON spells, where it spells one.

@@ -7,12 +7,10 @@ use Rattle.par_base.specs.declared.limits.Target.{Target}
 use Rattle.par_base.specs.declared.refusal.Refusal.{Refusal}
 use Rattle.version_graph.specs.Edges.{Drawn}
 use Rattle.par_base.specs.Checked.{Checked, ◌then◌}
-use Rattle.op_any.specs.Operators.{AnyView, Built, CreateTable, DropTable, Rename, AddColumn, DropColumn, Split, Merge, DecomposeSingle, DecomposePk, OuterJoinPk, JoinPk, DecomposeFk, OuterJoinFk, JoinFk, JoinOn, DecomposeOn, any_meaning, meaning_of}
+use Rattle.op_any.specs.Operators.{AnyView, Built, CreateTable, DropTable, Rename, AddColumn, AddTracked, DropColumn, Split, Merge, DecomposeSingle, DecomposePk, OuterJoinPk, JoinPk, DecomposeFk, OuterJoinFk, JoinFk, JoinOn, DecomposeOn, any_meaning, meaning_of}
 use Rattle.layout_rules.specs.Changes.{layout_after}
-use Rattle.version_model.specs.Databases.{empty_database}
-use Rattle.storage_law.specs.Reading.{ReadsSources}
 use Rattle.layout_rules.proofs.AfterLaws.{same_layout}
-use Rattle.db_state.specs.Fields.{IsDatabase, database_for}
+use Rattle.db_state.specs.Fields.{IsDatabase}
 use Rattle.db_state.specs.declared.parts.Parts.{Parts}
 use Rattle.engine_state.specs.AnyDatabase.{AnyDatabase}
 use Rattle.engine_state.specs.declared.reply.Reply.{Reply}
@@ -20,9 +18,9 @@ use Rattle.engine_state.specs.declared.reply.Reply.TheVariants.{Moved}
 use Rattle.engine_layouts.specs.Laid.{Laid, Materializes, materialized}
 use Rattle.statements.specs.declared.statement.Statement.{Statement}
 use Rattle.statements.specs.declared.statement.Statement.TheVariants as statement
-use Rattle.statements.specs.Views.{statement_view, StatementView, CreateVersion, DropVersion, Insert, Import, Update, Delete, Select, Materialize, Step, ShowLayout, Use, Session, Advise}
+use Rattle.statements.specs.Views.{statement_view, StatementView, CreateVersion, DropVersion, Insert, Import, Update, Delete, Select, Materialize, Step, ShowLayout, Use, Session, Advise, Watch, Unwatch, Begin, Commit, Rollback}
 use Rattle.engine_core.specs.Act.{acted, acted_data, tells_layout, with_data}
-use Rattle.engine_core.specs.Kept.{Answers, Follows, data_of, empty_state, state_of}
+use Rattle.engine_core.specs.Kept.{Answers, Follows, data_of, state_of}
 
 -- the source of each operator is read back
 built_reads : (o : Built) → (meaning_of o).reads_source ≡ true
@@ -30,6 +28,7 @@ built_reads CreateTable = refl
 built_reads (DropTable width) = refl
 built_reads Rename = refl
 built_reads (AddColumn place e) = refl
+built_reads (AddTracked e) = refl
 built_reads (DropColumn place e) = refl
 built_reads (Split width first second) = refl
 built_reads (Merge width first second) = refl
@@ -42,14 +41,6 @@ built_reads (OuterJoinFk first second place) = refl
 built_reads (JoinFk first second place) = refl
 built_reads (JoinOn first second c) = refl
 built_reads (DecomposeOn first second c) = refl
-
-pub any_reads : ReadsSources any_meaning
-any_reads o = built_reads o.operator
-
--- the state without versions
-pub empty_laid : (p : Parts AnyView) (limit : ℕ) → database_for any_meaning p ≡ empty_database limit → p.layout.operators ≡ [] → state_of p ≡ empty_state limit
-empty_laid p limit empty layout =
-    ap (λ (d : AnyDatabase). record { database = d; layout = p.layout.operators }) empty ∙ ap (λ (l : List ℕ). record { database = empty_database limit; layout = l }) layout
 
 -- ---- statements on the data
 
@@ -73,9 +64,6 @@ pub move_refused : (old new : Laid) (named : List Target) (fault : Fault Refusal
 move_refused old new named (Refused r) moves = (ap replied moves.0, moves.1)
 move_refused old new named (Memory memory) moves = (tt, moves)
 
-pub move_answers : (old new : Laid) (named : List Target) (count : ℕ) → Materializes old named (Ok count) new → Answers (replied (materialized old named)) (Ok (Moved count)) new
-move_answers old new named count moves = ap replied moves
-
 -- ---- which statements are on the data
 
 pub acted_beside : (s : Laid) (x : StatementView) → tells_layout x ≡ false → acted s x ≡ (acted_data s.database x then λ answer. Ok (with_data s answer))
@@ -92,6 +80,11 @@ acted_beside s ShowLayout off = absurd (let no : ⊥ = cc in no)
 acted_beside s (Use name) off = refl
 acted_beside s (Session number) off = refl
 acted_beside s (Advise name) off = refl
+acted_beside s (Watch name) off = refl
+acted_beside s (Unwatch number) off = refl
+acted_beside s Begin off = refl
+acted_beside s Commit off = refl
+acted_beside s Rollback off = refl
 
 pub on_data : (st : Statement) → ((named : List Target) (in_steps : Bool) → st ≡ statement.Materialize named in_steps → ⊥) → (st ≡ statement.ShowLayout → ⊥) → tells_layout (statement_view st) ≡ false
 on_data (statement.CreateVersion name origin operators) a b = refl
@@ -107,6 +100,11 @@ on_data statement.ShowLayout a b = absurd (b refl)
 on_data (statement.Use name) a b = refl
 on_data (statement.Session number) a b = refl
 on_data (statement.Advise name) a b = refl
+on_data (statement.Watch name) a b = refl
+on_data (statement.Unwatch number) a b = refl
+on_data statement.Begin a b = refl
+on_data statement.Commit a b = refl
+on_data statement.Rollback a b = refl
 
 -- after an error the layout is as it was too
 pub same_laid : (old new : Parts AnyView) (r : Result Reply (Fault Refusal)) → IsDatabase any_meaning old → OnErr r (data_of new ≡ data_of old) → Follows old new → OnErr r (state_of new ≡ state_of old)

@@ -7,7 +7,7 @@ use Rattle.par_base.specs.declared.limits.Target.{Target}
 use Rattle.par_base.specs.declared.refusal.IdsSpent.{IdsSpent}
 use Rattle.par_base.specs.declared.refusal.Refusal.{Refusal}
 use Rattle.row_store.specs.Rows.{Rows}
-use Rattle.statements.specs.Views.{Tree, OpView, StatementView, CreateVersion, DropVersion, Insert, Import, Update, Delete, Select, Materialize, Step, ShowLayout, Use, Session, Advise}
+use Rattle.statements.specs.Views.{Tree, OpView, StatementView, CreateVersion, DropVersion, Insert, Import, Update, Delete, Select, Materialize, Step, ShowLayout, Use, Session, Advise, Watch, Unwatch, Begin, Commit, Rollback}
 use Rattle.statements.specs.declared.statement.TableName.{TableName}
 use Rattle.version_graph.specs.Sets.{In}
 use Rattle.version_graph.specs.Edges.{AreEdges, Drawn}
@@ -33,7 +33,7 @@ use Rattle.engine_versions.specs.KeptTexts.{texts_of}
 use Rattle.engine_versions.proofs.BuiltOnLaws.{built_above}
 use Rattle.engine_versions.proofs.ChainLaws.{both_give, ok_is}
 use Rattle.engine_versions.proofs.KeptTextLaws.{created_limit, created_texts, dropped_is, dropped_texts}
-use Rattle.engine_layouts.specs.Laid.{Laid, Materializes, laid_of, materialized, moved_count}
+use Rattle.engine_layouts.specs.Laid.{Laid, materialized, moved_count}
 use Rattle.engine_layouts.specs.Shown.{shown_operators, shown_tables}
 use Rattle.engine_core.specs.Act.{acted, acted_data, planned_write, tells_layout, with_data}
 use Rattle.engine_core.specs.Kept.{Answers}
@@ -68,12 +68,6 @@ moved_data : (s : Laid) (named : List Target) (answer : ℕ × Laid) → materia
 moved_data s named answer h =
     let a = both_give (closing s.database.graph s.layout named) (λ new. Ok (moved_count s new, record s { layout = new })) answer h in
     ap (λ (x : ℕ × Laid). x.1.database) (sym (ok_is (moved_count s a.0, record s { layout = a.0 }) answer a.2))
-
--- after a move, or an error
-pub built_moved : (k n : Parts AnyView) (named : List Target) (r : Result ℕ (Fault Refusal)) → Materializes (laid_of k) named r (laid_of n) → AreBuiltOn k.ids.next k.graph.edges → AreBuiltOn n.ids.next n.graph.edges
-built_moved k n named (Ok count) moves are = subst AreTold (sym (moved_data (laid_of k) named (count, laid_of n) moves)) are
-built_moved k n named (Err (Refused told)) moves are = subst (λ (s : Laid). AreTold s.database) (sym moves.1) are
-built_moved k n named (Err (Memory memory)) moves are = subst (λ (s : Laid). AreTold s.database) (sym moves) are
 
 -- ---- what a statement leaves
 
@@ -149,6 +143,11 @@ leaves_data s ShowLayout answer h = leaves_written s ShowLayout answer h
 leaves_data s (Use name) answer h = leaves_written s (Use name) answer h
 leaves_data s (Session number) answer h = leaves_written s (Session number) answer h
 leaves_data s (Advise name) answer h = leaves_written s (Advise name) answer h
+leaves_data s (Watch name) answer h = leaves_written s (Watch name) answer h
+leaves_data s (Unwatch number) answer h = leaves_written s (Unwatch number) answer h
+leaves_data s Begin answer h = leaves_written s Begin answer h
+leaves_data s Commit answer h = leaves_written s Commit answer h
+leaves_data s Rollback answer h = leaves_written s Rollback answer h
 
 -- with the layout beside it
 abbrev data_in : Reply × Laid → AnyDatabase
@@ -176,6 +175,11 @@ leaves_laid s Step answer h = leaves_beside s Step refl answer h
 leaves_laid s (Use name) answer h = leaves_beside s (Use name) refl answer h
 leaves_laid s (Session number) answer h = leaves_beside s (Session number) refl answer h
 leaves_laid s (Advise name) answer h = leaves_beside s (Advise name) refl answer h
+leaves_laid s (Watch name) answer h = leaves_beside s (Watch name) refl answer h
+leaves_laid s (Unwatch number) answer h = leaves_beside s (Unwatch number) refl answer h
+leaves_laid s Begin answer h = leaves_beside s Begin refl answer h
+leaves_laid s Commit answer h = leaves_beside s Commit refl answer h
+leaves_laid s Rollback answer h = leaves_beside s Rollback refl answer h
 
 -- whatever the call answers
 pub call_leaves : (s n : Laid) (x : StatementView) (r : Result Reply (Fault Refusal)) → Answers (acted s x) r n → OnErr r (n ≡ s) → Leaves s.database x n.database

@@ -6,16 +6,11 @@ use Rattle.par_base.specs.declared.value.Value.{Value}
 use Rattle.par_base.specs.declared.value.Value.TheVariants.{Null, Int, Text, Reference}
 use Rattle.expr_lang.specs.Operations.{text_limit}
 use Rattle.expr_lang.specs.Terms.{Term, Literal, Column, Unary, Binary}
-use Rattle.statements.specs.Views.{AssignmentView, StatementView, OpView, CreateTable, DropTable, RenameTable, RenameColumn, AddColumn, DropColumn, DecomposeSingle, Decompose, Join, Split, Merge, KeyView, Primary, Foreign, Condition}
+use Rattle.statements.specs.Views.{AssignmentView, OpView, CreateTable, DropTable, RenameTable, RenameColumn, AddColumn, DropColumn, DecomposeSingle, Decompose, Join, Split, Merge, KeyView, Primary, Foreign, Condition}
 use Rattle.statements.specs.Texts.{AssignmentTexts, KeyTexts, OpTexts, RowTexts, TermTexts, ValueTexts}
 use Rattle.version_graph.specs.Sets.{Each}
-use Rattle.version_graph.specs.declared.parts.Placed.{Placed}
-use Rattle.version_graph.proofs.SetLaws.{each_append, each_at, each_of}
-use Rattle.op_any.specs.Operators.{AnyView}
 use Rattle.op_any.specs.Texts.{ValueFits, TermFits, TextsFit, key_expressions}
 use Rattle.engine_statements.specs.Calls.{AssignmentFits, RowFits}
-use Rattle.engine_versions.specs.KeptTexts.{texts_of}
-use Rattle.engine_core.specs.Spoken.{TextsCome, operators_in}
 
 abbrev Short : List ℕ → Type 0
 Short bytes = length bytes ≤ text_limit
@@ -42,7 +37,7 @@ operator_fits (CreateTable table columns) short = tt
 operator_fits (DropTable table) short = tt
 operator_fits (RenameTable table new) short = tt
 operator_fits (RenameColumn column table new) short = tt
-operator_fits (AddColumn column value table) short = (term_fits value short, tt)
+operator_fits (AddColumn column value table tracked) short = (term_fits value short, tt)
 operator_fits (DropColumn column table value) short = (term_fits value short, tt)
 operator_fits (DecomposeSingle table target columns) short = tt
 operator_fits (Decompose table first first_columns second second_columns key) short = key_fits key short
@@ -61,8 +56,3 @@ rows_fit rows short = All-weaker (RowTexts Short) RowFits (λ row texts. All-wea
 
 pub assignments_fit : (assignments : List AssignmentView) → All (AssignmentTexts Short) assignments → All AssignmentFits assignments
 assignments_fit assignments short = All-weaker (AssignmentTexts Short) AssignmentFits (λ a texts. term_fits a.value texts) assignments short
-
--- what holds of each live operator's text, and of each that a statement tells, holds of each live operator's text after it
-pub texts_keep : (P : OpView → Type 0) (statement : StatementView) (old new : List (Placed AnyView)) → TextsCome statement old new → Each P (operators_in statement) → Each P (texts_of old) → Each P (texts_of new)
-texts_keep P statement old new come told kept =
-    each_of P (texts_of new) (λ t i. each_at P (operators_in statement ++ texts_of old) t (come t i) (each_append P (operators_in statement) (texts_of old) told kept))

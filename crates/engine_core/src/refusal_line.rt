@@ -31,6 +31,17 @@ pub fn refusal_text(alloc: Global, refusal: &Refusal) -> Result<Text, Memory>
         Refusal::ColumnsDiffer { first, second } => columns_differ(alloc, first, second),
         Refusal::SameTable { table } => named(alloc, "refused 16 same table", table),
         Refusal::NothingPending => plain(alloc, "refused 17 nothing pending"),
+        Refusal::NoWatcherLeft => plain(alloc, "refused 18 no watcher left"),
+        Refusal::UnknownWatch { number } => unknown_watch(alloc, *number),
+        Refusal::TransactionOpen => plain(alloc, "refused 20 transaction open"),
+        Refusal::NoTransaction => plain(alloc, "refused 21 no transaction"),
+        Refusal::ReadAfterWrite => plain(alloc, "refused 22 read after write"),
+        Refusal::Stale {
+            table,
+            read,
+            changed,
+        } => stale(alloc, table, *read, *changed),
+        Refusal::HistorySpent => plain(alloc, "refused 24 history spent"),
     }
 }
 
@@ -110,6 +121,25 @@ fn columns_differ(alloc: Global, first: &Name, second: &Name) -> Result<Text, Me
         "refused 15 columns differ {} {}\n",
         first.as_str(),
         second.as_str()
+    )?;
+    Ok(Text::from_string(text))
+}
+
+#[tactic(auto, unfolding(crate::specs::Texts::refusal_bytes))]
+fn unknown_watch(alloc: Global, number: u64) -> Result<Text, Memory>
+    ensures { IfOk result (λ text. text ≡ refusal_bytes (Refusal.UnknownWatch number)) }
+{
+    let text = format!(in alloc; "refused 19 unknown watch {number}\n")?;
+    Ok(Text::from_string(text))
+}
+
+#[tactic(auto, unfolding(crate::specs::Texts::refusal_bytes))]
+fn stale(alloc: Global, table: &Text, read: u64, changed: u64) -> Result<Text, Memory>
+    ensures { IfOk result (λ text. text ≡ refusal_bytes (Refusal.Stale table.now read changed)) }
+{
+    let text = format!(in alloc;
+        "refused 23 stale {}, read at {read}, changed at {changed}\n",
+        table.as_str()
     )?;
     Ok(Text::from_string(text))
 }

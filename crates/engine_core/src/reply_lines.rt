@@ -2,10 +2,10 @@
 //!
 //! Header and rows are added to one string, each by a function that ends its own line.
 ghost use Rattle.std.specs.Prelude.{◌≡◌, ◌++◌, codes, decimal, flat_map, string_bytes, IfOk, OnOk};
-ghost use Rattle.engine_core.specs.Texts.{header_text, layout_lines, line, operator_text, reply_bytes, row_text, rows_lines, side_word as side_word_lem, table_text};
+ghost use Rattle.engine_core.specs.Texts.{header_text, layout_lines, line, operator_text, reply_bytes, row_text, rows_lines, side_word as side_word_lem, table_text, inserted_text as inserted_text_lem, write_bytes};
 ghost use Rattle.par_base.specs.Literals.{literal_of};
 
-use engine_state::{Reply, StoredOperator, StoredTable};
+use engine_state::{Reply, StoredOperator, StoredTable, WriteReply};
 use par_base::{Memory, Name, Row, Text, Value, literal_text};
 use std::alloc::Global;
 
@@ -24,12 +24,68 @@ pub fn reply_text(alloc: Global, reply: &Reply) -> Result<Text, Memory>
         Reply::Layout { tables, operators } => {
             layout_text(alloc, tables.as_slice(), operators.as_slice())
         }
+        Reply::Pending { count } => counted_text(alloc, "pending", *count),
+        Reply::Flipped { operator, left } => flipped_text(alloc, *operator, *left),
+        Reply::Watching { number } => watching_text(alloc, *number),
+        Reply::Unwatched { number, told, rows } => unwatched_text(alloc, *number, *told, *rows),
+        Reply::Kept => Text::from_str(alloc, "kept\n"),
+        Reply::Committed { replies } => committed_text(alloc, replies.as_slice()),
     }
 }
 
 #[tactic(auto, unfolding(crate::specs::Texts::reply_bytes))]
+fn flipped_text(alloc: Global, operator: u32, left: usize) -> Result<Text, Memory>
+    ensures { IfOk result (λ text. text ≡ reply_bytes (Reply.Flipped operator left)) }
+{
+    Ok(Text::from_string(format!(in alloc; "flipped {operator} left {left}\n")?))
+}
+
+#[tactic(auto, unfolding(crate::specs::Texts::reply_bytes))]
+fn watching_text(alloc: Global, number: u64) -> Result<Text, Memory>
+    ensures { IfOk result (λ text. text ≡ reply_bytes (Reply.Watching number)) }
+{
+    Ok(Text::from_string(format!(in alloc; "watching {number}\n")?))
+}
+
+#[tactic(auto, unfolding(crate::specs::Texts::reply_bytes))]
+fn unwatched_text(alloc: Global, number: u64, told: u64, rows: Option<u64>) -> Result<Text, Memory>
+    ensures { IfOk result (λ text. text ≡ reply_bytes (Reply.Unwatched number told rows)) }
+{
+    let text = match rows {
+        None => format!(in alloc; "unwatched {number} told {told}\n")?,
+        Some(rows) => format!(in alloc; "unwatched {number} told {told} rows {rows}\n")?,
+    };
+    Ok(Text::from_string(text))
+}
+
+fn write_text(alloc: Global, reply: &WriteReply) -> Result<Text, Memory>
+    ensures { IfOk result (λ text. text ≡ write_bytes reply.now) }
+{
+    match reply {
+        WriteReply::Inserted { ids } => inserted_text(alloc, ids.as_slice()),
+        WriteReply::Updated { count } => counted_text(alloc, "updated", *count),
+        WriteReply::Deleted { count } => counted_text(alloc, "deleted", *count),
+    }
+}
+
+// The lines of each kept write, and how many there were.
+#[tactic(auto, unfolding(crate::specs::Texts::reply_bytes))]
+fn committed_text(alloc: Global, replies: &[WriteReply]) -> Result<Text, Memory>
+    ensures { IfOk result (λ text. text ≡ reply_bytes (Reply.Committed replies.now)) }
+{
+    let mut text = String::new(alloc);
+    for reply in replies {
+        let lines = write_text(alloc, reply)?;
+        text.push_str(lines.as_str())?;
+    }
+    let count = replies.len();
+    write!(text, "committed {count}\n")?;
+    Ok(Text::from_string(text))
+}
+
+#[tactic(auto, unfolding(crate::specs::Texts::reply_bytes))]
 fn inserted_text(alloc: Global, ids: &[u64]) -> Result<Text, Memory>
-    ensures { IfOk result (λ text. text ≡ reply_bytes (Reply.Inserted ids.now)) }
+    ensures { IfOk result (λ text. text ≡ line (inserted_text_lem ids.now)) }
 {
     let count = ids.len();
     let mut text = format!(in alloc; "inserted {count}")?;

@@ -41,13 +41,17 @@ abbrev pub join_word : Bool → List ℕ
 join_word true = codes "outer_join_"
 join_word false = codes "join_"
 
+abbrev pub added_word : Bool → List ℕ
+added_word true = codes "add_tracked"
+added_word false = codes "add_column"
+
 -- the name of an operator's kind
 abbrev pub kind_word : OpView → List ℕ
 kind_word (CreateTable table columns) = codes "create_table"
 kind_word (DropTable table) = codes "drop_table"
 kind_word (RenameTable table new) = codes "rename_table"
 kind_word (RenameColumn column table new) = codes "rename_column"
-kind_word (AddColumn column value table) = codes "add_column"
+kind_word (AddColumn column value table tracked) = added_word tracked
 kind_word (DropColumn column table value) = codes "drop_column"
 kind_word (DecomposeSingle table target columns) = codes "decompose"
 kind_word (Decompose table first first_columns second second_columns key) = codes "decompose_" ++ key_word key

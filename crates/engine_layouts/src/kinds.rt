@@ -1,7 +1,7 @@
 //! The names of operators' kinds.
 ghost use Rattle.std.specs.Prelude.{◌≡◌, ◌++◌, IfOk};
 ghost use Rattle.statements.specs.Views.{key_view, op_view};
-ghost use Rattle.engine_layouts.specs.Shown.{join_word as join_word_lem, key_word as key_word_lem, kind_word};
+ghost use Rattle.engine_layouts.specs.Shown.{added_word as added_word_lem, join_word as join_word_lem, key_word as key_word_lem, kind_word};
 
 use par_base::{Memory, Text};
 use statements::{KeyText, OpText};
@@ -23,6 +23,12 @@ fn join_word(outer: bool) -> &'static str
     if outer { "outer_join_" } else { "join_" }
 }
 
+fn added_word(tracked: bool) -> &'static str
+    ensures { result.now ≡ added_word_lem tracked }
+{
+    if tracked { "add_tracked" } else { "add_column" }
+}
+
 fn keyed(alloc: Global, word: &str, key: &KeyText) -> Result<Text, Memory>
     ensures { IfOk result (λ text. text ≡ word.now ++ key_word_lem (key_view key.now)) }
 {
@@ -40,7 +46,7 @@ pub fn kind_text(alloc: Global, operator: &OpText) -> Result<Text, Memory>
         OpText::DropTable { .. } => Text::from_str(alloc, "drop_table"),
         OpText::RenameTable { .. } => Text::from_str(alloc, "rename_table"),
         OpText::RenameColumn { .. } => Text::from_str(alloc, "rename_column"),
-        OpText::AddColumn { .. } => Text::from_str(alloc, "add_column"),
+        OpText::AddColumn { tracked, .. } => Text::from_str(alloc, added_word(*tracked)),
         OpText::DropColumn { .. } => Text::from_str(alloc, "drop_column"),
         OpText::DecomposeSingle { .. } => Text::from_str(alloc, "decompose"),
         OpText::Decompose { key, .. } => keyed(alloc, "decompose_", key),

@@ -3,7 +3,7 @@ use Rattle.std.specs.Prelude.{Option, Some, None, Ok, Err, IsSome}
 use Rattle.std.proofs.Common.{◌≡◌, ℕ, List, Bool, false, refl, ap}
 use Rattle.par_base.specs.Checked.{Checked, ◌then◌}
 use Rattle.version_graph.specs.Edges.{set_named}
-use Rattle.statements.specs.Views.{StatementView, CreateVersion, DropVersion, Insert, Import, Update, Delete, Select, Materialize, Step, ShowLayout, Use, Session, Advise}
+use Rattle.statements.specs.Views.{StatementView, CreateVersion, DropVersion, Insert, Import, Update, Delete, Select, Materialize, Step, ShowLayout, Use, Session, Advise, Watch, Unwatch, Begin, Commit, Rollback}
 use Rattle.statements.specs.declared.statement.TableName.{TableName}
 use Rattle.csv_io.specs.Tables.{csv_rows}
 use Rattle.engine_state.specs.SharedChecks.{known_version}
@@ -69,6 +69,11 @@ module _ (s t : Standing) (is : s.laid ≡ t.laid) where
   same_behind (Use name) full = same_used name (known_version name (set_named s.laid.database.graph.versions name)) (known_version name (set_named t.laid.database.graph.versions name)) (ap (λ (l : Laid). known_version name (set_named l.database.graph.versions name)) is)
   same_behind (Session number) full = (refl, is)
   same_behind (Advise name) full = absurd full
+  same_behind (Watch name) full = same_counted false (Watch name) (Watch name) refl
+  same_behind (Unwatch number) full = same_counted false (Unwatch number) (Unwatch number) refl
+  same_behind Begin full = same_counted false Begin Begin refl
+  same_behind Commit full = same_counted false Commit Commit refl
+  same_behind Rollback full = same_counted false Rollback Rollback refl
 
 pub need_the_data_alone : NeedTheDataAlone
 need_the_data_alone s t x is full = same_behind s t is x full

@@ -11,7 +11,7 @@ use Rattle.statements.specs.declared.statement.Statement.{Statement}
 use Rattle.statements.specs.declared.statement.Statement.TheVariants as statement
 use Rattle.statements.specs.declared.statement.TableName.{TableName}
 use Rattle.statements.specs.Texts.{RowTexts, ValueTexts, TextsWithin}
-use Rattle.statements.specs.Views.{statement_view, OpView, StatementView, CreateVersion, DropVersion, Insert, Import, Update, Delete, Select, Materialize, Step, ShowLayout, Use, Session, Advise}
+use Rattle.statements.specs.Views.{statement_view, OpView, StatementView, CreateVersion, DropVersion, Insert, Import, Update, Delete, Select, Materialize, Step, ShowLayout, Use, Session, Advise, Watch, Unwatch, Begin, Commit, Rollback}
 use Rattle.version_graph.specs.Sets.{Within}
 use Rattle.version_graph.specs.declared.parts.Placed.{Placed}
 use Rattle.version_graph.proofs.SetLaws.{in_right}
@@ -50,6 +50,11 @@ rest_in_full used statement.ShowLayout i m u d s = refl
 rest_in_full used (statement.Use name) i m u d s = refl
 rest_in_full used (statement.Session number) i m u d s = refl
 rest_in_full used (statement.Advise name) i m u d s = refl
+rest_in_full used (statement.Watch name) i m u d s = refl
+rest_in_full used (statement.Unwatch number) i m u d s = refl
+rest_in_full used statement.Begin i m u d s = refl
+rest_in_full used statement.Commit i m u d s = refl
+rest_in_full used statement.Rollback i m u d s = refl
 
 -- statements that the engine carries out
 pub act_counted : (s : Standing) (st : Statement)
@@ -68,6 +73,11 @@ act_counted s statement.ShowLayout u n a = refl
 act_counted s (statement.Use name) u n a = absurd (u name refl)
 act_counted s (statement.Session number) u n a = absurd (n number refl)
 act_counted s (statement.Advise name) u n a = absurd (a name refl)
+act_counted s (statement.Watch name) u n a = refl
+act_counted s (statement.Unwatch number) u n a = refl
+act_counted s statement.Begin u n a = refl
+act_counted s statement.Commit u n a = refl
+act_counted s statement.Rollback u n a = refl
 
 -- ---- texts
 
@@ -95,6 +105,11 @@ full_texts used ShowLayout is = is
 full_texts used (Use name) is = is
 full_texts used (Session number) is = is
 full_texts used (Advise name) is = is
+full_texts used (Watch name) is = is
+full_texts used (Unwatch number) is = is
+full_texts used Begin is = is
+full_texts used Commit is = is
+full_texts used Rollback is = is
 
 -- it tells the same operators
 pub full_operators : (used : Option (List ℕ)) (x : StatementView) → operators_in (in_full used x) ≡ operators_in x
@@ -111,6 +126,11 @@ full_operators used ShowLayout = refl
 full_operators used (Use name) = refl
 full_operators used (Session number) = refl
 full_operators used (Advise name) = refl
+full_operators used (Watch name) = refl
+full_operators used (Unwatch number) = refl
+full_operators used Begin = refl
+full_operators used Commit = refl
+full_operators used Rollback = refl
 
 -- what stays behind a statement that changes nothing
 pub stay_within : (x : StatementView) (es : List (Placed AnyView)) → TextsCome x es es

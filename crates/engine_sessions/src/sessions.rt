@@ -6,6 +6,7 @@ ghost use Rattle.statements.specs.Texts.{TextsWithin};
 ghost use Rattle.std.specs.Option.{option_copied};
 ghost use Rattle.layout_planner.specs.Best.{best as best_lem};
 ghost use Rattle.engine_core.specs.Kept.{state_of};
+ghost use Rattle.engine_state.specs.Replies.{IsReply};
 ghost use Rattle.engine_core.specs.Spoken.{TextsCome};
 ghost use Rattle.engine_sessions.specs.InFull.{in_full as in_full_lem, wants_csv as wants_csv_lem};
 ghost use Rattle.engine_sessions.specs.Standing.{begun, kept_in, standing_of, used_by};
@@ -37,7 +38,8 @@ pub struct Sessions {
 
 // The rows of a reply as CSV, where they are asked for so.
 fn answer_of(reply: Reply, csv: bool) -> Answer
-    ensures { result ≡ answer_of_lem csv reply }
+    ensures value { result ≡ answer_of_lem csv reply }
+    ensures prints { IsReply reply → IsAnswer result }
 {
     match reply {
         Reply::Rows { header, rows } if csv => Answer::Csv { header, rows },

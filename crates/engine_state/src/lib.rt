@@ -12,5 +12,5 @@ mod reply;
 mod versions;
 
 pub use op_any::AnyOp;
-pub use reply::{Reply, StoredOperator, StoredTable};
+pub use reply::{Reply, StoredOperator, StoredTable, WriteReply};
 pub use versions::known_set;

@@ -54,11 +54,6 @@ pub named_at : {O : Type 0} (es : List (Placed O)) (set : ℕ) (name : List ℕ)
     → option_map (λ (t : TableVersion). t.number) (table_named (working es set) name) ≡ Some n → NamedAt es set name n
 named_at es set name n edges e = named_some es set name n (table_named (working es set) name) edges refl e
 
--- without a number there is no table
-pub named_none : (set : ℕ) (o : Option TableVersion) → option_map (λ (t : TableVersion). t.number) o ≡ None → option_map (table_of set) o ≡ None
-named_none set None e = refl
-named_none set (Some t) e = absurd (cc)
-
 -- the table with its heading
 pub named_table : {O : Type 0} (es : List (Placed O)) (set : ℕ) (name : List ℕ) (n : ℕ) (h : Heading) → NamedAt es set name n → heading_of es n ≡ Some h
     → Some (table_of set (record { number = n; heading = h })) ≡ option_map (table_of set) (table_named (working es set) name)

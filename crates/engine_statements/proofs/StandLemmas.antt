@@ -62,10 +62,3 @@ pub may_get_same : (k : Parts AnyView) (f : FoundTable) (rows : Rows) (n : ℕ) 
     → MayWrite k.graph.edges (state_for any_meaning k) f.set f.number rows n
 may_get_same k f rows n table same stands =
     subst (λ (m : ℕ). MayWrite k.graph.edges (state_for any_meaning k) f.set f.number rows m) (sym same) (may_get k f rows k.ids.next table stands (omega arith))
-
--- where so many were drawn
-pub may_get_more : (k : Parts AnyView) (f : FoundTable) (rows : Rows) (n m drawn : ℕ) → IsTableOf k f → n ≡ k.ids.next → m ≡ n + drawn → IsTable (length f.heading.now.columns) (k.ids.next + drawn) rows
-    → MayWrite k.graph.edges (state_for any_meaning k) f.set f.number rows m
-may_get_more k f rows n m drawn table same more stands =
-    let sum : m ≡ k.ids.next + drawn = more ∙ ap (λ (i : ℕ). i + drawn) same in
-    subst (λ (i : ℕ). MayWrite k.graph.edges (state_for any_meaning k) f.set f.number rows i) (sym sum) (may_get k f rows (k.ids.next + drawn) table stands (omega arith))

@@ -72,9 +72,9 @@ module _ (n m : ℕ) (less : n ≤ m) where
       is_none None e = refl
 
   module _ (set : List Heading) where
-    adding_too : (column : List ℕ) (value : Tree) (table : List ℕ) → GivesToo (adding_column set n column value table) (adding_column set m column value table)
+    adding_too : (column : List ℕ) (value : Tree) (table : List ℕ) (tracked : Bool) → GivesToo (adding_column set n column value table tracked) (adding_column set m column value table tracked)
     unfolding adding_column
-    adding_too column value table =
+    adding_too column value table tracked =
         then_too (known_table table (heading_named set table)) _ _ (λ source.
         then_too (known_columns (resolved source.columns value)) _ _ (λ e.
         then_too (new_columns source.columns (column ∷ [])) _ _ (λ u.
@@ -139,7 +139,7 @@ module _ (n m : ℕ) (less : n ≤ m) where
     planned_too («text».DropTable table) = λ x h. h
     planned_too («text».RenameTable table new) = λ x h. h
     planned_too («text».RenameColumn column table new) = λ x h. h
-    planned_too («text».AddColumn column value table) = adding_too column value table
+    planned_too («text».AddColumn column value table tracked) = adding_too column value table tracked
     planned_too («text».DropColumn column table value) = dropping_too column table value
     planned_too («text».DecomposeSingle table target columns) = λ x h. h
     planned_too («text».Decompose table first first_columns second second_columns «text».Primary) = λ x h. h

@@ -48,9 +48,9 @@ module _ (set : List Heading) (next : ℕ) where
       let c = both_give (new_columns (remove a.0.columns b.0) (new ∷ [])) _ e b.2 in
       ap many (sym (ok_is _ e c.2))
 
-  adding : (column : List ℕ) (value : Tree) (table : List ℕ) (e : Edge Built) → adding_column set next column value table ≡ Ok e → many e ≡ 1
+  adding : (column : List ℕ) (value : Tree) (table : List ℕ) (tracked : Bool) (e : Edge Built) → adding_column set next column value table tracked ≡ Ok e → many e ≡ 1
   unfolding adding_column
-  adding column value table e h =
+  adding column value table tracked e h =
       let a = both_give (known_table table (heading_named set table)) _ e h in
       let b = both_give (known_columns (resolved a.0.columns value)) _ e a.2 in
       let c = both_give (new_columns a.0.columns (column ∷ [])) _ e b.2 in
@@ -158,7 +158,7 @@ module _ (set : List Heading) (next : ℕ) where
   planned_many («text».DropTable table) e h = dropping table e h
   planned_many («text».RenameTable table new) e h = renaming table new e h
   planned_many («text».RenameColumn column table new) e h = column_renamed column table new e h
-  planned_many («text».AddColumn column value table) e h = adding column value table e h
+  planned_many («text».AddColumn column value table tracked) e h = adding column value table tracked e h
   planned_many («text».DropColumn column table value) e h = column_dropped column table value e h
   planned_many («text».DecomposeSingle table target columns) e h = decomposing table (record { name = target; columns = columns }) e h
   planned_many («text».Decompose table first first_columns second second_columns «text».Primary) e h =

@@ -17,7 +17,7 @@ mod resolution;
 mod steps;
 mod tree;
 
-pub use evaluation::{eval, holds};
+pub use evaluation::{eval, eval_both, holds, holds_both};
 pub use laws::{resolve_keeps, resolve_means, resolve_refuses};
 pub use resolution::{first_unknown, resolve};
 pub use steps::Steps;

@@ -84,10 +84,6 @@ pub numbered_below : (n id : ℕ) (xs : List (List Value)) → n + length xs ≤
 numbered_below n id [] h = tt
 numbered_below n id (x ∷ xs) h = (omega (arith, h), numbered_below (n + 1) id xs (omega (arith, h)))
 
--- what is refused first
-pub spent_at : (next limit i : ℕ) → next + i ≤ max next (limit + 1) → limit < next + i → next + i ≡ max next (limit + 1)
-spent_at next limit i within over = omega (arith, within, over)
-
 -- a value more is within what may be refused
 pub more_within : (next limit i : ℕ) → next + i ≤ limit → next + (i + 1) ≤ max next (limit + 1)
 more_within next limit i within = omega (arith, within)

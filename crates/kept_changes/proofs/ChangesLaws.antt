@@ -1,19 +1,16 @@
 -- What is under a number, and what no changes do.
-use Rattle.std.specs.Option.{option_map_or}
-use Rattle.std.proofs.Common.{◌≡◌, ℕ, ◌==◌, List, [], ◌∷◌, Bool, Option, Some, None, inl, inr, refl, sym, ap, ◌∙◌, subst}
+use Rattle.std.proofs.Common.{◌≡◌, ℕ, ◌==◌, List, [], ◌∷◌, Bool, Some, None, inl, inr, refl, sym, ap, ◌∙◌, subst}
 use Rattle.std.proofs.lemmas.Bool.{eq-eqb, ne_eqb, eqb-true}
-use Rattle.row_store.specs.declared.change.Change.{Change}
 use Rattle.version_graph.specs.Sets.{Distinct, In}
 use Rattle.version_graph.proofs.SetLaws.{in_map}
 use Rattle.op_law.specs.Tables.{Tables}
-use Rattle.row_changes.specs.declared.change.SideChanges.{SideChanges}
 use Rattle.row_changes.specs.Changed.{changed_tables}
 use Rattle.op_law.proofs.OnlyLaws.{by_test}
 use Rattle.version_model.specs.Kept.{value_of}
 use Rattle.version_model.specs.declared.numbered.Numbered.{Numbered}
 use Rattle.version_model.proofs.NumberedLaws.{looked, value_of_first}
 use Rattle.db_state.specs.Fields.{numbers_in}
-use Rattle.kept_changes.specs.Changes.{changes_at, sides_at}
+use Rattle.kept_changes.specs.Changes.{changes_at}
 
 -- no changes leave the tables
 pub no_changes : (ts : Tables) → changed_tables ts [] ≡ ts
@@ -22,9 +19,6 @@ no_changes (t ∷ ts) = refl
 
 pub changes_none : (n : ℕ) → changes_at [] n ≡ []
 changes_none n = refl
-
-pub sides_none : (n : ℕ) → sides_at [] n ≡ []
-sides_none n = refl
 
 module _ {T : Type 0} where
   -- the first item, and those behind it
@@ -55,17 +49,3 @@ module _ {T : Type 0} where
       by_test (n == x.number)
       (λ e. let some = value_first x xs n (eqb-true n x.number e) in (let no : ⊥ = cc in no))
       (λ e. value_missing xs n i (sym (value_of_first x xs n ∙ ap (λ (b : Bool). looked b x (value_of xs n)) e) ∙ none))
-
--- the changes of an item, under its number
-pub changes_listed : (items : List (Numbered (List Change))) (x : Numbered (List Change)) → Distinct (numbers_in items) → In x items → changes_at items x.number ≡ x.value
-changes_listed items x distinct i = ap (λ (o : Option (List Change)). option_map_or (λ (changes : List Change). changes) o []) (value_listed items x distinct i)
-
-pub sides_listed : (items : List (Numbered SideChanges)) (x : Numbered SideChanges) → Distinct (numbers_in items) → In x items → sides_at items x.number ≡ x.value.tables
-sides_listed items x distinct i = ap (λ (o : Option SideChanges). option_map_or (λ (side : SideChanges). side.tables) o []) (value_listed items x distinct i)
-
--- there are none under another number
-pub changes_unlisted : (items : List (Numbered (List Change))) (n : ℕ) → (In n (numbers_in items) → ⊥) → changes_at items n ≡ []
-changes_unlisted items n out = ap (λ (o : Option (List Change)). option_map_or (λ (changes : List Change). changes) o []) (value_unlisted items n out)
-
-pub sides_unlisted : (items : List (Numbered SideChanges)) (n : ℕ) → (In n (numbers_in items) → ⊥) → sides_at items n ≡ []
-sides_unlisted items n out = ap (λ (o : Option SideChanges). option_map_or (λ (side : SideChanges). side.tables) o []) (value_unlisted items n out)

@@ -27,7 +27,7 @@ fn key_at(alloc: Global, row: &[Value], columns: &[usize]) -> Result<Row, Memory
     for column in columns {
         key.push(value_at(row, *column).copy(alloc)?)?;
     }
-    Ok(key)
+    Row::from_list(alloc, key)
 }
 
 /// Adds the key of a greater identifier.

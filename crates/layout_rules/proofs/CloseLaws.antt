@@ -4,7 +4,7 @@ use Rattle.std.specs.List.{find, list_all, list_any}
 use Rattle.std.specs.Option.{IsSome}
 use Rattle.std.proofs.Common.{◌≡◌, ℕ, ◌+◌, List, [], ◌∷◌, ◌++◌, Bool, true, false, not, cond, filter, length, take, drop, get_or, inl, inr, refl, sym, ap, ◌∙◌, subst, arith}
 use Rattle.std.proofs.lemmas.Bool.{and_from, and_parts, eq-eqb, false≢true, ne_eqb}
-use Rattle.std.proofs.lemmas.List.{append_assoc, append-nil, drop_more, reverse-reverse, take-append-drop, take_all, take_more}
+use Rattle.std.proofs.lemmas.List.{append_assoc, append-nil, drop_more, reverse-reverse, take-append-drop, take_more}
 use mathlib.Core.List.{reverse}
 use Rattle.par_base.specs.declared.fault.Fault.{Fault}
 use Rattle.par_base.specs.declared.fault.Fault.TheVariants.{Refused, Memory}
@@ -108,9 +108,6 @@ module _ {O : Type 0} (test : ℕ → Bool) (xs : List (Placed O)) (i : ℕ) (no
 
   pub along_none : (o : Option ℕ) → o ≡ find test (tables_along (option_to_list (slice_get xs i))) → is_some o ≡ false → find test (tables_along (take (i + 1) xs)) ≡ None
   along_none o is h = along_next ∙ sym is ∙ is_nothing o h
-
-pub along_all : {O : Type 0} (test : ℕ → Bool) (xs : List (Placed O)) (i : ℕ) → length xs ≤ i → find test (tables_along (take i xs)) ≡ None → None ≡ find test (tables_along xs)
-along_all {O} test xs i past none = sym none ∙ ap (λ (l : List (Placed O)). find test (tables_along l)) (take_all i xs past)
 
 -- the first of ascending numbers is the least
 first_least : (test : ℕ → Bool) (n : ℕ) (xs : List ℕ) → Rises n xs → (t : ℕ) → find test xs ≡ Some t → (u : ℕ) → In u xs → test u ≡ true → t ≤ u

@@ -43,9 +43,9 @@ module _ (set : List Heading) (next : ℕ) where
       then_decides (known_column column (place_of h.columns column)) _ (column_decides column _) (λ place.
       then_decides (new_columns (remove h.columns place) (new ∷ [])) _ (once_decides _) (λ u. tt)))
 
-  adding_decides : (column : List ℕ) (value : Tree) (table : List ℕ) → Decides (adding_column set next column value table)
+  adding_decides : (column : List ℕ) (value : Tree) (table : List ℕ) (tracked : Bool) → Decides (adding_column set next column value table tracked)
   unfolding adding_column
-  adding_decides column value table =
+  adding_decides column value table tracked =
       then_decides (known_table table (heading_named set table)) _ (table_decides table _) (λ h.
       then_decides (known_columns (resolved h.columns value)) _ (expression_decides _) (λ e.
       then_decides (new_columns h.columns (column ∷ [])) _ (once_decides _) (λ u.
@@ -100,7 +100,7 @@ module _ (set : List Heading) (next : ℕ) where
   planned_decides («text».DropTable table) is = dropping_decides table
   planned_decides («text».RenameTable table new) is = renaming_table_decides table new
   planned_decides («text».RenameColumn column table new) is = renaming_column_decides column table new
-  planned_decides («text».AddColumn column value table) is = adding_decides column value table
+  planned_decides («text».AddColumn column value table tracked) is = adding_decides column value table tracked
   planned_decides («text».DropColumn column table value) is = dropping_column_decides column table value
   planned_decides («text».DecomposeSingle table target columns) is = decomposing_decides set table (record { name = target; columns = columns })
   planned_decides («text».Decompose table first first_columns second second_columns key) is =
@@ -126,7 +126,7 @@ other_form set next («text».CreateTable table columns) is = absurd (false≢tr
 other_form set next («text».DropTable table) is = absurd (false≢true (sym is))
 other_form set next («text».RenameTable table new) is = absurd (false≢true (sym is))
 other_form set next («text».RenameColumn column table new) is = absurd (false≢true (sym is))
-other_form set next («text».AddColumn column value table) is = absurd (false≢true (sym is))
+other_form set next («text».AddColumn column value table tracked) is = absurd (false≢true (sym is))
 other_form set next («text».DropColumn column table value) is = absurd (false≢true (sym is))
 other_form set next («text».DecomposeSingle table target columns) is = absurd (false≢true (sym is))
 other_form set next («text».Decompose table first first_columns second second_columns key) is = absurd (false≢true (sym is))

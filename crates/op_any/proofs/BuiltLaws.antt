@@ -1,9 +1,10 @@
 -- What each operator builds suits the working set, case by case.
-use Rattle.std.proofs.Common.{◌≡◌, ℕ, suc, ◌≤◌, List, [], ◌∷◌, ◌++◌, length, map, get_or, true, false, Ok, IfOk, inl, inr, refl, sym, ◌∙◌, ap, subst, arith}
+use Rattle.std.proofs.Common.{◌≡◌, ℕ, suc, Bool, ◌≤◌, List, [], ◌∷◌, ◌++◌, length, map, get_or, true, false, Ok, IfOk, inl, inr, refl, sym, ◌∙◌, ap, subst, arith}
 use Rattle.std.specs.Prelude.{◌↔◌}
 use Rattle.std.specs.List.{insert, remove}
 use Rattle.std.proofs.lemmas.Bool.{false≢true}
 use Rattle.std.proofs.lemmas.List.Edits.{insert_end, length-insert, length-remove}
+use Rattle.expr_lang.specs.Terms.{Term}
 use Rattle.expr_lang.specs.Resolved.{place_of, resolved}
 use Rattle.statements.specs.Views.{Tree, OpView}
 use Rattle.statements.specs.Views as «text»
@@ -11,10 +12,13 @@ use Rattle.version_graph.specs.Sets.{In, Each}
 use Rattle.version_graph.specs.Tables.{IsHeading, FitsSet, row_name, heading_names, headings_passing}
 use Rattle.version_graph.specs.declared.parts.Heading.{Heading}
 use Rattle.version_graph.specs.declared.parts.Edge.{Edge}
-use Rattle.op_kinds.specs.Operators.{Built, AnyView, any_meaning}
+use Rattle.op_kinds.specs.Operators.{Built, AnyView, any_meaning, meaning_of}
 use Rattle.op_kinds.specs.Operators as «any»
+use Rattle.op_law.specs.Tables.{Heading as SeenHeading}
+use Rattle.op_law.specs.SoundTerms.{TermSound}
+use Rattle.op_column.specs.AddColumn.{AddColumnFits}
 use Rattle.op_any.specs.NameChecks.{heading_named, is_passing, known_table, new_table, known_column, known_columns, new_columns, few_columns, known_ids}
-use Rattle.op_any.specs.Build.{creating_table, dropping_table, renaming_table, renaming_column, adding_column, dropping_column, planned_edge, with_text, built}
+use Rattle.op_any.specs.Build.{creating_table, dropping_table, renaming_table, renaming_column, column_adder, adding_column, dropping_column, planned_edge, with_text, built}
 use Rattle.op_any.specs.BuildJoins.{decomposing_table, joining_tables}
 use Rattle.op_any.specs.Texts.{TextsFit}
 use Rattle.op_any.specs.Laws.{as_seen, headings_taken, is_create_table, is_local_form}
@@ -24,6 +28,19 @@ use Rattle.op_any.proofs.Suits.{Suits, if_then, at_ok, table_is, is_new, column_
 use Rattle.op_any.proofs.SplitMergeLaws.{splitting_suits, merging_suits}
 use Rattle.op_any.proofs.DecomposeLaws.{decomposing_suits, decomposing_on_pk_suits, decomposing_on_fk_suits, decomposing_on_suits}
 use Rattle.op_any.proofs.JoinLaws.{joining_on_pk_suits, joining_on_fk_suits, joining_on_suits}
+
+-- an added column, tracked or not, is built for a table and the same with the column behind all others
+adder_fits : (tracked : Bool) (e : Term ℕ) (source target : SeenHeading) → AddColumnFits (length source.columns) e (source ∷ []) (target ∷ []) → (meaning_of (column_adder tracked (length source.columns) e)).Fits (source ∷ []) (target ∷ [])
+adder_fits true e source target fits = fits
+adder_fits false e source target fits = fits
+
+adder_closed : (tracked : Bool) (count n : ℕ) (e : Term ℕ) → TermSound n e → (meaning_of (column_adder tracked count e)).Closed n
+adder_closed true count n e closed = closed
+adder_closed false count n e closed = closed
+
+adder_local : (tracked : Bool) (count : ℕ) (e : Term ℕ) → (meaning_of (column_adder tracked count e)).is_local ≡ true
+adder_local true count e = refl
+adder_local false count e = refl
 
 module _ (set : List Heading) (next : ℕ) where
   creating_suits : (table : List ℕ) (columns : List (List ℕ)) → IfOk (creating_table set table columns) (Suits set next («text».CreateTable table columns))
@@ -108,9 +125,9 @@ module _ (set : List Heading) (next : ℕ) where
         local = refl;
       })))
 
-  adding_suits : (column : List ℕ) (value : Tree) (table : List ℕ) → IfOk (adding_column set next column value table) (Suits set next («text».AddColumn column value table))
+  adding_suits : (column : List ℕ) (value : Tree) (table : List ℕ) (tracked : Bool) → IfOk (adding_column set next column value table tracked) (Suits set next («text».AddColumn column value table tracked))
   unfolding adding_column
-  adding_suits column value table =
+  adding_suits column value table tracked =
       if_then _ (known_table table (heading_named set table)) _ (λ h known.
       if_then _ (known_columns (resolved h.columns value)) _ (λ e reads.
       if_then _ (new_columns h.columns (column ∷ [])) _ (λ u once.
@@ -121,9 +138,9 @@ module _ (set : List Heading) (next : ℕ) where
       record {
         set_fits = λ tables.
             let is = heading_at set table h tables found in
-            one_fits set («any».AddColumn (length h.columns) e) table (record { name = table; columns = h.columns ++ column ∷ [] }) (stands_named set table h (found_stands set table h found)) (source_gone table set)
+            one_fits set (column_adder tracked (length h.columns) e) table (record { name = table; columns = h.columns ++ column ∷ [] }) (stands_named set table h (found_stands set table h found)) (source_gone table set)
             (record { once = new_once h.columns (column ∷ []) u once is.once; few = are_few table (h.columns ++ column ∷ []) v few });
-        fits = λ tables. rw (one_taken set table h found) (record {
+        fits = λ tables. rw (one_taken set table h found) (adder_fits tracked e (as_seen h) (record { name = table; columns = h.columns ++ column ∷ [] }) (record {
           source = as_seen h;
           target = record { name = table; columns = h.columns ++ column ∷ [] };
           column = column;
@@ -132,11 +149,11 @@ module _ (set : List Heading) (next : ℕ) where
           columns = sym (insert_end h.columns column);
           within = omega arith;
           reads = reads_columns e h.columns value read;
-        });
-        closed = λ fits. is_closed next e h.columns value read (ids_known next _ w ids) fits.0;
+        }));
+        closed = λ fits. adder_closed tracked (length h.columns) next e (is_closed next e h.columns value read (ids_known next _ w ids) fits.0);
         few = (omega arith, omega arith);
         sources = (λ e. absurd (cc), λ e. absurd (false≢true e));
-        local = refl;
+        local = adder_local tracked (length h.columns) e;
       })))))
 
   dropping_column_suits : (column table : List ℕ) (value : Tree) → IfOk (dropping_column set next column table value) (Suits set next («text».DropColumn column table value))
@@ -176,7 +193,7 @@ module _ (set : List Heading) (next : ℕ) where
   planned_suits («text».DropTable table) = dropping_suits table
   planned_suits («text».RenameTable table new) = renaming_table_suits table new
   planned_suits («text».RenameColumn column table new) = renaming_column_suits column table new
-  planned_suits («text».AddColumn column value table) = adding_suits column value table
+  planned_suits («text».AddColumn column value table tracked) = adding_suits column value table tracked
   planned_suits («text».DropColumn column table value) = dropping_column_suits column table value
   planned_suits («text».DecomposeSingle table target columns) = decomposing_suits set next table (record { name = target; columns = columns })
   planned_suits («text».Decompose table first first_columns second second_columns «text».Primary) =

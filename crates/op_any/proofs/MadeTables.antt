@@ -45,9 +45,9 @@ module _ (set : List Heading) (next : ℕ) where
       if_then _ (new_columns (remove h.columns place) (new ∷ [])) _ (λ u once.
       rw (table_is table _ h known) (rw (column_is column _ place there) (refl, refl)))))
 
-  adding : (column : List ℕ) (value : Tree) (table : List ℕ) → IfOk (adding_column set next column value table) (HasTables set («text».AddColumn column value table))
+  adding : (column : List ℕ) (value : Tree) (table : List ℕ) (tracked : Bool) → IfOk (adding_column set next column value table tracked) (HasTables set («text».AddColumn column value table tracked))
   unfolding adding_column
-  adding column value table =
+  adding column value table tracked =
       if_then _ (known_table table (heading_named set table)) _ (λ h known.
       if_then _ (known_columns (resolved h.columns value)) _ (λ e read.
       if_then _ (new_columns h.columns (column ∷ [])) _ (λ u once.
@@ -149,7 +149,7 @@ module _ (set : List Heading) (next : ℕ) where
   planned («text».DropTable table) = dropping table
   planned («text».RenameTable table new) = renaming table new
   planned («text».RenameColumn column table new) = renaming_one column table new
-  planned («text».AddColumn column value table) = adding column value table
+  planned («text».AddColumn column value table tracked) = adding column value table tracked
   planned («text».DropColumn column table value) = dropping_one column table value
   planned («text».DecomposeSingle table target columns) = decomposing_single table target columns
   planned («text».Decompose table first first_columns second second_columns key) = decomposing table first first_columns second second_columns key

@@ -1,5 +1,5 @@
 -- The first check that an operator fails refuses it, form by form.
-use Rattle.std.proofs.Common.{◌≡◌, ℕ, List, [], ◌∷◌, ◌++◌, true, Option, Some, None, Ok, Err, refl, sym, ◌∙◌, ap, subst}
+use Rattle.std.proofs.Common.{◌≡◌, ℕ, List, [], ◌∷◌, ◌++◌, Bool, true, Option, Some, None, Ok, Err, refl, sym, ◌∙◌, ap, subst}
 use Rattle.std.specs.Prelude.{◌||◌}
 use Rattle.std.specs.List.{remove}
 use Rattle.std.specs.Option.{option_map, option_or}
@@ -56,9 +56,9 @@ module _ (set : List Heading) (next : ℕ) where
       rw (column_is column _ place there) (
       then_or (new_columns (remove h.columns place) (new ∷ [])) _ _ _ (once_stop _) (λ u once. refl))))))
 
-  adding : (column : List ℕ) (value : Tree) (table : List ℕ) → refusal_in (adding_column set next column value table) ≡ first_of (checks set next («text».AddColumn column value table))
+  adding : (column : List ℕ) (value : Tree) (table : List ℕ) (tracked : Bool) → refusal_in (adding_column set next column value table tracked) ≡ first_of (checks set next («text».AddColumn column value table tracked))
   unfolding adding_column repeated
-  adding column value table =
+  adding column value table tracked =
       then_or (known_table table (heading_named set table)) _ _ _ (table_stop set table) (λ h known.
       rw (table_is table _ h known) (
       skip _ _ _ (own_name set table) (
@@ -128,7 +128,7 @@ module _ (set : List Heading) (next : ℕ) where
   planned («text».DropTable table) is = dropping table
   planned («text».RenameTable table new) is = renaming table new
   planned («text».RenameColumn column table new) is = renaming_one column table new
-  planned («text».AddColumn column value table) is = adding column value table
+  planned («text».AddColumn column value table tracked) is = adding column value table tracked
   planned («text».DropColumn column table value) is = dropping_one column table value
   planned («text».DecomposeSingle table target columns) is = decomposing_single set next table target columns
   planned («text».Decompose table first first_columns second second_columns key) is = decomposing set next table first first_columns second second_columns key

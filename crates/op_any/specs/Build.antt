@@ -1,13 +1,14 @@
 -- What an operator's text builds on a working set, or the first of its checks that fails.
-use Rattle.std.specs.Prelude.{ℕ, Bool, true, not, List, [], ◌∷◌, ◌++◌, length, ◌||◌, Option, Some, None, Ok}
+use Rattle.std.specs.Prelude.{ℕ, Bool, true, false, not, List, [], ◌∷◌, ◌++◌, length, ◌||◌, Option, Some, None, Ok}
 use Rattle.std.specs.List.{insert, remove}
 use Rattle.std.specs.Str.{bytes_eq}
 use Rattle.expr_lang.specs.Resolved.{place_of, resolved}
+use Rattle.expr_lang.specs.Terms.{Term}
 use Rattle.statements.specs.Views.{Tree, KeyView, Primary, Foreign, Condition, BranchView, OpView}
 use Rattle.statements.specs.Views as «text»
 use Rattle.version_graph.specs.declared.parts.Heading.{Heading}
 use Rattle.version_graph.specs.declared.parts.Edge.{Edge}
-use Rattle.op_kinds.specs.Operators.{Built, CreateTable, DropTable, Rename, AddColumn, DropColumn, Split, Merge, AnyView}
+use Rattle.op_kinds.specs.Operators.{Built, CreateTable, DropTable, Rename, AddColumn, AddTracked, DropColumn, Split, Merge, AnyView}
 use Rattle.par_base.specs.Checked.{Checked, ◌then◌}
 use Rattle.op_any.specs.Edges.{one_to_one, one_to_two, two_to_one}
 use Rattle.op_any.specs.NameChecks.{heading_named, is_passing, known_table, other_table, new_table, known_column, known_columns, new_columns, same_columns, few_columns, known_ids}
@@ -44,15 +45,20 @@ renaming_column set column table new =
     new_columns (remove source.columns place) (new ∷ []) then λ _.
     Ok (one_to_one Rename table table (insert (remove source.columns place) place new))
 
--- ADD COLUMN a AS e INTO t: a is the last column
-unfoldable pub adding_column : List Heading → ℕ → List ℕ → Tree → List ℕ → Checked (Edge Built)
-adding_column set next column value table =
+-- what adds a column behind so many others, tracked or not
+abbrev pub column_adder : Bool → ℕ → Term ℕ → Built
+column_adder true count e = AddTracked e
+column_adder false count e = AddColumn count e
+
+-- ADD COLUMN a AS e INTO t, TRACKED or not: a is the last column
+unfoldable pub adding_column : List Heading → ℕ → List ℕ → Tree → List ℕ → Bool → Checked (Edge Built)
+adding_column set next column value table tracked =
     known_table table (heading_named set table) then λ source.
     known_columns (resolved source.columns value) then λ e.
     new_columns source.columns (column ∷ []) then λ _.
     few_columns table (source.columns ++ column ∷ []) then λ _.
     known_ids next value then λ _.
-    Ok (one_to_one (AddColumn (length source.columns) e) table table (source.columns ++ column ∷ []))
+    Ok (one_to_one (column_adder tracked (length source.columns) e) table table (source.columns ++ column ∷ []))
 
 -- DROP COLUMN c FROM t DEFAULT e: e is over the other columns
 unfoldable pub dropping_column : List Heading → ℕ → List ℕ → List ℕ → Tree → Checked (Edge Built)
@@ -125,7 +131,7 @@ planned_edge set next («text».CreateTable table columns) = creating_table set 
 planned_edge set next («text».DropTable table) = dropping_table set table
 planned_edge set next («text».RenameTable table new) = renaming_table set table new
 planned_edge set next («text».RenameColumn column table new) = renaming_column set column table new
-planned_edge set next («text».AddColumn column value table) = adding_column set next column value table
+planned_edge set next («text».AddColumn column value table tracked) = adding_column set next column value table tracked
 planned_edge set next («text».DropColumn column table value) = dropping_column set next column table value
 planned_edge set next («text».Split table first second) = splitting_table set next table first second
 planned_edge set next («text».Merge first second target) = merging_tables set next first second target

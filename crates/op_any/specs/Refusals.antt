@@ -27,7 +27,7 @@ sources_in (CreateTable table columns) = []
 sources_in (DropTable table) = table ∷ []
 sources_in (RenameTable table new) = table ∷ []
 sources_in (RenameColumn column table new) = table ∷ []
-sources_in (AddColumn column value table) = table ∷ []
+sources_in (AddColumn column value table tracked) = table ∷ []
 sources_in (DropColumn column table value) = table ∷ []
 sources_in (DecomposeSingle table target columns) = table ∷ []
 sources_in (Decompose table first first_columns second second_columns key) = table ∷ []
@@ -66,7 +66,7 @@ targets_in set (CreateTable table columns) = heading table columns ∷ []
 targets_in set (DropTable table) = []
 targets_in set (RenameTable table new) = heading new (columns_named set table) ∷ []
 targets_in set (RenameColumn column table new) = heading table (renamed (columns_named set table) column new) ∷ []
-targets_in set (AddColumn column value table) = heading table (columns_named set table ++ column ∷ []) ∷ []
+targets_in set (AddColumn column value table tracked) = heading table (columns_named set table ++ column ∷ []) ∷ []
 targets_in set (DropColumn column table value) = heading table (without (columns_named set table) column) ∷ []
 targets_in set (DecomposeSingle table target columns) = heading target columns ∷ []
 targets_in set (Decompose table first first_columns second second_columns key) =
@@ -107,7 +107,7 @@ columns_in_key _ = []
 -- is over both tables'
 abbrev pub unknown_column : List Heading → OpView → Option (List ℕ)
 unknown_column set (RenameColumn column table new) = left_out (column ∷ []) (columns_named set table)
-unknown_column set (AddColumn column value table) = left_out (columns_in value) (columns_named set table)
+unknown_column set (AddColumn column value table tracked) = left_out (columns_in value) (columns_named set table)
 unknown_column set (DropColumn column table value) =
     option_or (left_out (column ∷ []) (columns_named set table)) (left_out (columns_in value) (without (columns_named set table) column))
 unknown_column set (DecomposeSingle table target columns) = left_out columns (columns_named set table)
@@ -139,7 +139,7 @@ differing set _ = None
 abbrev pub existing_column : List Heading → OpView → Option (List ℕ)
 existing_column set (CreateTable table columns) = repeated (row_name ∷ []) columns
 existing_column set (RenameColumn column table new) = repeated (row_name ∷ without (columns_named set table) column) (new ∷ [])
-existing_column set (AddColumn column value table) = repeated (row_name ∷ columns_named set table) (column ∷ [])
+existing_column set (AddColumn column value table tracked) = repeated (row_name ∷ columns_named set table) (column ∷ [])
 existing_column set (Decompose table first first_columns second second_columns (Foreign key)) = repeated (row_name ∷ first_columns) (key ∷ [])
 existing_column set (Join outer first second target key) =
     repeated (row_name ∷ without_key (columns_named set first) key) (columns_named set second)
@@ -152,7 +152,7 @@ too_wide table columns = if nat_lt column_limit (length columns) then Some table
 -- the target that would have more columns than a table may have; targets of the other forms have no more than a source
 abbrev pub wide_table : List Heading → OpView → Option (List ℕ)
 wide_table set (CreateTable table columns) = too_wide table columns
-wide_table set (AddColumn column value table) = too_wide table (columns_named set table ++ column ∷ [])
+wide_table set (AddColumn column value table tracked) = too_wide table (columns_named set table ++ column ∷ [])
 wide_table set (Decompose table first first_columns second second_columns (Foreign key)) = too_wide first (first_columns ++ key ∷ [])
 wide_table set (Join outer first second target key) = too_wide target (without_key (columns_named set first) key ++ columns_named set second)
 wide_table set _ = None
@@ -164,7 +164,7 @@ expressions_in_key _ = []
 
 -- its expressions, in order of the text
 abbrev pub expressions_in : OpView → List Tree
-expressions_in (AddColumn column value table) = value ∷ []
+expressions_in (AddColumn column value table tracked) = value ∷ []
 expressions_in (DropColumn column table value) = value ∷ []
 expressions_in (Decompose table first first_columns second second_columns key) = expressions_in_key key
 expressions_in (Join outer first second target key) = expressions_in_key key

@@ -1,9 +1,10 @@
 //! What one operator makes of a working set, or why it is refused.
 ghost use Rattle.std.specs.Prelude.{◌≡◌, ◌∷◌, ◌++◌, [], IfOk};
-ghost use Rattle.expr_lang.specs.Terms.{text_term};
+ghost use Rattle.expr_lang.specs.Terms.{expr_term, text_term};
 ghost use Rattle.statements.specs.Views.{op_view};
 ghost use Rattle.par_base.specs.Checked.{Gives};
-ghost use Rattle.op_any.specs.Build.{creating_table, dropping_table, renaming_table, renaming_column, adding_column, dropping_column, planned_edge};
+ghost use Rattle.op_kinds.specs.Views.{built_view};
+ghost use Rattle.op_any.specs.Build.{creating_table, dropping_table, renaming_table, renaming_column, adding_column, column_adder as column_added, dropping_column, planned_edge};
 ghost use Rattle.op_any.specs.Edges.{edge_view};
 
 use crate::checks::{
@@ -14,8 +15,8 @@ use crate::edges::{edge_of, from_one_to_one, heading_of, one_heading, one_name};
 use crate::plan_decompose::{decompose, decompose_in_one};
 use crate::plan_joins::{JoinNames, join};
 use crate::plan_two::{merge, split};
-use expr_lang::ExprText;
-use op_column::{AddColumn, CreateTable, DropTable, Rename};
+use expr_lang::{Expr, ExprText};
+use op_column::{AddColumn, AddTracked, CreateTable, DropTable, Rename};
 use op_kinds::BuiltOp;
 use op_rows::{FlipRow, Rowwise};
 use par_base::{Fault, List, Memory, Name, Refusal, copy_names};
@@ -104,6 +105,23 @@ fn rename_column(
     Ok(edge_of(BuiltOp::Rename(Rowwise { inner: Rename }), tables))
 }
 
+/// What adds a column behind so many others.
+fn column_adder(tracked: bool, count: usize, value: Expr) -> BuiltOp
+    ensures { built_view result ≡ column_added tracked count (expr_term value) }
+{
+    if tracked {
+        return BuiltOp::AddTracked(Rowwise {
+            inner: AddTracked { value },
+        });
+    }
+    BuiltOp::AddColumn(Rowwise {
+        inner: AddColumn {
+            place: count,
+            value,
+        },
+    })
+}
+
 #[tactic(auto, unfolding(crate::specs::Build::adding_column))]
 fn add_column(
     alloc: Global,
@@ -112,9 +130,10 @@ fn add_column(
     column: &Name,
     value: &ExprText,
     table: &Name,
+    tracked: bool,
 ) -> Result<Edge<BuiltOp>, Fault<Refusal>>
     ensures { Gives edge_view result (adding_column set.now next column.now
-        (text_term value.now) table.now) }
+        (text_term value.now) table.now tracked) }
 {
     let source = find_table(alloc, set, table)?;
     let known = source.columns.as_slice();
@@ -124,11 +143,7 @@ fn add_column(
     check_few_columns(alloc, table, columns.as_slice())?;
     check_ids(value, next)?;
     let tables = from_one_to_one(alloc, table, table, columns)?;
-    let inner = AddColumn {
-        place: known.len(),
-        value: expr,
-    };
-    Ok(edge_of(BuiltOp::AddColumn(Rowwise { inner }), tables))
+    Ok(edge_of(column_adder(tracked, known.len(), expr), tables))
 }
 
 #[tactic(auto, unfolding(crate::specs::Build::dropping_column))]
@@ -183,7 +198,8 @@ pub(crate) fn plan(
             column,
             value,
             table,
-        } => add_column(alloc, set, next, column, value, table),
+            tracked,
+        } => add_column(alloc, set, next, column, value, table, *tracked),
         OpText::DropColumn {
             column,
             table,

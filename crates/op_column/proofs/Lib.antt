@@ -3,3 +3,5 @@ mod RenameLemmas
 mod TableLemmas
 mod AddColumnLemmas
 mod ColumnKeptLemmas
+mod AddTrackedLemmas
+mod TrackedFollowsLemmas

@@ -4,4 +4,6 @@ pub mod CreateTable
 pub mod DropTable
 pub mod AddColumn
 pub mod ColumnKept
+pub mod AddTracked
+pub mod TrackedFollows
 pub mod inner

@@ -16,7 +16,7 @@ use std::alloc::Global;
 use std::sync::ledger::Ledger;
 
 /// What the column gets at a row: the old target's value, or else the expression's.
-fn new_value<L: Ledger>(
+pub(crate) fn new_value<L: Ledger>(
     alloc: Global,
     place: usize,
     value: &Expr,
@@ -31,7 +31,7 @@ fn new_value<L: Ledger>(
 {
     match old {
         Some(old) => value_at(alloc, old, place),
-        None => eval(alloc, value, row, steps),
+        None => eval(alloc, value, row.as_slice(), steps),
     }
 }
 

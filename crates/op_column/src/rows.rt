@@ -23,5 +23,5 @@ pub(crate) fn one_value(alloc: Global, value: Value) -> Result<Row, Memory>
 {
     let mut row = List::with_room(alloc, 1)?;
     row.push(value)?;
-    Ok(row)
+    Row::from_list(alloc, row)
 }

@@ -10,12 +10,13 @@ use Rattle.op_law.specs.Meaning.{PairState, flip}
 use Rattle.op_law.specs.Premises.{IsPair, Belongs}
 use Rattle.op_law.specs.Calls.{Admits}
 use Rattle.pair_rows.specs.inner.Lookups.{wide_behind}
-use Rattle.op_cond_join.specs.Shown.{Joining, AreThere, IsJoined, joined}
-use Rattle.op_cond_join.specs.inner.ShownLaws.{joined_rise, joined_wide}
+use Rattle.pair_rows.specs.Shown.{Joining, AreThere, IsJoined, joined}
+use Rattle.pair_rows.specs.inner.ShownLaws.{joined_rise, joined_wide}
 use Rattle.pair_rows.specs.Kept.{alone, side_read}
-use Rattle.op_cond_join.specs.JoinOn.{JoinFits, join_on, table_at}
+use Rattle.pair_rows.specs.Sides.{JoinFits, table_at}
+use Rattle.op_cond_join.specs.JoinOn.{join_on}
 use Rattle.pair_rows.specs.Halves.{first_of, second_of}
-use Rattle.op_cond_join.specs.inner.TwoSides.{two_tables, two_of, one_of}
+use Rattle.pair_rows.specs.inner.TwoSides.{two_tables, two_of, one_of}
 use Rattle.op_cond_join.specs.inner.JoinOnLaws.{backward_recovered}
 use Rattle.op_cond_join.specs.inner.Admitted.{IsSource}
 
@@ -69,12 +70,6 @@ admits_target j near aux m s t far none first second rise one there far_is hs ht
       aux_is = none;
     }
 
--- none, where a row is missing
-pub refuses_target : (j : Joining) (near aux : Tables) (m : Pairs) (s t : Rows) → s ≡ table_at 0 near → t ≡ table_at 1 near → (aux ≡ [] → AreThere s t m → ⊥) → Admits (join_on j) near aux m None
-refuses_target j near aux m s t first second none hs ht far belongs =
-    let is : IsJoined j (table_at 0 near) (table_at 1 near) (table_at 0 far) m = belongs.pair.related in
-    none belongs.aux_is (subst (λ (rs : Rows). AreThere s rs m) (sym second) (subst (λ (rs : Rows). AreThere rs (table_at 1 near) m) (sym first) is.there))
-
 -- the source of a target
 pub admits_source : (j : Joining) (near aux : Tables) (m : Pairs) (r first second s t : Rows) (far : Tables) → r ≡ table_at 0 near → aux ≡ first ∷ second ∷ [] → far ≡ s ∷ t ∷ [] → PairsRise 0 m → IsOneToOne m → RiseFrom 0 s → RiseFrom 0 t
     → IsSource j r m first second s t → Admits (flip (join_on j)) near aux m (Some far)
@@ -116,10 +111,6 @@ refuses_source j near aux m r first second s t target kept first_is second_is no
     (subst (λ (rs : Rows). IsSource j rs m first second (table_at 0 far) (table_at 1 far)) (sym target)
     (subst (λ (rs : Rows). IsSource j (table_at 0 near) m rs second (table_at 0 far) (table_at 1 far)) (sym first_alone)
     (subst (λ (rs : Rows). IsSource j (table_at 0 near) m (alone first_of m (table_at 0 far)) rs (table_at 0 far) (table_at 1 far)) (sym second_alone) found)))))
-
--- with another number of auxiliary tables there is none
-pub refuses_number : (j : Joining) (near aux : Tables) (m : Pairs) → (length aux ≡ 2 → ⊥) → Admits (flip (join_on j)) near aux m None
-refuses_number j near aux m other hs ht far belongs = other (ap length belongs.aux_is)
 
 -- no auxiliary tables
 pub no_tables : (tables : List TableState) → length tables ≡ 0 → contents tables ≡ []

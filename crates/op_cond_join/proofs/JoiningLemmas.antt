@@ -5,9 +5,9 @@ use Rattle.row_store.specs.Rows.{Rows, AreBelow}
 use Rattle.id_memory.specs.Pairs.{Pairs, RiseFrom}
 use Rattle.op_rows.specs.Cells.{with_row}
 use Rattle.row_parts.specs.RowCells.{Cell}
-use Rattle.op_cond_join.specs.Shown.{Joining, row_at, joined}
+use Rattle.pair_rows.specs.Shown.{Joining, row_at, joined}
 use Rattle.pair_rows.specs.inner.Lookups.{with_append, with_below}
-use Rattle.op_cond_join.proofs.ShowingLemmas.{split_at}
+use Rattle.pair_rows.proofs.ShowingLemmas.{split_at}
 
 -- joined rows of two lists of entries
 joined_append : (j : Joining) (s t : Rows) (es fs : Pairs) → joined j s t (es ++ fs) ≡ joined j s t es ++ joined j s t fs

@@ -1,9 +1,4 @@
-mod WorkedRows
 mod RowLemmas
-mod ShowingLemmas
-mod ChangedLemmas
-mod TakenLemmas
-mod GrowingLemmas
 mod JoiningLemmas
 mod MappingLemmas
 mod AssigningLemmas

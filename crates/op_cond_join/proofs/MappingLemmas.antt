@@ -7,13 +7,15 @@ use Rattle.op_law.specs.Calls.{first_refused}
 use Rattle.op_law.specs.Tables.{Tables}
 use Rattle.op_law.specs.Meaning.{PairState, flip, exchanged}
 use Rattle.op_law.specs.Premises.{SomeMap}
-use Rattle.op_cond_join.specs.Shown.{Joining, IsJoined, shown_pairs}
+use Rattle.pair_rows.specs.Shown.{Joining, IsJoined, shown_pairs}
 use Rattle.pair_rows.specs.inner.Lookups.{below_sound}
-use Rattle.op_cond_join.specs.inner.TwoSides.{table_sound}
-use Rattle.op_cond_join.specs.Assigned.{Assigning, kept_in, beginning, assigned, ending}
+use Rattle.pair_rows.specs.inner.TwoSides.{table_sound}
+use Rattle.pair_rows.specs.Given.{kept_in}
+use Rattle.op_cond_join.specs.Assigned.{Assigning, beginning, assigned, ending}
 use Rattle.pair_rows.specs.Stays.{staying}
 use Rattle.op_cond_join.specs.inner.Assignings.{AreBelowNext}
-use Rattle.op_cond_join.specs.JoinOn.{join_on, join_backward, table_at}
+use Rattle.pair_rows.specs.Sides.{table_at}
+use Rattle.op_cond_join.specs.JoinOn.{join_on, join_backward}
 use Rattle.pair_rows.specs.Halves.{first_of, second_of}
 use Rattle.op_cond_join.specs.inner.JoinOnLaws.{forward_half, backward_half}
 

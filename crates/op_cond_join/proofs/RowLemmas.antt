@@ -3,8 +3,8 @@ use Rattle.std.proofs.Common.{◌≡◌, ℕ, ◌+◌, List, length, ap, ◌∙�
 use Rattle.par_base.specs.declared.value.Value.{Value}
 use Rattle.row_store.specs.Rows.{Rows, row_of}
 use Rattle.row_parts.specs.Places.{row_of_both as joined_row}
-use Rattle.op_cond_join.specs.inner.JoinedRows.{joined_long}
-use Rattle.op_cond_join.specs.Shown.{Joining, join_cells, row_at}
+use Rattle.pair_rows.specs.inner.JoinedRows.{joined_long}
+use Rattle.pair_rows.specs.Shown.{Joining, join_cells, row_at}
 
 -- a joined row is as wide as both parts
 pub row_wide : (j : Joining) (s t : Rows) (a b : ℕ) (row : List Value) → Some row ≡ row_at j s t a b → length row ≡ length j.first + length j.second

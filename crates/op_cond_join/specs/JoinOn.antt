@@ -1,31 +1,15 @@
 -- JOIN ON a condition. DECOMPOSE ON a condition is its flip.
-use Rattle.std.specs.Prelude.{◌≡◌, ℕ, ◌+◌, List, [], ◌∷◌, length, map, slice_get, unwrap_or, true, false}
-use Rattle.expr_lang.specs.Val.{fits_row}
+use Rattle.std.specs.Prelude.{ℕ, ◌+◌, [], ◌∷◌, length, true, false}
 use Rattle.row_store.specs.Rows.{Rows}
-use Rattle.op_law.specs.Tables.{Tables, Heading}
+use Rattle.op_law.specs.Tables.{Tables}
 use Rattle.op_law.specs.SoundTerms.{TermSound}
 use Rattle.op_law.specs.Meaning.{Meaning, PairState, Mapped}
-use Rattle.row_parts.specs.Places.{ArePartition}
 use Rattle.pair_rows.specs.Halves.{first_of, second_of}
-use Rattle.op_cond_join.specs.Shown.{Joining, IsJoined, joined, shown_pairs, new_pairs}
+use Rattle.pair_rows.specs.Shown.{Joining, IsJoined, joined, shown_pairs, new_pairs}
+use Rattle.pair_rows.specs.Sides.{widths, table_at, JoinFits}
 use Rattle.op_cond_join.specs.Assigned.{beginning, assigned, ending}
 use Rattle.pair_rows.specs.Stays.{staying}
 use Rattle.pair_rows.specs.Kept.{alone, side_read}
-
--- how many columns each table has
-abbrev pub widths : List Heading → List ℕ
-widths headings = map (λ heading. length heading.columns) headings
-
--- a table of a side, counted from 0; past the last there is an empty one
-abbrev pub table_at : ℕ → Tables → Rows
-table_at at tables = unwrap_or (slice_get tables at) []
-
--- the target's columns are those of both sources, each once, and the condition reads them
-pub record JoinFits (j : Joining) (hs ht : List Heading) : Type 0 where
-  pub source : widths hs ≡ length j.first ∷ length j.second ∷ []
-  pub target : widths ht ≡ (length j.first + length j.second) ∷ []
-  pub places : ArePartition j.first j.second
-  pub reads : fits_row j.condition (length j.first + length j.second) ≡ true
 
 -- the target and the memory, from a new source
 abbrev pub join_forward : Joining → Tables → PairState → ℕ → Mapped

@@ -3,7 +3,7 @@ use Rattle.std.specs.Prelude.{◌≡◌, ◌+◌, length, true}
 use Rattle.expr_lang.specs.Terms.{expr_term}
 use Rattle.expr_lang.specs.Val.{fits_row}
 use Rattle.op_cond_join.specs.declared.join.JoinOn.{JoinOn}
-use Rattle.op_cond_join.specs.Shown.{Joining}
+use Rattle.pair_rows.specs.Shown.{Joining}
 
 -- the places and the condition of an operator
 abbrev pub joining : JoinOn → Joining

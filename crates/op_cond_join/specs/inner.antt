@@ -1,12 +1,6 @@
 pub mod Admitted
 pub mod Calls
 pub mod Assignings
-pub mod Changed
 pub mod AssignedLaws
 pub mod FoundLaws
-pub mod PairLemmas
-pub mod ShownLaws
 pub mod JoinOnLaws
-pub mod JoinedRows
-pub mod TakenPairs
-pub mod TwoSides

@@ -1,28 +1,15 @@
-//! The table of joined rows, and the tables of a side.
-ghost use Rattle.std.specs.Prelude.{◌≡◌, [], IfOk};
+//! The table of joined rows.
+ghost use Rattle.std.specs.Prelude.{◌≡◌, IfOk};
 ghost use Rattle.id_memory.specs.Pairs.{RiseFrom};
-ghost use Rattle.op_cond_join.specs.Shown.{joined};
-ghost use Rattle.op_cond_join.specs.JoinOn.{table_at};
+ghost use Rattle.pair_rows.specs.Shown.{joined};
 ghost use Rattle.op_cond_join.specs.Joinings.{joining};
 
 use crate::join::JoinOn;
 use crate::rows::row_at;
-use op_law::Side;
 use pair_rows::push_cell;
 use par_base::Memory;
 use row_store::Table;
 use std::alloc::Global;
-
-/// A table of a side, or the empty one past the last.
-pub(crate) fn table_in<'a>(side: &'a Side, at: usize, none: &'a Table) -> &'a Table
-    requires { none.now.rows ≡ [] }
-    ensures { result.now.rows ≡ table_at at side.now }
-{
-    match side.tables().get(at) {
-        Some(table) => table,
-        None => none,
-    }
-}
 
 /// The joined rows of the pairs of some entries.
 pub(crate) fn joined_table(

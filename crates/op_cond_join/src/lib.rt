@@ -10,19 +10,14 @@
 
 mod admission;
 mod assigning;
-mod changed;
-mod growing;
 mod join;
 mod join_on;
 mod joining;
 mod laws;
 mod mapping;
-mod memories;
 mod reading;
 mod rows;
 mod showing;
-mod taken;
-mod unchanged;
 
 pub use join::JoinOn;
 pub use laws::join_on_keeps_the_laws;

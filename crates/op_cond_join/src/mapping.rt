@@ -1,23 +1,26 @@
 //! The new target and memory from a new source.
-ghost use Rattle.std.specs.Prelude.{◌≡◌, ◌+◌, ◌++◌, length, OnOk};
+ghost use Rattle.std.specs.Prelude.{◌≡◌, ◌+◌, ◌++◌, ◌∷◌, [], length, IfOk, OnOk};
+ghost use Rattle.id_memory.specs.Pairs.{RiseFrom, IsOneToOne};
 ghost use Rattle.op_law.specs.Calls.{seen, IsMapped};
+ghost use Rattle.pair_rows.specs.Halves.{first_of, second_of};
+ghost use Rattle.pair_rows.specs.Stays.{staying as staying_rows};
 ghost use Rattle.op_law.specs.Meaning.{flip, exchanged};
 ghost use Rattle.op_law.specs.Premises.{SomeMap};
 ghost use Rattle.op_cond_join.specs.Joinings.{joining, Reads};
 ghost use Rattle.op_cond_join.specs.JoinOn.{join_on, join_forward, join_backward};
-ghost use Rattle.op_cond_join.specs.inner.Calls.{Draws, shown_in, new_in};
+ghost use Rattle.pair_rows.specs.inner.Draws.{Draws};
+ghost use Rattle.op_cond_join.specs.inner.Calls.{shown_in, new_in};
 
 use crate::assigning::{Assigning, assign};
-use crate::growing::growing_from;
 use crate::join::JoinOn;
-use crate::joining::{joined_table, table_in};
-use crate::memories::{draw_for, entries_of, memory_of};
+use crate::joining::joined_table;
 use crate::showing::{Showing, kept_pairs, new_pairs};
-use crate::unchanged::{OldTarget, kept_in};
 use expr_lang::Steps;
-use id_memory::IdCounter;
+use id_memory::{IdCounter, PairMemory};
 use op_law::{Far, Pair, Side};
-use pair_rows::{Half, staying};
+use pair_rows::{
+    Half, OldTarget, draw_for, entries_of, growing_from, kept_in, memory_of, staying, table_in,
+};
 use par_base::{Fault, IdsSpent, List, Memory};
 use row_store::Table;
 use std::alloc::Global;
@@ -84,6 +87,27 @@ pub(crate) fn forward<L: Ledger>(
     Ok(Far { side, memory })
 }
 
+// The new source and memory, from the pairs that were given and the rows that there are then.
+fn source_of(
+    alloc: Global,
+    old: &PairMemory,
+    pairs: &[(u64, u64, u64)],
+    first: &Table,
+    second: &Table,
+) -> Result<Far, Memory>
+    requires rise { RiseFrom 0 pairs.now }
+    requires one { IsOneToOne pairs.now }
+    ensures memory { IfOk result (λ far. far.memory.entries ≡ pairs.now) }
+    ensures side { let m = old.now.entries in
+        IfOk result (λ far. far.side ≡ staying_rows first_of m far.memory.entries first.now.rows ∷ staying_rows second_of m far.memory.entries second.now.rows ∷ []) }
+{
+    let memory = memory_of(alloc, pairs)?;
+    let kept_first = staying(alloc, Half::First, old, &memory, first)?;
+    let kept_second = staying(alloc, Half::Second, old, &memory, second)?;
+    let side = Side::two(alloc, kept_first, kept_second)?;
+    Ok(Far { side, memory })
+}
+
 /// The new source and memory, from a new target. It takes look-ups in the number of the rows.
 pub(crate) fn backward<L: Ledger>(
     alloc: Global,
@@ -111,10 +135,13 @@ pub(crate) fn backward<L: Ledger>(
     };
     let mut drawn = ids.copy();
     let pairs = assign(alloc, join, &before, new, &mut it, &mut drawn)?;
-    let memory = memory_of(alloc, pairs.as_slice())?;
-    let first = staying(alloc, Half::First, &old.memory, &memory, &it.first.table)?;
-    let second = staying(alloc, Half::Second, &old.memory, &memory, &it.second.table)?;
-    let side = Side::two(alloc, first, second)?;
+    let far = source_of(
+        alloc,
+        &old.memory,
+        pairs.as_slice(),
+        &it.first.table,
+        &it.second.table,
+    )?;
     *ids = drawn;
-    Ok(Far { side, memory })
+    Ok(far)
 }

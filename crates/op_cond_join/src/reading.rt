@@ -3,15 +3,15 @@ ghost use Rattle.std.specs.Prelude.{◌≡◌, ◌∷◌, [], IfOk};
 ghost use Rattle.op_law.specs.Calls.{tables_of};
 ghost use Rattle.op_cond_join.specs.Joinings.{joining};
 ghost use Rattle.pair_rows.specs.Kept.{alone};
-ghost use Rattle.op_cond_join.specs.JoinOn.{join_on, table_at};
+ghost use Rattle.pair_rows.specs.Sides.{table_at};
+ghost use Rattle.op_cond_join.specs.JoinOn.{join_on};
 ghost use Rattle.pair_rows.specs.Halves.{first_of, second_of};
 
 use crate::join::JoinOn;
-use crate::joining::{joined_table, table_in};
-use crate::memories::entries_of;
+use crate::joining::joined_table;
 use id_memory::PairMemory;
 use op_law::{Aux, Pair, Side};
-use pair_rows::{Half, alone, side_read};
+use pair_rows::{Half, alone, aux_in, entries_of, side_read, table_in};
 use par_base::{List, Memory};
 use row_store::Table;
 use std::alloc::Global;
@@ -32,17 +32,6 @@ pub(crate) fn read_target(
     let t = table_in(source, 1, &none);
     let table = joined_table(alloc, join, s, t, entries.as_slice())?;
     Ok(Side::one(alloc, table)?)
-}
-
-/// One auxiliary table, or the empty one past the last.
-fn aux_in<'a>(aux: &'a Aux, at: usize, none: &'a Table) -> &'a Table
-    requires { none.now.rows ≡ [] }
-    ensures { result.now.rows ≡ table_at at (tables_of aux.now) }
-{
-    match aux.tables.get(at) {
-        Some(table) => table,
-        None => none,
-    }
 }
 
 /// The source of a target.

@@ -1,6 +1,6 @@
 //! The joined rows of pairs, and whether they match.
 ghost use Rattle.std.specs.Prelude.{◌≡◌, IfOk};
-ghost use Rattle.op_cond_join.specs.Shown.{row_at, matches};
+ghost use Rattle.pair_rows.specs.Shown.{row_at, matches};
 ghost use Rattle.op_cond_join.specs.Joinings.{joining, Reads};
 
 use crate::join::JoinOn;
@@ -51,7 +51,7 @@ pub(crate) fn is_match<L: Ledger>(
     ensures { IfOk result (λ yes. yes ≡ matches (joining join.now) s.now.rows t.now.rows a b) }
 {
     match row_at(alloc, join, s, t, a, b)? {
-        Some(row) => holds(alloc, &join.condition, &row, steps),
+        Some(row) => holds(alloc, &join.condition, row.as_slice(), steps),
         None => Ok(false),
     }
 }

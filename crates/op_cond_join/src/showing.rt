@@ -6,15 +6,15 @@
 ghost use Rattle.row_store.specs.Rows.{row_of};
 ghost use Rattle.std.specs.Prelude.{is_some, [], ◌∷◌, ◌≡◌, ◌++◌, ◌&&◌, filter, true, Some, IsTrue, IfOk, OnOk};
 ghost use Rattle.op_cond_join.specs.Joinings.{Reads};
-ghost use Rattle.op_cond_join.specs.Shown.{pairs_with, all_pairs, has};
-ghost use Rattle.op_cond_join.specs.inner.Changed.{pairs_of};
+ghost use Rattle.pair_rows.specs.Shown.{pairs_with, all_pairs, has};
+ghost use Rattle.pair_rows.specs.inner.Changed.{pairs_of};
 ghost use Rattle.op_cond_join.specs.inner.Calls.{shows, is_new_in, IsPairStill, AreSeconds};
 
-use crate::changed::{changed_ids, ids_of, is_as_before, is_still_there};
 use crate::join::JoinOn;
 use crate::rows::is_match;
 use expr_lang::Steps;
 use id_memory::PairMemory;
+use pair_rows::{changed_ids, ids_of, is_as_before, is_still_there};
 use par_base::{List, Memory, Row};
 use row_store::Table;
 use std::alloc::Global;

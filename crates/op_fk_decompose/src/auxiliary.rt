@@ -30,7 +30,7 @@ impl<P: RowParts> MakesRow for Refs<'_, P> {
             Some(row) => {
                 let mut alone = List::new(alloc);
                 alone.push(self.parts.key(alloc, row)?)?;
-                Ok(Some(alone))
+                Ok(Some(Row::from_list(alloc, alone)?))
             }
             None => Ok(None),
         }
@@ -64,7 +64,7 @@ impl<P: RowParts> MakesRow for Dangling<'_, P> {
         match self.s.get(id) {
             Some(row) => {
                 if dangles(self.t, self.parts.goal(row)) {
-                    Ok(Some(List::new(alloc)))
+                    Ok(Some(Row::from_list(alloc, List::new(alloc))?))
                 } else {
                     Ok(None)
                 }

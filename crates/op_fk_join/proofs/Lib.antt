@@ -1,3 +1,2 @@
 mod AdmissionLemmas
 mod FirstLemmas
-mod WorkedRows

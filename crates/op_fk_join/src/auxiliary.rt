@@ -31,7 +31,7 @@ impl<P: RowParts> MakesRow for Keys<'_, P> {
             (Some(_), Some(row)) => {
                 let mut alone = List::new(alloc);
                 alone.push(self.parts.key(alloc, row)?)?;
-                Ok(Some(alone))
+                Ok(Some(Row::from_list(alloc, alone)?))
             }
             _ => Ok(None),
         }

@@ -16,23 +16,23 @@ pub struct JoinFk {
 }
 
 /// Adds copies of these values at the end.
-fn add_copies(alloc: Global, row: Row, values: &[Value]) -> Result<Row, Memory>
+fn add_copies(alloc: Global, row: List<Value>, values: &[Value]) -> Result<Row, Memory>
     ensures { IfOk result (λ all. all ≡ row ++ values.now) }
 {
     let mut all = row;
     for value in values {
         all.push(value.copy(alloc)?)?;
     }
-    Ok(all)
+    Row::from_list(alloc, all)
 }
 
 /// The first values of a row.
 fn front(alloc: Global, row: &Row, count: usize) -> Result<Row, Memory>
     ensures { IfOk result (λ part. part ≡ take count row.now) }
 {
-    let mut part = row.copy(alloc)?;
+    let mut part = row.to_list(alloc)?;
     part.truncate(count);
-    Ok(part)
+    Row::from_list(alloc, part)
 }
 
 /// The values of a row behind the first ones.
@@ -40,7 +40,7 @@ fn rest(alloc: Global, row: &Row, count: usize) -> Result<Row, Memory>
     ensures { IfOk result (λ part. part ≡ drop count row.now) }
 {
     if row.len() <= count {
-        return Ok(List::new(alloc));
+        return Row::from_list(alloc, List::new(alloc));
     }
     add_copies(alloc, List::new(alloc), &row.as_slice()[count..])
 }
@@ -66,7 +66,7 @@ impl RowParts for JoinFk {
     }
 
     fn join(&self, alloc: Global, first: &Row, second: &Row) -> Result<Row, Memory> {
-        add_copies(alloc, first.copy(alloc)?, second.as_slice())
+        add_copies(alloc, first.to_list(alloc)?, second.as_slice())
     }
 
     fn null_first(&self, alloc: Global) -> Result<Row, Memory> {

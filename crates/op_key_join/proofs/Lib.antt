@@ -3,4 +3,3 @@ mod SingleAdmission
 mod PkAdmission
 mod JoinAdmission
 mod KeptRowLemmas
-mod WorkedRows

@@ -12,14 +12,14 @@ use row_parts::{has_row, row_if};
 use std::alloc::Global;
 
 /// The row with these values more behind it.
-fn with_values(alloc: Global, row: Row, values: &[Value]) -> Result<Row, Memory>
+fn with_values(alloc: Global, row: List<Value>, values: &[Value]) -> Result<Row, Memory>
     ensures { IfOk result (λ made. made ≡ row ++ values.now) }
 {
     let mut made = row;
     for value in values {
         made.push(value.copy(alloc)?)?;
     }
-    Ok(made)
+    Row::from_list(alloc, made)
 }
 
 /// So many values of the row, from its front.
@@ -37,7 +37,7 @@ fn back(alloc: Global, count: usize, row: &Row) -> Result<Row, Memory>
     ensures { IfOk result (λ part. part ≡ drop count row.now) }
 {
     if count >= row.len() {
-        return Ok(List::new(alloc));
+        return Row::from_list(alloc, List::new(alloc));
     }
     with_values(alloc, List::new(alloc), &row.as_slice()[count..])
 }
@@ -53,7 +53,7 @@ pub(crate) fn joined(
 {
     match (first, second) {
         (Some(first), Some(second)) => {
-            let made = with_values(alloc, first.copy(alloc)?, second.as_slice())?;
+            let made = with_values(alloc, first.to_list(alloc)?, second.as_slice())?;
             Ok(one_cell(alloc, Some(made))?)
         }
         _ => Ok(one_cell(alloc, None)?),

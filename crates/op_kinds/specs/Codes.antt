@@ -110,7 +110,7 @@ OpParts =
     ⊎ List ℕ
     ⊎ List ℕ × List ℕ
     ⊎ List ℕ × (List ℕ × List ℕ)
-    ⊎ List ℕ × (Tree × List ℕ)
+    ⊎ List ℕ × (Tree × (List ℕ × Bool))
     ⊎ List ℕ × (List ℕ × Tree)
     ⊎ List ℕ × (List ℕ × List (List ℕ))
     ⊎ List ℕ × (List ℕ × (List (List ℕ) × (List ℕ × (List (List ℕ) × KeyView))))
@@ -123,7 +123,7 @@ op_parts («text».CreateTable a b) = inl (a, b)
 op_parts («text».DropTable a) = inr (inl a)
 op_parts («text».RenameTable a b) = inr (inr (inl (a, b)))
 op_parts («text».RenameColumn a b c) = inr (inr (inr (inl (a, (b, c)))))
-op_parts («text».AddColumn a b c) = inr (inr (inr (inr (inl (a, (b, c))))))
+op_parts («text».AddColumn a b c d) = inr (inr (inr (inr (inl (a, (b, (c, d)))))))
 op_parts («text».DropColumn a b c) = inr (inr (inr (inr (inr (inl (a, (b, c)))))))
 op_parts («text».DecomposeSingle a b c) = inr (inr (inr (inr (inr (inr (inl (a, (b, c))))))))
 op_parts («text».Decompose a b c d e f) = inr (inr (inr (inr (inr (inr (inr (inl (a, (b, (c, (d, (e, f))))))))))))
@@ -136,7 +136,7 @@ op_from (inl p) = «text».CreateTable p.0 p.1
 op_from (inr (inl a)) = «text».DropTable a
 op_from (inr (inr (inl p))) = «text».RenameTable p.0 p.1
 op_from (inr (inr (inr (inl p)))) = «text».RenameColumn p.0 p.1.0 p.1.1
-op_from (inr (inr (inr (inr (inl p))))) = «text».AddColumn p.0 p.1.0 p.1.1
+op_from (inr (inr (inr (inr (inl p))))) = «text».AddColumn p.0 p.1.0 p.1.1.0 p.1.1.1
 op_from (inr (inr (inr (inr (inr (inl p)))))) = «text».DropColumn p.0 p.1.0 p.1.1
 op_from (inr (inr (inr (inr (inr (inr (inl p))))))) = «text».DecomposeSingle p.0 p.1.0 p.1.1
 op_from (inr (inr (inr (inr (inr (inr (inr (inl p)))))))) = «text».Decompose p.0 p.1.0 p.1.1.0 p.1.1.1.0 p.1.1.1.1.0 p.1.1.1.1.1
@@ -149,7 +149,7 @@ op_back («text».CreateTable a b) = refl
 op_back («text».DropTable a) = refl
 op_back («text».RenameTable a b) = refl
 op_back («text».RenameColumn a b c) = refl
-op_back («text».AddColumn a b c) = refl
+op_back («text».AddColumn a b c d) = refl
 op_back («text».DropColumn a b c) = refl
 op_back («text».DecomposeSingle a b c) = refl
 op_back («text».Decompose a b c d e f) = refl
@@ -163,7 +163,7 @@ coded_op = code_by OpParts
     (coded⊎ coded_name
     (coded⊎ (coded× coded_name coded_name)
     (coded⊎ (coded× coded_name (coded× coded_name coded_name))
-    (coded⊎ (coded× coded_name (coded× coded_tree coded_name))
+    (coded⊎ (coded× coded_name (coded× coded_tree (coded× coded_name coded_bool)))
     (coded⊎ (coded× coded_name (coded× coded_name coded_tree))
     (coded⊎ (coded× coded_name (coded× coded_name coded_names))
     (coded⊎ (coded× coded_name (coded× coded_name (coded× coded_names (coded× coded_name (coded× coded_names coded_key)))))
@@ -180,6 +180,7 @@ BuiltParts =
     ⊎ ℕ
     ⊎ Unit {0}
     ⊎ ℕ × Term ℕ
+    ⊎ Term ℕ
     ⊎ ℕ × Term ℕ
     ⊎ ℕ × (Term ℕ × Option (Term ℕ))
     ⊎ ℕ × (Term ℕ × Option (Term ℕ))
@@ -198,42 +199,45 @@ built_parts «any».CreateTable = inl tt
 built_parts («any».DropTable a) = inr (inl a)
 built_parts «any».Rename = inr (inr (inl tt))
 built_parts («any».AddColumn a b) = inr (inr (inr (inl (a, b))))
-built_parts («any».DropColumn a b) = inr (inr (inr (inr (inl (a, b)))))
-built_parts («any».Split a b c) = inr (inr (inr (inr (inr (inl (a, (b, c)))))))
-built_parts («any».Merge a b c) = inr (inr (inr (inr (inr (inr (inl (a, (b, c))))))))
-built_parts («any».DecomposeSingle a b) = inr (inr (inr (inr (inr (inr (inr (inl (a, b))))))))
-built_parts («any».DecomposePk a b) = inr (inr (inr (inr (inr (inr (inr (inr (inl (a, b)))))))))
-built_parts («any».OuterJoinPk a b) = inr (inr (inr (inr (inr (inr (inr (inr (inr (inl (a, b))))))))))
-built_parts («any».JoinPk a b) = inr (inr (inr (inr (inr (inr (inr (inr (inr (inr (inl (a, b)))))))))))
-built_parts («any».DecomposeFk a b c) = inr (inr (inr (inr (inr (inr (inr (inr (inr (inr (inr (inl (a, (b, c)))))))))))))
-built_parts («any».OuterJoinFk a b c) = inr (inr (inr (inr (inr (inr (inr (inr (inr (inr (inr (inr (inl (a, (b, c))))))))))))))
-built_parts («any».JoinFk a b c) = inr (inr (inr (inr (inr (inr (inr (inr (inr (inr (inr (inr (inr (inl (a, (b, c)))))))))))))))
-built_parts («any».JoinOn a b c) = inr (inr (inr (inr (inr (inr (inr (inr (inr (inr (inr (inr (inr (inr (inl (a, (b, c))))))))))))))))
-built_parts («any».DecomposeOn a b c) = inr (inr (inr (inr (inr (inr (inr (inr (inr (inr (inr (inr (inr (inr (inr (a, (b, c))))))))))))))))
+built_parts («any».AddTracked a) = inr (inr (inr (inr (inl a))))
+built_parts («any».DropColumn a b) = inr (inr (inr (inr (inr (inl (a, b))))))
+built_parts («any».Split a b c) = inr (inr (inr (inr (inr (inr (inl (a, (b, c))))))))
+built_parts («any».Merge a b c) = inr (inr (inr (inr (inr (inr (inr (inl (a, (b, c)))))))))
+built_parts («any».DecomposeSingle a b) = inr (inr (inr (inr (inr (inr (inr (inr (inl (a, b)))))))))
+built_parts («any».DecomposePk a b) = inr (inr (inr (inr (inr (inr (inr (inr (inr (inl (a, b))))))))))
+built_parts («any».OuterJoinPk a b) = inr (inr (inr (inr (inr (inr (inr (inr (inr (inr (inl (a, b)))))))))))
+built_parts («any».JoinPk a b) = inr (inr (inr (inr (inr (inr (inr (inr (inr (inr (inr (inl (a, b))))))))))))
+built_parts («any».DecomposeFk a b c) = inr (inr (inr (inr (inr (inr (inr (inr (inr (inr (inr (inr (inl (a, (b, c))))))))))))))
+built_parts («any».OuterJoinFk a b c) = inr (inr (inr (inr (inr (inr (inr (inr (inr (inr (inr (inr (inr (inl (a, (b, c)))))))))))))))
+built_parts («any».JoinFk a b c) = inr (inr (inr (inr (inr (inr (inr (inr (inr (inr (inr (inr (inr (inr (inl (a, (b, c))))))))))))))))
+built_parts («any».JoinOn a b c) = inr (inr (inr (inr (inr (inr (inr (inr (inr (inr (inr (inr (inr (inr (inr (inl (a, (b, c)))))))))))))))))
+built_parts («any».DecomposeOn a b c) = inr (inr (inr (inr (inr (inr (inr (inr (inr (inr (inr (inr (inr (inr (inr (inr (a, (b, c)))))))))))))))))
 
 abbrev built_from : BuiltParts → Built
 built_from (inl u) = «any».CreateTable
 built_from (inr (inl a)) = «any».DropTable a
 built_from (inr (inr (inl u))) = «any».Rename
 built_from (inr (inr (inr (inl p)))) = «any».AddColumn p.0 p.1
-built_from (inr (inr (inr (inr (inl p))))) = «any».DropColumn p.0 p.1
-built_from (inr (inr (inr (inr (inr (inl p)))))) = «any».Split p.0 p.1.0 p.1.1
-built_from (inr (inr (inr (inr (inr (inr (inl p))))))) = «any».Merge p.0 p.1.0 p.1.1
-built_from (inr (inr (inr (inr (inr (inr (inr (inl p)))))))) = «any».DecomposeSingle p.0 p.1
-built_from (inr (inr (inr (inr (inr (inr (inr (inr (inl p))))))))) = «any».DecomposePk p.0 p.1
-built_from (inr (inr (inr (inr (inr (inr (inr (inr (inr (inl p)))))))))) = «any».OuterJoinPk p.0 p.1
-built_from (inr (inr (inr (inr (inr (inr (inr (inr (inr (inr (inl p))))))))))) = «any».JoinPk p.0 p.1
-built_from (inr (inr (inr (inr (inr (inr (inr (inr (inr (inr (inr (inl p)))))))))))) = «any».DecomposeFk p.0 p.1.0 p.1.1
-built_from (inr (inr (inr (inr (inr (inr (inr (inr (inr (inr (inr (inr (inl p))))))))))))) = «any».OuterJoinFk p.0 p.1.0 p.1.1
-built_from (inr (inr (inr (inr (inr (inr (inr (inr (inr (inr (inr (inr (inr (inl p)))))))))))))) = «any».JoinFk p.0 p.1.0 p.1.1
-built_from (inr (inr (inr (inr (inr (inr (inr (inr (inr (inr (inr (inr (inr (inr (inl p))))))))))))))) = «any».JoinOn p.0 p.1.0 p.1.1
-built_from (inr (inr (inr (inr (inr (inr (inr (inr (inr (inr (inr (inr (inr (inr (inr p))))))))))))))) = «any».DecomposeOn p.0 p.1.0 p.1.1
+built_from (inr (inr (inr (inr (inl e))))) = «any».AddTracked e
+built_from (inr (inr (inr (inr (inr (inl p)))))) = «any».DropColumn p.0 p.1
+built_from (inr (inr (inr (inr (inr (inr (inl p))))))) = «any».Split p.0 p.1.0 p.1.1
+built_from (inr (inr (inr (inr (inr (inr (inr (inl p)))))))) = «any».Merge p.0 p.1.0 p.1.1
+built_from (inr (inr (inr (inr (inr (inr (inr (inr (inl p))))))))) = «any».DecomposeSingle p.0 p.1
+built_from (inr (inr (inr (inr (inr (inr (inr (inr (inr (inl p)))))))))) = «any».DecomposePk p.0 p.1
+built_from (inr (inr (inr (inr (inr (inr (inr (inr (inr (inr (inl p))))))))))) = «any».OuterJoinPk p.0 p.1
+built_from (inr (inr (inr (inr (inr (inr (inr (inr (inr (inr (inr (inl p)))))))))))) = «any».JoinPk p.0 p.1
+built_from (inr (inr (inr (inr (inr (inr (inr (inr (inr (inr (inr (inr (inl p))))))))))))) = «any».DecomposeFk p.0 p.1.0 p.1.1
+built_from (inr (inr (inr (inr (inr (inr (inr (inr (inr (inr (inr (inr (inr (inl p)))))))))))))) = «any».OuterJoinFk p.0 p.1.0 p.1.1
+built_from (inr (inr (inr (inr (inr (inr (inr (inr (inr (inr (inr (inr (inr (inr (inl p))))))))))))))) = «any».JoinFk p.0 p.1.0 p.1.1
+built_from (inr (inr (inr (inr (inr (inr (inr (inr (inr (inr (inr (inr (inr (inr (inr (inl p)))))))))))))))) = «any».JoinOn p.0 p.1.0 p.1.1
+built_from (inr (inr (inr (inr (inr (inr (inr (inr (inr (inr (inr (inr (inr (inr (inr (inr p)))))))))))))))) = «any».DecomposeOn p.0 p.1.0 p.1.1
 
 pub built_back : (x : Built) → built_from (built_parts x) ≡ x
 built_back «any».CreateTable = refl
 built_back («any».DropTable a) = refl
 built_back «any».Rename = refl
 built_back («any».AddColumn a b) = refl
+built_back («any».AddTracked a) = refl
 built_back («any».DropColumn a b) = refl
 built_back («any».Split a b c) = refl
 built_back («any».Merge a b c) = refl
@@ -259,6 +263,7 @@ coded_built = code_by BuiltParts
     (coded⊎ coded_ℕ
     (coded⊎ coded_unit
     (coded⊎ (coded× coded_ℕ coded_place)
+    (coded⊎ coded_place
     (coded⊎ (coded× coded_ℕ coded_place)
     (coded⊎ (coded× coded_ℕ (coded× coded_place (coded_option coded_place)))
     (coded⊎ (coded× coded_ℕ (coded× coded_place (coded_option coded_place)))
@@ -269,7 +274,7 @@ coded_built = code_by BuiltParts
     (coded⊎ (coded× coded_places (coded× coded_places coded_ℕ))
     (coded⊎ (coded× coded_places (coded× coded_places coded_ℕ))
     (coded⊎ (coded× coded_ℕ (coded× coded_ℕ coded_ℕ))
-    (coded⊎ (coded× coded_places (coded× coded_places coded_place)) (coded× coded_places (coded× coded_places coded_place)))))))))))))))))
+    (coded⊎ (coded× coded_places (coded× coded_places coded_place)) (coded× coded_places (coded× coded_places coded_place))))))))))))))))))
     built_parts built_from built_back
 
 abbrev pub coded_any : Coded AnyView

@@ -11,6 +11,8 @@ use Rattle.op_column.specs.DropTable.{drop_table, drop_table_laws}
 use Rattle.op_column.specs.Rename.{rename, rename_laws}
 use Rattle.op_column.specs.AddColumn.{add_column}
 use Rattle.op_column.specs.inner.AddColumnLaws.{add_column_laws}
+use Rattle.op_column.specs.AddTracked.{add_tracked}
+use Rattle.op_column.specs.inner.AddTrackedLaws.{add_tracked_laws}
 use Rattle.op_split_merge.specs.Split.{split}
 use Rattle.op_split_merge.specs.inner.SplitLaws.{split_laws}
 use Rattle.op_key_join.specs.DecomposeSingle.{decompose_single}
@@ -23,7 +25,7 @@ use Rattle.op_fk_decompose.specs.Columns.{decompose_columns}
 use Rattle.op_fk_decompose.specs.inner.ColumnLemmas.{decompose_keeps}
 use Rattle.op_fk_join.specs.Columns.{join_columns}
 use Rattle.op_fk_join.specs.inner.ColumnLemmas.{join_keeps}
-use Rattle.op_cond_join.specs.Shown.{Joining}
+use Rattle.pair_rows.specs.Shown.{Joining}
 use Rattle.op_cond_join.specs.JoinOn.{join_on}
 use Rattle.op_cond_join.specs.inner.JoinOnLaws.{join_on_laws}
 
@@ -36,6 +38,8 @@ pub data Built : Type 0 where
   Rename : Built
   -- the new column's place among the target's, and its expression over the source's columns
   AddColumn : ℕ → Term ℕ → Built
+  -- a tracked column behind all others, with the expression that it follows
+  AddTracked : Term ℕ → Built
   -- the dropped column's place among the source's, and its default over the target's columns
   DropColumn : ℕ → Term ℕ → Built
   -- the number of each table's columns, the condition of the first target, and that of the second, where there is one
@@ -71,6 +75,7 @@ meaning_of CreateTable = rowwise create_table
 meaning_of (DropTable width) = rowwise (drop_table width)
 meaning_of Rename = rowwise rename
 meaning_of (AddColumn place e) = rowwise (add_column place e)
+meaning_of (AddTracked e) = rowwise (add_tracked e)
 meaning_of (DropColumn place e) = rowwise (flip_row (add_column place e))
 meaning_of (Split width first second) = rowwise (split width first second)
 meaning_of (Merge width first second) = rowwise (flip_row (split width first second))
@@ -90,6 +95,7 @@ laws_of CreateTable = rowwise_laws create_table create_table_laws
 laws_of (DropTable width) = rowwise_laws (drop_table width) (drop_table_laws width)
 laws_of Rename = rowwise_laws rename rename_laws
 laws_of (AddColumn place e) = rowwise_laws (add_column place e) (add_column_laws place e)
+laws_of (AddTracked e) = rowwise_laws (add_tracked e) (add_tracked_laws e)
 laws_of (DropColumn place e) =
     rowwise_laws (flip_row (add_column place e)) (flip_row_laws (add_column place e) (add_column_laws place e))
 laws_of (Split width first second) = rowwise_laws (split width first second) (split_laws width first second)

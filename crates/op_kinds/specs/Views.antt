@@ -4,7 +4,7 @@ use Rattle.expr_lang.specs.Terms.{expr_term}
 use Rattle.op_kinds.specs.Operators as «any»
 use Rattle.op_kinds.specs.Operators.{Built}
 use Rattle.op_kinds.specs.declared.any_op.BuiltOp.{BuiltOp}
-use Rattle.op_kinds.specs.declared.any_op.BuiltOp.TheVariants.{CreateTable, DropTable, Rename, AddColumn, DropColumn, Split, Merge, DecomposeSingle, DecomposePk, OuterJoinPk, JoinPk, DecomposeFk, OuterJoinFk, JoinFk, JoinOn, DecomposeOn}
+use Rattle.op_kinds.specs.declared.any_op.BuiltOp.TheVariants.{CreateTable, DropTable, Rename, AddColumn, AddTracked, DropColumn, Split, Merge, DecomposeSingle, DecomposePk, OuterJoinPk, JoinPk, DecomposeFk, OuterJoinFk, JoinFk, JoinOn, DecomposeOn}
 
 -- a built operator, without where its expression lies in memory
 abbrev pub built_view : BuiltOp → Built
@@ -12,6 +12,7 @@ built_view (CreateTable it) = «any».CreateTable
 built_view (DropTable it) = «any».DropTable it.inner.width
 built_view (Rename it) = «any».Rename
 built_view (AddColumn it) = «any».AddColumn it.inner.place (expr_term it.inner.value)
+built_view (AddTracked it) = «any».AddTracked (expr_term it.inner.value)
 built_view (DropColumn it) = «any».DropColumn it.inner.inner.place (expr_term it.inner.inner.value)
 built_view (Split it) = «any».Split it.inner.width (expr_term it.inner.first) (option_map expr_term it.inner.second)
 built_view (Merge it) =

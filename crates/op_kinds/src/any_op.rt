@@ -6,7 +6,7 @@ ghost use Rattle.op_kinds.specs.Views.{built_view};
 
 use expr_lang::Steps;
 use id_memory::{IdCounter, PairMemory};
-use op_column::{AddColumn, CreateTable, DropTable, Rename};
+use op_column::{AddColumn, AddTracked, CreateTable, DropTable, Rename};
 use op_cond_join::JoinOn;
 use op_fk_decompose::DecomposeFk;
 use op_fk_join::JoinFk;
@@ -28,6 +28,7 @@ pub enum BuiltOp {
     /// Of a table or of a column.
     Rename(Rowwise<Rename>),
     AddColumn(Rowwise<AddColumn>),
+    AddTracked(Rowwise<AddTracked>),
     /// The flip of adding the dropped column at its place, with its default as the expression.
     DropColumn(Rowwise<FlipRow<AddColumn>>),
     Split(Rowwise<Split>),

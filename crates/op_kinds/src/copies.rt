@@ -82,14 +82,16 @@ fn copy_add_column(
     column: &Name,
     value: &ExprText,
     table: &Name,
+    tracked: bool,
 ) -> Result<OpText, Memory>
     ensures { IfOk result (λ made. op_view made ≡ AddColumn column.now
-        (text_term value.now) table.now) }
+        (text_term value.now) table.now tracked) }
 {
     Ok(OpText::AddColumn {
         column: column.copy(alloc)?,
         value: value.copy(alloc)?,
         table: table.copy(alloc)?,
+        tracked,
     })
 }
 
@@ -216,7 +218,8 @@ pub fn copy_text(alloc: Global, text: &OpText) -> Result<OpText, Memory>
             column,
             value,
             table,
-        } => copy_add_column(alloc, column, value, table),
+            tracked,
+        } => copy_add_column(alloc, column, value, table, *tracked),
         OpText::DropColumn {
             column,
             table,

@@ -34,7 +34,7 @@ fn lost<L: Ledger>(
     ensures steps { steps.new ≤ steps.old + 1 }
 {
     let meets = meets(alloc, condition, source, steps)?;
-    Ok(noted(alloc, !has_row(here) && meets))
+    noted(alloc, !has_row(here) && meets)
 }
 
 /// In the second target and not separated, with a row that fails its condition.
@@ -52,7 +52,7 @@ fn against_second<L: Ledger>(
     ensures steps { steps.new ≤ steps.old + 1 }
 {
     let fails = fails(alloc, condition, second, steps)?;
-    Ok(noted(alloc, !is_separated(first, second) && fails))
+    noted(alloc, !is_separated(first, second) && fails)
 }
 
 /// The auxiliary rows where the source is stored: lost and against of the first target, and where
@@ -79,7 +79,7 @@ pub(crate) fn aux_at_source<L: Ledger>(
     let mut aux = List::new(alloc);
     aux.push(lost(alloc, Some(&split.first), source, first, steps)?)?;
     let against = fails(alloc, Some(&split.first), first, steps)?;
-    aux.push(noted(alloc, against))?;
+    aux.push(noted(alloc, against)?)?;
     let Some(condition) = &split.second else {
         return Ok(aux);
     };

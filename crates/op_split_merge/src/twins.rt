@@ -24,7 +24,7 @@ pub(crate) fn meets<L: Ledger>(
     ensures steps { steps.new ≤ steps.old + 1 }
 {
     match (condition, cell) {
-        (Some(condition), Some(row)) => holds(alloc, condition, row, steps),
+        (Some(condition), Some(row)) => holds(alloc, condition, row.as_slice(), steps),
         _ => Ok(false),
     }
 }

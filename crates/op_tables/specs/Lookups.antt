@@ -70,13 +70,6 @@ pub two_at : (s t : Rows) (f : ℕ → Cell) (p : ℕ) → (row_of s p ≡ None 
 two_at s t f p h = row_from (ids_over (s ∷ t ∷ []) []) f p ∙ by_test (has_id (ids_over (s ∷ t ∷ []) []) p) (λ e. rw e refl)
     (λ e. let n = (none_at (s ∷ t ∷ []) [] p e).0 in rw e (sym (h (ap first_cell n) (ap (λ (cs : List Cell). first_cell (other_cells cs)) n))))
 
--- and of three
-pub three_at : (s t u : Rows) (f : ℕ → Cell) (p : ℕ) → (row_of s p ≡ None → row_of t p ≡ None → row_of u p ≡ None → f p ≡ None) → row_of (table_from (ids_over (s ∷ t ∷ u ∷ []) []) f) p ≡ f p
-three_at s t u f p h = row_from (ids_over (s ∷ t ∷ u ∷ []) []) f p ∙ by_test (has_id (ids_over (s ∷ t ∷ u ∷ []) []) p) (λ e. rw e refl)
-    (λ e.
-    let n = (none_at (s ∷ t ∷ u ∷ []) [] p e).0 in
-    rw e (sym (h (ap first_cell n) (ap (λ (cs : List Cell). first_cell (other_cells cs)) n) (ap (λ (cs : List Cell). first_cell (other_cells (other_cells cs))) n))))
-
 -- such a table rises, is as wide as what it is made of, and is as sound
 pub one_rise : (rows : Rows) (f : ℕ → Cell) → RiseFrom 0 rows → RiseFrom 0 (table_from (ids_in rows []) f)
 one_rise rows f h = rise_from 0 _ f (rise_ids (rows ∷ []) [] (h, tt) tt)

@@ -16,6 +16,7 @@ use crate::{Entry, EntryItems, Probe};
 use expr_lang::Steps;
 use par_base::{Memory, add_counts};
 use std::alloc::Global;
+use std::cell::Cell;
 use std::marker::Model;
 use std::sync::ledger::Ledger;
 
@@ -25,6 +26,8 @@ pub struct Pages<E: Entry> {
     pages: Vec<Page<E>>,
     spare: Vec<Page<E>>,
     count: usize,
+    // The page in which an entry was found last. Wherever that is, the answers are the same.
+    hint: Cell<usize>,
 }
 
 impl<E: Entry> Model for Pages<E> {
@@ -57,6 +60,7 @@ impl<E: Entry> Pages<E> {
             pages: Vec::new(alloc),
             spare: Vec::new(alloc),
             count: 0,
+            hint: Cell::new(0),
         }
     }
 
@@ -85,7 +89,7 @@ impl<E: Entry> Pages<E> {
         ensures { option_map (λ entry. entry.now) result
             ≡ entry_of E.order self.now.entries (P.key probe.now) }
     {
-        found(self.pages.as_slice(), probe)
+        found(self.pages.as_slice(), probe, &self.hint)
     }
 
     /// As `get`. Each comparison of keys takes a step. It takes no memory.

@@ -1,12 +1,13 @@
 //! Where a key stands among entries that rise, and in which page.
-ghost use Rattle.std.specs.Prelude.{◌≡◌, ◌<◌, length, MatchResult};
+ghost use Rattle.std.specs.Prelude.{◌≡◌, ◌<◌, suc, length, take, drop, MatchResult, IsTrue};
 ghost use Rattle.std.specs.Option.{option_map};
-ghost use Rattle.ordered_pages.specs.Entries.{Rise, entry_of, entries_from};
+ghost use Rattle.ordered_pages.specs.Entries.{Rise, AreBefore, AreBehind, entry_of, entries_from};
 ghost use Rattle.ordered_pages.specs.inner.Places.{StandsAt, IsGap};
 ghost use Rattle.ordered_pages.specs.inner.Pages.{all_entries, AreSized, IsPageOf};
 
 use crate::page::Page;
 use crate::{Entry, EntryItems, Probe};
+use std::cell::Cell;
 use std::cmp::Ordering;
 
 /// The place of the key's entry, or the place at which one would stand.
@@ -71,8 +72,76 @@ pub(crate) fn page_of<E: Entry, P: Probe<E>>(pages: &[Page<E>], probe: &P) -> us
     low
 }
 
+/// Whether all entries of the pages before this one come before the key.
+fn begins_before<E: Entry, P: Probe<E>>(pages: &[Page<E>], probe: &P, at: usize) -> bool
+    requires rise { Rise E.order (all_entries pages.now) }
+    requires sized { AreSized pages.now }
+    requires within { at < length pages.now }
+    ensures { IsTrue result → AreBefore E.order (all_entries (take at pages.now))
+        (P.key probe.now) }
+{
+    if at == 0 {
+        return true;
+    }
+    if probe.compare(pages[at].first()).is_lt() {
+        return false;
+    }
+    true
+}
+
+/// Whether all entries of the pages behind this one come behind the key.
+fn ends_behind<E: Entry, P: Probe<E>>(pages: &[Page<E>], probe: &P, at: usize) -> bool
+    requires rise { Rise E.order (all_entries pages.now) }
+    requires sized { AreSized pages.now }
+    requires within { at < length pages.now }
+    ensures { IsTrue result → AreBehind E.order (P.key probe.now)
+        (all_entries (drop (suc at) pages.now)) }
+{
+    let next = at + 1;
+    if next == pages.len() {
+        return true;
+    }
+    if probe.compare(pages[next].first()).is_lt() {
+        return true;
+    }
+    false
+}
+
+/// Whether the page alone can hold the key.
+fn is_page_of<E: Entry, P: Probe<E>>(pages: &[Page<E>], probe: &P, at: usize) -> bool
+    requires rise { Rise E.order (all_entries pages.now) }
+    requires sized { AreSized pages.now }
+    ensures { IsTrue result → IsPageOf E.order pages.now (P.key probe.now) at }
+{
+    at < pages.len() && begins_before(pages, probe, at) && ends_behind(pages, probe, at)
+}
+
+/// The page that alone can hold the key: the one that is tried first, or the next one, or else one
+/// that a binary search finds.
+pub(crate) fn page_near<E: Entry, P: Probe<E>>(pages: &[Page<E>], probe: &P, first: usize) -> usize
+    requires rise { Rise E.order (all_entries pages.now) }
+    requires sized { AreSized pages.now }
+    requires some { 0 < length pages.now }
+    ensures { IsPageOf E.order pages.now (P.key probe.now) result }
+{
+    if is_page_of(pages, probe, first) {
+        return first;
+    }
+    if first < pages.len() {
+        let next = first + 1;
+        if is_page_of(pages, probe, next) {
+            return next;
+        }
+    }
+    page_of(pages, probe)
+}
+
 /// The entry of the key, in whatever page.
-pub(crate) fn found<'a, E: Entry, P: Probe<E>>(pages: &'a [Page<E>], probe: &P) -> Option<&'a E>
+pub(crate) fn found<'a, E: Entry, P: Probe<E>>(
+    pages: &'a [Page<E>],
+    probe: &P,
+    hint: &Cell<usize>,
+) -> Option<&'a E>
     requires rise { Rise E.order (all_entries pages.now) }
     requires sized { AreSized pages.now }
     ensures { option_map (λ entry. entry.now) result
@@ -81,7 +150,9 @@ pub(crate) fn found<'a, E: Entry, P: Probe<E>>(pages: &'a [Page<E>], probe: &P) 
     if pages.is_empty() {
         return None;
     }
-    let page = &pages[page_of(pages, probe)];
+    let at = page_near(pages, probe, hint.get());
+    hint.set(at);
+    let page = &pages[at];
     entry_in(page.as_slice(), probe)
 }
 

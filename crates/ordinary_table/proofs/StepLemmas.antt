@@ -2,7 +2,6 @@
 use Rattle.std.specs.List.{filter}
 use Rattle.std.proofs.Common.{◌≡◌, ◌∙◌, ℕ, zero, suc, ◌+◌, ◌*◌, ◌<◌, ◌≤◌, List, [], ◌∷◌, ◌++◌, Bool, true, false, cond, map, length, get_or, take, Option, refl, ap, append-nil, arith}
 use Rattle.std.proofs.Math.Nat.{suc-mul}
-use Rattle.std.proofs.lemmas.Nat.{mul-le}
 use Rattle.std.proofs.lemmas.List.{map-append}
 use Rattle.std.proofs.lemmas.List.Elements.{filter-append}
 use Rattle.par_base.specs.declared.value.Value.{Value}
@@ -40,7 +39,3 @@ numbered_suc next (row ∷ new) (suc i) d within =
 -- the steps of one more row
 pub steps_more : (start before now i many : ℕ) → before ≤ start + i * many → now ≤ before + many → now ≤ start + (i + 1) * many
 steps_more start before now i many have more = omega (arith, suc-mul i many)
-
--- and of all rows
-pub steps_most : (start now i n many : ℕ) → i < n → now ≤ start + (i + 1) * many → now ≤ start + n * many
-steps_most start now i n many within have = omega (arith, mul-le (i + 1) many n many (omega arith) (omega arith))

@@ -34,7 +34,7 @@ fn listed_row(alloc: Global, row: &(u64, Row), places: &[usize]) -> Result<Row, 
     for place in places {
         made.push(value_at(alloc, row, *place)?)?;
     }
-    Ok(made)
+    Row::from_list(alloc, made)
 }
 
 /// What the rows that meet the condition show at the places, by ascending identifier. Place 0 shows

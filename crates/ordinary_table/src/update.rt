@@ -4,15 +4,16 @@ ghost use Rattle.std.specs.List.{All};
 ghost use Rattle.row_store.specs.Changes.{AreOld};
 ghost use Rattle.row_store.specs.Rows.{Rows};
 ghost use Rattle.row_changes.specs.Changed.{changed};
+ghost use Rattle.expr_lang.specs.Val.{fits_row, val};
 ghost use Rattle.ordinary_table.specs.Shown.{shown, condition_of, HasChosen};
-ghost use Rattle.ordinary_table.specs.Written.{sets_of, set_row, updated, chosen_count};
+ghost use Rattle.ordinary_table.specs.Written.{set_term, sets_of, set_row, updated, chosen_count};
 ghost use Rattle.ordinary_table.specs.Fits.{SetFits, condition_fits, UpdateFits};
 ghost use Rattle.ordinary_table.specs.inner.Told.{chosen_change, set_to};
 
 use crate::Changed;
-use crate::shown::{is_allowed, shown_row};
-use expr_lang::{Expr, Steps, eval};
-use par_base::{List, Memory, Row};
+use crate::shown::is_chosen;
+use expr_lang::{Expr, Steps, eval_both};
+use par_base::{List, Memory, Row, Value};
 use row_store::{Change, Changes, Table};
 use std::alloc::Global;
 use std::sync::ledger::Ledger;
@@ -24,25 +25,38 @@ pub struct SetTo {
     pub value: Expr,
 }
 
+/// The value of a SET at what the row shows.
+fn set_value<L: Ledger>(
+    alloc: Global,
+    row: &(u64, Row),
+    set: &SetTo,
+    steps: &mut Steps<L>,
+) -> Result<Value, Memory>
+    requires { fits_row (set_term set.now).value (length row.now.1 + 1) ≡ true }
+    ensures ok { IfOk result (λ value. value ≡ val (set_term set.now).value (shown row.now)) }
+    ensures steps { steps.new ≡ steps.old + 1 }
+{
+    let own = [Value::Reference(row.0)];
+    eval_both(alloc, &set.value, own.as_slice(), row.1.as_slice(), steps)
+}
+
 /// The row with the values that its SETs have at what it showed before them.
 fn set_values<L: Ledger>(
     alloc: Global,
     row: &(u64, Row),
-    before: &Row,
     sets: &[SetTo],
     steps: &mut Steps<L>,
 ) -> Result<Row, Memory>
-    requires before { before.now ≡ shown row.now }
     requires sets { All (SetFits (length row.now.1)) (sets_of sets.now) }
     ensures values { IfOk result (λ values. values ≡ set_row (sets_of sets.now) row.now) }
     ensures steps { steps.new ≤ steps.old + length sets.now }
 {
-    let mut values = row.1.copy(alloc)?.into_vec();
+    let mut values = row.1.to_list(alloc)?.into_vec();
     for set in sets {
-        let value = eval(alloc, &set.value, before, steps)?;
+        let value = set_value(alloc, row, set, steps)?;
         values[set.place] = value;
     }
-    Ok(List::from_vec(values))
+    Row::from_list(alloc, List::from_vec(values))
 }
 
 /// The change of a row that meets the condition. There is none for another row.
@@ -59,14 +73,13 @@ fn change_of<L: Ledger>(
         ≡ chosen_change (condition_of filter.entry) (set_to (sets_of sets.now)) row.now) }
     ensures steps { steps.new ≤ steps.old + (1 + length sets.now) }
 {
-    let before = shown_row(alloc, row)?;
-    if !is_allowed(alloc, &before, filter, steps)? {
+    if !is_chosen(alloc, row, filter, steps)? {
         return Ok(None);
     }
     Ok(Some(Change {
         id: row.0,
         old: Some(row.1.copy(alloc)?),
-        new: Some(set_values(alloc, row, &before, sets, steps)?),
+        new: Some(set_values(alloc, row, sets, steps)?),
     }))
 }
 

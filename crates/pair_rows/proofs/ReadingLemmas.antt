@@ -1,5 +1,5 @@
 -- Passes over identifiers.
-use Rattle.std.proofs.Common.{◌≡◌, ℕ, ◌+◌, ◌<◌, ◌≤◌, ◌==◌, List, [], ◌∷◌, ◌++◌, length, take, drop, slice_index_or, if◌then◌else◌, Some, refl, ap, sym, ◌∙◌, subst, take-append-drop, arith}
+use Rattle.std.proofs.Common.{◌≡◌, ℕ, ◌+◌, ◌<◌, ◌≤◌, ◌==◌, List, [], ◌∷◌, ◌++◌, length, take, drop, slice_index_or, if◌then◌else◌, refl, ap, sym, ◌∙◌, subst, take-append-drop, arith}
 use Rattle.std.proofs.lemmas.List.{take_more, drop_more}
 use Rattle.row_store.specs.Rows.{Rows, AreBelow}
 use Rattle.id_memory.specs.Pairs.{Pairs}
@@ -13,11 +13,6 @@ use Rattle.pair_rows.specs.inner.Lookups.{with_below, with_append}
 pub paired_at : (pick : ℕ × ℕ × ℕ → ℕ) (places : List ℕ) (r : Rows) (es : Pairs) (id : ℕ) → part_at places r (partner pick es id) ≡ paired pick places r es id
 paired_at pick places r [] id = refl
 paired_at pick places r (e ∷ es) id = by_test (pick e == id) (λ q. rw q refl) (λ q. rw q (paired_at pick places r es id))
-
--- one entry more in front
-pub partner_more : (pick : ℕ × ℕ × ℕ → ℕ) (es : Pairs) (left : ℕ) (id : ℕ) → left < length es
-    → partner pick (drop left es) id ≡ (if pick (slice_index_or es left (0, 0, 0)) == id then Some (slice_index_or es left (0, 0, 0)).0 else partner pick (drop (left + 1) es) id)
-partner_more pick es left id h = ap (λ (all : Pairs). partner pick all id) (drop_more es left (0, 0, 0) h)
 
 -- tables made at identifiers
 from_append : (f : ℕ → Cell) (xs ys : List ℕ) → table_from (xs ++ ys) f ≡ table_from xs f ++ table_from ys f

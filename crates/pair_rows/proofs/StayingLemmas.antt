@@ -8,7 +8,6 @@ use Rattle.id_memory.specs.Pairs.{Pairs}
 use Rattle.row_parts.specs.RowCells.{by_test}
 use Rattle.pair_rows.specs.inner.Numbers.{count_cons}
 use Rattle.pair_rows.specs.Stays.{stands, staying}
-use Rattle.pair_rows.specs.Kept.{alone}
 use Rattle.pair_rows.specs.inner.Lookups.{filter_append}
 
 -- more than none
@@ -30,11 +29,6 @@ stands_counted pick (e ∷ es) id =
     let less : count_by (λ e. pick e == id) (e ∷ es) ≡ count_by (λ e. pick e == id) es = omega (arith, same) in
     let other : stands pick (e ∷ es) id ≡ stands pick es id = ap (λ (b : Bool). if b then true else stands pick es id) q in
     ap (nat_lt 0) less ∙ stands_counted pick es id ∙ sym other)
-
--- the rows in no pair are those that stay where no pair is new
-pub alone_is : (pick : ℕ × ℕ × ℕ → ℕ) (m : Pairs) (rows : Rows) → staying pick m [] rows ≡ alone pick m rows
-alone_is pick m [] = refl
-alone_is pick m (r ∷ rs) = by_test (stands pick m r.0) (λ q. rw q (alone_is pick m rs)) (λ q. rw q (ap (λ (rest : Rows). r ∷ rest) (alone_is pick m rs)))
 
 -- rows that stay are below the next row
 behind_kept : (test : ℕ → Bool) (n : ℕ) (xs : Rows) (x : ℕ × List Value) (ys : Rows) → RiseFrom n (xs ++ x ∷ ys) → (n ≤ x.0) × AreBelow (filter (λ r. test r.0) xs) x.0

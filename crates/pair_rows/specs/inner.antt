@@ -1,3 +1,12 @@
 pub mod KeptLaws
 pub mod Lookups
 pub mod Numbers
+pub mod Draws
+pub mod Knowing
+pub mod Changed
+pub mod PairLemmas
+pub mod JoinedRows
+pub mod ShownLaws
+pub mod TakenPairs
+pub mod FoundPairs
+pub mod TwoSides

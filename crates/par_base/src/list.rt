@@ -44,6 +44,11 @@ impl<T> List<T> {
         Ok(List { items })
     }
 
+    /// Where memory for further items is taken.
+    pub fn allocator(&self) -> Global {
+        *self.items.allocator()
+    }
+
     /// How many items there are.
     pub fn len(&self) -> usize
         ensures { result ≡ length self.now }

@@ -1,7 +1,7 @@
 //! Values and rows.
 ghost use Rattle.std.specs.Prelude.{◌≡◌, IfOk};
 
-use crate::{List, Memory, Text};
+use crate::{Memory, Text};
 use std::alloc::Global;
 
 /// What a column of a row holds. Columns have no types.
@@ -13,9 +13,6 @@ pub enum Value {
     /// A reference to a row's identifier.
     Reference(u64),
 }
-
-/// The values of a row, one for each column.
-pub type Row = List<Value>;
 
 impl Value {
     /// An equal value.
@@ -29,23 +26,4 @@ impl Value {
             Value::Reference(id) => Ok(Value::Reference(*id)),
         }
     }
-}
-
-impl List<Value> {
-    /// An equal row.
-    pub fn copy(&self, alloc: Global) -> Result<Row, Memory>
-        ensures { IfOk result (λ made. made ≡ self.now) }
-    {
-        copy_values(alloc, self.as_slice())
-    }
-}
-
-fn copy_values(alloc: Global, values: &[Value]) -> Result<Row, Memory>
-    ensures { IfOk result (λ made. made ≡ values.now) }
-{
-    let mut made = List::with_room(alloc, values.len())?;
-    for value in values {
-        made.push(value.copy(alloc)?)?;
-    }
-    Ok(made)
 }

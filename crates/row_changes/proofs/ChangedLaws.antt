@@ -132,11 +132,6 @@ other_changed P Q rows cs rise pass apart =
 
 -- ---- of sides
 
-pub all_rise_changed : (ts : Tables) (changes : TableChanges) → AllRise ts → AllRise (changed_tables ts changes)
-all_rise_changed [] changes rise = tt
-all_rise_changed (t ∷ ts) [] rise = rise
-all_rise_changed (t ∷ ts) (c ∷ cs) rise = (changed_rise t c rise.0, all_rise_changed ts cs rise.1)
-
 -- changes of a side restricted to their identifiers
 pub only_changes : (P : ℕ → Bool) (ts : Tables) (changes : TableChanges) → AllRise ts → EachPass P changes → only P (changed_tables ts changes) ≡ changed_tables (only P ts) changes
 only_changes P [] changes rise pass = refl

@@ -10,7 +10,7 @@ use Rattle.op_law.specs.Tables.{Tables, AllRise}
 use Rattle.op_law.specs.Local.{rows_only, only}
 use Rattle.row_changes.specs.Changed.{TableChanges, changed, AreChangesOf, changed_tables}
 use Rattle.row_changes.specs.Differences.{AllDiffer, IsDifference, AreDifferences}
-use Rattle.row_changes.specs.Touched.{AllPass, EachPass}
+use Rattle.row_changes.specs.Touched.{AllPass}
 use Rattle.row_changes.proofs.ChangedLaws.{after_other, changed_at, changed_rise}
 use Rattle.op_law.proofs.OnlyLaws.{by_test, first_table, other_tables, rise_only, row_in, row_out, same_rows}
 
@@ -76,14 +76,6 @@ differences_of_part P (t ∷ ts) (u ∷ us) (c ∷ cs) rise_b rise_n same part =
   differences_of_part P ts us cs rise_b.1 rise_n.1 (ap other_tables same) part.1,
 )
 
-pub parts_pass : (P : ℕ → Bool) (before now : Tables) (cs : TableChanges) → AllRise before → AreDifferences (only P before) (only P now) cs → EachPass P cs
-parts_pass P [] [] [] rise part = tt
-parts_pass P [] [] (c ∷ cs) rise part = absurd part
-parts_pass P [] (u ∷ us) cs rise part = absurd part
-parts_pass P (t ∷ ts) [] cs rise part = absurd part
-parts_pass P (t ∷ ts) (u ∷ us) [] rise part = absurd part
-parts_pass P (t ∷ ts) (u ∷ us) (c ∷ cs) rise part = (part_passes P t u c rise.0 part.0, parts_pass P ts us cs rise.1 part.1)
-
 -- the differences of two sides have the old rows of the one, and make the other of it
 pub differences_fit : (before now : Tables) (cs : TableChanges) → AreDifferences before now cs → AreChangesOf before cs
 differences_fit [] [] [] are = tt
@@ -100,7 +92,3 @@ differences_make [] (u ∷ us) cs are = absurd are
 differences_make (t ∷ ts) [] cs are = absurd are
 differences_make (t ∷ ts) (u ∷ us) [] are = absurd are
 differences_make (t ∷ ts) (u ∷ us) (c ∷ cs) are = let a = are.0.new in let b = differences_make ts us cs are.1 in cc
-
--- there is none where nothing differs
-pub no_difference : (rows : Rows) → IsDifference rows rows []
-no_difference rows = record { rise = tt; old = tt; new = refl; differ = tt }

@@ -49,12 +49,6 @@ fit_at (t ∷ ts) [] i d e h fit = absurd fit
 fit_at (t ∷ ts) (c ∷ cs) zero d e h fit = fit.0.1
 fit_at (t ∷ ts) (c ∷ cs) (suc i) d e h fit = fit_at ts cs i d e (omega arith) fit.1
 
--- the changes before one are below it
-above_first : (n : ℕ) (c : Change) (cs : List Change) (i : ℕ) (d : Change) → ChangesRise n (c ∷ cs) → i < length cs → c.id < (get_or cs i d).id
-above_first n c [] i d rise h = absurd (omega arith)
-above_first n c (e ∷ cs) zero d rise h = omega (arith, rise.1.0)
-above_first n c (e ∷ cs) (suc i) d rise h = omega (arith, rise.1.0, above_first (c.id + 1) e cs i d rise.1 (omega arith))
-
 pub above_taken : (n : ℕ) (cs : List Change) (i : ℕ) (d : Change) → ChangesRise n cs → i < length cs → IsAbove (take i cs) (get_or cs i d).id
 above_taken n [] i d rise h = absurd (omega arith)
 above_taken n (c ∷ cs) zero d rise h = tt

@@ -60,14 +60,6 @@ grows_next before key count now next = record {
 pub adds_next : {K : Type 0} (before : K → Option ℕ) (key : K) (count : ℕ) (now : K → Option ℕ) → IsNext before key count now → AddsAtMost before key now
 adds_next before key count now next = λ a n some. elim (next.only a n some) [ inl x ↦ inl x.0 | inr old ↦ inr old ]
 
--- nothing is added
-pub grows_same : {K : Type 0} (before : K → Option ℕ) (count : ℕ) → Grows before count before count
-grows_same before count = record {
-  stay = λ a n some. some;
-  fresh = λ a n none some. absurd (none_is n (sym none ∙ some));
-  more = omega arith;
-}
-
 -- what grows twice grows
 fresh_twice : {K : Type 0} (f : K → Option ℕ) (x : ℕ) (g : K → Option ℕ) (y : ℕ) (h : K → Option ℕ) (z : ℕ) → Grows f x g y → Grows g y h z → (a : K) (n : ℕ) (o : Option ℕ) → g a ≡ o → f a ≡ None → h a ≡ Some n → x < n
 fresh_twice f x g y h z first second a n None at none some = omega (arith, first.more, second.fresh a n at some)

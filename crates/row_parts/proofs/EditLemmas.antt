@@ -4,24 +4,9 @@ use Rattle.std.proofs.Common.{◌≡◌, ℕ, zero, suc, ◌+◌, ◌<◌, ◌�
 use Rattle.std.proofs.lemmas.Bool.Decides.{nat_tests}
 use Rattle.std.proofs.lemmas.List.{drop_more}
 use Rattle.std.proofs.Math.ListN.{drop_of_length-le}
-use Rattle.std.specs.List.{insert, remove}
 use Rattle.par_base.specs.declared.value.Value.{Value}
 use Rattle.par_base.specs.declared.value.Value.TheVariants.{Null}
 use Rattle.row_parts.specs.Places.{filled, value_for}
-
--- an insertion past the end is one at the end
-pub insert_past : (row : List Value) (place : ℕ) (v : Value) → length row ≤ place → insert row (length row) v ≡ insert row place v
-insert_past [] zero v h = refl
-insert_past [] (suc place) v h = refl
-insert_past (x ∷ xs) zero v h = absurd (omega arith)
-insert_past (x ∷ xs) (suc place) v h = ap (λ (vs : List Value). x ∷ vs) (insert_past xs place v (omega arith))
-
--- a removal past the end takes nothing
-pub remove_past : (row : List Value) (place : ℕ) → length row ≤ place → row ≡ remove row place
-remove_past [] zero h = refl
-remove_past [] (suc place) h = refl
-remove_past (x ∷ xs) zero h = absurd (omega arith)
-remove_past (x ∷ xs) (suc place) h = ap (λ (vs : List Value). x ∷ vs) (remove_past xs place (omega arith))
 
 slice_get-some : (vs : List Value) (i : ℕ) (d : Value) → i < length vs → slice_get vs i ≡ Some (get_or vs i d)
 slice_get-some [] i d h = absurd (omega arith)

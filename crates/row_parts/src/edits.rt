@@ -9,23 +9,24 @@ use std::alloc::Global;
 pub fn with_value(row: Row, place: usize, value: Value) -> Result<Row, Memory>
     ensures { IfOk result (λ made. made ≡ inserted row place value) }
 {
-    let mut made = row;
+    let alloc = row.allocator();
+    let mut made = row.to_list(alloc)?;
     let at = if place < made.len() {
         place
     } else {
         made.len()
     };
     made.insert(at, value)?;
-    Ok(made)
+    Row::from_list(alloc, made)
 }
 
 /// The row without the value at a place, where it has one there.
 pub fn without_value(alloc: Global, row: &Row, place: usize) -> Result<Row, Memory>
     ensures { IfOk result (λ part. part ≡ removed row.now place) }
 {
-    let mut part = row.copy(alloc)?;
+    let mut part = row.to_list(alloc)?;
     if place < part.len() {
         part.remove(place);
     }
-    Ok(part)
+    Row::from_list(alloc, part)
 }

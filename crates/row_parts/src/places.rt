@@ -26,7 +26,7 @@ pub fn pick(alloc: Global, places: &[usize], row: &Row) -> Result<Row, Memory>
     for place in places {
         part.push(value_at(alloc, row, *place)?)?;
     }
-    Ok(part)
+    Row::from_list(alloc, part)
 }
 
 /// So many nulls.
@@ -37,7 +37,7 @@ pub fn nulls(alloc: Global, count: usize) -> Result<Row, Memory>
     for _ in 0..count {
         row.push(Value::Null)?;
     }
-    Ok(row)
+    Row::from_list(alloc, row)
 }
 
 /// The value of a place, where these values stand at these places.
@@ -97,5 +97,5 @@ pub fn row_of_both(
         let place = row.len();
         row.push(value_of_both(alloc, first_places, second_places, first, second, place)?)?;
     }
-    Ok(row)
+    Row::from_list(alloc, row)
 }

@@ -96,6 +96,7 @@ impl Table {
         ensures ok { OnOk result (self.new.rows ≡ self.old.rows ++ (id, row) ∷ []) }
         ensures err { OnErr result (self.new.rows ≡ self.old.rows) }
         ensures room { self.old.spare ≤ self.new.spare + 1 }
+        ensures kept { OnErr result (self.old.spare ≤ self.new.spare) }
     {
         self.pages.reserve(1)?;
         let _ = put_row(&mut self.pages, id, Some(row));

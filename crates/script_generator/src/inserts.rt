@@ -9,11 +9,11 @@ use statements::{Statement, TableName};
 use std::alloc::Global;
 
 // An INSERT of one row.
-fn insert_row(alloc: Global, table: TableName, row: Row) -> Result<Statement, Memory>
+fn insert_row(alloc: Global, table: TableName, row: List<Value>) -> Result<Statement, Memory>
     ensures { IfOk result (λ statement. statement_view statement ≡ Insert table (row ∷ [])) }
 {
     let mut rows = List::new(alloc);
-    rows.push(row)?;
+    rows.push(Row::from_list(alloc, row)?)?;
     Ok(Statement::Insert { table, rows })
 }
 

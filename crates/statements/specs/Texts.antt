@@ -38,7 +38,7 @@ BranchTexts P branch = TermTexts P branch.condition
 
 -- of an operator
 abbrev pub OpTexts : (List ℕ → Type 0) → OpView → Type 0
-OpTexts P (AddColumn column value table) = TermTexts P value
+OpTexts P (AddColumn column value table tracked) = TermTexts P value
 OpTexts P (DropColumn column table value) = TermTexts P value
 OpTexts P (Decompose table first first_columns second second_columns key) = KeyTexts P key
 OpTexts P (Join outer first second target key) = KeyTexts P key

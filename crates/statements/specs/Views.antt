@@ -55,7 +55,7 @@ pub data OpView : Type 0 where
   DropTable : List ℕ → OpView
   RenameTable : List ℕ → List ℕ → OpView
   RenameColumn : List ℕ → List ℕ → List ℕ → OpView
-  AddColumn : List ℕ → Tree → List ℕ → OpView
+  AddColumn : List ℕ → Tree → List ℕ → Bool → OpView
   DropColumn : List ℕ → List ℕ → Tree → OpView
   DecomposeSingle : List ℕ → List ℕ → List (List ℕ) → OpView
   Decompose : List ℕ → List ℕ → List (List ℕ) → List ℕ → List (List ℕ) → KeyView → OpView
@@ -68,7 +68,7 @@ op_view (op.CreateTable table columns) = CreateTable table columns
 op_view (op.DropTable table) = DropTable table
 op_view (op.RenameTable table new) = RenameTable table new
 op_view (op.RenameColumn column table new) = RenameColumn column table new
-op_view (op.AddColumn column value table) = AddColumn column (text_term value) table
+op_view (op.AddColumn column value table tracked) = AddColumn column (text_term value) table tracked
 op_view (op.DropColumn column table value) = DropColumn column table (text_term value)
 op_view (op.DecomposeSingle table target columns) = DecomposeSingle table target columns
 op_view (op.Decompose table first first_columns second second_columns key) = Decompose table first first_columns second second_columns (key_view key)
@@ -96,6 +96,11 @@ pub data StatementView : Type 0 where
   Use : List ℕ → StatementView
   Session : ℕ → StatementView
   Advise : List ℕ → StatementView
+  Watch : List ℕ → StatementView
+  Unwatch : ℕ → StatementView
+  Begin : StatementView
+  Commit : StatementView
+  Rollback : StatementView
 
 abbrev pub statement_view : Statement → StatementView
 statement_view (statement.CreateVersion name origin operators) = CreateVersion name origin (map op_view operators)
@@ -111,3 +116,8 @@ statement_view statement.ShowLayout = ShowLayout
 statement_view (statement.Use name) = Use name
 statement_view (statement.Session number) = Session number
 statement_view (statement.Advise name) = Advise name
+statement_view (statement.Watch name) = Watch name
+statement_view (statement.Unwatch number) = Unwatch number
+statement_view statement.Begin = Begin
+statement_view statement.Commit = Commit
+statement_view statement.Rollback = Rollback

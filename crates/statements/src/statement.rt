@@ -53,10 +53,12 @@ pub enum OpText {
         table: Name,
         new_name: Name,
     },
+    /// A tracked column's value follows its expression until it is written.
     AddColumn {
         column: Name,
         value: ExprText,
         table: Name,
+        tracked: bool,
     },
     /// `value` is what rows have in the column that come in without it.
     DropColumn {
@@ -147,4 +149,13 @@ pub enum Statement {
     Advise {
         name: Name,
     },
+    Watch {
+        name: Name,
+    },
+    Unwatch {
+        number: u64,
+    },
+    Begin,
+    Commit,
+    Rollback,
 }

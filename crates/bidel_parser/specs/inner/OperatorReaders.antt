@@ -10,8 +10,8 @@ use Rattle.bidel_parser.specs.declared.first_words.Kind.{Kind}
 use Rattle.bidel_parser.specs.declared.first_words.Kind.TheVariants as kind
 use Rattle.bidel_parser.specs.declared.first_words.KeyWord.{KeyWord}
 use Rattle.bidel_parser.specs.declared.first_words.KeyWord.TheVariants as by
-use Rattle.bidel_parser.specs.Words.{choice_of}
-use Rattle.bidel_parser.specs.inner.WordReaders.{word_at, sign_at, choice_at}
+use Rattle.bidel_parser.specs.Words.{choice_of, is_word}
+use Rattle.bidel_parser.specs.inner.WordReaders.{word_at, sign_at, choice_at, flag_at}
 use Rattle.statements.specs.Views.{KeyView, Primary, Foreign, Condition, BranchView, OpView, CreateTable, DropTable, RenameTable, RenameColumn, AddColumn, DropColumn, Join, Split, Merge}
 use Rattle.bidel_parser.specs.Operators.{operator_words, kinds, key_words, Part, decomposed, part_of, branch_of, begins_operator}
 
@@ -37,9 +37,13 @@ rename_rest_at kind.Table = and_then name_at λ table. and_then (word_at "into")
 rename_rest_at kind.Column = and_then name_at λ column. and_then (word_at "in") λ _. and_then name_at λ table. and_then (word_at "to") λ _.
     and_then name_at λ new. done (RenameColumn column table new)
 
+-- whether TRACKED comes
+abbrev pub tracked_at : List Lexeme → Read Lexeme Bool
+tracked_at = flag_at (is_word "tracked") (word_at "tracked")
+
 abbrev pub add_rest_at : List Lexeme → Read Lexeme OpView
 add_rest_at = and_then (word_at "column") λ _. and_then name_at λ column. and_then (word_at "as") λ _. and_then expression_at λ value.
-    and_then (word_at "into") λ _. and_then name_at λ table. done (AddColumn column value table)
+    and_then (word_at "into") λ _. and_then name_at λ table. and_then tracked_at λ tracked. done (AddColumn column value table tracked)
 
 abbrev pub second_part_at : List Lexeme → Read Lexeme Part
 second_part_at = and_then name_at λ table. and_then names_at λ columns. and_then (word_at "on") λ _. and_then key_at λ key. done (part_of table columns key)

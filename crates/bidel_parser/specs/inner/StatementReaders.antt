@@ -8,10 +8,10 @@ use Rattle.bidel_expr.specs.Expressions.{expression_at}
 use Rattle.statements.specs.declared.statement.TableName.{TableName}
 use Rattle.bidel_parser.specs.declared.first_words.StatementWord.{StatementWord}
 use Rattle.bidel_parser.specs.declared.first_words.StatementWord.TheVariants as first
-use Rattle.bidel_parser.specs.Words.{session_of, is_word}
+use Rattle.bidel_parser.specs.Words.{session_of, watch_of, is_word}
 use Rattle.bidel_parser.specs.inner.WordReaders.{word_at, sign_at, choice_at, flag_at}
 use Rattle.bidel_parser.specs.inner.OperatorReaders.{listed_operators_at}
-use Rattle.statements.specs.Views.{Tree, AssignmentView, StatementView, CreateVersion, DropVersion, Insert, Import, Update, Delete, Select, Materialize, Step, ShowLayout, Use, Session, Advise}
+use Rattle.statements.specs.Views.{Tree, AssignmentView, StatementView, CreateVersion, DropVersion, Insert, Import, Update, Delete, Select, Materialize, Step, ShowLayout, Use, Session, Advise, Watch, Unwatch, Begin, Commit, Rollback}
 use Rattle.bidel_parser.specs.Statements.{statement_words, table_named, target_named, assigned}
 
 -- the name behind a dot, where one comes
@@ -72,8 +72,9 @@ in_steps_at = flag_at (is_word "in") (and_then (word_at "in") λ _. word_at "ste
 abbrev pub materialize_rest_at : List Lexeme → Read Lexeme StatementView
 materialize_rest_at = and_then (separated_at comma_of target_at) λ named. and_then in_steps_at λ in_steps. and_then (sign_at ";") λ _. done (Materialize named in_steps)
 
-abbrev pub step_rest_at : List Lexeme → Read Lexeme StatementView
-step_rest_at = and_then (sign_at ";") λ _. done Step
+-- a semicolon, and a statement
+abbrev pub closed_at : StatementView → List Lexeme → Read Lexeme StatementView
+closed_at statement = and_then (sign_at ";") λ _. done statement
 
 abbrev pub show_rest_at : List Lexeme → Read Lexeme StatementView
 show_rest_at = and_then (word_at "layout") λ _. and_then (sign_at ";") λ _. done ShowLayout
@@ -91,6 +92,12 @@ session_rest_at = and_then (one_at session_of) λ number. and_then (sign_at ";")
 abbrev pub advise_rest_at : List Lexeme → Read Lexeme StatementView
 advise_rest_at = and_then name_at λ name. and_then (sign_at ";") λ _. done (Advise name)
 
+abbrev pub watch_rest_at : List Lexeme → Read Lexeme StatementView
+watch_rest_at = and_then name_at λ name. and_then (sign_at ";") λ _. done (Watch name)
+
+abbrev pub unwatch_rest_at : List Lexeme → Read Lexeme StatementView
+unwatch_rest_at = and_then (one_at watch_of) λ number. and_then (sign_at ";") λ _. done (Unwatch number)
+
 abbrev pub statement_rest_at : Bool → StatementWord → List Lexeme → Read Lexeme StatementView
 statement_rest_at ended first.Create = create_version_rest_at ended
 statement_rest_at ended first.Drop = drop_version_rest_at
@@ -100,11 +107,16 @@ statement_rest_at ended first.Update = update_rest_at
 statement_rest_at ended first.Delete = delete_rest_at
 statement_rest_at ended first.Select = select_rest_at
 statement_rest_at ended first.Materialize = materialize_rest_at
-statement_rest_at ended first.Step = step_rest_at
+statement_rest_at ended first.Step = closed_at Step
 statement_rest_at ended first.Show = show_rest_at
 statement_rest_at ended first.Use = use_rest_at
 statement_rest_at ended first.Session = session_rest_at
 statement_rest_at ended first.Advise = advise_rest_at
+statement_rest_at ended first.Watch = watch_rest_at
+statement_rest_at ended first.Unwatch = unwatch_rest_at
+statement_rest_at ended first.Begin = closed_at Begin
+statement_rest_at ended first.Commit = closed_at Commit
+statement_rest_at ended first.Rollback = closed_at Rollback
 
 -- the statement at the front of the tokens
 abbrev pub statement_at : Bool → List Lexeme → Read Lexeme StatementView

@@ -31,3 +31,8 @@ is_beside _ _ = false
 abbrev pub MayAdd : ℕ → Term ℕ → Option (List Value) → Type 0
 MayAdd place e None = Unit {0}
 MayAdd place e (Some row) = (place ≤ length row) × (fits_row e (length row) ≡ true)
+
+-- the expression fits a row
+abbrev pub MayFollow : Term ℕ → Option (List Value) → Type 0
+MayFollow e None = Unit {0}
+MayFollow e (Some row) = fits_row e (length row) ≡ true

@@ -3,7 +3,7 @@ use Rattle.std.specs.Prelude.{◌≡◌, length}
 use Rattle.row_store.specs.Rows.{Rows}
 use Rattle.id_memory.specs.Pairs.{Pairs}
 use Rattle.op_law.specs.Tables.{RowsWide}
-use Rattle.op_cond_join.specs.Shown.{Joining, AreThere, joined}
+use Rattle.pair_rows.specs.Shown.{Joining, AreThere, joined}
 use Rattle.pair_rows.specs.Halves.{first_of, second_of}
 use Rattle.pair_rows.specs.Kept.{alone}
 

@@ -13,32 +13,17 @@ use Rattle.row_parts.specs.RowCells.{Cell, by_test, by_option}
 use Rattle.row_parts.specs.inner.PlaceLemmas.{length-pick, first_join, second_join}
 use Rattle.pair_rows.specs.inner.Numbers.{same_number, is_own, count_cons}
 use Rattle.pair_rows.specs.inner.Lookups.{apart, below_weaker, wide_at}
-use Rattle.op_cond_join.specs.inner.PairLemmas.{count_yes, count_no, has_not}
-use Rattle.op_cond_join.specs.Shown.{Joining, join_cells, row_at, IsJoined, has}
-use Rattle.op_cond_join.specs.inner.ShownLaws.{row_for, joined_found}
-use Rattle.op_cond_join.specs.Assigned.{unchanged, kept_entry, kept_in, Assigning, Placed, first_got, second_got, last_got, place_changed, place_by, place_row, assigned, ending, beginning}
-use Rattle.op_cond_join.specs.inner.TakenPairs.{FirstsBelow, firsts_weaker, firsts_behind, has_behind, has_before, not_taken, unchanged_pair, unchanged_row}
-use Rattle.op_cond_join.specs.Getting.{IsGot, got_is, under, OwnIs, side_is}
-
--- a joined row from its cells
-join_some : (j : Joining) → ArePartition j.first j.second → (c d : Cell) (o : List Value) → ((a : List Value) → c ≡ Some a → length a ≡ length j.first) → ((b : List Value) → d ≡ Some b → length b ≡ length j.second) → join_cells j c d ≡ Some o → (c ≡ Some (part j.first o)) × (d ≡ Some (part j.second o))
-join_some j parts (Some a) (Some b) o wide other_wide e =
-    let row : joined_row j.first j.second a b ≡ o = cc in
-    let first = first_join j.first j.second parts a b (wide a refl) (other_wide b refl) in
-    let second = second_join j.first j.second parts a b (wide a refl) (other_wide b refl) in
-    (ap (λ (v : List Value). Some v) (sym first ∙ ap (part j.first) row), ap (λ (v : List Value). Some v) (sym second ∙ ap (part j.second) row))
-join_some j parts (Some a) None o wide other_wide e = absurd (cc)
-join_some j parts None d o wide other_wide e = absurd (cc)
+use Rattle.pair_rows.specs.inner.PairLemmas.{count_yes, count_no, has_not}
+use Rattle.pair_rows.specs.Shown.{Joining, join_cells, row_at, IsJoined, has}
+use Rattle.pair_rows.specs.inner.ShownLaws.{row_for, joined_found}
+use Rattle.pair_rows.specs.inner.FoundPairs.{old_pair}
+use Rattle.pair_rows.specs.Given.{unchanged, kept_entry, kept_in}
+use Rattle.op_cond_join.specs.Assigned.{Assigning, Placed, first_got, second_got, last_got, place_changed, place_by, place_row, assigned, ending, beginning}
+use Rattle.pair_rows.specs.inner.TakenPairs.{FirstsBelow, firsts_weaker, firsts_behind, has_behind, has_before, not_taken, unchanged_pair, unchanged_row}
+use Rattle.pair_rows.specs.Getting.{IsGot, got_is, under, OwnIs, side_is}
 
 -- the old source, target and memory
 module _ (j : Joining) (parts : ArePartition j.first j.second) (s t r : Rows) (m : Pairs) (is : IsJoined j s t r m) (wide : RowsWide (length j.first) s) (other_wide : RowsWide (length j.second) t) where
-  -- the rows of an old pair are the parts of the old row
-  pub old_pair : (p : ℕ) (o : List Value) (pair : ℕ × ℕ) → row_of r p ≡ Some o → pair_of m p ≡ Some pair → (row_of s pair.0 ≡ Some (part j.first o)) × (row_of t pair.1 ≡ Some (part j.second o))
-  old_pair p o pair at has_it =
-      let found : row_of r p ≡ row_for j s t (pair_of m p) = ap (λ (rows : Rows). row_of rows p) is.rows ∙ joined_found j s t m p is.there in
-      let row : row_at j s t pair.0 pair.1 ≡ Some o = sym (ap (row_for j s t) has_it) ∙ sym found ∙ at in
-      join_some j parts (row_of s pair.0) (row_of t pair.1) o (λ a e. wide_at (length j.first) s pair.0 a wide e) (λ b e. wide_at (length j.second) t pair.1 b other_wide e) row
-
   -- what holds of what is assigned
   pub record Ready (n : ℕ) (d : Assigning) : Type 0 where
     pub next : n ≤ d.next
@@ -99,7 +84,7 @@ module _ (j : Joining) (parts : ArePartition j.first j.second) (s t r : Rows) (m
       (λ pair e.
       let same : ◌≡◌ {A = Option ℕ} (Some pair.0) (Some k) = rw e at number in
       let id : pair.0 ≡ k = cc in
-      let found = ready.first_keeps pair.0 (part j.first row) (old_pair p row pair at e).0 in
+      let found = ready.first_keeps pair.0 (part j.first row) (old_pair j parts s t r m is wide other_wide p row pair at e).0 in
       subst (λ (i : ℕ). row_of d.first i ≡ Some (part j.first row)) id found)
 
   -- the old second row has the part
@@ -110,7 +95,7 @@ module _ (j : Joining) (parts : ArePartition j.first j.second) (s t r : Rows) (m
       (λ pair e.
       let same : ◌≡◌ {A = Option ℕ} (Some pair.1) (Some k) = rw e at number in
       let id : pair.1 ≡ k = cc in
-      let found = ready.second_keeps pair.1 (part j.second row) (old_pair p row pair at e).1 in
+      let found = ready.second_keeps pair.1 (part j.second row) (old_pair j parts s t r m is wide other_wide p row pair at e).1 in
       subst (λ (i : ℕ). row_of d.second i ≡ Some (part j.second row)) id found)
 
   -- the three rows that are found or drawn for a changed row
@@ -183,7 +168,7 @@ module _ (j : Joining) (parts : ArePartition j.first j.second) (s t r : Rows) (m
   -- both kinds of rows
   placed_by : (n : ℕ) (d : Assigning) (x : ℕ × List Value) (o : Option (ℕ × ℕ)) → unchanged (row_of r x.0) (pair_of m x.0) x.1 ≡ o → Ready n d → IsPlaced n d x (place_by j r m d x o)
   placed_by n d x (Some pair) e ready =
-      let both = old_pair x.0 x.1 pair (unchanged_row (row_of r x.0) (pair_of m x.0) x.1 pair e) (unchanged_pair (row_of r x.0) (pair_of m x.0) x.1 pair e) in
+      let both = old_pair j parts s t r m is wide other_wide x.0 x.1 pair (unchanged_row (row_of r x.0) (pair_of m x.0) x.1 pair e) (unchanged_pair (row_of r x.0) (pair_of m x.0) x.1 pair e) in
       record {
         ready = ready;
         grown = grown_same n d;

@@ -3,37 +3,18 @@ use Rattle.std.specs.Prelude.{◌≡◌, ℕ, List, Some, None, if◌then◌else
 use Rattle.par_base.specs.declared.value.Value.{Value}
 use Rattle.row_store.specs.Rows.{Rows, AreBelow}
 use Rattle.id_memory.specs.Pairs.{Pairs}
-use Rattle.par_base.specs.SameRows.{same_row}
-use Rattle.row_map.specs.IdPairs.{holds_pair}
-use Rattle.row_map.specs.RowNumbers.{RowNumbers, number_of_row}
 use Rattle.op_cond_join.specs.declared.assigning.Assigning.{Assigning as State}
 use Rattle.op_cond_join.specs.declared.join.JoinOn.{JoinOn}
-use Rattle.op_cond_join.specs.declared.unchanged.OldTarget.{OldTarget}
-use Rattle.op_cond_join.specs.declared.growing.Growing.{Growing}
-use Rattle.op_cond_join.specs.declared.taken.Taken.{Taken}
+use Rattle.pair_rows.specs.declared.unchanged.OldTarget.{OldTarget}
+use Rattle.pair_rows.specs.declared.growing.Growing.{Growing}
 use Rattle.op_cond_join.specs.Joinings.{joining}
-use Rattle.op_cond_join.specs.Shown.{has}
-use Rattle.op_cond_join.specs.Assigned.{Assigning, Got, Placed, least, or_id, place_changed, place_row, assigned, ending}
+use Rattle.pair_rows.specs.inner.Knowing.{FindsLeast, KnowsPairs}
+use Rattle.pair_rows.specs.Given.{Got, least, or_id}
+use Rattle.op_cond_join.specs.Assigned.{Assigning, Placed, place_changed, place_row, assigned, ending}
 
 -- what the laws see
 abbrev pub assigning : State → ℕ → Assigning
 assigning it next = record { first = it.first.table.rows; second = it.second.table.rows; taken = it.taken.entries; next = next }
-
--- the map has the least row with each values
-abbrev pub HasLeast : RowNumbers → Rows → Type 0
-HasLeast numbers rows = (values : List Value) → number_of_row numbers values ≡ least rows values
-
--- a row that has no number gets this one, and every other keeps what it had
-abbrev pub AddsNumber : RowNumbers → List Value → ℕ → RowNumbers → Type 0
-AddsNumber before values id now = (other : List Value) → number_of_row now other ≡ or_id (number_of_row before other) (if same_row values other then Some id else None)
-
--- its own map has its least rows
-abbrev pub FindsLeast : Growing → Type 0
-FindsLeast it = HasLeast it.numbers it.table.rows
-
--- the set has the pairs of the entries
-abbrev pub KnowsPairs : Taken → Type 0
-KnowsPairs it = (a b : ℕ) → holds_pair it.pairs a b ≡ has it.entries a b
 
 -- each look-up tells what a search would find
 pub record Knows (it : State) : Type 0 where

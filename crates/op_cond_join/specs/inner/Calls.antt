@@ -8,20 +8,10 @@ use Rattle.id_memory.specs.States.{CounterState}
 use Rattle.op_law.specs.Calls.{first_refused}
 use Rattle.op_cond_join.specs.declared.showing.Showing.{Showing}
 use Rattle.op_cond_join.specs.declared.showing.Seconds.{Seconds}
-use Rattle.op_cond_join.specs.inner.Changed.{ids_of, changed_in}
+use Rattle.pair_rows.specs.inner.Changed.{ids_of, changed_in}
 use Rattle.op_cond_join.specs.Joinings.{joining}
 use Rattle.id_memory.specs.Pairs.{Pairs}
-use Rattle.op_cond_join.specs.Shown.{has, is_shown, new_pairs, shown_pairs}
-
--- an identifier is needed that the counter doesn't give, and the first such one is told; or memory ran out
-abbrev pub WasRefused : ℕ → CounterState → Fault IdsSpent → Type 0
-WasRefused next old (Refused spent) = (first_refused old < next) × (spent.needed ≡ first_refused old) × (spent.limit ≡ old.limit)
-WasRefused next old (OutOfMemory memory) = Unit {0}
-
--- the answer has the property and the next identifier is this one, or it is refused exactly where that would draw more than the counter gives
-abbrev pub Draws : {T : Type 0} → ℕ → CounterState → CounterState → (T → Type 0) → Result T (Fault IdsSpent) → Type 0
-Draws next old new is (Ok x) = (next ≤ first_refused old) × is x × (new ≡ record old { next = next })
-Draws next old new is (Err fault) = WasRefused next old fault
+use Rattle.pair_rows.specs.Shown.{has, is_shown, new_pairs, shown_pairs}
 
 -- whether a pair of new rows is shown
 abbrev pub shows : Showing → ℕ → ℕ → Bool

@@ -13,17 +13,19 @@ use Rattle.op_law.specs.Premises.{IsPair, MayMap}
 use Rattle.op_law.specs.Laws.{HalfLaws, Laws, InPair}
 use Rattle.row_parts.specs.Places.{ArePartition}
 use Rattle.pair_rows.specs.inner.Lookups.{below_sound, filter_rise, filter_wide, filter_sound, filter_has}
-use Rattle.op_cond_join.specs.Shown.{Joining, IsJoined, joined, shown_pairs, new_pairs}
-use Rattle.op_cond_join.specs.inner.ShownLaws.{forward_joined, joined_rise, joined_wide, target_sound, pairs_sound, shown_drawn, same_pairs, none_new}
+use Rattle.pair_rows.specs.Shown.{Joining, IsJoined, joined, shown_pairs, new_pairs}
+use Rattle.pair_rows.specs.inner.ShownLaws.{forward_joined, joined_rise, joined_wide, target_sound, pairs_sound, shown_drawn, same_pairs, none_new}
 use Rattle.op_cond_join.specs.Assigned.{Assigning, beginning, assigned, ending}
 use Rattle.pair_rows.specs.Stays.{staying, stands}
 use Rattle.op_cond_join.specs.inner.AssignedLaws.{Ready, Grown, start_ready, assigned_one, end_ready, end_grown}
-use Rattle.op_cond_join.specs.inner.FoundLaws.{AreFound, found_there, found_joined, found_rises, found_sound, found_stays, all_stand, end_found, end_sound, still_assigned, all_stay, parts_found, PartsFound}
+use Rattle.pair_rows.specs.inner.FoundPairs.{AreFound, found_there, found_joined, found_rises, found_sound, found_stays, all_stand, parts_found, PartsFound}
+use Rattle.op_cond_join.specs.inner.FoundLaws.{end_found, end_sound, still_assigned, all_stay}
 use Rattle.pair_rows.specs.Kept.{alone, side_read}
 use Rattle.pair_rows.specs.inner.KeptLaws.{ArePaired, side_is_read}
-use Rattle.op_cond_join.specs.JoinOn.{table_at, JoinFits, join_backward, join_on}
+use Rattle.pair_rows.specs.Sides.{table_at, JoinFits}
+use Rattle.op_cond_join.specs.JoinOn.{join_backward, join_on}
 use Rattle.pair_rows.specs.Halves.{first_of, second_of}
-use Rattle.op_cond_join.specs.inner.TwoSides.{TwoTables, OneTable, two_tables, one_table, two_of, one_of, table_sound, row_in, empty_table}
+use Rattle.pair_rows.specs.inner.TwoSides.{TwoTables, OneTable, two_tables, one_table, two_of, one_of, table_sound, row_in, empty_table}
 
 -- no pair stands twice in no entries
 one_of_none : (a b : ℕ) → count_by (has_pair a b) [] ≤ 1

@@ -36,10 +36,6 @@ no_cond false c d e h = sym (h refl)
 pub not_alone : (a b c : Bool) → c ≡ true → (a && (not b && not c)) ≡ false
 not_alone a b c h = grind arith
 
--- a row whose identifier S has isn't alone
-not_alone_row : (a b c : Bool) → b ≡ true → (a && (not b && not c)) ≡ false
-not_alone_row a b c h = grind arith
-
 -- what is known of an alone row
 pub alone_parts : (c : Cell) (b r : Bool) → (is_there c && (not b && not r)) ≡ true → (b ≡ false) × (r ≡ false)
 alone_parts None b r h = absurd (cc)

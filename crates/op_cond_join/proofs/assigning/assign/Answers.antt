@@ -6,7 +6,8 @@ use Rattle.op_law.specs.Calls.{first_refused}
 use Rattle.op_cond_join.specs.Joinings.{joining}
 use Rattle.op_cond_join.specs.Assigned.{Assigning, assigned, place_row, ending}
 use Rattle.op_cond_join.specs.inner.Assignings.{assigning, AreBelowNext}
-use Rattle.op_cond_join.proofs.AssigningLemmas.{assign_step, step_within, placed_below, placed_rises, refused_later}
+use Rattle.pair_rows.proofs.GivenLaws.{refused_later}
+use Rattle.op_cond_join.proofs.AssigningLemmas.{assign_step, step_within, placed_below, placed_rises}
 use Rattle.op_cond_join.proofs.assigning.assign.Goals as goal
 
 pub loop-row-init : goal.loop-row-init

@@ -1,8 +1,9 @@
 use Rattle.std.specs.Option.{option_map}
 use Rattle.std.proofs.Common.{ap}
 use Rattle.id_memory.specs.States.{CounterState}
-use Rattle.op_cond_join.specs.Assigned.{side_got}
-use Rattle.op_cond_join.proofs.AssigningLemmas.{side_rises, side_below, later_below, same_below}
+use Rattle.pair_rows.specs.Given.{side_got}
+use Rattle.pair_rows.proofs.GivenLaws.{later_below, same_below}
+use Rattle.op_cond_join.proofs.AssigningLemmas.{side_rises, side_below}
 use Rattle.op_cond_join.proofs.assigning.place_changed.Goals as goal
 
 pub side_got-requires-2-clause-below : goal.side_got-requires-2-clause-below

@@ -1,5 +1,5 @@
 use Rattle.op_cond_join.specs.inner.Calls.{is_new_in}
-use Rattle.op_cond_join.proofs.ShowingLemmas.{new_more}
+use Rattle.pair_rows.proofs.ShowingLemmas.{new_more}
 use Rattle.op_cond_join.proofs.showing.add_new_pairs.Goals as goal
 
 pub loop-b-preserved : goal.loop-b-preserved

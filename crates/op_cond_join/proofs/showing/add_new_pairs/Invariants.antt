@@ -1,6 +1,6 @@
 use Rattle.std.proofs.Common.{◌≡◌, ◌++◌, ◌&&◌, not, filter, take}
-use Rattle.op_cond_join.specs.Shown.{has}
-use Rattle.op_cond_join.specs.inner.Changed.{pairs_of}
+use Rattle.pair_rows.specs.Shown.{has}
+use Rattle.pair_rows.specs.inner.Changed.{pairs_of}
 use Rattle.op_cond_join.specs.inner.Calls.{shows}
 use Rattle.op_cond_join.proofs.showing.add_new_pairs.Given as goal
 

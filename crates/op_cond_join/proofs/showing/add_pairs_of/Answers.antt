@@ -1,9 +1,9 @@
 use Rattle.std.proofs.Common.{ℕ, List, ◌++◌, filter, ap, sym, ◌∙◌}
 use Rattle.row_store.specs.Rows.{row_of}
 use Rattle.op_cond_join.specs.Joinings.{joining}
-use Rattle.op_cond_join.specs.inner.Changed.{pairs_of}
+use Rattle.pair_rows.specs.inner.Changed.{pairs_of}
 use Rattle.op_cond_join.specs.inner.Calls.{is_new_in}
-use Rattle.op_cond_join.proofs.ChangedLemmas.{before_is, rows_of, pairs_all, changed_pairs}
+use Rattle.pair_rows.proofs.ChangedLemmas.{before_is, rows_of, pairs_all, changed_pairs}
 use Rattle.op_cond_join.proofs.showing.add_pairs_of.Goals as goal
 
 pub returns-then-is_as_before : goal.returns-then-is_as_before

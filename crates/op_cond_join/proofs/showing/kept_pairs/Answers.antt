@@ -1,7 +1,7 @@
 use Rattle.std.proofs.Common.{sym, subst}
 use Rattle.id_memory.specs.Pairs.{Pairs}
-use Rattle.op_cond_join.specs.inner.PairLemmas.{AllIn, all_in}
-use Rattle.op_cond_join.proofs.ShowingLemmas.{pair_in}
+use Rattle.pair_rows.specs.inner.PairLemmas.{AllIn, all_in}
+use Rattle.pair_rows.proofs.ShowingLemmas.{pair_in}
 use Rattle.op_cond_join.proofs.showing.kept_pairs.Goals as goal
 
 pub is_kept-requires-clause-there : goal.is_kept-requires-clause-there

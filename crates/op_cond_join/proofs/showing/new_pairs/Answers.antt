@@ -1,10 +1,10 @@
 use Rattle.std.proofs.Common.{ℕ, filter, take, ap, sym, ◌∙◌}
 use Rattle.row_store.specs.Rows.{Rows}
 use Rattle.row_store.specs.inner.RowsLeft.{all_left, comes, none_passed, passed, take_passed}
-use Rattle.op_cond_join.specs.Shown.{all_pairs}
+use Rattle.pair_rows.specs.Shown.{all_pairs}
 use Rattle.op_cond_join.specs.inner.Calls.{is_new_in}
-use Rattle.op_cond_join.proofs.ShowingLemmas.{all_more}
-use Rattle.op_cond_join.proofs.ChangedLemmas.{row_there}
+use Rattle.pair_rows.proofs.ShowingLemmas.{all_more}
+use Rattle.pair_rows.proofs.ChangedLemmas.{row_there}
 use Rattle.op_cond_join.proofs.showing.new_pairs.Goals as goal
 
 pub loop-row-init : goal.loop-row-init

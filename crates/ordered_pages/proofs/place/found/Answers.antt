@@ -5,9 +5,9 @@ use Rattle.ordered_pages.proofs.place.found.Goals as goal
 
 pub entry_in-requires : goal.entry_in-requires
 entry_in-requires g c =
-    subst (Rise g.E.Entry.order) (sym c.as_slice.ensures) (reads_rises g.E.Entry.order g.met.E.Entry.total c.args.pages.now _ c.index-pages-page_of.result c.requires.rise c.page_of.ensures.0 c.index-pages-page_of.is)
+    subst (Rise g.E.Entry.order) (sym c.as_slice.ensures) (reads_rises g.E.Entry.order g.met.E.Entry.total c.args.pages.now _ c.index-pages-at.result c.requires.rise c.page_near-at.ensures.0 c.index-pages-at.is)
 
 pub returns : goal.returns
 returns g c =
     c.entry_in.ensures ∙ ap (λ p. entry_of g.E.Entry.order p (g.P.Probe.key c.args.probe.now)) c.as_slice.ensures
-    ∙ sym (reads_entry g.E.Entry.order g.met.E.Entry.total c.args.pages.now (g.P.Probe.key c.args.probe.now) _ c.index-pages-page_of.result c.page_of.ensures c.index-pages-page_of.is)
+    ∙ sym (reads_entry g.E.Entry.order g.met.E.Entry.total c.args.pages.now (g.P.Probe.key c.args.probe.now) _ c.index-pages-at.result c.page_near-at.ensures c.index-pages-at.is)

@@ -6,6 +6,9 @@ returns-in-CreateTable g c = rw c.in-CreateTable.is c.admit_source.ensures
 pub returns-in-AddColumn : goal.returns-in-AddColumn
 returns-in-AddColumn g c = rw c.in-AddColumn.is c.admit_source-in-AddColumn.ensures
 
+pub returns-in-AddTracked : goal.returns-in-AddTracked
+returns-in-AddTracked g c = rw c.in-AddTracked.is c.admit_source-in-AddTracked.ensures
+
 pub returns-in-Split : goal.returns-in-Split
 returns-in-Split g c = rw c.in-Split.is c.admit_source-in-Split.ensures
 

@@ -1,7 +1,0 @@
-use Rattle.std.proofs.Common.{◌∙◌, sym}
-use Rattle.row_store.specs.Rows.{row_of}
-use Rattle.op_cond_join.proofs.ChangedLemmas.{before_is}
-use Rattle.op_cond_join.proofs.changed.is_still_there.Goals as goal
-
-pub returns-in-Some : goal.returns-in-Some
-returns-in-Some c = λ same. before_is (row_of c.args.old.now.rows c.args.id) c.in-Some.row.now (sym c.is_as_before.ensures ∙ same) ∙ c.in-Some.ensures.value
