@@ -18,7 +18,7 @@ use Rattle.dump_values.specs.Laws.{DumpFits, DumpsReadBack}
 use Rattle.dump_file.specs.Laws.{DumpStands, OthersForget}
 use Rattle.dump_file.specs.Stands.{IsDumpOf, Spells}
 use Rattle.dump_file.specs.Told.{database_json, dump_told, remembers}
-use Rattle.dump_file.proofs.FitLemmas.{memory_lives, memory_there}
+use Rattle.dump_file.proofs.StateLemmas.{memory_lives, memory_there}
 use Rattle.dump_file.proofs.MemoryLemmas.{link_unkept, no_pairs}
 
 -- what isn't on a condition remembers nothing

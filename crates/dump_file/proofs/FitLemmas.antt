@@ -38,6 +38,7 @@ use Rattle.dump_file.specs.inner.Calls.{AuxHolds, HasWords, IntHolds, RowsHold, 
 use Rattle.dump_file.proofs.AuxLemmas.{AuxSound, aux_sound}
 use Rattle.dump_file.proofs.ListedLemmas.{fit_at, fit_filter, fit_map, fit_of, numbers_once, of_reverse, value_held}
 use Rattle.dump_file.proofs.MemoryLemmas.{IsMemory, are_pairs, link_number}
+use Rattle.dump_file.proofs.StateLemmas.{aux_there, memory_lives, memory_there, rows_there}
 
 -- ---- rows and pairs
 
@@ -87,18 +88,6 @@ module _ (a b : ℕ) (operators : a < 2 ^ 32) (tables : b < 2 ^ 32) where
       (λ t j. tables_low t (subst (λ (l : List ℕ). In t l) (sym (map-append (λ (v : TableVersion). v.number) (made_by_edge x) (made xs))) (in_right t (table_numbers (made_by_edge x)) (table_numbers (made xs)) j)))
       e i
 
--- ---- memories
-
-module _ (p : Parts AnyView) (is : IsDatabase any_meaning p) where
-  pub memory_lives : (i : Numbered MemoryState) → In i p.memories → In i.number (numbers p.graph.edges)
-  memory_lives i at = of_reverse i.number (numbers p.graph.edges) (subst (λ (l : List ℕ). In i.number l) is.memories (in_map (λ (j : Numbered MemoryState). j.number) i p.memories at))
-
-  -- the memory of an operator
-  pub memory_there : (i : Numbered MemoryState) → In i p.memories → pairs_at p.memories i.number ≡ i.value.entries
-  memory_there i at =
-      ap (λ (o : Option MemoryState). option_map_or (λ (m : MemoryState). m.entries) o [])
-      (value_held p.memories (subst (λ (l : List ℕ). Distinct l) (sym is.memories) (numbers_once p.graph.edges is.graph.edges)) i at)
-
 -- ---- what is stored
 
 -- each of some tables may stand
@@ -146,18 +135,11 @@ module _ (p : Parts AnyView) (is : IsDatabase any_meaning p) (words : HasWords p
       let l = is.valid.live n i in
       subst NumberFits (sym l.2) (number_fits l.0.number (link_number es l.0 l.1)))
 
-  -- a stored table has the rows of its state
-  rows_there : (i : Numbered TableState) → In i p.stored → i.value.rows ≡ s.tables i.number
-  rows_there i at =
-      let held = value_held p.stored (rises_apart 0 (numbers_in p.stored) is.tables_ascending) i at in
-      sym (ap (λ (o : Option TableState). option_map_or (λ (t : TableState). t.rows) o []) held)
-      ∙ is.stands.stored i.number ((is.tables i.number).0 (in_map (λ (j : Numbered TableState). j.number) i p.stored at))
-
   stored_fit : AllFit StoredFits (map stored_line p.stored)
   stored_fit =
       fit_map StoredFits stored_line p.stored (λ i at.
       let holds = fit_at StoredHolds p.stored i at words.stored in
-      let there = rows_there i at in
+      let there = rows_there p is i at in
       let rise = subst (λ (rows : Rows). RiseFrom 0 rows) (sym there) (is.sound.well.tables i.number).0 in
       let sound = subst (λ (rows : Rows). RowsSound s.next rows) (sym there) (is.sound.well.rows i.number) in
       (holds.0, (rise, rows_fit s.next i.value.rows words.at_most sound holds.1)))
@@ -166,12 +148,6 @@ module _ (p : Parts AnyView) (is : IsDatabase any_meaning p) (words : HasWords p
 
   aux_lives : (i : Numbered Aux) → In i p.aux → In i.number (numbers es)
   aux_lives i at = of_reverse i.number (numbers es) (subst (λ (l : List ℕ). In i.number l) is.auxes (in_map (λ (j : Numbered Aux). j.number) i p.aux at))
-
-  -- the auxiliary tables of an operator
-  aux_there : (i : Numbered Aux) → In i p.aux → auxes_at p.aux i.number ≡ tables_of i.value
-  aux_there i at =
-      ap (λ (o : Option Aux). option_map_or tables_of o [])
-      (value_held p.aux (subst (λ (l : List ℕ). Distinct l) (sym is.auxes) (numbers_once es is.graph.edges)) i at)
 
   -- they ascend, and nothing in them is above the next identifier
   aux_stands : (l : Link AnyView) → In l (forest es) → AllRise (auxes_at p.aux l.number) × TablesSound s.next (auxes_at p.aux l.number)
@@ -187,7 +163,7 @@ module _ (p : Parts AnyView) (is : IsDatabase any_meaning p) (words : HasWords p
   auxes_fit =
       fit_map AuxFits aux_line p.aux (λ i at.
       let l = number_lives es i.number (aux_lives i at) in
-      let there : auxes_at p.aux l.0.number ≡ tables_of i.value = ap (λ (n : ℕ). auxes_at p.aux n) (sym l.2) ∙ aux_there i at in
+      let there : auxes_at p.aux l.0.number ≡ tables_of i.value = ap (λ (n : ℕ). auxes_at p.aux n) (sym l.2) ∙ aux_there p is i at in
       let stands = aux_stands l.0 l.1 in
       let rise = subst AllRise there stands.0 in
       let sound = subst (λ (ts : Tables). TablesSound s.next ts) there stands.1 in

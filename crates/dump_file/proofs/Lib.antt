@@ -5,6 +5,7 @@ mod JsonLemmas
 mod DepthLemmas
 mod AuxLemmas
 mod MemoryLemmas
+mod StateLemmas
 mod FitLemmas
 mod DumpLemmas
 mod OneLemmas

@@ -7,6 +7,7 @@ use Rattle.op_any.specs.BuiltOn.{AreBuiltOn}
 use Rattle.db_state.specs.Fields.{IsDatabase, database_for}
 use Rattle.db_state.specs.declared.parts.Parts.{Parts}
 use Rattle.dump_file.specs.Told.{database_json, dump_told}
+use Rattle.dump_file.specs.States.{state_told}
 use Rattle.dump_graph.specs.Texts.{AreFromTexts}
 use Rattle.dump_graph.specs.Graphs.{AreNames}
 use Rattle.dump_file.specs.Stands.{HasNoOther, Stands}
@@ -25,6 +26,10 @@ pub record IsDumped (p : Parts AnyView) : Type 0 where
 -- it stands for the JSON that is dumped of it
 abbrev pub DumpStands : Type 0
 DumpStands = (p : Parts AnyView) → IsDumped p → Stands (database_json p) p
+
+-- WHAT IS DUMPED OF A DATABASE IS ITS STATE, under its layout
+abbrev pub DumpsTellTheState : Type 0
+DumpsTellTheState = (p : Parts AnyView) → IsDatabase any_meaning p → dump_told p ≡ state_told (database_for any_meaning p) p.layout.operators
 
 -- both are one database of the model, with one layout
 pub record AreOneDatabase (p q : Parts AnyView) : Type 0 where

@@ -1,4 +1,5 @@
 pub mod Told
+pub mod States
 pub mod Stands
 pub mod Laws
 pub mod inner

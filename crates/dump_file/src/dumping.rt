@@ -7,11 +7,14 @@ ghost use Rattle.serde_json.specs.Written.{compact_text, has_float};
 ghost use Rattle.dump_values.specs.Laws.{DumpFits};
 ghost use Rattle.dump_graph.specs.Graphs.{AreNames};
 ghost use Rattle.dump_graph.specs.Texts.{AreFromTexts};
+ghost use Rattle.op_any.specs.Operators.{any_meaning};
+ghost use Rattle.db_state.specs.Fields.{database_for};
 ghost use Rattle.dump_file.specs.Stands.{IsDumpOf, Spells};
+ghost use Rattle.dump_file.specs.States.{dump_text};
 ghost use Rattle.dump_file.specs.Told.{database_json, dump_told};
 
 use crate::fitting::look_at_numbers;
-use crate::laws::databases_stand_for_their_dumps;
+use crate::laws::{databases_stand_for_their_dumps, dumps_tell_the_state};
 use crate::writing::{
     write_all_stored, write_auxes, write_memories, write_operators, write_versions,
 };
@@ -67,7 +70,8 @@ fn look_at(db: &Db<AnyOp>)
 /// takes time in the number of stored values, and in the logarithm of the number of live operators
 /// for each of them.
 pub fn dump(alloc: Global, db: &Db<AnyOp>) -> Result<Text, Memory>
-    ensures text { IfOk result (λ text. text ≡ compact_text (database_json db.now)) }
+    ensures text { IfOk result (λ text. text
+        ≡ dump_text (database_for any_meaning db.now) db.now.layout.operators) }
     ensures read { IfOk result (λ text. Spells text (database_json db.now)) }
     ensures fits { DumpFits (dump_told db.now) }
     ensures names { IfOk result (λ _. AreNames db.now.graph.versions) }
@@ -75,8 +79,10 @@ pub fn dump(alloc: Global, db: &Db<AnyOp>) -> Result<Text, Memory>
         → IsDumpOf text db.now) }
 {
     look_at(db);
-    // That it is a dump of the database rests on this law, and on what the fields promise.
+    // That it is a dump of the database, and of its state, rests on these laws, and on what the fields
+    // promise.
     databases_stand_for_their_dumps();
+    dumps_tell_the_state();
     let _graph = db.graph();
     let json = write_database(alloc, db)?;
     let text = text_of(alloc, &json)?;

@@ -1,5 +1,5 @@
 //! The laws of dumps. The functions do nothing: their contracts are the laws.
-ghost use Rattle.dump_file.specs.Laws.{DumpStands, DumpsAreOfOneDatabase, OthersForget};
+ghost use Rattle.dump_file.specs.Laws.{DumpStands, DumpsAreOfOneDatabase, DumpsTellTheState, OthersForget};
 
 use dump_graph::told_graphs_are_one;
 use dump_values::dumps_are_read_back;
@@ -16,6 +16,12 @@ pub fn databases_stand_for_their_dumps()
 {
     dumps_are_read_back();
 }
+
+/// What the dump of a database tells is its state under its layout, and so each state has one dump
+/// under a layout.
+pub fn dumps_tell_the_state()
+    ensures { DumpsTellTheState }
+{}
 
 /// Two databases that stand for one dump are one database of the model, with one layout, where the
 /// same greatest identifier may be drawn.

@@ -1,8 +1,9 @@
 //! Dumps: a whole database as the text of one JSON value, and back.
 //!
-//! `specs/Told.antt` says what the dump of a database tells: its operators as canonical texts with
-//! their numbers, its versions, its layout, and what is stored; of auxiliary tables and memories
-//! only those that an operator has. `dump` writes just that, as compact text with sorted keys.
+//! `specs/States.antt` says what the dump of a state tells under a layout: its operators as canonical
+//! texts with their numbers, its versions, the layout, and what it stores of the state; of auxiliary
+//! tables and memories only those that an operator has. `dump` writes just that, as compact text
+//! with sorted keys.
 //! `specs/Stands.antt` says when a database stands for such a value: it is valid, its operators are
 //! built from their texts, and the dump tells just what it is. `load` gives a database that stands
 //! for the value that the bytes spell, and refuses exactly where there is none; the greatest
@@ -19,6 +20,7 @@ mod writing;
 
 pub use dumping::dump;
 pub use laws::{
-    databases_stand_for_their_dumps, dumps_are_of_one_database, others_remember_nothing,
+    databases_stand_for_their_dumps, dumps_are_of_one_database, dumps_tell_the_state,
+    others_remember_nothing,
 };
 pub use loading::load;

@@ -17,19 +17,19 @@ use Rattle.generated_run.specs.Statuses as script
 use Rattle.generated_run.proofs.EndLaws.{done_told}
 use Rattle.generated_run.proofs.FrontLaws.{puts_all, puts_behind, puts_more, puts_none}
 use Rattle.inverda_run.specs.Files.{IsLonger}
-use Rattle.inverda_run.specs.Starts.{IsDumpText, Told}
+use Rattle.inverda_run.specs.Starts.{Told, dump_of}
 use Rattle.inverda_run.specs.Statuses.{SayNothing, Starts}
 use Rattle.inverda_run.specs.Decided.{Begun, Behind, PutsScript, PutsSummary, bad, refused, longer, script as runs, summary}
 use Rattle.inverda_run.specs.Calls.{HoldsNoDump, IsLongDump}
-use Rattle.inverda_run.specs.Laws.{OneDump, OneStart}
+use Rattle.inverda_run.specs.Laws.{OneStart}
 use Rattle.inverda_run.proofs.StartLemmas.{loads_none, longer_no_start, longer_not_refused, nothing_longer, nothing_refused, nothing_starts, one_start, refused_no_start, refused_not_longer, start_not_longer, start_not_refused, starts_empty}
 
 -- behind a dump that is too long stands the line that says so
-long_last : OneDump → (to : Laid) (name : List ℕ) → IsLongDump to → (dump : Option (List ℕ)) (other : Laid) (last : List ℕ) → dump ≡ Some name → Behind dump other last → to ≡ other → last ≡ line (codes "too long")
-long_last one to name long None other last is behind same = absurd (let no : ⊥ = cc in no)
-long_last one to name long (Some file) other last is behind same = elim behind.2 [
+long_last : (to : Laid) (name : List ℕ) → IsLongDump to → (dump : Option (List ℕ)) (other : Laid) (last : List ℕ) → dump ≡ Some name → Behind dump other last → to ≡ other → last ≡ line (codes "too long")
+long_last to name long None other last is behind same = absurd (let no : ⊥ = cc in no)
+long_last to name long (Some file) other last is behind same = elim behind [
   | inr above ↦ above.1
-  | inl within ↦ (let text_is = one to long.text behind.0 long.dump (subst (λ (s : Laid). IsDumpText s behind.0) (sym same) behind.1) in
+  | inl within ↦ (let text_is : long.text ≡ dump_of other = long.dump.written ∙ ap dump_of same in
       let above = long.above in
       let least = within.0 in
       absurd (omega (arith, ap length text_is)))
@@ -100,7 +100,7 @@ module _ (words : List (List ℕ)) (told : Told) (left held held' : Option (List
             subst (λ (s : Standing). WritesScript s (take limit p.bytes) (nat_le (length p.bytes) limit) (line (codes "too long")) p.script) (sym (same_start text p)) p.writes in
             subst (PutsFront held held') (sym p.text_is) (puts_more held held' p.script p.last (known p.script writes))
 
-    module _ (dump : OneDump) (left' between : Option (List ℕ)) (to : Standing) (done : Done from to left left' held between) where
+    module _ (left' between : Option (List ℕ)) (to : Standing) (done : Done from to left left' held between) where
       -- what the script put before the end is all that its run puts
       whole : (text : List ℕ) (p : PutsScript words told left text) → (p.writes.outcome ≡ Over) × (p.script ≡ out from done.statements) × (to ≡ state_after p.from p.writes.statements)
       whole text p =
@@ -133,7 +133,7 @@ module _ (words : List (List ℕ)) (told : Told) (left held held' : Option (List
           go text p =
               let w = whole text p in
               let d : p.asked.dump ≡ Some name = ap (λ (a : Asked). a.dump) (one words p.asked asked p.starts.says starts.says) ∙ is in
-              let last = long_last dump to.laid name long p.asked.dump (state_after p.from p.writes.statements).laid p.last d (p.behind w.0) (ap (λ (s : Standing). s.laid) w.2) in
+              let last = long_last to.laid name long p.asked.dump (state_after p.from p.writes.statements).laid p.last d (p.behind w.0) (ap (λ (s : Standing). s.laid) w.2) in
               subst (PutsFront held held') (sym (p.text_is ∙ ap (λ (s : List ℕ). s ++ p.last) w.1 ∙ ap (λ (l : List ℕ). out from done.statements ++ l) last))
               (puts_behind held between held' (out from done.statements) (line (codes "too long")) done.put put)
 
@@ -171,7 +171,7 @@ module _ (words : List (List ℕ)) (told : Told) (left held held' : Option (List
     pub summary_begun : PutsFront held held' (summary_lines (generated_summary from n)) → Begun words told left held held'
     summary_begun put = by_summary (λ text p. subst (PutsFront held held') (sym (summary_is text p)) (puts_more held held' (summary_lines (generated_summary from n)) p.last put))
 
-    module _ (dump : OneDump) (between : Option (List ℕ)) (put : Appends held between (summary_lines (generated_summary from n))) where
+    module _ (between : Option (List ℕ)) (put : Appends held between (summary_lines (generated_summary from n))) where
       -- nothing was put behind it
       pub summed_begun : held' ≡ between → Begun words told left held held'
       summed_begun same =
@@ -185,6 +185,6 @@ module _ (words : List (List ℕ)) (told : Told) (left held held' : Option (List
           go : (text : List ℕ) → PutsSummary words text → PutsFront held held' text
           go text p =
               let d : p.asked.dump ≡ Some name = ap (λ (a : Asked). a.dump) (same_asked text p) ∙ dumps in
-              let last = long_last dump (generated_end from n).laid name long p.asked.dump (generated_end (empty_standing p.asked.max_id) p.n).laid p.last d p.behind (ap (λ (s : Standing). s.laid) (same_end text p)) in
+              let last = long_last (generated_end from n).laid name long p.asked.dump (generated_end (empty_standing p.asked.max_id) p.n).laid p.last d p.behind (ap (λ (s : Standing). s.laid) (same_end text p)) in
               subst (PutsFront held held') (sym (summary_is text p ∙ ap (λ (l : List ℕ). summary_lines (generated_summary from n) ++ l) last))
               (puts_behind held between held' (summary_lines (generated_summary from n)) (line (codes "too long")) put more)

@@ -17,7 +17,7 @@ use Rattle.inverda_run.specs.Files.{IsLonger}
 use Rattle.inverda_run.specs.Starts.{Told}
 use Rattle.inverda_run.specs.Statuses.{Carried, OfStart, SayNothing, Starts, Written, source, generated}
 use Rattle.inverda_run.specs.Calls.{DumpsTo, Ends, EndsGenerated, Finishes, HoldsNoDump, IsLongDump, PutsLast, ended}
-use Rattle.inverda_run.specs.Laws.{OneDump, OneStart}
+use Rattle.inverda_run.specs.Laws.{OneStart}
 use Rattle.inverda_run.specs.Decided.{Begun, Early, no_fault, of_source, of_load, of_dump}
 use Rattle.inverda_run.specs.declared.end.End.{End}
 use Rattle.inverda_run.specs.declared.end.End.TheVariants as end
@@ -155,16 +155,16 @@ module _ (words : List (List ℕ)) (told told' : Told) (left left' : Option (Lis
   script_ends held' put' files script.TooLong n h = (ofStart h, files)
 
   -- it came to its end
-  pub finish_ends : OneDump → (between held' : Option (List ℕ)) (put' : ℕ) → Done from to left left' held between → to.laid.database.limit ≡ asked.max_id → read' ≡ read → (e : End) → Finishes to.laid asked.dump told' between held' put put' filed filed' e
+  pub finish_ends : (between held' : Option (List ℕ)) (put' : ℕ) → Done from to left left' held between → to.laid.database.limit ≡ asked.max_id → read' ≡ read → (e : End) → Finishes to.laid asked.dump told' between held' put put' filed filed' e
       → Ends words told told' left left' read read' held held' put put' filed filed' e
-  finish_ends dump between held' put' done limit_stays same e h =
+  finish_ends between held' put' done limit_stays same e h =
       finishes_so words told told' left left' read read' held put filed filed' asked from to starts between held' put' (source own done) limit_stays same
-      (done_begun words told left held held' one start asked from starts own dump left' between to done)
-      (long_begun words told left held held' one start asked from starts own dump left' between to done) e h
+      (done_begun words told left held held' one start asked from starts own left' between to done)
+      (long_begun words told left held held' one start asked from starts own left' between to done) e h
 
 -- the generated one
 module _ (words : List (List ℕ)) (told told' : Told) (left : Option (List ℕ)) (read : ℕ) (held held' : Option (List ℕ)) (put put' filed filed' : ℕ)
-    (one : SayOneThing) (dump : OneDump) (asked : Asked) (from : Standing) (starts : Starts words told asked from) (n : ℕ) (is : asked.generate ≡ Some n) where
+    (one : SayOneThing) (asked : Asked) (from : Standing) (starts : Starts words told asked from) (n : ℕ) (is : asked.generate ≡ Some n) where
   abbrev So : End → Type 0
   So e = Ends words told told' left left read read held held' put put' filed filed' e
 
@@ -178,5 +178,5 @@ module _ (words : List (List ℕ)) (told told' : Told) (left : Option (List ℕ)
   generated_ends e (inr (inr finished)) =
       finishes_so words told told' left left read read held put filed filed' asked from (generated_end from n) starts finished.0 held' put'
       (generated n is refl finished.1 refl) (finished.2 ∙ starts_limit words told asked from starts) refl
-      (summed_begun words told left held held' one asked from starts n is dump finished.0 finished.1)
-      (summed_long words told left held held' one asked from starts n is dump finished.0 finished.1) e finished.3
+      (summed_begun words told left held held' one asked from starts n is finished.0 finished.1)
+      (summed_long words told left held held' one asked from starts n is finished.0 finished.1) e finished.3

@@ -6,7 +6,6 @@ use Rattle.std.proofs.Common.{◌≡◌, ℕ, List, codes, refl, sym, ap, subst,
 use Rattle.std.proofs.lemmas.Bool.{false≢true}
 use Rattle.std.proofs.lemmas.Slice.Eq.{bytes_eq-Decides}
 use Rattle.outside.specs.Causes.{Rose}
-use Rattle.serde_json.specs.Written.{compact_text}
 use Rattle.op_any.specs.Operators.{AnyView}
 use Rattle.op_any.specs.BuiltOn.{AreBuiltOn}
 use Rattle.db_state.specs.declared.parts.Parts.{Parts}
@@ -14,22 +13,21 @@ use Rattle.generated_run.specs.Laid.{Laid}
 use Rattle.generated_run.specs.EngineCoreKept.{state_of}
 use Rattle.generated_run.specs.EngineCoreTexts.{line}
 use Rattle.dump_file.specs.Texts.{AreFromTexts, AreSpelled}
-use Rattle.dump_file.specs.Told.{database_json}
 use Rattle.dump_file.specs.Stands.{IsDumpOf}
-use Rattle.inverda_run.specs.Starts.{IsDumpText, Told}
+use Rattle.inverda_run.specs.Starts.{IsDumpText, Told, dump_of}
 use Rattle.inverda_run.specs.Calls.{DumpsTo, EndStays, Finishes, IsLongDump, PutsLast, WritesBut, WritesTo}
 use Rattle.inverda_run.specs.declared.end.End.{End}
 use Rattle.inverda_run.specs.declared.end.End.TheVariants as end
 
 -- the bytes that are written are the dump of the engine's state
-pub dump_text : (k found : Parts AnyView) (bytes text : List ℕ) → found ≡ k → bytes ≡ text → text ≡ compact_text (database_json found)
+pub is_dumped : (k found : Parts AnyView) (bytes text : List ℕ) → found ≡ k → bytes ≡ text → text ≡ dump_of (state_of found)
     → (AreFromTexts found.ids.next found.graph.edges → IsDumpOf text found) → AreSpelled k.graph.edges → AreBuiltOn k.ids.next k.graph.edges → IsDumpText (state_of k) bytes
-dump_text k found bytes text same is written stands spelled built =
+is_dumped k found bytes text same is written stands spelled built =
     let texts : AreFromTexts found.ids.next found.graph.edges = subst (λ (p : Parts AnyView). AreFromTexts p.ids.next p.graph.edges) (sym same) (spelled, built) in
     record {
       parts = found;
       state = ap (λ (p : Parts AnyView). state_of p) (sym same);
-      written = is ∙ written;
+      written = is ∙ written ∙ ap (λ (p : Parts AnyView). dump_of (state_of p)) same;
       dump = subst (λ (b : List ℕ). IsDumpOf b found) (sym is) (stands texts);
     }
 

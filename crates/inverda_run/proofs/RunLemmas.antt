@@ -12,7 +12,7 @@ use Rattle.generated_run.specs.End.TheVariants as script
 use Rattle.inverda_run.specs.Starts.{Told}
 use Rattle.inverda_run.specs.Statuses.{Generates, Starts, StaysBut}
 use Rattle.inverda_run.specs.Calls.{EndStays, Ends, EndsGenerated, Finishes, PutsLast, WritesTo, ended}
-use Rattle.inverda_run.specs.Laws.{OneDump, OneStart}
+use Rattle.inverda_run.specs.Laws.{OneStart}
 use Rattle.inverda_run.specs.declared.end.End.{End}
 use Rattle.inverda_run.specs.declared.end.End.TheVariants as end
 use Rattle.inverda_run.proofs.EndLemmas.{finish_ends, generated_ends}
@@ -52,20 +52,20 @@ files_finished words told mid told' asked filed was is e says same stay writes f
 -- ---- the end
 
 pub finished : (words : List (List ℕ)) (told told' : Told) (left left' : Option (List ℕ)) (read read' : ℕ) (held between held' : Option (List ℕ)) (put was put' filed was_filed filed' : ℕ)
-    → SayOneThing → OneStart → OneDump → (asked : Asked) (from to : Standing) → Starts words told asked from → asked.generate ≡ None → Done from to left left' held between → to.laid.database.limit ≡ asked.max_id → read' ≡ read → was ≡ put → was_filed ≡ filed
+    → SayOneThing → OneStart → (asked : Asked) (from to : Standing) → Starts words told asked from → asked.generate ≡ None → Done from to left left' held between → to.laid.database.limit ≡ asked.max_id → read' ≡ read → was ≡ put → was_filed ≡ filed
     → (e : End) → Finishes to.laid asked.dump told' between held' was put' was_filed filed' e → Ends words told told' left left' read read' held held' put put' filed filed' e
-finished words told told' left left' read read' held between held' put was put' filed was_filed filed' one start dump asked from to starts own done limit_stays same put_is filed_is e finishes =
+finished words told told' left left' read read' held between held' put was put' filed was_filed filed' one start asked from to starts own done limit_stays same put_is filed_is e finishes =
     subst (λ (n : ℕ). Ends words told told' left left' read read' held held' n put' filed filed' e) put_is
     (subst (λ (n : ℕ). Ends words told told' left left' read read' held held' was put' n filed' e) filed_is
-    (finish_ends words told told' left left' read read' held was was_filed filed' one start asked from to starts own dump between held' put' done limit_stays same e finishes))
+    (finish_ends words told told' left left' read read' held was was_filed filed' one start asked from to starts own between held' put' done limit_stays same e finishes))
 
 -- of the generated script
-pub generated_so : (words : List (List ℕ)) (told told' : Told) (left : Option (List ℕ)) (read : ℕ) (held held' : Option (List ℕ)) (put put' filed was_filed filed' : ℕ) → SayOneThing → OneDump
+pub generated_so : (words : List (List ℕ)) (told told' : Told) (left : Option (List ℕ)) (read : ℕ) (held held' : Option (List ℕ)) (put put' filed was_filed filed' : ℕ) → SayOneThing
     → (asked : Asked) (from : Standing) → Starts words told asked from → (n : ℕ) → asked.generate ≡ Some n → was_filed ≡ filed
     → (e : End) → EndsGenerated from n asked.dump told' held held' put put' was_filed filed' e → Ends words told told' left left read read held held' put put' filed filed' e
-generated_so words told told' left read held held' put put' filed was_filed filed' one dump asked from starts n is filed_is e h =
+generated_so words told told' left read held held' put put' filed was_filed filed' one asked from starts n is filed_is e h =
     subst (λ (f : ℕ). Ends words told told' left left read read held held' put put' f filed' e) filed_is
-    (generated_ends words told told' left read held held' put put' was_filed filed' one dump asked from starts n is e h)
+    (generated_ends words told told' left read held held' put put' was_filed filed' one asked from starts n is e h)
 
 -- the source of a script that isn't generated may be touched
 pub source_touched : (words : List (List ℕ)) → SayOneThing → (asked : Asked) → Says words asked → asked.generate ≡ None → (n : ℕ) → Generates words n → ⊥

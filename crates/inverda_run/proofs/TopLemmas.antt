@@ -14,7 +14,7 @@ use Rattle.generated_run.specs.Statuses.{AnswersScript, Done, FirstReplies, Had,
 use Rattle.generated_run.proofs.EndLaws.{done_answers, done_told, had_done, had_passed, had_stopped}
 use Rattle.generated_run.proofs.CutLaws.{passed_first, stopped_of_all, unread_first}
 use Rattle.generated_run.proofs.MoveLaws.{moves_unseen}
-use Rattle.inverda_run.specs.Starts.{IsDumpText, Told}
+use Rattle.inverda_run.specs.Starts.{Told, dump_of}
 use Rattle.inverda_run.specs.Statuses.{Carried, Loads, LongDump, LongLoad, OfStart, Ran, RefusedDump, RunsSource, SayNothing, Starts, StaysBut, source, generated}
 use Rattle.inverda_run.specs.Decided.{DumpFits, Early, Told', ToldGenerated, ToldLonger, ToldNoDump, ToldWhole, no_fault, of_source as of_source_fault, of_load, of_dump}
 use Rattle.inverda_run.specs.Calls.{HoldsNoDump}
@@ -126,9 +126,10 @@ module _ (one : SayOneThing) where
       w.fits r.ran.from (subst (λ (a : Asked). Starts words told a r.ran.from) asked r.ran.starts) in
       let dump_is : w.script.asked.dump ≡ Some r.name = ap (λ (a : Asked). a.dump) (one words w.script.asked r.dumps.asked w.script.starts.says r.dumps.says) ∙ r.dumps.dump in
       let to_is : r.to ≡ state_after r.ran.from had.statements = done.next ∙ ap (state_after r.ran.from) (sym same.0) in
-      let least : length r.text ≤ limit = subst (λ (d : Option (List ℕ)). DumpFits d (state_after r.ran.from had.statements).laid) dump_is fits r.text (subst (λ (s : Standing). IsDumpText s.laid r.text) to_is r.dump) in
+      let least : length (dump_of (state_after r.ran.from had.statements).laid) ≤ limit = subst (λ (d : Option (List ℕ)). DumpFits d (state_after r.ran.from had.statements).laid) dump_is fits in
+      let text_is : r.text ≡ dump_of (state_after r.ran.from had.statements).laid = r.dump.written ∙ ap (λ (s : Standing). dump_of s.laid) to_is in
       let above = r.above in
-      omega arith
+      omega (arith, least, above, ap length text_is)
 
   -- ---- a generated script
 
@@ -164,9 +165,9 @@ module _ (one : SayOneThing) where
           let to_is : r.to ≡ generated_end (empty_standing d.asked.max_id) d.n = next ∙ (λ i. generated_end (begin i) (number i)) in
           let dump_is : d.asked.dump ≡ Some r.name = ap (λ (a : Asked). a.dump) (one words d.asked r.dumps.asked d.says r.dumps.says) ∙ r.dumps.dump in
           let fits : DumpFits (Some r.name) (generated_end (empty_standing d.asked.max_id) d.n).laid = subst (λ (f : Option (List ℕ)). DumpFits f (generated_end (empty_standing d.asked.max_id) d.n).laid) dump_is d.fits in
-          let least : length r.text ≤ limit = fits r.text (subst (λ (s : Standing). IsDumpText s.laid r.text) to_is r.dump) in
+          let text_is : r.text ≡ dump_of (generated_end (empty_standing d.asked.max_id) d.n).laid = r.dump.written ∙ ap (λ (s : Standing). dump_of s.laid) to_is in
           let above = r.above in
-          omega arith
+          omega (arith, fits, above, ap length text_is)
 
 -- words that say nothing start nothing
 pub nothing_told : {words : List (List ℕ)} {told : Told} {left : Option (List ℕ)} {o : Outcome} → SayNothing words → Told' words told left o → ⊥

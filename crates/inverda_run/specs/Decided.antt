@@ -10,7 +10,7 @@ use Rattle.script_generator.specs.Summary.{summary_lines}
 use Rattle.generated_run.specs.Output.{state_after}
 use Rattle.generated_run.specs.Statuses.{BegunTaken, Had, PutsFront, WritesScript, limit}
 use Rattle.generated_run.specs.Summed.{generated_end, generated_summary}
-use Rattle.inverda_run.specs.Starts.{IsDumpText, Told}
+use Rattle.inverda_run.specs.Starts.{Told, dump_of}
 use Rattle.inverda_run.specs.Statuses.{Carried, Loads, NoDump, OfStart, SayNothing, Starts, Untouched}
 
 -- the file that is loaded is told, where there is one
@@ -30,7 +30,7 @@ pub record Told' (words : List (List ℕ)) (told : Told) (left : Option (List �
 -- the dump at the end is within the limit, where there is one
 abbrev pub DumpFits : Option (List ℕ) → Laid → Type 0
 DumpFits None to = ⊤
-DumpFits (Some name) to = (text : List ℕ) → IsDumpText to text → length text ≤ limit
+DumpFits (Some name) to = length (dump_of to) ≤ limit
 
 -- a script within the limits, and a dump within them
 pub record ToldWhole (words : List (List ℕ)) (told : Told) (left : Option (List ℕ)) : Type 0 where
@@ -67,8 +67,7 @@ pub record ToldLonger (words : List (List ℕ)) (told : Told) : Type 0 where
 -- what stands behind the replies of a script, or its summary: nothing, or that the dump is too long
 abbrev pub Behind : Option (List ℕ) → Laid → List ℕ → Type 0
 Behind None to last = last ≡ []
-Behind (Some name) to last = (text : List ℕ) × IsDumpText to text
-    × (((length text ≤ limit) × (last ≡ [])) ⊎ ((limit < length text) × (last ≡ line (codes "too long"))))
+Behind (Some name) to last = ((length (dump_of to) ≤ limit) × (last ≡ [])) ⊎ ((limit < length (dump_of to)) × (last ≡ line (codes "too long")))
 
 -- what a run of the script puts, from a start that is told
 pub record PutsScript (words : List (List ℕ)) (told : Told) (left : Option (List ℕ)) (text : List ℕ) : Type 0 where

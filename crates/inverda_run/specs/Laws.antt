@@ -11,10 +11,6 @@ use Rattle.generated_run.specs.Statuses.{Done, limit}
 use Rattle.inverda_run.specs.Starts.{IsDumpText, Loaded, Told}
 use Rattle.inverda_run.specs.Statuses.{Ran}
 
--- a state has one dump
-abbrev pub OneDump : Type 0
-OneDump = (s : Laid) (text other : List ℕ) → IsDumpText s text → IsDumpText s other → text ≡ other
-
 -- a file holds the dump of one state, for a greatest identifier
 abbrev pub OneStart : Type 0
 OneStart = (file : List ℕ) (max_id : ℕ) (s t : Standing) → Loaded (Some (Some file)) max_id s → Loaded (Some (Some file)) max_id t → s ≡ t

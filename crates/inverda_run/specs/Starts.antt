@@ -1,13 +1,12 @@
 -- From where a run starts, and what the dump of a state is.
 use Rattle.std.specs.Prelude.{◌≡◌, ◌≤◌, ℕ, List, length, Option, Some, None}
 use Rattle.outside.specs.FileTold.{ToldAs}
-use Rattle.serde_json.specs.Written.{compact_text}
 use Rattle.op_any.specs.Operators.{AnyView}
 use Rattle.db_state.specs.declared.parts.Parts.{Parts}
 use Rattle.generated_run.specs.Laid.{Laid}
 use Rattle.generated_run.specs.EngineCoreKept.{state_of}
 use Rattle.generated_run.specs.Standing.{Standing, begun, empty_standing}
-use Rattle.dump_file.specs.Told.{database_json}
+use Rattle.dump_file.specs.States.{dump_text}
 use Rattle.dump_file.specs.Stands.{IsDumpOf}
 use Rattle.generated_run.specs.Statuses.{limit}
 
@@ -30,9 +29,13 @@ abbrev pub StartsBy : Told → Option (List ℕ) → ℕ → Standing → Type 0
 StartsBy told None max_id from = from ≡ empty_standing max_id
 StartsBy told (Some name) max_id from = Loaded (told name) max_id from
 
--- the dump of a database in this state, as text
+-- THE DUMP OF A STATE, as text: each state has one
+abbrev pub dump_of : Laid → List ℕ
+dump_of to = dump_text to.database to.layout
+
+-- the text is the dump of this state, and a load reads a database in this state from it
 pub record IsDumpText (to : Laid) (text : List ℕ) : Type 0 where
   pub parts : Parts AnyView
   pub state : to ≡ state_of parts
-  pub written : text ≡ compact_text (database_json parts)
+  pub written : text ≡ dump_of to
   pub dump : IsDumpOf text parts

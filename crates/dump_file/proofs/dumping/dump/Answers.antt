@@ -1,7 +1,8 @@
 use Rattle.std.proofs.Common.{◌≤◌, ap, sym, ◌∙◌, subst}
 use Rattle.serde_json.specs.Data.{Data, depth}
 use Rattle.serde_json.specs.Read.{max_depth}
-use Rattle.serde_json.specs.Written.{has_float}
+use Rattle.serde_json.specs.Written.{compact_text, has_float}
+use Rattle.dump_values.specs.Dumps.{Dump, dump_json}
 use Rattle.dump_file.specs.Told.{dump_told}
 use Rattle.dump_file.proofs.DepthLemmas.{dump_within}
 use Rattle.dump_file.proofs.DumpLemmas.{is_dump, spelled}
@@ -13,6 +14,11 @@ text_of-requires-clause-whole c = ap has_float c.in_ok-json.ensures.value ∙ du
 
 pub text_of-requires-clause-shallow : goal.text_of-requires-clause-shallow
 text_of-requires-clause-shallow c = subst (λ (d : Data). depth d ≤ max_depth) (sym c.in_ok-json.ensures.value) (dump_within (dump_told c.args.db.now))
+
+pub returns-clause-text : goal.returns-clause-text
+returns-clause-text c =
+    c.from_string.ensures ∙ c.in_ok-text.ensures.text ∙ ap compact_text c.in_ok-json.ensures.value
+    ∙ ap (λ (d : Dump). compact_text (dump_json d)) (c.dumps_tell_the_state.ensures c.args.db.now c.graph-graph.ensures.kept)
 
 pub returns-clause-read : goal.returns-clause-read
 returns-clause-read c = spelled _ _ _ _ c.from_string.ensures c.in_ok-json.ensures.value c.in_ok-text.ensures.read

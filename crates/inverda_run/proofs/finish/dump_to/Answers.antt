@@ -1,14 +1,14 @@
 use Rattle.std.proofs.Common.{◌∙◌, refl, inl, inr}
 use Rattle.generated_run.specs.EngineCoreKept.{state_of}
 use Rattle.inverda_run.specs.declared.end.End.TheVariants as end
-use Rattle.inverda_run.proofs.FinishLemmas.{dump_text, long_dumped, writes_but}
+use Rattle.inverda_run.proofs.FinishLemmas.{is_dumped, long_dumped, writes_but}
 use Rattle.inverda_run.proofs.finish.dump_to.Goals as goal
 
 pub returns-then-bytes-clause-dumps : goal.returns-then-bytes-clause-dumps
 returns-then-bytes-clause-dumps g c =
     let k = c.args.engine.now in
     let is = c.as_bytes-bytes.ensures.value ∙ c.as_str.ensures in
-    let dump = dump_text k c.database.result.now c.as_bytes-bytes.result.now c.in-Ok.text c.database.ensures.database is c.in-Ok.ensures.text c.in-Ok.ensures.stands c.requires c.database.ensures.built in
+    let dump = is_dumped k c.database.result.now c.as_bytes-bytes.result.now c.in-Ok.text c.database.ensures.database is c.in-Ok.ensures.text c.in-Ok.ensures.stands c.requires c.database.ensures.built in
     long_dumped (state_of k) (g.F.Files.told c.args.files.now c.args.name.now) (g.K.Sink.held c.args.out.now) (g.K.Sink.held c.put_last.new.out) (g.K.Sink.faults c.args.out.now) (g.K.Sink.faults c.put_last.new.out) (g.F.Files.faults c.args.files.now) (g.F.Files.faults c.args.files.now)
     (record { text = c.as_bytes-bytes.result.now; dump = dump; above = c.if-bytes.true }) refl c.put_last.result c.put_last.ensures.puts
 

@@ -73,7 +73,7 @@ returns-in-Done-clause-ends g c =
     finished words told (g.F.Files.told c.finish.new.files) (g.S.Source.left c.args.script.now) (g.S.Source.left c.run_source.new.script) (g.S.Source.faults c.args.script.now) (g.S.Source.faults c.run_source.new.script)
     (g.K.Sink.held c.args.out.now) (g.K.Sink.held c.run_source.new.out) (g.K.Sink.held c.finish.new.out) (g.K.Sink.faults c.args.out.now) (g.K.Sink.faults c.run_source.new.out) (g.K.Sink.faults c.finish.new.out)
     (g.F.Files.faults c.args.files.now) (g.F.Files.faults c.begin.new.files) (g.F.Files.faults c.finish.new.files)
-    c.words_say_one_thing.ensures c.two_runs_are_one.ensures.start c.two_runs_are_one.ensures.dump asked from (standing_of c.run_source.new.sessions) starts own
+    c.words_say_one_thing.ensures c.two_runs_are_one.ensures.start asked from (standing_of c.run_source.new.sessions) starts own
     c.in-Done.ensures.ends.0 (c.in-Done.ensures.keeps.limit ∙ starts_limit words told asked from starts) c.in-Done.ensures.ends.1 c.in-Done.ensures.stays begins.2 c.finish.result
     (subst (λ (k : Parts AnyView). Finishes (state_of k) asked.dump (g.F.Files.told c.finish.new.files) (g.K.Sink.held c.run_source.new.out) (g.K.Sink.held c.finish.new.out) (g.K.Sink.faults c.run_source.new.out) (g.K.Sink.faults c.finish.new.out) (g.F.Files.faults c.begin.new.files) (g.F.Files.faults c.finish.new.files) c.finish.result)
     c.engine.ensures c.finish.ensures.finishes)
@@ -130,4 +130,4 @@ returns-in-Some-clause-ends g c =
     let starts : Starts words told asked from = record { says = c.in-Ok.ensures; start = subst (λ (s : Standing). StartsBy told asked.load asked.max_id s) (sym c.over-sessions.ensures.standing) begins.0 } in
     generated_so words told (g.F.Files.told c.generate.new.files) (g.S.Source.left c.args.script.now) (g.S.Source.faults c.args.script.now) (g.K.Sink.held c.args.out.now) (g.K.Sink.held c.generate.new.out)
     (g.K.Sink.faults c.args.out.now) (g.K.Sink.faults c.generate.new.out) (g.F.Files.faults c.args.files.now) (g.F.Files.faults c.begin.new.files) (g.F.Files.faults c.generate.new.files)
-    c.words_say_one_thing.ensures c.two_runs_are_one.ensures.dump asked from starts c.in-Some.n c.in-Some.is begins.2 c.generate.result c.generate.ensures.ends
+    c.words_say_one_thing.ensures asked from starts c.in-Some.n c.in-Some.is begins.2 c.generate.result c.generate.ensures.ends
