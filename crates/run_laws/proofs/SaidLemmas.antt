@@ -1,0 +1,233 @@
+-- Statements that don't depend on what stood in use before them.
+use Rattle.std.specs.Prelude.{Option, Some, None, Ok, Err}
+use Rattle.std.proofs.Common.{◌≡◌, ◌==◌, inl, inr, ℕ, List, [], ◌∷◌, Bool, true, false, refl, sym, ap, subst, ◌∙◌}
+use Rattle.std.proofs.lemmas.Bool.{eqb-true, eqb-false}
+use Rattle.par_base.specs.Checked.{Checked, ◌then◌}
+use Rattle.version_graph.specs.Sets.{In}
+use Rattle.version_graph.specs.Edges.{set_named}
+use Rattle.statements.specs.Views.{StatementView, CreateVersion, DropVersion, Insert, Import, Update, Delete, Select, Materialize, Step, ShowLayout, Use, Session, Advise, Watch, Unwatch, Begin, Commit, Rollback}
+use Rattle.statements.specs.declared.statement.TableName.{TableName}
+use Rattle.csv_io.specs.Tables.{csv_rows}
+use Rattle.engine_state.specs.SharedChecks.{known_version}
+use Rattle.engine_state.specs.declared.reply.Reply.{Reply}
+use Rattle.engine_state.specs.declared.reply.Reply.TheVariants.{Done}
+use Rattle.engine_core.specs.Laid.{Laid}
+use Rattle.engine_core.specs.Act.{act as act_in_full}
+use Rattle.engine_sessions.specs.declared.answer.Answer.{Answer}
+use Rattle.engine_sessions.specs.declared.answer.Answer.TheVariants.{Plain}
+use Rattle.engine_sessions.specs.declared.uses.VersionInUse.{VersionInUse}
+use Rattle.engine_sessions.specs.Standing.{Standing, begun, used_by, with_use}
+use Rattle.engine_sessions.specs.InFull.{in_full, name_in_full, version_of}
+use Rattle.engine_sessions.specs.Accesses.{accessed, raised_by}
+use Rattle.engine_sessions.specs.Act.{act, advice_on, answer_of, counted}
+use Rattle.engine_sessions.specs.Laws.{UsesAreOwn}
+use Rattle.script_run.specs.Output.{next_state, replies, state_after, text_of}
+use Rattle.run_laws.specs.Said.{AreSaid, IsKnown, IsSaid, Said, SaidNeedTheDataAlone, but_advice, nothing_said, said_after, said_use, without_advice}
+
+-- two standings over the same data, in which a session that has said USE uses the same
+pub record Alike (s t : Standing) (said : Said) : Type 0 where
+  pub laid : s.laid ≡ t.laid
+  pub at : (n : ℕ) → said.session ≡ Some n → (s.session ≡ n) × (t.session ≡ n)
+  pub none : said.session ≡ None → (n : ℕ) → In (Some n) said.using → ⊥
+  pub first : said.session ≡ None → In None said.using → used_by s.uses s.session ≡ used_by t.uses t.session
+  pub named : (n : ℕ) → In (Some n) said.using → used_by s.uses n ≡ used_by t.uses n
+
+-- a statement is answered the same, and leaves the same data and what is in use
+pub record Goes (s t : Standing) (a b : Checked (Answer × Standing)) : Type 0 where
+  pub text : text_of a ≡ text_of b
+  pub laid : (next_state s a).laid ≡ (next_state t b).laid
+  pub mine : ((next_state s a).uses ≡ s.uses) × ((next_state s a).session ≡ s.session)
+  pub other : ((next_state t b).uses ≡ t.uses) × ((next_state t b).session ≡ t.session)
+
+-- what an answer of the engine makes of a standing
+abbrev pub answered : Standing → Bool → Option ℕ → Checked (Reply × Laid) → Checked (Answer × Standing)
+answered s csv table m = m then λ answer. Ok (answer_of csv answer.0, record s { laid = answer.1; counts = raised_by s.counts table })
+
+-- where what is in use and the session are the same, so is the version in use
+same_used : (u v : Standing) → (u.uses ≡ v.uses) × (u.session ≡ v.session) → used_by u.uses u.session ≡ used_by v.uses v.session
+same_used u v same = λ j. used_by (same.0 j) (same.1 j)
+
+module _ (s t : Standing) (said : Said) (alike : Alike s t said) where
+  abbrev used_s : Option (List ℕ)
+  used_s = used_by s.uses s.session
+
+  abbrev used_t : Option (List ℕ)
+  used_t = used_by t.uses t.session
+
+  -- a session that has said USE uses the same
+  same_use : (session : Option ℕ) → said.session ≡ session → In session said.using → used_s ≡ used_t
+  same_use None is i = alike.first is i
+  same_use (Some n) is i =
+      let here = alike.at n is in
+      ap (λ (k : ℕ). used_by s.uses k) here.0 ∙ alike.named n i ∙ ap (λ (k : ℕ). used_by t.uses k) (sym here.1)
+
+  same_version : (version : Option (List ℕ)) → IsKnown said version → version_of used_s version ≡ version_of used_t version
+  same_version (Some name) known = refl
+  same_version None (inl some) = absurd (let none : ⊥ = cc in none)
+  same_version None (inr i) = same_use said.session refl i
+
+  same_name : (name : TableName) → IsKnown said name.version → name_in_full used_s name ≡ name_in_full used_t name
+  same_name name known = ap (λ (v : Option (List ℕ)). record { version = v; table = name.table }) (same_version name.version known)
+
+  -- one answer of the engine
+  goes_answered : (csv : Bool) (table other : Option ℕ) (m : Checked (Reply × Laid)) → Goes s t (answered s csv table m) (answered t csv other m)
+  goes_answered csv table other (Ok a) = record { text = refl; laid = refl; mine = (refl, refl); other = (refl, refl) }
+  goes_answered csv table other (Err r) = record { text = refl; laid = alike.laid; mine = (refl, refl); other = (refl, refl) }
+
+  goes_counted : (csv : Bool) (x y : StatementView) → x ≡ y → Goes s t (counted s csv x) (counted t csv y)
+  goes_counted csv x y same =
+      let both : act_in_full s.laid x ≡ act_in_full t.laid y = λ i. act_in_full (alike.laid i) (same i) in
+      subst (λ (m : Checked (Reply × Laid)). Goes s t (answered s csv (accessed s.laid.database x) (act_in_full s.laid x)) (answered t csv (accessed t.laid.database y) m)) both
+      (goes_answered csv (accessed s.laid.database x) (accessed t.laid.database y) (act_in_full s.laid x))
+
+  -- what is in use is alike then
+  stay_alike : (a b : Checked (Answer × Standing)) → Goes s t a b → Alike (next_state s a) (next_state t b) said
+  stay_alike a b goes = record {
+    laid = goes.laid;
+    at = λ n is. (goes.mine.1 ∙ (alike.at n is).0, goes.other.1 ∙ (alike.at n is).1);
+    none = alike.none;
+    first = λ is i. same_used (next_state s a) s goes.mine ∙ alike.first is i ∙ sym (same_used (next_state t b) t goes.other);
+    named = λ n i. ap (λ (u : List VersionInUse). used_by u n) goes.mine.0 ∙ alike.named n i ∙ sym (ap (λ (u : List VersionInUse). used_by u n) goes.other.0);
+  }
+
+  -- one statement: what is alike behind it, and its reply, but for advice
+  pub record Steps (x : StatementView) : Type 0 where
+    pub next : Alike (next_state s (act s x)) (next_state t (act t x)) (said_after t.laid said x)
+    pub text : (texts : List (List ℕ)) → without_advice x (text_of (act t x)) texts ≡ without_advice x (text_of (act s x)) texts
+
+  told : (x : StatementView) → said_after t.laid said x ≡ said → ((text : List ℕ) (texts : List (List ℕ)) → without_advice x text texts ≡ text ∷ texts) → Goes s t (act s x) (act t x) → Steps x
+  told x same plain goes = record {
+    next = subst (Alike (next_state s (act s x)) (next_state t (act t x))) (sym same) (stay_alike (act s x) (act t x) goes);
+    text = λ texts. plain (text_of (act t x)) texts ∙ ap (λ (text : List ℕ). text ∷ texts) (sym goes.text) ∙ sym (plain (text_of (act s x)) texts);
+  }
+
+  -- ---- USE
+
+  module _ (own : UsesAreOwn) (name : List ℕ) where
+    abbrev new_s : Standing
+    new_s = record s { uses = with_use s.uses s.session name }
+
+    abbrev new_t : Standing
+    new_t = record t { uses = with_use t.uses t.session name }
+
+    -- a session that isn't at hand uses what it did
+    other_use : (n m : ℕ) → s.session ≡ m → t.session ≡ m → In (Some n) said.using → (b : Bool) → (n == m) ≡ b → used_by new_s.uses n ≡ used_by new_t.uses n
+    other_use n m here there i true is =
+        let same = eqb-true n m is in
+        ap (λ (k : ℕ). used_by new_s.uses k) (same ∙ sym here) ∙ own.own s.uses s.session name ∙ sym (own.own t.uses t.session name) ∙ ap (λ (k : ℕ). used_by new_t.uses k) (there ∙ sym same)
+    other_use n m here there i false is =
+        own.others s.uses s.session n name (λ same. eqb-false n m is (same ∙ here)) ∙ alike.named n i ∙ sym (own.others t.uses t.session n name (λ same. eqb-false n m is (same ∙ there)))
+
+    named_use : (n : ℕ) (session : Option ℕ) → said.session ≡ session → In (Some n) (session ∷ said.using) → used_by new_s.uses n ≡ used_by new_t.uses n
+    named_use n None is (inl same) = absurd (let none : ⊥ = cc in none)
+    named_use n None is (inr i) = absurd (alike.none is n i)
+    named_use n (Some m) is (inl same) =
+        let one : n ≡ m = cc in
+        let here = alike.at m is in
+        ap (λ (k : ℕ). used_by new_s.uses k) (one ∙ sym here.0) ∙ own.own s.uses s.session name ∙ sym (own.own t.uses t.session name) ∙ ap (λ (k : ℕ). used_by new_t.uses k) (here.1 ∙ sym one)
+    named_use n (Some m) is (inr i) = let here = alike.at m is in other_use n m here.0 here.1 i (n == m) refl
+
+    no_name : (n : ℕ) → said.session ≡ None → In (Some n) (said.session ∷ said.using) → ⊥
+    no_name n is (inl same) = let no : ⊥ = cc in no
+    no_name n is (inr i) = alike.none is n i
+
+    uses_alike : Alike new_s new_t (record said { using = said.session ∷ said.using })
+    uses_alike = record {
+      laid = alike.laid;
+      at = alike.at;
+      none = λ is n i. no_name n is i;
+      first = λ is i. own.own s.uses s.session name ∙ sym (own.own t.uses t.session name);
+      named = λ n i. named_use n said.session refl i;
+    }
+
+    -- what a USE answers of the working set that is found
+    abbrev using : Standing → Option ℕ → Checked (Answer × Standing)
+    using u set = known_version name set then λ w. Ok (Plain Done, record u { uses = with_use u.uses u.session name })
+
+    use_next : (set : Option ℕ) → Alike (next_state s (using s set)) (next_state t (using t set)) (said_use said set)
+    use_next (Some w) = uses_alike
+    use_next None = alike
+
+    use_text : (set : Option ℕ) → text_of (using t set) ≡ text_of (using s set)
+    use_text (Some w) = refl
+    use_text None = refl
+
+    set_s : Option ℕ
+    set_s = set_named s.laid.database.graph.versions name
+
+    same_set : set_named s.laid.database.graph.versions name ≡ set_named t.laid.database.graph.versions name
+    same_set = ap (λ (l : Laid). set_named l.database.graph.versions name) alike.laid
+
+    use_steps : Steps (Use name)
+    use_steps = record {
+      next = subst (λ (o : Option ℕ). Alike (next_state s (using s o)) (next_state t (using t (set_named t.laid.database.graph.versions name))) (said_use said (set_named t.laid.database.graph.versions name))) (sym same_set)
+          (use_next (set_named t.laid.database.graph.versions name));
+      text = λ texts. ap (λ (text : List ℕ). text ∷ texts)
+          (use_text (set_named t.laid.database.graph.versions name) ∙ ap (λ (o : Option ℕ). text_of (using s o)) (sym same_set));
+    }
+
+  -- ---- ADVISE, which leaves all
+
+  advice_leaves : (u : Standing) (answer : Answer) (m : Checked ℕ) → next_state u (m then λ set. Ok (answer, u)) ≡ u
+  advice_leaves u answer (Ok set) = refl
+  advice_leaves u answer (Err r) = refl
+
+  advise_next : (name : List ℕ) → Alike (next_state s (act s (Advise name))) (next_state t (act t (Advise name))) said
+  advise_next name =
+      let mine = advice_leaves s (advice_on s name) (known_version name (set_named s.laid.database.graph.versions name)) in
+      let other = advice_leaves t (advice_on t name) (known_version name (set_named t.laid.database.graph.versions name)) in
+      subst (λ (u : Standing). Alike u (next_state t (act t (Advise name))) said) (sym mine) (subst (λ (u : Standing). Alike s u said) (sym other) alike)
+
+  -- ---- SESSION
+
+  session_next : (number : ℕ) → Alike (record s { session = number }) (record t { session = number }) (record said { session = Some number })
+  session_next number = record {
+    laid = alike.laid;
+    at = λ n is. (let same : number ≡ n = cc in (same, same));
+    none = λ is n i. (let no : ⊥ = cc in no);
+    first = λ is i. absurd (let no : ⊥ = cc in no);
+    named = alike.named;
+  }
+
+  steps : UsesAreOwn → (x : StatementView) → IsSaid said x → Steps x
+  steps own (CreateVersion name from operators) is = told (CreateVersion name from operators) refl (λ text texts. refl) (goes_counted false (CreateVersion name from operators) (CreateVersion name from operators) refl)
+  steps own (DropVersion name) is = told (DropVersion name) refl (λ text texts. refl) (goes_counted false (DropVersion name) (DropVersion name) refl)
+  steps own (Insert name rows) is = told (Insert name rows) refl (λ text texts. refl) (goes_counted false (in_full used_s (Insert name rows)) (in_full used_t (Insert name rows)) (ap (λ (n : TableName). Insert n rows) (same_name name is)))
+  steps own (Import name text) is = told (Import name text) refl (λ text texts. refl) (goes_counted false (in_full used_s (Import name text)) (in_full used_t (Import name text)) (ap (λ (n : TableName). Insert n (csv_rows text)) (same_name name is)))
+  steps own (Update name assignments filter) is = told (Update name assignments filter) refl (λ text texts. refl) (goes_counted false (in_full used_s (Update name assignments filter)) (in_full used_t (Update name assignments filter)) (ap (λ (n : TableName). Update n assignments filter) (same_name name is)))
+  steps own (Delete name filter) is = told (Delete name filter) refl (λ text texts. refl) (goes_counted false (in_full used_s (Delete name filter)) (in_full used_t (Delete name filter)) (ap (λ (n : TableName). Delete n filter) (same_name name is)))
+  steps own (Select name items filter csv) is = told (Select name items filter csv) refl (λ text texts. refl) (goes_counted csv (in_full used_s (Select name items filter csv)) (in_full used_t (Select name items filter csv)) (ap (λ (n : TableName). Select n items filter false) (same_name name is)))
+  steps own (Materialize named in_steps) is = told (Materialize named in_steps) refl (λ text texts. refl) (goes_counted false (Materialize named in_steps) (Materialize named in_steps) refl)
+  steps own Step is = told Step refl (λ text texts. refl) (goes_counted false Step Step refl)
+  steps own ShowLayout is = told ShowLayout refl (λ text texts. refl) (goes_counted false ShowLayout ShowLayout refl)
+  steps own (Use name) is = use_steps own name
+  steps own (Session number) is = record { next = session_next number; text = λ texts. refl }
+  steps own (Advise name) is = record { next = advise_next name; text = λ texts. refl }
+  steps own (Watch name) is = told (Watch name) refl (λ text texts. refl) (goes_counted false (Watch name) (Watch name) refl)
+  steps own (Unwatch number) is = told (Unwatch number) refl (λ text texts. refl) (goes_counted false (Unwatch number) (Unwatch number) refl)
+  steps own Begin is = told Begin refl (λ text texts. refl) (goes_counted false Begin Begin refl)
+  steps own Commit is = told Commit refl (λ text texts. refl) (goes_counted false Commit Commit refl)
+  steps own Rollback is = told Rollback refl (λ text texts. refl) (goes_counted false Rollback Rollback refl)
+
+-- all of them, one after the other
+all_alike : UsesAreOwn → (xs : List StatementView) (s t : Standing) (said : Said) → Alike s t said → AreSaid t said xs
+    → (but_advice xs (replies t xs) ≡ but_advice xs (replies s xs)) × ((state_after t xs).laid ≡ (state_after s xs).laid)
+unfolding AreSaid but_advice replies state_after
+all_alike own [] s t said alike are = (refl, sym alike.laid)
+all_alike own (x ∷ xs) s t said alike are =
+    let step = steps s t said alike own x are.0 in
+    let rest = all_alike own xs (next_state s (act s x)) (next_state t (act t x)) (said_after t.laid said x) step.next are.1 in
+    (ap (without_advice x (text_of (act t x))) rest.0 ∙ step.text (but_advice xs (replies (next_state s (act s x)) xs)), rest.1)
+
+-- nothing was said yet
+none_alike : (s : Standing) → Alike s (begun s.laid) nothing_said
+none_alike s = record {
+  laid = refl;
+  at = λ n is. absurd (let no : ⊥ = cc in no);
+  none = λ is n i. i;
+  first = λ is i. absurd i;
+  named = λ n i. absurd i;
+}
+
+pub said_need : UsesAreOwn → SaidNeedTheDataAlone
+said_need own s statements are = all_alike own statements s (begun s.laid) nothing_said (none_alike s) are
