@@ -1,5 +1,6 @@
 mod DumpLemmas
 mod TwoRunLemmas
+mod ScriptLawLemmas
 mod FileLemmas
 mod StartedLemmas
 mod FinishLemmas

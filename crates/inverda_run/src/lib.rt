@@ -10,8 +10,10 @@
 //! state behind them (`Ran`); that every other status comes for its cause alone; that where source,
 //! sink and files don't fail and memory suffices, words, files and bytes decide the status; that a run
 //! which memory or the sink ends has put a front of what it puts otherwise, by what failed before
-//! (`Early`); and that the first call that fails on source, sink or files is the last one. The crate
-//! knows nothing of how words, scripts or dumps are written.
+//! (`Early`); and that the first call that fails on source, sink or files is the last one. Laws say
+//! what two runs with a dump between have in common (`specs/Laws.antt`), and what a run keeps
+//! throughout its script (`specs/ScriptLaws.antt`). The crate knows nothing of how words, scripts or
+//! dumps are written.
 #![tactic(auto)]
 
 mod begin;
@@ -22,7 +24,9 @@ mod generate;
 mod last;
 mod laws;
 mod limit;
+mod script_laws;
 mod top;
 
 pub use laws::two_runs_are_one;
+pub use script_laws::{runs_are_ordinary, said_runs_are_one};
 pub use top::inverda;

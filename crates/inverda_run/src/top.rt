@@ -17,6 +17,7 @@ use crate::finish::finish;
 use crate::generate::generate;
 use crate::last::put_last;
 use crate::laws::two_runs_are_one;
+use crate::script_laws::{runs_are_ordinary, said_runs_are_one};
 use generated_run::{End as ScriptEnd, Sessions, run_source};
 use outside::{Files, Sink, Source};
 use par_base::{Fault, Limits};
@@ -64,6 +65,9 @@ fn run<S: Source, K: Sink, F: Files>(
     // That a run has one start, and a state one dump, rests on these.
     words_say_one_thing();
     two_runs_are_one();
+    // These are laws of every run: they take no time.
+    runs_are_ordinary();
+    said_runs_are_one();
     let asked = match read_words(alloc, words) {
         Ok(asked) => asked,
         Err(Fault::Refused(_)) => return put_last(End::BadWords, b"bad words\n", out),

@@ -1,0 +1,46 @@
+-- What runs keep throughout their scripts, and second scripts that say USE.
+use Rattle.std.specs.Prelude.{◌≡◌, ◌++◌, ℕ, Bool, List, ◌∷◌, Option, Some, Ok}
+use Rattle.std.specs.Io.KnownBytes.{Appends}
+use Rattle.statements.specs.Views.{StatementView}
+use Rattle.bidel_script.specs.Script.{Comes, Outcome}
+use Rattle.run_words.specs.Words.{Asked}
+use Rattle.generated_run.specs.Act.{act}
+use Rattle.generated_run.specs.Answer.{Answer}
+use Rattle.generated_run.specs.Standing.{Standing}
+use Rattle.generated_run.specs.Output.{joined, out, replies, state_after}
+use Rattle.generated_run.specs.Statuses.{Done}
+use Rattle.run_laws.specs.Kept.{IsKept}
+use Rattle.run_laws.specs.Said.{AreSaid, but_advice, nothing_said}
+use Rattle.run_laws.specs.Written.{IsWrite}
+use Rattle.inverda_run.specs.Starts.{Told}
+use Rattle.inverda_run.specs.Statuses.{Ran, Starts}
+
+-- a run starts from a state as a database may have it, be it empty or loaded, and each state that its script reaches is one
+abbrev pub RunsStayKept : Type 0
+RunsStayKept = (words : List (List ℕ)) (told : Told) (asked : Asked) (from : Standing) → Starts words told asked from
+    → (bytes : List ℕ) (ended : Bool) (statements : List StatementView) (outcome : Outcome) → Comes bytes ended statements outcome
+    → IsKept from.laid.database × IsKept (state_after from statements).laid.database
+
+-- EACH VERSION IS AN ORDINARY DATABASE THROUGHOUT A RUN: each statement of its script that is an answered write leaves its table with the
+-- rows that it says, and no other table of its version, and no version, has changed
+abbrev pub RunsAreOrdinary : Type 0
+RunsAreOrdinary = (words : List (List ℕ)) (told : Told) (asked : Asked) (from : Standing) → Starts words told asked from
+    → (bytes : List ℕ) (ended : Bool) (statements : List StatementView) (outcome : Outcome) → Comes bytes ended statements outcome
+    → (before after : List StatementView) (statement : StatementView) (answer : Answer × Standing) → statements ≡ before ++ statement ∷ after
+    → act (state_after from before) statement ≡ Ok answer → IsWrite (state_after from before) statement answer
+
+-- TWO RUNS ARE ONE, also where each statement of the second on a table names its version or stands behind an answered USE of its session in
+-- the second script: the first run dumped to a file that the second loaded, both with the same greatest identifier, and the second went on
+-- behind what the first had put. Then they have put the replies of the first and those of the second, which are, but for those to ADVISE,
+-- as in one run of both scripts, and have left the same data.
+abbrev pub SaidRunsAreOne : Type 0
+SaidRunsAreOne = (words words' : List (List ℕ)) (told mid told' : Told) (left left' more more' held between held' : Option (List ℕ))
+    → (first : Ran words told mid left left' held between) (second : Ran words' mid told' more more' between held')
+    → (name file : List ℕ) → first.asked.dump ≡ Some name → second.asked.load ≡ Some name → mid name ≡ Some (Some file)
+    → second.asked.max_id ≡ first.asked.max_id
+    → (one : Done first.from first.to left left' held between) (other : Done second.from second.to more more' between held')
+    → AreSaid second.from nothing_said other.statements
+    → Appends held held' (out first.from one.statements ++ joined (replies second.from other.statements))
+    × (but_advice other.statements (replies second.from other.statements)
+    ≡ but_advice other.statements (replies (state_after first.from one.statements) other.statements))
+    × (second.to.laid ≡ (state_after first.from (one.statements ++ other.statements)).laid)
