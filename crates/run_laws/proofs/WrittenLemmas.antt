@@ -1,6 +1,6 @@
 -- Each answered write of a script is that of an ordinary database.
-use Rattle.std.specs.Prelude.{Option, Ok}
-use Rattle.std.proofs.Common.{◌≡◌, List, false, refl, sym, ap, ◌∙◌}
+use Rattle.std.specs.Prelude.{Option, Some, None, Ok}
+use Rattle.std.proofs.Common.{◌≡◌, ℕ, List, false, refl, sym, ap, ◌∙◌}
 use Rattle.par_base.specs.Checked.{◌then◌}
 use Rattle.par_base.specs.declared.value.Value.{Value}
 use Rattle.expr_lang.specs.Operations.{text_limit}
@@ -24,12 +24,12 @@ use Rattle.engine_layouts.specs.Laid.{Laid}
 use Rattle.engine_core.specs.Act.{act as act_in_full, acted, acted_data, is_built, planned_write, with_data}
 use Rattle.engine_core.proofs.TextLaws.{assignments_fit, rows_fit}
 use Rattle.engine_sessions.specs.Act.{act, answer_of, counted}
-use Rattle.engine_sessions.specs.InFull.{name_in_full}
+use Rattle.engine_sessions.specs.InFull.{name_in_full, version_of}
 use Rattle.engine_sessions.specs.Standing.{Standing, used_by}
 use Rattle.engine_sessions.specs.declared.answer.Answer.{Answer}
 use Rattle.engine_sessions.specs.declared.answer.Answer.TheVariants.{Plain}
 use Rattle.run_laws.specs.Kept.{IsKept}
-use Rattle.run_laws.specs.Written.{IsWrite, Writes, WritesAreOrdinary}
+use Rattle.run_laws.specs.Written.{IsWrite, Means, Writes, WritesAreOrdinary}
 use Rattle.run_laws.proofs.KeptLemmas.{built_first, import_texts}
 use Rattle.run_laws.proofs.PlanLemmas.{Takes, delete_taken, insert_taken, update_taken}
 
@@ -63,6 +63,11 @@ wrote_of s x answer beside writes h =
 plain : (reply : Reply) → answer_of false reply ≡ Plain reply
 plain reply = refl
 
+-- what a name in full says of the version
+means : (used named : Option (List ℕ)) (version : List ℕ) → version_of used named ≡ Some version → Means used named version
+means used (Some name) version is = let same : name ≡ version = cc in sym same
+means used None version is = is
+
 -- the table that is written has its rows, and no other of its version has changed
 writes_of : (s : Standing) (name : TableName) (x : StatementView) (P : Planned → Type 0) (answer : Answer × Standing) → IsKept s.laid.database → (w : Wrote s x answer)
     → Takes s.laid.database (name_in_full (used_by s.uses s.session) name) w.plan → P w.plan → Writes s name P answer.0 answer.1
@@ -72,7 +77,7 @@ writes_of s name x P answer kept w takes made =
     let ordinary = write_is_ordinary any_meaning d.graph.edges d.state kept.sound p.found.set p.found.table.number p.rows p.next takes.may any_laws kept.edges in
     record {
       version = takes.found.version;
-      is_version = takes.found.is_version;
+      is_version = means (used_by s.uses s.session) name.version takes.found.version takes.found.is_version;
       written = p;
       set = takes.found.set;
       held = takes.found.held;

@@ -1,5 +1,5 @@
 -- Each version is an ordinary database for the writes of a script.
-use Rattle.std.specs.Prelude.{◌≡◌, ℕ, List, Some, Ok, ⊤}
+use Rattle.std.specs.Prelude.{◌≡◌, ℕ, List, Option, Some, None, Ok, ⊤}
 use Rattle.expr_lang.specs.Operations.{text_limit}
 use Rattle.statements.specs.Views.{StatementView, Insert, Import, Update, Delete}
 use Rattle.statements.specs.Texts.{TextsWithin}
@@ -11,17 +11,21 @@ use Rattle.csv_io.specs.Tables.{csv_rows}
 use Rattle.engine_statements.specs.Laws.{DeletesChosen, InsertsRows, UpdatesChosen}
 use Rattle.engine_statements.specs.Statements.{Planned}
 use Rattle.engine_sessions.specs.Act.{act}
-use Rattle.engine_sessions.specs.InFull.{version_of}
 use Rattle.engine_sessions.specs.Standing.{Standing, used_by}
 use Rattle.engine_sessions.specs.declared.answer.Answer.{Answer}
 use Rattle.engine_sessions.specs.declared.answer.Answer.TheVariants.{Plain}
 use Rattle.run_laws.specs.Kept.{IsKept}
 
+-- a statement means the version that it names, or else the one in use
+abbrev pub Means : Option (List ℕ) → Option (List ℕ) → List ℕ → Type 0
+Means used (Some named) version = version ≡ named
+Means used None version = used ≡ Some version
+
 -- an answered write of the table of this name: that of the version that is named or in use. Its rows are then what P says, and no other
 -- table of the version, and no version, has changed
 pub record Writes (s : Standing) (name : TableName) (P : Planned → Type 0) (answer : Answer) (next : Standing) : Type 0 where
   pub version : List ℕ
-  pub is_version : version_of (used_by s.uses s.session) name.version ≡ Some version
+  pub is_version : Means (used_by s.uses s.session) name.version version
   pub written : Planned
   pub set : set_named s.laid.database.graph.versions version ≡ Some written.found.set
   pub held : In written.found.table (working s.laid.database.graph.edges written.found.set)
