@@ -1,0 +1,3 @@
+pub mod Entries
+pub mod Placed
+pub mod OuterOn
