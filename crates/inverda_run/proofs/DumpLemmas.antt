@@ -1,13 +1,27 @@
--- A dump stands for one state.
-use Rattle.std.specs.Prelude.{Some}
-use Rattle.std.proofs.Common.{◌≡◌, refl, sym, ap, subst, ◌∙◌}
+-- Each state has a dump, and a dump stands for one state.
+use Rattle.std.specs.Prelude.{Some, None, nat_le, codes}
+use Rattle.std.proofs.Common.{◌≡◌, ℕ, List, [], length, Bool, true, false, refl, sym, ap, subst, ◌∙◌, inl, inr}
+use Rattle.std.proofs.lemmas.Bool.{leb-false, leb-true}
 use Rattle.serde_json.specs.Data.{Data}
 use Rattle.serde_json.specs.Read.{read}
 use Rattle.generated_run.specs.Laid.{Laid}
 use Rattle.generated_run.specs.Standing.{begun}
 use Rattle.dump_file.specs.Laws.{DumpsAreOfOneDatabase}
 use Rattle.dump_file.specs.Stands.{Stands}
-use Rattle.inverda_run.specs.Laws.{LoadsTheDumped, OneStart}
+use Rattle.generated_run.specs.EngineCoreTexts.{line}
+use Rattle.generated_run.specs.Statuses.{limit}
+use Rattle.inverda_run.specs.Starts.{dump_of}
+use Rattle.inverda_run.specs.Decided.{Behind}
+use Rattle.inverda_run.specs.Laws.{EachStateHasADump, LoadsTheDumped, OneStart}
+
+-- it is within the limit, or it isn't
+pub each_state_has_a_dump : EachStateHasADump
+each_state_has_a_dump None to = ([], refl)
+each_state_has_a_dump (Some name) to = by (nat_le (length (dump_of to)) limit) refl
+  where
+    by : (b : Bool) → nat_le (length (dump_of to)) limit ≡ b → (last : List ℕ) × Behind (Some name) to last
+    by true e = ([], inl (leb-true (length (dump_of to)) limit e, refl))
+    by false e = (line (codes "too long"), inr (leb-false (length (dump_of to)) limit e, refl))
 
 some_same : {A : Type 0} (a b : A) → Some a ≡ Some b → a ≡ b
 some_same a b e = cc

@@ -9,7 +9,12 @@ use Rattle.generated_run.specs.Laws.{IsFull}
 use Rattle.generated_run.specs.Output.{out, state_after}
 use Rattle.generated_run.specs.Statuses.{Done, limit}
 use Rattle.inverda_run.specs.Starts.{IsDumpText, Loaded, Told}
+use Rattle.inverda_run.specs.Decided.{Behind}
 use Rattle.inverda_run.specs.Statuses.{Ran}
+
+-- EACH STATE HAS A DUMP, and so it is decided what a run puts behind its replies, whatever the words say of a dump
+abbrev pub EachStateHasADump : Type 0
+EachStateHasADump = (dump : Option (List ℕ)) (to : Laid) → (last : List ℕ) × Behind dump to last
 
 -- a file holds the dump of one state, for a greatest identifier
 abbrev pub OneStart : Type 0

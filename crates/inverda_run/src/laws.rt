@@ -1,5 +1,5 @@
 //! Laws of runs, each the contract of a function that does nothing.
-ghost use Rattle.inverda_run.specs.Laws.{BeginsAgain, LoadsTheDumped, OneStart, RunsAreOne, TwoRuns};
+ghost use Rattle.inverda_run.specs.Laws.{BeginsAgain, EachStateHasADump, LoadsTheDumped, OneStart, RunsAreOne, TwoRuns};
 
 use dump_file::dumps_are_of_one_database;
 use generated_run::full_statements_need_the_data_alone;
@@ -7,8 +7,9 @@ use generated_run::full_statements_need_the_data_alone;
 /// A run that loads what another one dumped goes on in the state in which that one ended, where both
 /// have the same greatest identifier: together they put what one run of both scripts puts, where the
 /// statements of the second name their versions and ask for no advice, since what is in use and was
-/// counted isn't dumped. A file that is loaded stands for one state.
+/// counted isn't dumped. Each state has a dump, and a file that is loaded stands for one state.
 pub fn two_runs_are_one()
+    ensures dump { EachStateHasADump }
     ensures start { OneStart }
     ensures loads { LoadsTheDumped }
     ensures runs { TwoRuns }

@@ -1,6 +1,9 @@
-use Rattle.inverda_run.proofs.DumpLemmas.{loads_dumped, one_start}
+use Rattle.inverda_run.proofs.DumpLemmas.{each_state_has_a_dump, loads_dumped, one_start}
 use Rattle.inverda_run.proofs.TwoRunLemmas.{begins_again, runs_are_one, two_runs}
 use Rattle.inverda_run.proofs.laws.two_runs_are_one.Goals as goal
+
+pub returns-clause-dump : goal.returns-clause-dump
+returns-clause-dump c = each_state_has_a_dump
 
 pub returns-clause-start : goal.returns-clause-start
 returns-clause-start c = one_start c.dumps_are_of_one_database.ensures
