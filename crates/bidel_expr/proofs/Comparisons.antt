@@ -1,6 +1,7 @@
 -- A sum, and what may compare or test it, within limits.
 use Rattle.std.proofs.Common.{◌≡◌, ◌++◌, ◌∷◌, [], ℕ, zero, suc, ◌+◌, ◌-◌, ◌≤◌, List, Bool, true, false, refl, ap, ◌∙◌, subst, inl, inr, arith}
 use Rattle.std.specs.Prelude.{Some, codes}
+use Rattle.std.proofs.lemmas.Bool.{or_parts}
 use Rattle.expr_lang.specs.Terms.{Unary as UnaryTerm, Binary}
 use Rattle.expr_lang.specs.declared.tree.UnaryOp.{UnaryOp}
 use Rattle.expr_lang.specs.declared.tree.UnaryOp.TheVariants.{IsNull, IsNotNull}
@@ -10,7 +11,7 @@ use Rattle.phrases.specs.Phrases.{Nothing, Seq, Either, OneOf}
 use Rattle.phrases.specs.Reading.{starts, and_then, one_at, done, is, none, or}
 use Rattle.phrases.specs.Reads.{Reads}
 use Rattle.phrases.specs.Chains.{Part, Item, Within, opens}
-use Rattle.phrases.proofs.ReadersLaws.{then-reads, done-reads, unless-reads, either-reads, respell, word as then_word, closed, begins_one, known, starts_left, starts_right, or_right}
+use Rattle.phrases.proofs.ReadersLaws.{then-reads, done-reads, unless-reads, either-reads, respell, word as then_word, closed, begins_one, known, starts_left, starts_right}
 use Rattle.phrases.proofs.ListsLaws.{made-reads}
 use Rattle.phrases.proofs.ChainsLaws.{part, part_is, opens-append}
 use Rattle.bidel_expr.specs.Lexemes.{Lexeme, word, symbol}
@@ -206,7 +207,7 @@ module _ (cs : Lexeme → Bool) (S : Spelling) (sum : Item Lexeme Tree) (sums : 
   compares-reads : (a : Tree) (ops parens : ℕ) → Reads comp_goes (Compares a ops parens) (and_then (one_at compare_of) λ op. and_then (sum ops parens) λ x. done (part (Binary op a x.0) x.1 x.2))
   compares-reads a ops parens = then_word comp_goes compare_of (symbol (codes "=")) Equal refl _ _ (λ op.
       respell cs comp_goes _ _ _ (made-reads cs (Within cost weight S ops parens) (sum ops parens) (λ x. part (Binary op a x.0) x.1 x.2) (sums ops parens)) (λ front y h. h) (λ front y h. h)
-      (λ t h. or_right (is is_of t) (cs t) (or_right (is compare_of t) (or (is is_of) cs t) h)))
+      (λ t h. (or_parts (is is_of t) (cs t) ((or_parts (is compare_of t) (or (is is_of) cs t) h).1)).1))
 
   tests-reads : (a : Tree) (ops parens : ℕ) → Reads comp_goes (Tests a ops parens) (and_then (one_at is_of) λ _. and_then null_test_at λ op. done (part (UnaryTerm op a) ops parens))
   tests-reads a ops parens = then_word comp_goes is_of (word (codes "is")) tt refl _ _ (λ _.

@@ -1,5 +1,5 @@
 -- Tests on bytes, and the first byte of a token.
-use Rattle.std.proofs.Common.{◌≡◌, ◌⊎◌, inl, inr, ◌-◌, ◌<◌, ◌≤◌, ◌||◌, ℕ, Bool, true, false, cond, nat_le, nat_lt, refl, arith}
+use Rattle.std.proofs.Common.{◌≡◌, ◌-◌, ◌<◌, ◌≤◌, ◌||◌, ℕ, Bool, true, false, cond, nat_le, nat_lt, refl, arith}
 use Rattle.std.specs.Char.{digit_value}
 use Rattle.bidel_lex.specs.declared.unfinished.Unfinished.TheVariants.{Word, Number}
 use Rattle.bidel_lex.specs.declared.next.First.TheVariants.{Space, Alone, Opens}
@@ -18,14 +18,6 @@ between_test low high b h k = grind arith
 
 pub digit_test : (b : ℕ) → digit_value b < 10 → is_digit b ≡ true
 digit_test b h = grind arith
-
-pub or_cases : (p q : Bool) → (p || q) ≡ true → (p ≡ true) ⊎ (q ≡ true)
-or_cases true q h = inl refl
-or_cases false q h = inr h
-
-pub or_none : (p q : Bool) → (p || q) ≡ false → (p ≡ false) × (q ≡ false)
-or_none true q h = absurd cc
-or_none false q h = (refl, h)
 
 -- a byte of a class that leaves out white space, and one of a class that leaves out the lone symbols
 pub not_space : (p : ℕ → Bool) (b : ℕ) → p b ≡ true → p 32 ≡ false → p 9 ≡ false → p 13 ≡ false → p 10 ≡ false → is_space b ≡ false

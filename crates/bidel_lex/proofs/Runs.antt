@@ -4,7 +4,7 @@ use Rattle.std.specs.List.{AllPass}
 use Rattle.std.specs.Char.{digit_value}
 use Rattle.std.specs.Str.Parse.{AllDigits, digits_value_after}
 use Rattle.std.proofs.lemmas.List.Elements.{All-head, All-tail}
-use Rattle.std.proofs.lemmas.Bool.{and_parts}
+use Rattle.std.proofs.lemmas.Bool.{and_parts, or_cases}
 use Rattle.bidel_lex.specs.declared.tokens.TokenKind.{TokenKind}
 use Rattle.bidel_lex.specs.declared.tokens.TokenKind.TheVariants as kind
 use Rattle.bidel_lex.specs.declared.unfinished.Unfinished.{Unfinished}
@@ -17,7 +17,7 @@ use Rattle.bidel_lex.specs.Words.{number_with, reference_with}
 use Rattle.bidel_lex.specs.Spelled.{CanFollow, goes_on, is_closed, IsReference, is_symbol, IsNumber, IsWord}
 use Rattle.bidel_lex.specs.Next.{after_turn, first_of, first_turn, found, kind_of, lexed_at, over_as, step_of, step_turn, turn_at}
 use Rattle.bidel_lex.proofs.Held.{digit_is, same_byte}
-use Rattle.bidel_lex.proofs.ByteTests.{digit_first, digit_test, le_test, lone_first, lt_test, or_cases, word_first}
+use Rattle.bidel_lex.proofs.ByteTests.{digit_first, digit_test, le_test, lone_first, lt_test, word_first}
 
 -- an unfinished token becomes another by these bytes
 abbrev pub Runs : Unfinished → List ℕ → Unfinished → Type 0

@@ -1,10 +1,11 @@
 -- Words that tell phrases apart, and parts that may be left out.
 use Rattle.std.proofs.Common.{◌≡◌, ◌++◌, ◌∷◌, [], ℕ, List, Bool, true, false, refl, ap, append_assoc, ◌∙◌, sym, subst, cond, inl, inr}
 use Rattle.std.specs.Prelude.{Option, Some, None}
+use Rattle.std.proofs.lemmas.Bool.{or_parts}
 use Rattle.phrases.specs.Phrases.{Nothing, Seq, Either, OneOf, Begins}
 use Rattle.phrases.specs.Reading.{Read, starts, is, is_some, none, or}
 use Rattle.phrases.specs.Reads.{Reads}
-use Rattle.phrases.proofs.ReadersLaws.{done-reads, either-reads, respell, or_right, starts_left}
+use Rattle.phrases.proofs.ReadersLaws.{done-reads, either-reads, respell, starts_left}
 use Rattle.phrases.proofs.ListsLaws.{made-reads}
 use Rattle.phrases.proofs.LookaheadLaws.{GoesOn}
 use Rattle.bidel_expr.specs.Lexemes.{Lexeme, word, keyword}
@@ -88,7 +89,7 @@ module _ {A : Type 0} (c g : Lexeme → Bool) (S : List Lexeme → A → Type 0)
 
   pub flag-reads : Reads (or g c) (Flag S) (flag_at g p)
   flag-reads = either-reads (or g c) g (Seq S λ _. Nothing true) (Nothing false) _ _
-      (respell c (or g c) _ _ _ (made-reads c S p (λ _. true) r) (λ front a h. h) (λ front a h. h) (λ t h. or_right (g t) (c t) h))
+      (respell c (or g c) _ _ _ (made-reads c S p (λ _. true) r) (λ front a h. h) (λ front a h. h) (λ t h. (or_parts (g t) (c t) h).1))
       (done-reads (or g c) false)
       flagged
       (λ front us b h clear. ap (λ (l : List Lexeme). starts g (l ++ us)) h.0 ∙ starts_left g c us clear)

@@ -1,10 +1,11 @@
 -- Operators are read as their grammar says.
 use Rattle.std.proofs.Common.{◌++◌, List, Bool, true, false, refl, ap, ◌∙◌}
 use Rattle.std.specs.Prelude.{◌≡◌, ◌||◌, Some, None, codes}
+use Rattle.std.proofs.lemmas.Bool.{or_parts}
 use Rattle.phrases.specs.Phrases.{Nothing, Seq, Behind, Optional}
 use Rattle.phrases.specs.Reading.{Read, and_then, starts, is, none, or, done, behind_at}
 use Rattle.phrases.specs.Reads.{Reads}
-use Rattle.phrases.proofs.ReadersLaws.{then-reads, done-reads, respell, word as then_word, closed, or_left, or_right, starts_right, begins_token, known}
+use Rattle.phrases.proofs.ReadersLaws.{then-reads, done-reads, respell, word as then_word, closed, starts_right, begins_token, known}
 use Rattle.phrases.proofs.ListsLaws.{made-reads, optional-reads}
 use Rattle.bidel_expr.specs.Lexemes.{Lexeme, word, keyword}
 use Rattle.bidel_expr.specs.Literals.{comma_of, Names, name_at, names_at}
@@ -34,11 +35,11 @@ operator_goes = or (is_word "tracked") parts_go
 
 -- a part that ends as those do
 with_parts : {A : Type 0} (S : List Lexeme → A → Type 0) (p : List Lexeme → Read Lexeme A) → Reads parts_go S p → Reads operator_goes S p
-with_parts S p r = respell parts_go operator_goes S S p r (λ front a h. h) (λ front a h. h) (λ t h. or_right (is_word "tracked" t) (parts_go t) h)
+with_parts S p r = respell parts_go operator_goes S S p r (λ front a h. h) (λ front a h. h) (λ t h. (or_parts (is_word "tracked" t) (parts_go t) h).1)
 
 -- a part that ends as an expression does
 widened : {A : Type 0} (S : List Lexeme → A → Type 0) (p : List Lexeme → Read Lexeme A) → Reads expression_goes S p → Reads operator_goes S p
-widened S p r = with_parts S p (respell expression_goes parts_go S S p r (λ front a h. h) (λ front a h. h) (λ t h. or_right (is comma_of t) (expression_goes t) h))
+widened S p r = with_parts S p (respell expression_goes parts_go S S p r (λ front a h. h) (λ front a h. h) (λ t h. (or_parts (is comma_of t) (expression_goes t) h).1))
 
 -- CREATE TABLE, from the name on
 pub create-table-reads : Reads operator_goes (Seq Name λ table. Seq Names λ columns. Nothing (CreateTable table columns)) (and_then name_at λ table. and_then names_at λ columns. done (CreateTable table columns))
@@ -76,7 +77,7 @@ tracked-reads : Reads operator_goes (Flag (Word "tracked")) tracked_at
 tracked-reads = respell tracked_goes operator_goes _ _ _
     (flag-reads none (is_word "tracked") (Word "tracked") _ (keyword_reads none "tracked")
     (λ front us a h. begins_token (is_word "tracked") (keyword (codes "tracked")) true (known (keyword (codes "tracked"))) front us a h))
-    (λ front a h. h) (λ front a h. h) (λ t h. only t (or_left (is_word "tracked" t) (parts_go t) h))
+    (λ front a h. h) (λ front a h. h) (λ t h. only t ((or_parts (is_word "tracked" t) (parts_go t) h).0))
   where
     only : (t : Lexeme) → is_word "tracked" t ≡ false → tracked_goes t ≡ false
     only t h = ap (λ (b : Bool). b || false) h

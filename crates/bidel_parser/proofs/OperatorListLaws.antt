@@ -1,6 +1,7 @@
 -- Where the operators of a statement end: operators are known by their first words.
-use Rattle.std.proofs.Common.{◌≡◌, ◌++◌, ◌∷◌, [], ℕ, List, Bool, true, false, refl, ap, ◌∙◌, sym, subst, inl, inr, ◌⊎◌}
+use Rattle.std.proofs.Common.{◌≡◌, ◌++◌, ◌∷◌, [], ℕ, List, Bool, true, refl, ap, ◌∙◌, sym, subst, inl, inr}
 use Rattle.std.specs.Prelude.{Some, ◌||◌, codes}
+use Rattle.std.proofs.lemmas.Bool.{or_cases}
 use Rattle.phrases.specs.Phrases.{Many, Begins}
 use Rattle.phrases.specs.Reading.{is}
 use Rattle.phrases.specs.Reads.{ReadsLast}
@@ -80,13 +81,9 @@ begins_operator_with : (t : Lexeme) (k : OperatorWord) → choice_of operator_wo
 begins_operator_with t k h = goes_first ClosedOperator closed_operator_at closed-operator-reads t
     (closes (t ∷ []) (begins_behind (choice_of operator_words) OperatorRest t k [] h (operator-rest-reads k).some))
 
-either_one : (a b : Bool) → (a || b) ≡ true → (a ≡ true) ⊎ (b ≡ true)
-either_one true b h = inl refl
-either_one false b h = inr h
-
 -- and so with each word that shows one
 first_goes : (t : Lexeme) → (lone t || shared t) ≡ true → GoesOn closed_operator_at [] t
-first_goes t h = elim (either_one (lone t) (shared t) h) [
+first_goes t h = elim (or_cases (lone t) (shared t) h) [
   | inl a ↦ (let c = chosen_of (choice_of lone_words t) a in
       begins_operator_with t c.0 (by_choice (λ t k. choice_of operator_words t ≡ Some k) lone_words (refl & refl & refl & refl & refl & refl & refl & tt) t c.0 c.1))
   | inr b ↦ (let c = chosen_of (choice_of shared_words t) b in

@@ -1,8 +1,11 @@
 -- What holds of the text of each token holds of each text of what the tokens spell.
-use Rattle.std.proofs.Common.{◌≡◌, ◌∷◌, ℕ, zero, suc, List, Bool, true, false, cond}
-use Rattle.std.specs.Prelude.{Option, Some, None, IfSome, codes, bytes_eq, nat_le, ◌-◌, ◌^◌, pos}
+use Rattle.std.proofs.Common.{◌≡◌, ◌≤◌, ◌∷◌, ℕ, zero, suc, ℤ, List, Bool, true, false, cond, refl, subst, arith}
+use Rattle.std.specs.Prelude.{Option, Some, None, IfSome, codes, bytes_eq, nat_le, ◌-◌, ◌^◌, pos, neg_ℤ, FitsSigned}
+use Rattle.std.specs.Int.{w64}
 use Rattle.std.specs.Str.{is_utf8}
 use Rattle.std.specs.List.{All}
+use Rattle.std.proofs.lemmas.Bool.{leb-true}
+use Rattle.std.proofs.lemmas.Int.{fits_signed_from_abs}
 use Rattle.std.proofs.lemmas.List.Elements.{All-cons}
 use Rattle.par_base.specs.declared.value.Value.{Value}
 use Rattle.par_base.specs.declared.value.Value.TheVariants.{Null, Int, Text, Reference}
@@ -61,6 +64,45 @@ negative_is_no_text (reference n) bytes h = cc
 negative_is_no_text («text» written) bytes h = cc
 negative_is_no_text (symbol s) bytes h = cc
 
+-- an integer that a token says has 64 bits
+unsigned_fits : (t : Lexeme) (z : ℤ) → unsigned_of t ≡ Some (Int z) → FitsSigned w64 z
+unsigned_fits (word w) z h = by (bytes_eq (codes "null") w) h
+  where
+    by : (b : Bool) → cond b (Some Null) None ≡ Some (Int z) → FitsSigned w64 z
+    by true e = cc
+    by false e = cc
+unsigned_fits (number n) z h = by (nat_le n (2 ^ 63 - 1)) refl h
+  where
+    by : (b : Bool) → nat_le n (2 ^ 63 - 1) ≡ b → cond b (Some (Int (pos n))) None ≡ Some (Int z) → FitsSigned w64 z
+    by true small e = let same : pos n ≡ z = cc in subst (FitsSigned w64) same (fits_signed_from_abs w64 (pos n) (omega (arith, leb-true n (2 ^ 63 - 1) small)))
+    by false small e = cc
+unsigned_fits (reference n) z h = by (nat_le n (2 ^ 64 - 1)) h
+  where
+    by : (b : Bool) → cond b (Some (Reference n)) None ≡ Some (Int z) → FitsSigned w64 z
+    by true e = cc
+    by false e = cc
+unsigned_fits («text» written) z h = by (is_utf8 written) h
+  where
+    by : (b : Bool) → cond b (Some (Text written)) None ≡ Some (Int z) → FitsSigned w64 z
+    by true e = cc
+    by false e = cc
+unsigned_fits (symbol s) z h = cc
+
+minus_fits : (n : ℕ) → n ≤ 2 ^ 63 → FitsSigned w64 (neg_ℤ (pos n))
+minus_fits zero h = fits_signed_from_abs w64 (pos 0) (omega arith)
+minus_fits (suc n) h = record { sfits = omega (arith, h) }
+
+negative_fits : (t : Lexeme) (z : ℤ) → negative_of t ≡ Some (Int z) → FitsSigned w64 z
+negative_fits (word w) z h = cc
+negative_fits (number n) z h = by (nat_le n (2 ^ 63)) refl h
+  where
+    by : (b : Bool) → nat_le n (2 ^ 63) ≡ b → cond b (Some (Int (neg_ℤ (pos n)))) None ≡ Some (Int z) → FitsSigned w64 z
+    by true small e = let same : neg_ℤ (pos n) ≡ z = cc in subst (FitsSigned w64) same (minus_fits n (leb-true n (2 ^ 63) small))
+    by false small e = cc
+negative_fits (reference n) z h = cc
+negative_fits («text» written) z h = cc
+negative_fits (symbol s) z h = cc
+
 module _ (P : List ℕ → Type 0) where
   -- where P holds of the text of each token, F holds of the value
   abbrev Texts : {A : Type 0} → (A → Type 0) → (List Lexeme → A → Type 0) → Type 0
@@ -68,13 +110,13 @@ module _ (P : List ℕ → Type 0) where
 
   unsigned_text : (t : Lexeme) (v : Value) → unsigned_of t ≡ Some v → LexemeTexts P t → ValueTexts P v
   unsigned_text t Null h p = tt
-  unsigned_text t (Int n) h p = tt
+  unsigned_text t (Int n) h p = unsigned_fits t n h
   unsigned_text t (Text bytes) h p = p bytes (says_text t bytes h)
   unsigned_text t (Reference id) h p = tt
 
   negative_text : (t : Lexeme) (v : Value) → negative_of t ≡ Some v → LexemeTexts P t → ValueTexts P v
   negative_text t Null h p = tt
-  negative_text t (Int n) h p = tt
+  negative_text t (Int n) h p = negative_fits t n h
   negative_text t (Text bytes) h p = absurd (negative_is_no_text t bytes h)
   negative_text t (Reference id) h p = tt
 

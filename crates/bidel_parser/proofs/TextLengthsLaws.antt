@@ -1,15 +1,17 @@
 -- Texts are no longer than the tokens that say them.
-use Rattle.std.proofs.Common.{◌≡◌, ◌≤◌, ◌-◌, ◌∷◌, [], ℕ, List, Bool, true, false, cond, ap, length, take, drop, length-drop, arith}
-use Rattle.std.specs.Prelude.{Some, None, slice_range, ◌==◌, ◌&&◌}
+use Rattle.std.proofs.Common.{◌≡◌, ◌≤◌, ◌-◌, ◌∷◌, [], ℕ, List, Bool, true, false, cond, ap, length, take, drop, length-drop, refl, subst, arith}
+use Rattle.std.specs.Prelude.{Some, None, slice_range, ◌==◌, ◌&&◌, IsUtf8}
 use Rattle.std.specs.Str.{is_utf8}
 use Rattle.std.specs.List.{All, Contains}
+use Rattle.std.proofs.lemmas.Str.{IsUtf8-from_is_utf8}
 use Rattle.std.proofs.lemmas.List.{length-take, take-map}
 use Rattle.std.proofs.lemmas.List.Elements.{All-map, All-same, All-weaker, All-contains_itself}
 use Rattle.par_base.specs.Literals.{undoubled}
 use Rattle.bidel_lex.specs.declared.tokens.Token.{Token}
 use Rattle.bidel_lex.specs.declared.tokens.TokenKind.{TokenKind}
 use Rattle.bidel_lex.specs.declared.tokens.TokenKind.TheVariants as kind
-use Rattle.bidel_expr.specs.Lexemes.{lexeme, lexeme_of, lexemes, between, text_of}
+use Rattle.bidel_expr.specs.Lexemes.{Lexeme, word, number, reference, «text», symbol, lexeme, lexeme_of, lexemes, between, text_of}
+use Rattle.statements.specs.Texts.{IsTextWithin}
 use Rattle.bidel_parser.specs.Texts.{IsSaid, TextsAreSaid, TextsAreWithin}
 use Rattle.bidel_parser.proofs.TextLaws.{LexemeTexts, statement-texts}
 
@@ -58,8 +60,20 @@ texts_are_said bytes tokens ended statement used f =
     said : (token : Token) → Contains (take used tokens) token → LexemeTexts (IsSaid bytes (take used tokens)) (lexeme bytes token)
     said token at value says = record { token = token; among = at; says = says; within = token_longer bytes token value says }
 
+-- what a token says is UTF-8
+said_is_text : (t : Lexeme) (value : List ℕ) → text_of t ≡ Some value → IsUtf8 value
+said_is_text (word w) value h = cc
+said_is_text (number n) value h = cc
+said_is_text (reference n) value h = cc
+said_is_text («text» written) value h = by (is_utf8 written) refl h
+  where
+    by : (b : Bool) → is_utf8 written ≡ b → cond b (Some written) None ≡ Some value → IsUtf8 value
+    by true is e = let same : written ≡ value = cc in subst IsUtf8 same (IsUtf8-from_is_utf8 written is)
+    by false is e = cc
+said_is_text (symbol s) value h = cc
+
 pub texts_are_within : TextsAreWithin
 texts_are_within bytes tokens ended statement used n f short =
-    let P : List ℕ → Type 0 = λ value. length value ≤ n in
+    let P : List ℕ → Type 0 = IsTextWithin n in
     (statement-texts P).holds (take used (lexemes bytes tokens)) statement f.spelled (front_texts P bytes tokens used
-    (All-weaker (λ token. token.end - token.start ≤ n) (λ token. LexemeTexts P (lexeme bytes token)) (λ token le value says. omega (arith, le, token_longer bytes token value says)) (take used tokens) short))
+    (All-weaker (λ token. token.end - token.start ≤ n) (λ token. LexemeTexts P (lexeme bytes token)) (λ token le value says. (omega (arith, le, token_longer bytes token value says), said_is_text (lexeme bytes token) value says)) (take used tokens) short))

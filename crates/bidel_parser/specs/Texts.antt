@@ -19,7 +19,7 @@ abbrev pub TextsAreSaid : Type 0
 TextsAreSaid = (bytes : List ℕ) (tokens : List Token) (ended : Bool) (statement : StatementView) (used : ℕ) → IsFront ended (lexemes bytes tokens) statement used
     → StatementTexts (IsSaid bytes (take used tokens)) statement
 
--- where each token of a statement has at most n bytes, so has each of its texts
+-- where each token of a statement has at most n bytes, so has each of its texts, which are UTF-8, and its integers have 64 bits
 abbrev pub TextsAreWithin : Type 0
 TextsAreWithin = (bytes : List ℕ) (tokens : List Token) (ended : Bool) (statement : StatementView) (used n : ℕ) → IsFront ended (lexemes bytes tokens) statement used
     → All (λ token. token.end - token.start ≤ n) (take used tokens) → TextsWithin n statement

@@ -12,14 +12,20 @@ use bidel_expr::{Cursor, ReadError, is_keyword_next, take_sign};
 use par_base::List;
 use statements::OpText;
 use std::alloc::Global;
+use std::mem;
 
 // An operator and its semicolon.
 fn closed_operator<'a>(alloc: Global, cursor: Cursor<'a>) -> Result<(OpText, Cursor<'a>), ReadError>
     ensures { ReadsAs op_view closed_operator_at cursor.entry result }
 {
     let (operator, rest) = take_operator(alloc, cursor)?;
-    let rest = take_sign(rest, ";")?;
-    Ok((operator, rest))
+    match take_sign(rest, ";") {
+        Ok(rest) => Ok((operator, rest)),
+        Err(error) => {
+            mem::drop(operator);
+            Err(error)
+        }
+    }
 }
 
 // Whether a word that begins statements too begins an operator, by the word behind it.

@@ -11,6 +11,7 @@ use bidel_lex::Token;
 use par_base::Fault;
 use statements::OpText;
 use std::alloc::Global;
+use std::mem;
 
 // The fault at the first of the last tokens, so many, and at the end of the bytes where there is none.
 fn fault(bytes: &[u8], tokens: &[Token], left: usize) -> Syntax
@@ -21,9 +22,6 @@ fn fault(bytes: &[u8], tokens: &[Token], left: usize) -> Syntax
         at: start(bytes, &tokens[tokens.len() - left..]),
     }
 }
-
-// In a function of its own, so that where it is let go the parts of an operator aren't gone through.
-fn let_go(_operator: OpText) {}
 
 /// The operator that all of the tokens of some bytes together spell.
 pub fn parse_operator(
@@ -39,7 +37,7 @@ pub fn parse_operator(
             if rest.tokens.is_empty() {
                 Ok(operator)
             } else {
-                let_go(operator);
+                mem::drop(operator);
                 Err(Fault::Refused(fault(bytes, tokens, rest.tokens.len())))
             }
         }

@@ -1,8 +1,8 @@
 -- What is too long stays too long as more bytes come.
-use Rattle.std.proofs.Common.{◌≡◌, ◌+◌, ◌-◌, ◌≤◌, ◌<◌, ◌++◌, ◌⊎◌, ℕ, List, [], ◌∷◌, Bool, Ok, Err, true, false, inl, inr, refl, sym, ap, subst, ◌∙◌, drop, length, arith, length-append}
+use Rattle.std.proofs.Common.{◌≡◌, ◌+◌, ◌-◌, ◌≤◌, ◌<◌, ◌++◌, ℕ, List, [], ◌∷◌, Bool, Ok, Err, true, false, inl, inr, refl, sym, ap, subst, ◌∙◌, drop, length, arith, length-append}
 use Rattle.std.specs.Prelude.{◌&&◌, ◌||◌, not, Option}
 use Rattle.std.specs.Option.{option_map_or}
-use Rattle.std.proofs.lemmas.Bool.{ltb-true, lt-ltb}
+use Rattle.std.proofs.lemmas.Bool.{ltb-true, lt-ltb, or_cases, or_left, or_right}
 use Rattle.std.proofs.lemmas.Bool.Decides.{leb_tells}
 use Rattle.std.proofs.lemmas.List.{length-map, drop-append-le, take-append-le}
 use Rattle.phrases.specs.Reading.{Read}
@@ -39,18 +39,6 @@ use Rattle.bidel_script.proofs.CutLaws.{part_stays, leads_stay, bad_comes, cut_b
 -- more bytes than too many are too many
 long_wider : (a b c d : ℕ) → c ≤ a → b ≤ d → is_long a b ≡ true → is_long c d ≡ true
 long_wider a b c d lo hi h = lt-ltb (c + 65536) d (omega (arith, lo, hi, ltb-true (a + 65536) b h))
-
-either : (a b : Bool) → (a || b) ≡ true → (a ≡ true) ⊎ (b ≡ true)
-either true b h = inl refl
-either false b h = inr h
-
-either_first : (a b : Bool) → a ≡ true → (a || b) ≡ true
-either_first true b h = refl
-either_first false b h = cc
-
-either_second : (a b : Bool) → b ≡ true → (a || b) ≡ true
-either_second true b h = refl
-either_second false b h = h
 
 -- the bytes from the first of some tokens up to where it is known whether an operator begins are too many
 abbrev is_long_decided : List ℕ → Tail → List Token → Bool
@@ -160,12 +148,12 @@ module _ (front more : List ℕ) (ended : Bool) (tail tail' : Tail) (end : ℕ) 
   -- a statement of the tokens that is too long still is, where it is at the front of all
   front_cut : (rest : List Token) (s : StatementView) (used : ℕ) → Shown front rest → 0 < used → used ≤ length rest → is_long_front front tail rest s used ≡ true
       → is_long_front (front ++ more) tail' (rest ++ us) s used ≡ true
-  front_cut rest s used sh some within long = elim (either (is_long (begin_of tail rest) (end_of rest used)) (is_long_behind front tail (drop used rest) s) long) [
+  front_cut rest s used sh some within long = elim (or_cases (is_long (begin_of tail rest) (end_of rest used)) (is_long_behind front tail (drop used rest) s) long) [
     | inl own ↦ (let ends : end_of (rest ++ us) used ≡ end_of rest used = ap (λ (o : Option Token). option_map_or (λ (token : Token). token.end) o 0) (get_append rest us (used - 1) (omega (arith, some, within))) in
-        either_first (is_long (begin_of tail' (rest ++ us)) (end_of (rest ++ us) used)) (is_long_behind (front ++ more) tail' (drop used (rest ++ us)) s)
+        or_left (is_long (begin_of tail' (rest ++ us)) (end_of (rest ++ us) used)) (is_long_behind (front ++ more) tail' (drop used (rest ++ us)) s)
         (ap (λ (n : ℕ). is_long n (end_of (rest ++ us) used)) (begin_append tail tail' rest us (omega (arith, some, within))) ∙ ap (is_long (begin_of tail rest)) ends ∙ own))
     | inr behind ↦ (let b = behind_says s front tail (drop used rest) behind in
-        either_second (is_long (begin_of tail' (rest ++ us)) (end_of (rest ++ us) used)) (is_long_behind (front ++ more) tail' (drop used (rest ++ us)) s)
+        or_right (is_long (begin_of tail' (rest ++ us)) (end_of (rest ++ us) used)) (is_long_behind (front ++ more) tail' (drop used (rest ++ us)) s)
         (b.1 (front ++ more) tail' (drop used (rest ++ us))
         (subst (λ (l : List Token). is_long_decided (front ++ more) tail' l ≡ true) (sym (drop-append-le used rest us within)) (decided_cut (drop used rest) (shown_drop front used rest sh) b.0))))
   ]
@@ -204,7 +192,7 @@ module _ (front more : List ℕ) (ended : Bool) (tail tail' : Tail) (end : ℕ) 
           elim (leb_tells used (length rest)) [
             | inl k ↦ whole p.0 used f (own p.0 used (omega (arith, k.1))
                 (less_front xs ys p.0 used (omega (arith, k.1, size)) (subst (λ (l : List Lexeme). IsFront true l p.0 used) says f)))
-            | inr k ↦ whole p.0 used f (either_first (is_long (begin_of tail' (rest ++ us)) (end_of (rest ++ us) used)) (is_long_behind (front ++ more) tail' (drop used (rest ++ us)) p.0)
+            | inr k ↦ whole p.0 used f (or_left (is_long (begin_of tail' (rest ++ us)) (end_of (rest ++ us) used)) (is_long_behind (front ++ more) tail' (drop used (rest ++ us)) p.0)
                 (long_end rest used (omega (arith, k.1)) (front_within (front ++ more) true (rest ++ us) p.0 used f) long))
           ]
       go (Err left) e =
@@ -221,7 +209,7 @@ module _ (front more : List ℕ) (ended : Bool) (tail tail' : Tail) (end : ℕ) 
   module _ (rest : List Token) (sh : Shown front rest) (later : (n : ℕ) → begin_of tail rest ≤ begin_of tail (drop n rest)) where
     -- a whole statement that is too long is so up to the end of the first bytes
     whole_wide : (s : StatementView) (used : ℕ) → is_long_front front tail rest s used ≡ true → is_long (begin_of tail rest) (length front) ≡ true
-    whole_wide s used long = elim (either (is_long (begin_of tail rest) (end_of rest used)) (is_long_behind front tail (drop used rest) s) long) [
+    whole_wide s used long = elim (or_cases (is_long (begin_of tail rest) (end_of rest used)) (is_long_behind front tail (drop used rest) s) long) [
       | inl own ↦ long_wider (begin_of tail rest) (end_of rest used) (begin_of tail rest) (length front) (omega arith) (ends_most front rest (used - 1) sh) own
       | inr behind ↦ (let b = behind_says s front tail (drop used rest) behind in
           let known = known_most front tail (drop used rest) (deciding front (drop used rest)) (shown_drop front used rest sh) in

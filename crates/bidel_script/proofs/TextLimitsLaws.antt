@@ -1,9 +1,9 @@
 -- The texts of a statement that isn't too long.
 use Rattle.std.proofs.Common.{◌≡◌, ◌≤◌, ◌+◌, ◌-◌, ℕ, zero, suc, List, [], ◌∷◌, Bool, true, false, refl, ap, ◌∙◌, sym, subst, take, length, arith}
-use Rattle.std.specs.Prelude.{◌||◌, slice_get}
+use Rattle.std.specs.Prelude.{slice_get}
 use Rattle.std.specs.Option.{option_map_or}
 use Rattle.std.specs.List.{All}
-use Rattle.std.proofs.lemmas.Bool.{ltb-false}
+use Rattle.std.proofs.lemmas.Bool.{ltb-false, or_parts}
 use Rattle.std.proofs.lemmas.List.{length-map}
 use Rattle.std.proofs.lemmas.List.Elements.{All-nil, All-cons, All-head, All-weaker}
 use Rattle.expr_lang.specs.Operations.{text_limit}
@@ -57,11 +57,6 @@ begins_there : (tail : Tail) (tokens : List Token) → StartFrom (begin_of tail 
 begins_there tail [] = tt
 begins_there tail (t ∷ ts) = omega arith
 
--- neither of two tests
-not_first : (a b : Bool) → (a || b) ≡ false → a ≡ false
-not_first true b h = cc
-not_first false b h = refl
-
 module _ (bytes : List ℕ) (tail : Tail) (tokens : List Token) (statement : StatementView) (used : ℕ) (front : IsFront (is_over tail.last) (lexemes bytes tokens) statement used) where
   -- the first tokens of a statement that isn't too long lie within the limit
   front_lies : ¬ IsLong bytes tail tokens → end_of tokens used ≤ begin_of tail tokens + statement_limit
@@ -69,7 +64,7 @@ module _ (bytes : List ℕ) (tail : Tail) (tokens : List Token) (statement : Sta
     where
       by : (b : Bool) → is_long_front bytes tail tokens statement used ≡ b → end_of tokens used ≤ begin_of tail tokens + statement_limit
       by true e = absurd (short (whole statement used (front_at_end (is_over tail.last) (lexemes bytes tokens) statement used front) e))
-      by false e = ltb-false (begin_of tail tokens + statement_limit) (end_of tokens used) (not_first (is_long (begin_of tail tokens) (end_of tokens used)) _ e)
+      by false e = ltb-false (begin_of tail tokens + statement_limit) (end_of tokens used) ((or_parts (is_long (begin_of tail tokens) (end_of tokens used)) _ e).0)
 
   -- and so do its texts
   pub texts_within : AreTokens bytes tokens → ¬ IsLong bytes tail tokens → TextsWithin text_limit statement

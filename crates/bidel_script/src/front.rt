@@ -17,6 +17,7 @@ use bidel_parser::{Parsed, Syntax, parse_statement};
 use par_base::{Fault, Memory};
 use statements::Statement;
 use std::alloc::Global;
+use std::mem;
 
 /// What stands behind the statements that are known to end.
 #[derive(Clone, Copy, Debug)]
@@ -104,6 +105,7 @@ fn unless_long(long: bool, statement: Statement, used: usize) -> Found
     ensures short { long ≡ false → result ≡ Found.Whole statement used }
 {
     if long {
+        mem::drop(statement);
         Found::Stops(Stop::Long)
     } else {
         Found::Whole { statement, used }

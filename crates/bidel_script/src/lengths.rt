@@ -15,6 +15,7 @@ use bidel_parser::{Parsed, Syntax, parse_statement};
 use par_base::{Fault, Memory};
 use statements::Statement;
 use std::alloc::Global;
+use std::mem;
 
 // The greatest number of bytes of a statement.
 const STATEMENT_LIMIT: usize = 65_536;
@@ -148,7 +149,9 @@ fn is_long_whole(
     requires used { used ≤ length tokens.now }
     ensures { result ≡ is_long_front bytes.now tail tokens.now (statement_view statement) used }
 {
-    is_long_front(bytes, tail, tokens, &statement, used)
+    let long = is_long_front(bytes, tail, tokens, &statement, used);
+    mem::drop(statement);
+    long
 }
 
 /// Whether a statement with its first fault at a byte has too many bytes up to where that is found.

@@ -149,16 +149,16 @@ pub field_kept : (field : List ℕ) → value_field (field_value field) ≡ fiel
 unfolding field_value
 field_kept field = chosen_text (int_in field) (reference_in field) field (int_text field) (reference_text field)
 
-chosen_texts : (P : List ℕ → Type 0) (int : Option ℤ) (id : Option ℕ) (field : List ℕ) → P field → ValueTexts P (chosen int id field)
-chosen_texts P (Some z) id field p = tt
-chosen_texts P None (Some id) field p = tt
-chosen_texts P None None [] p = tt
-chosen_texts P None None (b ∷ bs) p = p
+chosen_texts : (P : List ℕ → Type 0) (int : Option ℤ) (id : Option ℕ) (field : List ℕ) → IfSome int (IsIntText field) → P field → ValueTexts P (chosen int id field)
+chosen_texts P (Some z) id field fits p = fits.0
+chosen_texts P None (Some id) field fits p = tt
+chosen_texts P None None [] fits p = tt
+chosen_texts P None None (b ∷ bs) fits p = p
 
 -- what holds of a field holds of the text that is read of it
 pub field_texts : (P : List ℕ → Type 0) (field : List ℕ) → P field → ValueTexts P (field_value field)
 unfolding field_value
-field_texts P field p = chosen_texts P (int_in field) (reference_in field) field p
+field_texts P field p = chosen_texts P (int_in field) (reference_in field) field (int_text field) p
 
 -- ---- values
 

@@ -12,13 +12,13 @@ ghost use Rattle.csv_io.specs.Tables.{csv_rows};
 use crate::fields::read_field;
 use csv::{Error, ReaderBuilder, StringRecord};
 use par_base::{List, Memory, Row, Text, Value};
-use std::alloc::{AllocError, Global};
+use std::alloc::Global;
 
 // What stops a reader of a slice: memory ran out.
-fn ran_out(_error: Error) -> Memory
-    requires { stops_reader (error_kind _error) ≡ true }
+fn ran_out(error: Error) -> Memory
+    requires { stops_reader (error_kind error) ≡ true }
 {
-    Memory::from(AllocError)
+    Memory::meant_by(error)
 }
 
 // The value of each field.

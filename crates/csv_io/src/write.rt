@@ -12,7 +12,7 @@ ghost use Rattle.csv_io.specs.inner.Writing.{HasWritten};
 use crate::fields::{put_field, put_value};
 use csv::{StringRecord, Writer, WriterBuilder};
 use par_base::{Memory, Name, Row, Text, Value};
-use std::alloc::{AllocError, Global};
+use std::alloc::Global;
 
 fn header_record(alloc: Global, header: &[Name]) -> Result<StringRecord, Memory>
     ensures ok { IfOk result (λ made. fields_of made ≡ header.now) }
@@ -44,7 +44,7 @@ fn put_record(writer: &mut Writer<Vec<u8>>, fields: &StringRecord) -> Result<(),
 {
     match writer.write_byte_record(fields.as_byte_record()) {
         Ok(()) => Ok(()),
-        Err(_) => Err(Memory::from(AllocError)),
+        Err(error) => Err(Memory::meant_by(error)),
     }
 }
 
@@ -70,6 +70,6 @@ pub fn rows_csv(alloc: Global, header: &[Name], rows: &[Row]) -> Result<Text, Me
     }
     match writer.into_inner() {
         Ok(bytes) => Ok(text_of(bytes)),
-        Err(_) => Err(Memory::from(AllocError)),
+        Err(error) => Err(Memory::meant_by(error)),
     }
 }

@@ -31,7 +31,7 @@ use Rattle.db_state.specs.Fields.{IsDatabase, numbers_in, state_for, storage_in}
 use Rattle.storage_law.specs.Storage.{Stands}
 use Rattle.db_state.specs.declared.parts.Parts.{Parts}
 use Rattle.db_state.proofs.FieldLaws.{IsShaped, Store, is_database, none_at, state_is}
-use Rattle.db_check.proofs.FoundLemmas.{in_numbers}
+use Rattle.db_state.proofs.FoundLaws.{in_numbers}
 use Rattle.db_check.specs.Checked.{AreEntries, IsBuilt, IsListed, IsValidParts}
 use Rattle.db_check.specs.inner.Tests.{MayStand, Tells}
 use Rattle.db_check.specs.inner.Calls.{AreWell, MayRead, WasUp, state_with}

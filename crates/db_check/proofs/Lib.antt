@@ -1,7 +1,6 @@
 mod EndLemmas
 mod FoundLemmas
 mod ListLemmas
-mod OrderLemmas
 mod PassLemmas
 mod PlaceLemmas
 mod ReadLemmas

@@ -28,13 +28,14 @@ use Rattle.version_model.proofs.RunLaws.{way_laws}
 use Rattle.storage_law.specs.Storage.{StandsOver, stored_way}
 use Rattle.storage_law.proofs.LinkLaws.{apart_at, not_in_of_false}
 use Rattle.storage_law.proofs.ReadLaws.{IsRead, far_right, put_in, read_at, still_right}
+use Rattle.storage_law.proofs.OrderLaws.{behind_older, older_behind, next, split_at}
 use Rattle.db_state.specs.Covered.{CoversItself}
 use Rattle.db_state.specs.Fields.{IsDatabase, state_for, storage_in}
 use Rattle.db_state.specs.inner.Passes.{Settles}
 use Rattle.db_state.specs.declared.parts.Parts.{Parts}
-use Rattle.db_check.proofs.OrderLemmas.{behind_older, down_step, near_down, near_up, older_behind, turned, up_step}
-use Rattle.db_check.proofs.SplitLemmas.{down_start, next, split_at}
+use Rattle.db_check.proofs.SplitLemmas.{down_start}
 use Rattle.db_state.proofs.FieldLaws.{none_at}
+use Rattle.db_state.proofs.PassLaws.{down_step, near_down, near_up, turned, up_step}
 use Rattle.std.specs.Option.{option_map_or}
 use Rattle.row_store.specs.States.{TableState}
 use Rattle.par_base.specs.declared.fault.Fault.{Fault}

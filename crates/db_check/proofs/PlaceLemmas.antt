@@ -19,9 +19,9 @@ use Rattle.version_model.specs.declared.numbered.Numbered.{Numbered}
 use Rattle.version_model.proofs.AscendingLaws.{edge_there}
 use Rattle.version_model.proofs.CarryLaws.{some_is}
 use Rattle.storage_law.specs.Storage.{stored_way}
+use Rattle.storage_law.proofs.OrderLaws.{link_at}
 use Rattle.db_state.specs.declared.parts.Parts.{Parts}
-use Rattle.db_check.proofs.FoundLemmas.{crosses}
-use Rattle.db_check.proofs.SplitLemmas.{link_at}
+use Rattle.db_state.proofs.FoundLaws.{crosses}
 use Rattle.db_check.specs.declared.checking.NotValid.{NotValid}
 use Rattle.db_check.specs.inner.Calls.{Admits, Goes, IsNone, IsOver, MayAdmit}
 

@@ -31,8 +31,8 @@ use Rattle.storage_law.specs.Storage.{stored_way}
 use Rattle.storage_law.proofs.ReadLaws.{IsRead, read_at}
 use Rattle.db_state.specs.Fields.{IsDatabase, auxes_at, numbers_in, state_for, storage_in}
 use Rattle.db_state.specs.declared.parts.Parts.{Parts}
+use Rattle.db_state.proofs.FoundLaws.{few_on, some_at}
 use Rattle.db_check.specs.inner.Calls.{AreWell, IsNone, IsOver, MayRead}
-use Rattle.db_check.proofs.FoundLemmas.{few_on, some_at}
 use Rattle.db_check.proofs.ReadLemmas.{far_is, may_read}
 
 -- each table belongs to a heading

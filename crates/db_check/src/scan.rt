@@ -1,5 +1,7 @@
 //! Tests of lists, tables and memories one by one.
-ghost use Rattle.std.specs.Prelude.{◌≡◌, length};
+ghost use Rattle.std.specs.Prelude.{◌≡◌, ◌&&◌, length, nat_le};
+ghost use Rattle.std.specs.Str.{is_utf8};
+ghost use Rattle.expr_lang.specs.Operations.{fits_i64, text_limit};
 ghost use Rattle.std.specs.List.{list_all};
 ghost use Rattle.version_graph.specs.Sets.{In};
 ghost use Rattle.row_store.specs.States.{TableState};
@@ -8,7 +10,7 @@ ghost use Rattle.version_model.specs.States.{headings};
 ghost use Rattle.db_check.specs.inner.Tests.{id_below as id_below_lem, may_remember, MayStand, Tells, pair_below as pair_below_lem, pairs_below as pairs_below_lem, row_below as row_below_lem, rows_below as rows_below_lem, rows_wide as rows_wide_lem, value_below as value_below_lem};
 
 use id_memory::PairMemory;
-use par_base::{Row, Value};
+use par_base::{Row, Text, Value};
 use row_store::Table;
 use std::iter::Iterator;
 use version_graph::Graph;
@@ -22,13 +24,28 @@ fn id_below(next: u64, id: u64) -> bool
     1 <= id && id < next
 }
 
+// That it has 64 bits is what its type says.
+fn is_int(_number: i64) -> bool
+    ensures { result ≡ fits_i64 _number }
+{
+    true
+}
+
+// That it is UTF-8 is what its type says.
+#[tactic(auto, using(crate::proofs::TestLemmas::text_tested))]
+fn text_below(text: &Text) -> bool
+    ensures { result ≡ (nat_le (length text.now) text_limit && is_utf8 text.now) }
+{
+    text.as_str().len() <= TEXT_LIMIT
+}
+
 fn value_below(next: u64, value: &Value) -> bool
     ensures { result ≡ value_below_lem next value.now }
 {
     match value {
         Value::Null => true,
-        Value::Int(_) => true,
-        Value::Text(text) => text.as_str().len() <= TEXT_LIMIT,
+        Value::Int(number) => is_int(*number),
+        Value::Text(text) => text_below(text),
         Value::Reference(id) => id_below(next, *id),
     }
 }

@@ -1,35 +1,28 @@
 -- The auxiliary tables of live operators.
-use Rattle.std.proofs.Common.{◌≡◌, ℕ, ◌+◌, ◌<◌, ◌≤◌, take, get_or, List, [], ◌∷◌, ◌++◌, length, Bool, true, false, map, Option, Some, None, inl, inr, sym, ap, ◌∙◌, subst}
+use Rattle.std.proofs.Common.{◌≡◌, ℕ, ◌+◌, ◌<◌, ◌≤◌, take, get_or, List, [], ◌∷◌, ◌++◌, length, Bool, false, map, Option, Some, None, inl, inr, sym, ap, ◌∙◌, subst}
 use Rattle.std.proofs.lemmas.List.{map-append, take_all, take_more}
 use Rattle.version_graph.specs.Sets.{In}
 use Rattle.version_graph.specs.Edges.{AreEdges, edge_of, is_in, sources_at}
 use Rattle.version_graph.specs.Forest.{Crossing, Link, crossing, forest, step_told}
 use Rattle.version_graph.specs.declared.parts.Placed.{Placed}
 use Rattle.version_graph.specs.declared.parts.Step.{Step}
-use Rattle.version_graph.proofs.SetLaws.{each_at, in_append}
+use Rattle.version_graph.proofs.SetLaws.{in_append}
 use Rattle.op_law.specs.Calls.{tables_of}
 use Rattle.op_law.specs.Meaning.{Meaning, PairState}
 use Rattle.op_law.specs.Premises.{SomePair}
 use Rattle.op_law.specs.declared.side.Aux.{Aux}
 use Rattle.version_model.specs.Calls.{IsCrossing, IsTold}
-use Rattle.version_model.specs.Kept.{HasSides}
 use Rattle.op_law.specs.Tables.{Tables}
 use Rattle.version_model.specs.States.{State, headings}
 use Rattle.version_model.specs.Steps.{pair_in, directed}
 use Rattle.version_model.specs.declared.numbered.Numbered.{Numbered}
 use Rattle.version_model.proofs.CarryLaws.{some_is, told_is}
-use Rattle.version_model.proofs.CrossingLaws.{crossings_live}
 use Rattle.storage_law.specs.Storage.{aux_of, stored_way}
 use Rattle.storage_law.proofs.CanonicalLaws.{either_way}
 use Rattle.db_state.specs.Calls.{AreAuxesOf, IsAuxOf, IsRelatedAt}
+use Rattle.db_state.proofs.FoundLaws.{crosses, few_on}
 
 module _ {O : Type 0} (es : List (Placed O)) (edges : AreEdges es) where
-  -- a live operator is crossed either way
-  pub crosses : (e : Link O) → In e (forest es) → (back : Bool) → IsCrossing es (crossing back e)
-  crosses e i back =
-      let both = each_at (λ (f : Link O). IsCrossing es (crossing true f) × IsCrossing es (crossing false f)) (forest es) e i (crossings_live es edges) in
-      elim back as (λ b. IsCrossing es (crossing b e)) [ true ↦ both.0 | false ↦ both.1 ]
-
   -- a live operator doesn't lack its edge or its sources
   found_told : (p : Crossing O) (step : Step) → IsCrossing es p → step_told p ≡ step → IsTold es step None → ⊥
   found_told p step c tells (inl none) = let clash : Some c.edge ≡ None = sym c.live ∙ ap (λ (s : Step). edge_of es s.operator) tells ∙ none in absurd (let no : ⊥ = cc in no)
@@ -39,17 +32,12 @@ module _ {O : Type 0} (es : List (Placed O)) (edges : AreEdges es) where
   pub way_is : (layout : List ℕ) (n : ℕ) (back : Bool) → back ≡ is_in n layout → (o : Option (Crossing O)) → IsTold es (record { operator = n; backward = back }) o → (e : Link O) → In e (forest es) → e.number ≡ n → o ≡ Some (stored_way layout e)
   way_is layout n back is None t e i number =
       let tells : step_told (stored_way layout e) ≡ record { operator = n; backward = back } = ap (λ (k : ℕ). record { operator = k; backward = is_in k layout }) number ∙ ap (λ (b : Bool). record { operator = n; backward = b }) (sym is) in
-      absurd (found_told (stored_way layout e) (record { operator = n; backward = back }) (crosses e i (is_in e.number layout)) tells t)
+      absurd (found_told (stored_way layout e) (record { operator = n; backward = back }) (crosses es edges e i (is_in e.number layout)) tells t)
   way_is layout n back is (Some q) t e i number =
       let tells : step_told (stored_way layout e) ≡ record { operator = n; backward = back } = ap (λ (k : ℕ). record { operator = k; backward = is_in k layout }) number ∙ ap (λ (b : Bool). record { operator = n; backward = b }) (sym is) in
-      ap (λ (x : Crossing O). Some x) (told_is es (record { operator = n; backward = back }) (stored_way layout e) q (crosses e i (is_in e.number layout)) tells t)
+      ap (λ (x : Crossing O). Some x) (told_is es (record { operator = n; backward = back }) (stored_way layout e) q (crosses es edges e i (is_in e.number layout)) tells t)
 
 -- ---- from the stored side
-
--- there are at most two tables on either side
-pub few_on : {O : Type 0} (e : Link O) → HasSides e → (back : Bool) → (length (crossing back e).near ≤ 2) × (length (crossing back e).far ≤ 2)
-few_on e sides true = (sides.1, sides.0)
-few_on e sides false = sides
 
 module _ {O : Type 0} (meaning : O → Meaning) (es : List (Placed O)) (layout : List ℕ) (s : State) (n : ℕ) (over : Crossing O) (known : IsRelatedAt meaning es s n)
     (is : (e : Link O) → In e (forest es) → e.number ≡ n → Some over ≡ Some (stored_way layout e)) where

@@ -1,8 +1,7 @@
 -- Crossing an operator from its stored side reads the tables of its other side.
 use Rattle.std.specs.Prelude.{◌≤◌}
-use Rattle.std.specs.Option.{option_copied, option_map_or}
-use Rattle.std.proofs.Common.{◌≡◌, ℕ, List, [], ◌∷◌, Bool, Bor, map, length, Option, Some, None, inl, inr, refl, sym, ap, ◌∙◌, subst}
-use Rattle.std.proofs.lemmas.Bool.{cases_eq, eq-eqb, ne_eqb}
+use Rattle.std.specs.Option.{option_map_or}
+use Rattle.std.proofs.Common.{◌≡◌, ℕ, List, [], Bool, map, length, Option, Some, None, refl, sym, ap, ◌∙◌, subst}
 use Rattle.std.proofs.lemmas.List.{length-map}
 use mathlib.Core.List.{reverse}
 use Rattle.row_store.specs.Rows.{Rows}
@@ -10,8 +9,8 @@ use Rattle.row_store.specs.States.{TableState}
 use Rattle.id_memory.specs.Pairs.{Pairs}
 use Rattle.id_memory.specs.States.{MemoryState}
 use Rattle.version_graph.specs.Sets.{In}
-use Rattle.version_graph.specs.Edges.{Drawn, numbers}
-use Rattle.version_graph.specs.Forest.{Crossing, Link, crossing, forest, step_told}
+use Rattle.version_graph.specs.Edges.{numbers}
+use Rattle.version_graph.specs.Forest.{Crossing, Link, crossing, forest}
 use Rattle.version_graph.specs.declared.parts.Placed.{Placed}
 use Rattle.version_graph.proofs.SetLaws.{each_at}
 use Rattle.version_graph.proofs.WalkStepLaws.{in_reverse}
@@ -23,16 +22,12 @@ use Rattle.op_law.specs.Meaning.{Meaning}
 use Rattle.op_law.specs.Premises.{SomeStored}
 use Rattle.op_law.specs.declared.side.Aux.{Aux}
 use Rattle.layout_rules.proofs.LinkLaws.{number_listed}
-use Rattle.version_graph.specs.declared.parts.Step.{Step}
-use Rattle.version_model.specs.Calls.{IsCrossing, IsTold}
 use Rattle.version_model.specs.Kept.{HasSides, pairs_at, rows_now, value_of}
 use Rattle.version_model.specs.Put.{put}
 use Rattle.version_model.specs.States.{State, headings}
 use Rattle.version_model.specs.Steps.{directed}
 use Rattle.version_model.specs.declared.numbered.Numbered.{Numbered}
-use Rattle.version_model.proofs.CarryLaws.{told_is}
 use Rattle.version_model.proofs.CrossingLaws.{numbers_linked}
-use Rattle.version_model.proofs.NumberedLaws.{looked, value_of_first}
 use Rattle.version_model.proofs.PutLaws.{map_same}
 use Rattle.storage_law.specs.Storage.{Storage, aux_of, stored_way}
 use Rattle.storage_law.proofs.ReadLaws.{IsRead, far_right, put_in, read_at, still_right}
@@ -41,21 +36,9 @@ use Rattle.db_state.specs.Parts.{passes, seen_of}
 use Rattle.db_state.specs.inner.Passes.{SeesOver, Settles}
 use Rattle.db_state.specs.declared.sight.Sight.{Sight}
 use Rattle.db_state.specs.declared.parts.Parts.{Parts}
-use Rattle.db_state.proofs.AuxLemmas.{few_on}
+use Rattle.db_state.proofs.FoundLaws.{some_at, few_on}
 use Rattle.db_state.proofs.PartLaws.{only_map, rows_twice, seen_stands, state_seen, storage_seen}
 use Rattle.db_state.proofs.SeenLemmas.{seen_put}
-
--- a value stands under a number that is listed
-pub some_at : {T : Type 0} (items : List (Numbered T)) (n : ℕ) → In n (numbers_in items) → value_of items n ≡ None → ⊥
-some_at [] n i none = i
-some_at {T} (x ∷ xs) n i none =
-    elim (cases_eq n x.number) as (λ _. ⊥) [
-      | inl same ↦ (
-          let clash : Some x.value ≡ None = sym (value_of_first x xs n ∙ ap (λ (b : Bool). looked b x (value_of xs n)) (eq-eqb n x.number same)) ∙ none in
-          cc)
-      | inr other ↦ some_at xs n (elim i as (λ _. In n (numbers_in xs)) [ inl same ↦ absurd (other same) | inr j ↦ j ])
-          (sym (value_of_first x xs n ∙ ap (λ (b : Bool). looked b x (value_of xs n)) (ne_eqb n x.number other)) ∙ none)
-    ]
 
 module _ {O : Type 0} (meaning : O → Meaning) (p : Parts O) (is : IsDatabase meaning p) where
   abbrev es : List (Placed O)
@@ -162,19 +145,7 @@ module _ {O : Type 0} (meaning : O → Meaning) (laws : (o : O) → Laws (meanin
           right = λ t i. seen t ∙ put_in (seen_of sight rows) s.tables q.far t i;
         }
 
--- a value that isn't there
-pub none_kept : {T : Type 0} (o : Option (Bor T)) (items kept : List (Numbered T)) (n : ℕ) → o ≡ None → option_copied o ≡ value_of items n → items ≡ kept → None ≡ value_of kept n
-none_kept o items kept n none found same = ap (λ x. option_copied x) (sym none) ∙ found ∙ ap (λ l. value_of l n) same
-
 -- ---- what the calls before a reading gave
-
--- a step tells of one crossing
-pub same_crossing : {O : Type 0} (g h : Drawn O) → g ≡ h → (step : Step) (q r : Crossing O) → IsTold g.edges step (Some q) → IsCrossing h.edges r → step_told r ≡ step → q ≡ r
-same_crossing {O} g h same step q r tells crosses is = told_is h.edges step r q crosses is (subst (λ (d : Drawn O). IsTold d.edges step (Some q)) same tells)
-
--- a value that is there
-pub some_kept : {T : Type 0} (x : T) (items kept : List (Numbered T)) (n : ℕ) → Some x ≡ value_of items n → items ≡ kept → Some x ≡ value_of kept n
-some_kept x items kept n found same = found ∙ ap (λ l. value_of l n) same
 
 -- the near tables as they are now
 pub near_kept : (sight : Sight) (stored kept made now : List (Numbered TableState)) (near : Tables) (ks : List ℕ) → near ≡ map (seen_of sight (rows_now stored made)) ks → stored ≡ kept → made ≡ now → near ≡ map (seen_of sight (rows_now kept now)) ks

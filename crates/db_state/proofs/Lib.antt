@@ -1,4 +1,5 @@
 pub mod FieldLaws
+pub mod FoundLaws
 mod EmptyLemmas
 mod AuxLemmas
 pub mod OnceLaws
@@ -6,7 +7,7 @@ pub mod PartLaws
 pub mod BoundLaws
 mod SeenLemmas
 mod LocalLemmas
-mod PassLemmas
+pub mod PassLaws
 mod WayLemmas
 mod CrossLemmas
 mod PlaceLemmas

@@ -12,7 +12,7 @@ use Rattle.version_graph.proofs.TakenLaws.{found_passes}
 use Rattle.op_law.specs.Meaning.{Meaning}
 use Rattle.version_model.proofs.CarryLaws.{some_is}
 use Rattle.db_state.specs.Parts.{AreLocalAt}
-use Rattle.db_state.proofs.AuxLemmas.{crosses}
+use Rattle.db_state.proofs.FoundLaws.{crosses}
 
 module _ {O : Type 0} (meaning : O → Meaning) (es : List (Placed O)) where
   -- what a number's edge says holds of the live operator of that number

@@ -1,6 +1,6 @@
 -- One operator of a pass, by its place.
 use Rattle.std.specs.Prelude.{◌<◌, ◌≤◌, slice_get}
-use Rattle.std.proofs.Common.{◌≡◌, ℕ, ◌+◌, List, [], ◌∷◌, ◌++◌, Bool, true, false, not, cond, drop, length, take, Option, Some, None, refl, sym, ap, ◌∙◌, subst, arith}
+use Rattle.std.proofs.Common.{◌≡◌, ℕ, ◌+◌, List, [], ◌++◌, Bool, true, false, not, cond, drop, length, take, Option, Some, None, refl, sym, ap, ◌∙◌, subst, arith}
 use Rattle.std.proofs.lemmas.Bool.{and_from, and_parts, cond-false, cond-true, false≢true}
 use Rattle.std.proofs.lemmas.List.{reverse-append, reverse-reverse, take-append-drop}
 use mathlib.Core.List.{reverse}
@@ -12,7 +12,7 @@ use Rattle.version_graph.specs.declared.parts.Placed.{Placed}
 use Rattle.version_graph.proofs.SetLaws.{in_of_test, is_in_true}
 use Rattle.version_graph.proofs.WalkLaws.{is_forest}
 use Rattle.layout_rules.specs.declared.layout.Layout.{Layout}
-use Rattle.layout_rules.proofs.DownLaws.{Beside, below, below_all, below_next, below_past, beside, link_listed}
+use Rattle.layout_rules.proofs.DownLaws.{below, below_all, below_next, below_past, link_listed}
 use Rattle.layout_rules.proofs.LookupLaws.{not_off, not_on}
 use Rattle.op_law.specs.Local.{rows_only}
 use Rattle.op_law.specs.Meaning.{Meaning}
@@ -24,6 +24,7 @@ use Rattle.version_model.proofs.AscendingLaws.{edge_there, some_there}
 use Rattle.version_model.proofs.CarryLaws.{some_is}
 use Rattle.version_model.proofs.CrossingLaws.{targets_linked}
 use Rattle.version_model.proofs.MakingLaws.{stands_at}
+use Rattle.storage_law.proofs.OrderLaws.{link_at, newer, next, split_at}
 use Rattle.db_state.specs.Fields.{IsDatabase, state_for}
 use Rattle.db_state.specs.declared.parts.Parts.{Parts}
 use Rattle.db_state.specs.declared.read.Pass.{Pass}
@@ -31,27 +32,12 @@ use Rattle.db_state.specs.Covered.{CoversItself}
 use Rattle.db_state.specs.Parts.{SeenWithin, passes, seen_of}
 use Rattle.db_state.specs.declared.sight.Sight.{Sight}
 use Rattle.db_state.specs.inner.Passes.{AreRead, PassesOver, IsDown, IsDownTo, IsUpTo, MayCross, MayPass, PassTakes, Passes, Settles, is_passed, passed_in}
-use Rattle.db_state.proofs.AuxLemmas.{crosses}
 use Rattle.db_state.proofs.BoundLaws.{passed_append, seen_fewer, seen_more}
 use Rattle.db_state.proofs.PartLaws.{ascends_of, sees_of}
-use Rattle.db_state.proofs.PassLemmas.{all_right, down_step, near_down, near_up, up_step}
+use Rattle.db_state.proofs.PassLaws.{all_right, down_step, near_down, near_up, up_step}
+use Rattle.db_state.proofs.FoundLaws.{crosses}
 
 module _ {O : Type 0} (es : List (Placed O)) (edges : AreEdges es) (layout ns : List ℕ) (covers : CoversItself (forest es) layout ns) (tables : ℕ → Rows) where
-  abbrev newer : ℕ → List (Link O)
-  newer i = reverse (drop i (ascending es))
-
-  -- the operators from a place on, and those below it
-  split : (i : ℕ) → forest es ≡ newer i ++ below es i
-  split i = sym (reverse-reverse (forest es)) ∙ sym (ap (λ (l : List (Link O)). reverse l) (take-append-drop i (ascending es))) ∙ reverse-append (take i (ascending es)) (drop i (ascending es))
-
-  -- the operator at a place stands before those below it
-  next : (i : ℕ) (f : Link O) → slice_get (ascending es) i ≡ Some f → below es (i + 1) ≡ f ∷ below es i
-  next i f here = below_next es i (Some f) (sym here)
-
-  -- the operators around a place
-  split_at : (i : ℕ) (f : Link O) → slice_get (ascending es) i ≡ Some f → forest es ≡ newer (i + 1) ++ f ∷ below es i
-  split_at i f here = split (i + 1) ∙ ap (λ (l : List (Link O)). newer (i + 1) ++ l) (next i f here)
-
   -- it lives
   listed : (i : ℕ) (f : Link O) → slice_get (ascending es) i ≡ Some f → In f (forest es)
   listed i f here = link_listed es i f (sym here)
@@ -70,7 +56,7 @@ module _ {O : Type 0} (es : List (Placed O)) (edges : AreEdges es) (layout ns : 
   pub may_down : (i : ℕ) (rows : ℕ → Rows) → IsDownTo (forest es) layout ns tables (below es (i + 1)) rows → MayGo true i rows
   may_down i rows down f here passed t j =
       let tests = and_parts (is_in f.number ns) (is_in f.number layout) passed in
-      near_down (forest es) (is_forest es edges) layout ns covers tables (newer (i + 1)) f (below es i) (split_at i f here) rows (subst (λ (l : List (Link O)). IsDownTo (forest es) layout ns tables l rows) (next i f here) down)
+      near_down (forest es) (is_forest es edges) layout ns covers tables (newer es (i + 1)) f (below es i) (split_at es i f here) rows (subst (λ (l : List (Link O)). IsDownTo (forest es) layout ns tables l rows) (next es i f here) down)
       (listed i f here) (in_of_test f.number layout tests.1) (in_of_test f.number ns tests.0) t j
 
   -- and then fewer are left
@@ -78,21 +64,21 @@ module _ {O : Type 0} (es : List (Placed O)) (edges : AreEdges es) (layout ns : 
   goes_down i within rows new down goes =
       let got = stands_at (ascending es) i within in
       let f = got.0 in
-      down_step (forest es) (is_forest es edges) layout ns covers tables f (below es i) rows new (cond (is_passed layout ns true f.number) f.sources []) (listed i f got.1) (subst (λ (l : List (Link O)). IsDownTo (forest es) layout ns tables l rows) (next i f got.1) down)
+      down_step (forest es) (is_forest es edges) layout ns covers tables f (below es i) rows new (cond (is_passed layout ns true f.number) f.sources []) (listed i f got.1) (subst (λ (l : List (Link O)). IsDownTo (forest es) layout ns tables l rows) (next es i f got.1) down)
       (goes f got.1) (λ has mine. cond-true (is_passed layout ns true f.number) f.sources [] (and_from (is_in f.number ns) (is_in f.number layout) (is_in_true f.number ns mine) (is_in_true f.number layout has)))
 
   -- the pass up may go over the next operator
   pub may_up : (i : ℕ) (rows : ℕ → Rows) → IsUpTo (forest es) layout ns tables (below es i) rows → MayGo false i rows
   may_up i rows up f here passed t j =
       let tests = and_parts (is_in f.number ns) (not (is_in f.number layout)) passed in
-      near_up (forest es) (is_forest es edges) layout ns covers tables (newer (i + 1)) f (below es i) (split_at i f here) rows up (listed i f here) (λ has. not_off (is_in f.number layout) tests.1 (is_in_true f.number layout has)) (in_of_test f.number ns tests.0) t j
+      near_up (forest es) (is_forest es edges) layout ns covers tables (newer es (i + 1)) f (below es i) (split_at es i f here) rows up (listed i f here) (λ has. not_off (is_in f.number layout) tests.1 (is_in_true f.number layout has)) (in_of_test f.number ns tests.0) t j
 
   -- and then more are behind
   pub goes_up : (i : ℕ) → i < length (ascending es) → (rows new : ℕ → Rows) → IsUpTo (forest es) layout ns tables (below es i) rows → Goes false i rows new → IsUpTo (forest es) layout ns tables (below es (i + 1)) new
   goes_up i within rows new up goes =
       let got = stands_at (ascending es) i within in
       let f = got.0 in
-      subst (λ (l : List (Link O)). IsUpTo (forest es) layout ns tables l new) (sym (next i f got.1))
+      subst (λ (l : List (Link O)). IsUpTo (forest es) layout ns tables l new) (sym (next es i f got.1))
       (up_step (forest es) (is_forest es edges) layout ns covers tables f (below es i) rows new (cond (is_passed layout ns false f.number) f.targets []) up (goes f got.1)
       (λ off mine. cond-true (is_passed layout ns false f.number) f.targets [] (and_from (is_in f.number ns) (not (is_in f.number layout)) (is_in_true f.number ns mine) (not_on (is_in f.number layout) (λ is. off (in_of_test f.number layout is))))))
 
@@ -104,14 +90,6 @@ stored_side true true h = refl
 stored_side false false h = refl
 stored_side true false h = absurd (false≢true h)
 stored_side false true h = absurd (false≢true h)
-
--- the link at the place of an edge
-link_at : {O : Type 0} (es : List (Placed O)) (i : ℕ) (e : Placed O) → Some e ≡ slice_get (reverse es) i → (f : Link O) × (slice_get (ascending es) i ≡ Some f) × (e.number ≡ f.number)
-link_at {O} es i e found = one (slice_get (ascending es) i) refl (subst (λ (o : Option (Placed O)). Beside o (slice_get (ascending es) i)) (sym found) (beside es i))
-  where
-    one : (q : Option (Link O)) → slice_get (ascending es) i ≡ q → Beside (Some e) q → (f : Link O) × (slice_get (ascending es) i ≡ Some f) × (e.number ≡ f.number)
-    one None got both = absurd both
-    one (Some f) got both = (f, got, both.0)
 
 -- an edge is found in a graph that is the same
 pub found_in : {O : Type 0} (g h : Drawn O) → g ≡ h → (i : ℕ) (o : Option (Placed O)) → o ≡ slice_get (reverse g.edges) i → o ≡ slice_get (reverse h.edges) i

@@ -1,29 +1,19 @@
 -- Stored tables, and those that were read beside them.
 use Rattle.std.specs.Prelude.{IfOk, IfSome, Result, Ok, Err}
 use Rattle.std.specs.Option.{option_copied, option_map_or}
-use Rattle.std.proofs.Common.{◌≡◌, ℕ, List, [], Bor, Option, Some, None, inl, inr, sym, ap, ◌∙◌}
+use Rattle.std.proofs.Common.{◌≡◌, ℕ, List, [], Bor, Option, Some, None, sym, ap, ◌∙◌}
 use Rattle.row_store.specs.Rows.{Rows}
 use Rattle.row_store.specs.States.{TableState}
-use Rattle.version_graph.specs.Sets.{In}
 use Rattle.op_law.specs.Local.{rows_only}
 use Rattle.op_law.specs.Meaning.{Meaning}
-use Rattle.layout_rules.proofs.LinkLaws.{in_or_out}
 use Rattle.version_model.specs.Kept.{latest_of, newer_rows, rows_at, rows_now, value_of}
 use Rattle.version_model.specs.declared.numbered.Numbered.{Numbered}
-use Rattle.db_state.specs.Fields.{IsDatabase, numbers_in, state_for}
+use Rattle.db_state.specs.Fields.{IsDatabase, state_for}
 use Rattle.db_state.specs.declared.parts.Parts.{Parts}
 use Rattle.db_state.specs.Parts.{passes}
 use Rattle.db_state.specs.declared.sight.Sight.TheVariants.{All}
-use Rattle.db_state.proofs.FieldLaws.{none_at}
 use Rattle.db_state.proofs.PartLaws.{rows_all}
-
--- the number of a value is listed
-in_numbers : {T : Type 0} (items : List (Numbered T)) (n : ℕ) (x : T) → Some x ≡ value_of items n → In n (numbers_in items)
-in_numbers items n x found =
-    elim (in_or_out n (numbers_in items)) as (λ _. In n (numbers_in items)) [
-      | inl i ↦ i
-      | inr out ↦ (let clash : Some x ≡ None = found ∙ none_at items n out in absurd (let no : ⊥ = cc in no))
-    ]
+use Rattle.db_state.proofs.FoundLaws.{in_numbers}
 
 -- a stored table has the rows of the state
 pub lent_right : {O : Type 0} (meaning : O → Meaning) (p : Parts O) → IsDatabase meaning p → (t : ℕ) (o : Option (Bor TableState)) → option_copied o ≡ value_of p.stored t → IfSome o (λ (b : Bor TableState). b.now.rows ≡ (state_for meaning p).tables t)

@@ -1,5 +1,6 @@
 -- The numbers, rows and memories of a database are such as a dump tells.
-use Rattle.std.specs.Prelude.{◌≤◌, ◌<◌, ◌^◌}
+use Rattle.std.specs.Prelude.{◌≤◌, ◌<◌, ◌^◌, ℤ, pos, negsuc, FitsSigned}
+use Rattle.std.specs.Int.{w64}
 use Rattle.std.specs.Option.{option_map_or}
 use Rattle.std.proofs.Common.{◌≡◌, ℕ, List, [], ◌∷◌, Bool, true, false, map, Option, inl, inr, refl, sym, ap, ◌∙◌, subst, arith}
 use Rattle.std.proofs.lemmas.List.{map-append}
@@ -19,11 +20,13 @@ use Rattle.version_graph.proofs.SetLaws.{each_at, in_left, in_map, in_right}
 use Rattle.version_graph.proofs.TableLaws.{numbers_made, rises_apart}
 use Rattle.op_law.specs.Calls.{tables_of}
 use Rattle.op_law.specs.Laws.{HalfLaws}
-use Rattle.op_law.specs.Sound.{IsBelow, PairsSound, RowsSound, TablesSound, ValuesSound}
+use Rattle.op_law.specs.Sound.{IsBelow, PairsSound, RowsSound, TablesSound, ValueSound, ValuesSound}
 use Rattle.op_law.specs.Tables.{AllRise, Tables, contents}
 use Rattle.op_law.specs.declared.side.Aux.{Aux}
 use Rattle.op_any.specs.Operators.{AnyView, any_laws, any_meaning}
 use Rattle.layout_rules.proofs.ChangeLaws.{number_lives}
+use Rattle.version_graph.proofs.WalkLaws.{Of, all_of, is_forest}
+use Rattle.version_model.proofs.CrossingLaws.{is_within}
 use Rattle.version_model.specs.Kept.{pairs_at}
 use Rattle.version_model.specs.States.{State, headings}
 use Rattle.version_model.specs.Steps.{IsRelated, directed}
@@ -32,11 +35,11 @@ use Rattle.storage_law.specs.Storage.{StandsOver, stored_way}
 use Rattle.db_state.specs.Fields.{IsDatabase, auxes_at, numbers_in, state_for, storage_in}
 use Rattle.db_state.specs.declared.parts.Parts.{Parts}
 use Rattle.dump_graph.specs.Told.{operator_line, version_line}
-use Rattle.dump_values.specs.Laws.{AllFit, AuxFits, DumpFits, IdFits, MemoryFits, NumberFits, OperatorFits, RowFits, StoredFits, TableFits, ValueFits, VersionFits}
+use Rattle.dump_values.specs.Laws.{AllFit, AuxFits, DumpFits, IdFits, IntFits, MemoryFits, NumberFits, OperatorFits, RowFits, StoredFits, TableFits, ValueFits, VersionFits}
 use Rattle.dump_file.specs.Told.{aux_line, dump_told, has_tables, memory_line, remembers, stored_line}
-use Rattle.dump_file.specs.inner.Calls.{AuxHolds, HasWords, IntHolds, RowsHold, StoredHolds, TablesHold}
+use Rattle.dump_file.specs.inner.Calls.{HasWords}
 use Rattle.dump_file.proofs.AuxLemmas.{AuxSound, aux_sound}
-use Rattle.dump_file.proofs.ListedLemmas.{fit_at, fit_filter, fit_map, fit_of, numbers_once, of_reverse, value_held}
+use Rattle.dump_file.proofs.ListedLemmas.{fit_filter, fit_map, fit_of, numbers_once, of_reverse, value_held}
 use Rattle.dump_file.proofs.MemoryLemmas.{IsMemory, are_pairs, link_number}
 use Rattle.dump_file.proofs.StateLemmas.{aux_there, memory_lives, memory_there, rows_there}
 
@@ -45,20 +48,27 @@ use Rattle.dump_file.proofs.StateLemmas.{aux_there, memory_lives, memory_there, 
 id_fits : (next id : ℕ) → next ≤ 2 ^ 63 → IsBelow next id → IdFits id
 id_fits next id most below = let less = below.1 in (below.0, omega (arith, less, most))
 
-values_fit : (next : ℕ) (vs : List Value) → next ≤ 2 ^ 63 → ValuesSound next vs → AllFit IntHolds vs → AllFit ValueFits vs
-values_fit next [] most sound hold = tt
-values_fit next (Null ∷ vs) most sound hold = (tt, values_fit next vs most sound.1 hold.1)
-values_fit next (Int z ∷ vs) most sound hold = (hold.0, values_fit next vs most sound.1 hold.1)
-values_fit next (Text text ∷ vs) most sound hold = (tt, values_fit next vs most sound.1 hold.1)
-values_fit next (Reference id ∷ vs) most sound hold = (id_fits next id most sound.0, values_fit next vs most sound.1 hold.1)
+integer_fits : (z : ℤ) → FitsSigned w64 z → IntFits z
+integer_fits (pos n) fits = fits.sfits
+integer_fits (negsuc n) fits = fits.sfits
 
-rows_fit : (next : ℕ) (rows : Rows) → next ≤ 2 ^ 63 → RowsSound next rows → RowsHold rows → AllFit RowFits rows
-rows_fit next [] most sound hold = tt
-rows_fit next (r ∷ rs) most sound hold = ((id_fits next r.0 most sound.0.0, values_fit next r.1 most sound.0.1 hold.0), rows_fit next rs most sound.1 hold.1)
+value_fits : (next : ℕ) (v : Value) → next ≤ 2 ^ 63 → ValueSound next v → ValueFits v
+value_fits next Null most sound = tt
+value_fits next (Int z) most sound = integer_fits z sound
+value_fits next (Text text) most sound = tt
+value_fits next (Reference id) most sound = id_fits next id most sound
 
-tables_fit : (next : ℕ) (ts : List TableState) → next ≤ 2 ^ 63 → TablesSound next (contents ts) → AllRise (contents ts) → TablesHold ts → AllFit TableFits (contents ts)
-tables_fit next [] most sound rise hold = tt
-tables_fit next (t ∷ ts) most sound rise hold = ((rise.0, rows_fit next t.rows most sound.0 hold.0), tables_fit next ts most sound.1 rise.1 hold.1)
+values_fit : (next : ℕ) (vs : List Value) → next ≤ 2 ^ 63 → ValuesSound next vs → AllFit ValueFits vs
+values_fit next [] most sound = tt
+values_fit next (v ∷ vs) most sound = (value_fits next v most sound.0, values_fit next vs most sound.1)
+
+rows_fit : (next : ℕ) (rows : Rows) → next ≤ 2 ^ 63 → RowsSound next rows → AllFit RowFits rows
+rows_fit next [] most sound = tt
+rows_fit next (r ∷ rs) most sound = ((id_fits next r.0 most sound.0.0, values_fit next r.1 most sound.0.1), rows_fit next rs most sound.1)
+
+tables_fit : (next : ℕ) (ts : List TableState) → next ≤ 2 ^ 63 → TablesSound next (contents ts) → AllRise (contents ts) → AllFit TableFits (contents ts)
+tables_fit next [] most sound rise = tt
+tables_fit next (t ∷ ts) most sound rise = ((rise.0, rows_fit next t.rows most sound.0), tables_fit next ts most sound.1 rise.1)
 
 pairs_fit : (next : ℕ) (es : Pairs) → next ≤ 2 ^ 63 → PairsSound next es → AllFit (λ (e : ℕ × ℕ × ℕ). IdFits e.0) es
 pairs_fit next [] most sound = tt
@@ -135,14 +145,27 @@ module _ (p : Parts AnyView) (is : IsDatabase any_meaning p) (words : HasWords p
       let l = is.valid.live n i in
       subst NumberFits (sym l.2) (number_fits l.0.number (link_number es l.0 l.1)))
 
+  table_fits : (t : ℕ) → In t (table_numbers (made es)) → NumberFits t
+  table_fits t i =
+      let most = each_at (λ (k : ℕ). k ≤ p.graph.last_table) (table_numbers (made es)) t i is.graph.tables in
+      let top = words.last_table in
+      omega (arith, most, top)
+
+  -- a stored table is one that an operator made
+  stored_made : (i : Numbered TableState) → In i p.stored → In i.number (table_numbers (made es))
+  stored_made i at =
+      let stored = (is.tables i.number).0 (in_map (λ (j : Numbered TableState). j.number) i p.stored at) in
+      let f = stored.made.0 in
+      let of = each_at (λ (g : Link AnyView). Of (forest es) (crossing false g)) (forest es) f stored.made.1 (all_of (forest es) (is_forest es is.graph.edges)) in
+      (is_within es is.graph.edges (crossing false f) of).far i.number stored.made.3
+
   stored_fit : AllFit StoredFits (map stored_line p.stored)
   stored_fit =
       fit_map StoredFits stored_line p.stored (λ i at.
-      let holds = fit_at StoredHolds p.stored i at words.stored in
       let there = rows_there p is i at in
       let rise = subst (λ (rows : Rows). RiseFrom 0 rows) (sym there) (is.sound.well.tables i.number).0 in
       let sound = subst (λ (rows : Rows). RowsSound s.next rows) (sym there) (is.sound.well.rows i.number) in
-      (holds.0, (rise, rows_fit s.next i.value.rows words.at_most sound holds.1)))
+      (table_fits i.number (stored_made i at), (rise, rows_fit s.next i.value.rows words.at_most sound)))
 
   -- ---- what an operator keeps
 
@@ -167,7 +190,7 @@ module _ (p : Parts AnyView) (is : IsDatabase any_meaning p) (words : HasWords p
       let stands = aux_stands l.0 l.1 in
       let rise = subst AllRise there stands.0 in
       let sound = subst (λ (ts : Tables). TablesSound s.next ts) there stands.1 in
-      (number_fits i.number (aux_lives i at), tables_fit s.next i.value.tables words.at_most sound rise (fit_at AuxHolds p.aux i at words.aux)))
+      (number_fits i.number (aux_lives i at), tables_fit s.next i.value.tables words.at_most sound rise))
 
   memories_fit : AllFit MemoryFits (map memory_line p.memories)
   memories_fit =

@@ -1,6 +1,7 @@
 -- The JSON of a dump has no float.
-use Rattle.std.specs.Prelude.{pos, negsuc, ◌||◌}
-use Rattle.std.proofs.Common.{◌≡◌, ℕ, List, [], ◌∷◌, Bool, false, map, refl, ap, ◌∙◌}
+use Rattle.std.specs.Prelude.{pos, negsuc}
+use Rattle.std.proofs.Common.{◌≡◌, ℕ, List, [], ◌∷◌, false, map, refl}
+use Rattle.std.proofs.lemmas.Bool.{or_from}
 use Rattle.par_base.specs.declared.value.Value.{Value}
 use Rattle.par_base.specs.declared.value.Value.TheVariants.{Null, Int, Text, Reference}
 use Rattle.id_memory.specs.Pairs.{Pairs}
@@ -16,12 +17,9 @@ use Rattle.dump_values.specs.Tables.{table_json, tables_json}
 use Rattle.dump_values.specs.Values.{row_json, value_json}
 use Rattle.dump_values.specs.declared.lines.OperatorLine.{OperatorLine}
 
-either : (a b : Bool) → a ≡ false → b ≡ false → (a || b) ≡ false
-either a b first second = ap (λ (c : Bool). c || b) first ∙ second
-
 items_whole : {A : Type 0} (write : A → Data) → ((x : A) → has_float (write x) ≡ false) → (xs : List A) → items_have_float (items_of (map write xs)) ≡ false
 items_whole write whole [] = refl
-items_whole write whole (x ∷ xs) = either (has_float (write x)) (items_have_float (items_of (map write xs))) (whole x) (items_whole write whole xs)
+items_whole write whole (x ∷ xs) = or_from (has_float (write x)) (items_have_float (items_of (map write xs))) (whole x) (items_whole write whole xs)
 
 list_whole : {A : Type 0} (write : A → Data) → ((x : A) → has_float (write x) ≡ false) → (xs : List A) → has_float (list_json write xs) ≡ false
 list_whole write whole xs = items_whole write whole xs
@@ -46,16 +44,16 @@ pairs_whole : (es : Pairs) → has_float (pairs_json es) ≡ false
 pairs_whole es = list_whole triple_json (λ e. refl) es
 
 stored_whole : (line : ℕ × Rows) → has_float (stored_json line) ≡ false
-stored_whole line = either (has_float (table_json line.1)) false (table_whole line.1) refl
+stored_whole line = or_from (has_float (table_json line.1)) false (table_whole line.1) refl
 
 aux_whole : (line : ℕ × List Rows) → has_float (aux_json line) ≡ false
-aux_whole line = either (has_float (tables_json line.1)) false (list_whole table_json table_whole line.1) refl
+aux_whole line = or_from (has_float (tables_json line.1)) false (list_whole table_json table_whole line.1) refl
 
 memory_whole : (line : ℕ × Pairs) → has_float (memory_json line) ≡ false
-memory_whole line = either (has_float (pairs_json line.1)) false (pairs_whole line.1) refl
+memory_whole line = or_from (has_float (pairs_json line.1)) false (pairs_whole line.1) refl
 
 operator_whole : (line : OperatorLine) → has_float (operator_json line) ≡ false
-operator_whole line = either (has_float (numbers_json line.targets)) false (numbers_whole line.targets) refl
+operator_whole line = or_from (has_float (numbers_json line.targets)) false (numbers_whole line.targets) refl
 
 pub dump_whole : (d : Dump) → has_float (dump_json d) ≡ false
 dump_whole d =
@@ -65,4 +63,4 @@ dump_whole d =
     let operators = list_whole operator_json operator_whole d.graph.operators in
     let stored = list_whole stored_json stored_whole d.kept.stored in
     let versions = list_whole version_json (λ v. refl) d.graph.versions in
-    either _ _ auxes (either _ _ layout (either _ _ memories (either _ _ operators (either _ _ stored (either _ _ versions refl)))))
+    or_from _ _ auxes (or_from _ _ layout (or_from _ _ memories (or_from _ _ operators (or_from _ _ stored (or_from _ _ versions refl)))))

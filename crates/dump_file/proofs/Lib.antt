@@ -1,6 +1,5 @@
 mod ListLemmas
 mod ListedLemmas
-mod HoldLemmas
 mod JsonLemmas
 mod DepthLemmas
 mod AuxLemmas

@@ -12,8 +12,8 @@ ghost use Rattle.db_state.specs.Fields.{database_for};
 ghost use Rattle.dump_file.specs.Stands.{IsDumpOf, Spells};
 ghost use Rattle.dump_file.specs.States.{dump_text};
 ghost use Rattle.dump_file.specs.Told.{database_json, dump_told};
+ghost use Rattle.dump_file.specs.inner.Calls.{HasWords};
 
-use crate::fitting::look_at_numbers;
 use crate::laws::{databases_stand_for_their_dumps, dumps_tell_the_state};
 use crate::writing::{
     write_all_stored, write_auxes, write_memories, write_operators, write_versions,
@@ -57,7 +57,15 @@ fn text_of(alloc: Global, json: &Json) -> Result<String, Memory>
     Ok(text)
 }
 
-/// That a dump tells the numbers of this database as they are.
+// That they have the bits of their types is known where they are read.
+fn look_at_numbers(db: &Db<AnyOp>)
+    ensures { HasWords db.now }
+{
+    let (_last_operator, _last_table) = db.graph().last_numbers();
+    let _next = db.ids().next();
+}
+
+// That a dump tells the numbers of this database as they are.
 fn look_at(db: &Db<AnyOp>)
     ensures { DumpFits (dump_told db.now) }
 {

@@ -12,7 +12,6 @@
 
 mod dumping;
 mod filling;
-mod fitting;
 mod laws;
 mod loading;
 mod taking;

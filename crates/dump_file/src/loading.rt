@@ -17,7 +17,7 @@ use op_any::AnyOp;
 use par_base::{Fault, Limits, List, Memory};
 use row_store::Table;
 use serde_json::Value as Json;
-use std::alloc::{AllocError, Global};
+use std::alloc::Global;
 use std::sync::ledger::Ledger;
 use version_graph::Graph;
 use version_model::Numbered;
@@ -30,7 +30,7 @@ fn read_json(alloc: Global, bytes: &[u8]) -> Result<Json, Fault<DumpRefused>>
         Ok(json) => Ok(json),
         Err(error) => {
             if error.is_memory() {
-                Err(Fault::Memory(Memory::from(AllocError)))
+                Err(Fault::Memory(Memory::meant_by(error)))
             } else {
                 Err(Fault::Refused(DumpRefused))
             }

@@ -1,18 +1,15 @@
 -- One line after the other.
-use Rattle.std.specs.Prelude.{◌<◌, ◌==◌, Some, None, Result}
-use Rattle.std.proofs.Common.{◌≡◌, ℕ, ◌+◌, List, [], ◌∷◌, ◌++◌, true, false, cond, Ok, Err, drop, get_or, length, take, sym, ap, subst, ◌∙◌}
+use Rattle.std.specs.Prelude.{◌<◌, Some, None, Result}
+use Rattle.std.proofs.Common.{◌≡◌, ℕ, ◌+◌, List, [], ◌∷◌, ◌++◌, Ok, Err, drop, get_or, length, take, sym, ap, subst, ◌∙◌}
 use Rattle.std.proofs.lemmas.List.{drop_more, take_more}
 use Rattle.statements.specs.Views.{OpView}
 use Rattle.bidel_text.specs.OperatorText.{operator_text}
-use Rattle.version_graph.specs.Sets.{Each}
-use Rattle.version_graph.specs.Tables.{FitsSet, IsHeading, headings_after, headings_of, headings_passing}
-use Rattle.version_graph.specs.Edges.{AreEdges, Drawn, IsGraph, set_after, working}
+use Rattle.version_graph.specs.Tables.{FitsSet, headings_of}
+use Rattle.version_graph.specs.Edges.{AreEdges, Drawn, IsGraph, working}
 use Rattle.version_graph.specs.Placing.{CanPlace, FitsParent, with_edge}
 use Rattle.version_graph.specs.declared.parts.Edge.{Edge}
-use Rattle.version_graph.specs.declared.parts.Heading.{Heading}
 use Rattle.version_graph.specs.declared.parts.Placed.{Placed}
-use Rattle.version_graph.proofs.SetLaws.{each_append, each_at, each_of}
-use Rattle.version_graph.proofs.TableLaws.{headings_next, in_filter}
+use Rattle.version_graph.proofs.HeadingLaws.{headings_well}
 use Rattle.op_any.specs.Operators.{AnyView}
 use Rattle.op_any.specs.Build.{built}
 use Rattle.op_any.specs.Texts.{TextsFit}
@@ -87,21 +84,6 @@ next_is next g line e other builds is =
     λ i. record { number = number i; parent = parent i; tables = targets i; edge = edge i }
 
 -- ---- working sets
-
-headings_stay : {O : Type 0} (set : List Heading) (e : Edge O) → Each IsHeading set → FitsSet set e → Each IsHeading (headings_after set e)
-headings_stay set e all fits =
-    each_append IsHeading (headings_passing set e.sources) e.targets
-    (each_of IsHeading (headings_passing set e.sources) (λ h i. each_at IsHeading set h (in_filter _ h set i) all)) fits.columns
-
--- each table of a graph has a heading as tables may have them
-headings_well : {O : Type 0} (es : List (Placed O)) → AreEdges es → (w : ℕ) → Each IsHeading (headings_of (working es w))
-headings_well [] edges w = tt
-headings_well (e ∷ es) edges w =
-    elim (w == e.number) as (λ b. Each IsHeading (headings_of (cond b (set_after (working es e.parent) e) (working es w)))) [
-      | true ↦ subst (λ hs. Each IsHeading hs) (sym (headings_next (working es e.parent) e edges.0.counted))
-          (headings_stay (headings_of (working es e.parent)) e.edge (headings_well es edges.1 e.parent) edges.0.fits)
-      | false ↦ headings_well es edges.1 w
-    ]
 
 -- an edge that is built from a text on a working set of a graph fits it
 pub edge_fits : (next : ℕ) (es : List (Placed AnyView)) (set : ℕ) (e : Edge AnyView) → AreEdges es → IsFromText next es set e → FitsSet (headings_of (working es set)) e

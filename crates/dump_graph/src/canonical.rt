@@ -14,6 +14,7 @@ use bidel_text::{operators_are_said, print_operator};
 use par_base::{Fault, Memory};
 use statements::OpText;
 use std::alloc::Global;
+use std::mem;
 
 /// The tokens of some bytes, and where none is found behind them.
 #[derive(Drop)]
@@ -71,18 +72,20 @@ fn is_text_of(alloc: Global, operator: &OpText, text: &str) -> Result<bool, Memo
     Ok(printed.as_str() == text)
 }
 
-// In a function of its own, so that where it is let go the parts of an operator aren't gone through.
-fn let_go(_operator: OpText) {}
-
 /// The operator, where this is its canonical text.
 fn keep(alloc: Global, operator: OpText, text: &str) -> Result<Option<OpText>, Memory>
     ensures { IfOk result (λ found. KeepsText text.now (op_view operator) (option_map op_view found)) }
 {
-    if is_text_of(alloc, &operator, text)? {
-        Ok(Some(operator))
-    } else {
-        let_go(operator);
-        Ok(None)
+    match is_text_of(alloc, &operator, text) {
+        Ok(true) => Ok(Some(operator)),
+        Ok(false) => {
+            mem::drop(operator);
+            Ok(None)
+        }
+        Err(memory) => {
+            mem::drop(operator);
+            Err(memory)
+        }
     }
 }
 

@@ -1,22 +1,38 @@
 //! Whether the text literals of an operator are short enough.
 ghost use Rattle.std.specs.Prelude.{◌↔◌, IsTrue};
+ghost use Rattle.par_base.specs.declared.value.Value.TheVariants.{Int, Text as TextOf};
 ghost use Rattle.expr_lang.specs.Terms.{text_term};
 ghost use Rattle.statements.specs.Views.{key_view, op_view, second_view};
 ghost use Rattle.version_graph.specs.Sets.{Each};
 ghost use Rattle.op_any.specs.Texts.{TermFits, TextsFit, ValueFits, key_expressions, second_condition};
 
 use expr_lang::ExprText;
-use par_base::Value;
+use par_base::{Text, Value};
 use statements::{Branch, KeyText, OpText};
 
 // The most bytes of a text.
 const TEXT_LIMIT: usize = 65_536;
 
+// That it has 64 bits is what its type says.
+fn integer_fits(_number: i64) -> bool
+    ensures { IsTrue result ↔ ValueFits (Int _number) }
+{
+    true
+}
+
+// That it is UTF-8 is what its type says.
+fn text_fits(text: &Text) -> bool
+    ensures { IsTrue result ↔ ValueFits (TextOf text.now) }
+{
+    text.as_str().len() <= TEXT_LIMIT
+}
+
 fn value_fits(value: &Value) -> bool
     ensures { IsTrue result ↔ ValueFits value.now }
 {
     match value {
-        Value::Text(text) => text.len() <= TEXT_LIMIT,
+        Value::Int(number) => integer_fits(*number),
+        Value::Text(text) => text_fits(text),
         _ => true,
     }
 }

@@ -58,13 +58,14 @@ fn place_line(
 {
     // That the edge fits rests on what this call promises of the graph.
     let _live = graph.live_operators();
+    let tables = copy_numbers(alloc, line.targets.as_slice())?;
     let Some(edge) = build_text(alloc, graph, next, line.parent, line.text.as_str())? else {
         return Err(Fault::Refused(DumpRefused));
     };
     let placed = Placed {
         number: line.number,
         parent: line.parent,
-        tables: copy_numbers(alloc, line.targets.as_slice())?,
+        tables,
         edge,
     };
     match graph.place_edge(placed) {

@@ -1,20 +1,12 @@
 -- Rows below an identifier.
 use Rattle.std.specs.Prelude.{◌≤◌, nat_le, option_map, option_and_then, if◌then◌else◌}
-use Rattle.std.proofs.Common.{◌≡◌, Bool, true, Option, Some, None, refl, sym, ap, ◌∙◌, append_assoc, ℕ, ◌+◌, List, [], ◌∷◌, ◌++◌, arith}
+use Rattle.std.proofs.Common.{◌≡◌, Bool, true, Option, Some, None, refl, sym, ap, ◌∙◌, append_assoc, ℕ, ◌+◌, List, [], ◌∷◌, ◌++◌}
 use Rattle.par_base.specs.declared.value.Value.{Value}
 use Rattle.std.proofs.lemmas.Bool.{le-leb}
 use Rattle.serde_json.specs.Data.{Data, Items, item}
 use Rattle.dump_values.specs.Tables.{rows_from}
 use Rattle.dump_values.specs.Values.{row_of}
-use Rattle.row_store.specs.Rows.{AreBelow, Rows}
-
-pub below_more : (rs : Rows) (m n : ℕ) → AreBelow rs m → m ≤ n → AreBelow rs n
-below_more [] m n h less = tt
-below_more (r ∷ rs) m n h less = ((let here = h.0 in omega (arith, here, less)), below_more rs m n h.1 less)
-
-pub below_push : (rs : Rows) (id : ℕ) (row : List Value) → AreBelow rs id → AreBelow (rs ++ (id, row) ∷ []) (id + 1)
-below_push [] id row h = (omega arith, tt)
-below_push (r ∷ rs) id row h = ((let here = h.0 in omega (arith, here)), below_push rs id row h.1)
+use Rattle.row_store.specs.Rows.{Rows}
 
 -- one row more was read
 pub step : (old : Rows) (least id : ℕ) (row : List Value) (d : Data) (ds : Items) → row_of d ≡ Some (id, row) → least ≤ id

@@ -13,14 +13,14 @@ use std::alloc::Global;
 fn read_values(alloc: Global, items: &[Json]) -> Result<Option<Row>, Memory>
     ensures { IfOk result (λ row. row ≡ list_of value_of (items_view items.now)) }
 {
-    let mut row = List::with_room(alloc, items.len())?;
+    let mut row = Vec::with_capacity(alloc, items.len())?;
     for item in items {
         let Some(value) = read_value(alloc, item)? else {
             return Ok(None);
         };
         row.push(value)?;
     }
-    Ok(Some(Row::from_list(alloc, row)?))
+    Ok(Some(Row::from_list(alloc, List::from_vec(row))?))
 }
 
 /// The identifier and the row that the JSON spells, where it spells one.

@@ -10,7 +10,7 @@ use row_store::Table;
 use serde_json::Value as Json;
 use std::alloc::Global;
 
-#[tactic(auto, using(crate::proofs::RiseLemmas::below_more, crate::proofs::RiseLemmas::below_push))]
+#[tactic(auto, using(row_store::specs::inner::FoundRows::below_more, row_store::specs::inner::FoundRows::below_push))]
 fn read_rows(alloc: Global, items: &[Json]) -> Result<Option<Table>, Memory>
     ensures { IfOk result (λ table. option_map (λ t. t.rows) table
         ≡ rows_from 1 (items_view items.now)) }

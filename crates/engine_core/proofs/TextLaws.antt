@@ -7,17 +7,17 @@ use Rattle.par_base.specs.declared.value.Value.TheVariants.{Null, Int, Text, Ref
 use Rattle.expr_lang.specs.Operations.{text_limit}
 use Rattle.expr_lang.specs.Terms.{Term, Literal, Column, Unary, Binary}
 use Rattle.statements.specs.Views.{AssignmentView, OpView, CreateTable, DropTable, RenameTable, RenameColumn, AddColumn, DropColumn, DecomposeSingle, Decompose, Join, Split, Merge, KeyView, Primary, Foreign, Condition}
-use Rattle.statements.specs.Texts.{AssignmentTexts, KeyTexts, OpTexts, RowTexts, TermTexts, ValueTexts}
+use Rattle.statements.specs.Texts.{AssignmentTexts, IsTextWithin, KeyTexts, OpTexts, RowTexts, TermTexts, ValueTexts}
 use Rattle.version_graph.specs.Sets.{Each}
 use Rattle.op_any.specs.Texts.{ValueFits, TermFits, TextsFit, key_expressions}
 use Rattle.engine_statements.specs.Calls.{AssignmentFits, RowFits}
 
 abbrev Short : List ℕ → Type 0
-Short bytes = length bytes ≤ text_limit
+Short = IsTextWithin text_limit
 
 value_fits : (v : Value) → ValueTexts Short v → ValueFits v
 value_fits Null short = tt
-value_fits (Int number) short = tt
+value_fits (Int number) short = short
 value_fits (Text bytes) short = short
 value_fits (Reference id) short = tt
 

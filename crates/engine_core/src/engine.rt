@@ -37,6 +37,7 @@ use par_base::{Fault, Limits, Name, Refusal, Target};
 use statements::{OpText, Statement};
 use std::alloc::Global;
 use std::marker::Model;
+use std::mem;
 use std::sync::ledger::Ledger;
 use write_propagation::RowWrite;
 
@@ -130,10 +131,12 @@ impl Engine {
         states_are_stored_once::<AnyOp>();
         self.versions_always_agree();
         if !is_built(&statement) {
+            mem::drop(statement);
             return Err(Fault::Refused(Refusal::NotBuilt));
         }
         let answer = self.carry_out(alloc, &statement, steps);
         self.versions_always_agree();
+        mem::drop(statement);
         answer
     }
 

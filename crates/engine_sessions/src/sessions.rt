@@ -24,6 +24,7 @@ use layout_planner::{TableCount, VersionCost, best, costs};
 use par_base::{Fault, List, Memory, Name, Refusal};
 use statements::Statement;
 use std::alloc::Global;
+use std::mem;
 use std::sync::ledger::Ledger;
 
 /// An engine, the accesses of its table versions, the versions in use, and the session in which the
@@ -173,7 +174,13 @@ impl Sessions {
         let used = find_use(self.uses.as_slice(), self.session);
         let statement = in_full(alloc, used, statement)?;
         let database = self.engine.database();
-        let counts = count_access(alloc, database, self.counts.as_slice(), &statement)?;
+        let counts = match count_access(alloc, database, self.counts.as_slice(), &statement) {
+            Ok(counts) => counts,
+            Err(memory) => {
+                mem::drop(statement);
+                return Err(Fault::Memory(memory));
+            }
+        };
         let reply = self.engine.event(alloc, self.session, statement, steps)?;
         self.counts = counts;
         Ok(answer_of(reply, csv))

@@ -1,25 +1,23 @@
 -- Each operator of an evolution is built for its sources and targets.
-use Rattle.std.proofs.Common.{◌≡◌, ℕ, ◌+◌, List, [], ◌∷◌, length, map, Option, Some, None, Ok, inl, inr, refl, sym, ap, subst, ◌∙◌}
-use Rattle.std.specs.Prelude.{◌==◌, option_to_list}
-use Rattle.std.specs.Option.{option_map_or}
+use Rattle.std.proofs.Common.{◌≡◌, ℕ, ◌+◌, List, [], ◌∷◌, length, map, Ok, refl, sym, ap, subst, ◌∙◌}
+use Rattle.std.specs.Prelude.{◌==◌}
 use Rattle.std.proofs.lemmas.Bool.{cond-true, eq-eqb}
 use Rattle.statements.specs.Views.{OpView}
-use Rattle.version_graph.specs.Sets.{In, Each, Within}
-use Rattle.version_graph.specs.Tables.{TableVersion, headings_after, headings_of, table_named, table_numbers, taken}
-use Rattle.version_graph.specs.Edges.{AreEdges, made, made_by_edge, set_after, working}
+use Rattle.version_graph.specs.Sets.{Each}
+use Rattle.version_graph.specs.Tables.{TableVersion, headings_after, headings_of, table_numbers, taken}
+use Rattle.version_graph.specs.Edges.{made, made_by_edge, set_after, working}
 use Rattle.version_graph.specs.Evolve.{placed_next}
 use Rattle.version_graph.specs.Calls.{CanGrow}
 use Rattle.version_graph.specs.declared.parts.Heading.{Heading}
 use Rattle.version_graph.specs.declared.parts.Edge.{Edge}
 use Rattle.version_graph.specs.declared.parts.Placed.{Placed}
-use Rattle.version_graph.proofs.SetLaws.{in_append, in_left}
+use Rattle.version_graph.proofs.SetLaws.{in_left}
 use Rattle.version_graph.proofs.TableLaws.{headings_made, headings_next, numbers_made, working_made}
-use Rattle.version_graph.proofs.TakenLaws.{found_passes, heading_known}
 use Rattle.version_graph.proofs.GrowLaws.{can_next, length_after}
+use Rattle.version_graph.proofs.HeadingLaws.{headings_well, taken_within}
 use Rattle.version_model.specs.States.{as_seen, headings}
 use Rattle.version_model.specs.Evolving.{AreBuilt}
-use Rattle.version_model.proofs.HeadingLaws.{made_more}
-use Rattle.op_law.specs.Tables.{Heading as SeenHeading}
+use Rattle.version_model.proofs.HeadingLaws.{made_more, seen_as}
 use Rattle.op_any.specs.Operators.{AnyView, any_meaning}
 use Rattle.op_any.specs.Laws.{headings_taken}
 use Rattle.op_any.specs.Texts.{TextsFit}
@@ -27,32 +25,7 @@ use Rattle.op_any.proofs.BuiltLaws.{built_suits}
 use Rattle.op_any.proofs.TableListsLaws.{headings_taken-of}
 use Rattle.engine_versions.specs.declared.edges.Counts.{Counts}
 use Rattle.engine_versions.specs.Evolve.{edges_on, target_count, with_one}
-use Rattle.engine_versions.proofs.EdgeLemmas.{headings_well, none_built, splits}
-
--- the tables that are taken from a set are in it
-taken_within : (set : List TableVersion) (names : List (List ℕ)) → Within (taken set names) set
-taken_within set [] v i = absurd i
-taken_within set (name ∷ names) v i =
-    elim (in_append v (option_to_list (table_named set name)) (taken set names) i) as (λ _. In v set) [
-      | inl here ↦ one (table_named set name) refl here
-      | inr there ↦ taken_within set names v there
-    ]
-  where
-    one : (o : Option TableVersion) → table_named set name ≡ o → In v (option_to_list o) → In v set
-    one None e j = absurd j
-    one (Some u) e (inl same) = subst (λ x. In x set) (sym same) (found_passes _ set u e).0
-    one (Some u) e (inr none) = absurd none
-
-module _ {O : Type 0} (es : List (Placed O)) (edges : AreEdges es) where
-  -- tables by their numbers have the headings that they were made with
-  pub seen_as : (set : List TableVersion) → Within set (made es) → map (headings es) (table_numbers set) ≡ map as_seen (headings_of set)
-  seen_as [] within = refl
-  seen_as (v ∷ set) within =
-      let none : SeenHeading = record { name = []; columns = [] } in
-      let first : headings es v.number ≡ as_seen v.heading =
-      ap (λ (o : Option Heading). option_map_or as_seen o none) (heading_known es edges v (within v (inl refl))) in
-      let rest = seen_as set (λ u i. within u (inr i)) in
-      ap (λ (h : SeenHeading). h ∷ map (headings es) (table_numbers set)) first ∙ ap (λ (hs : List SeenHeading). as_seen v.heading ∷ hs) rest
+use Rattle.engine_versions.proofs.EdgeLemmas.{none_built, splits}
 
 module _ (es : List (Placed AnyView)) (w operator table : ℕ) (e : Edge AnyView) (rest : List (Edge AnyView)) (can : CanGrow es w operator table (e ∷ rest)) where
   abbrev new : Placed AnyView

@@ -15,6 +15,7 @@ use Rattle.version_graph.specs.Calls.{CanGrow}
 use Rattle.version_graph.specs.declared.parts.Edge.{Edge}
 use Rattle.version_graph.proofs.EvolveLaws.{can_evolve, no_refusal}
 use Rattle.version_graph.proofs.GrowLaws.{grown_can}
+use Rattle.version_graph.proofs.HeadingLaws.{headings_well}
 use Rattle.op_law.specs.Calls.{first_refused}
 use Rattle.par_base.specs.Checked.{◌then◌, Gives}
 use Rattle.op_any.specs.Operators.{AnyView, any_laws, any_meaning}
@@ -28,7 +29,7 @@ use Rattle.engine_state.specs.SharedChecks.{known_version, enough_ids}
 use Rattle.engine_versions.specs.Evolve.{counts_of, created, edges_on, start_at, state_after, unused}
 use Rattle.engine_versions.specs.Plans.{IsPlanned, OnEach, PlansEdges}
 use Rattle.engine_versions.proofs.ChainLaws.{then_fails, then_is}
-use Rattle.engine_versions.proofs.EdgeLemmas.{few_tables, fit_in_order, headings_well, limits_kept, numbers_fit, some_edges}
+use Rattle.engine_versions.proofs.EdgeLemmas.{few_tables, fit_in_order, limits_kept, numbers_fit, some_edges}
 use Rattle.engine_versions.proofs.BuiltLemmas.{are_built}
 
 known_is : (name : List ℕ) (o : Option ℕ) (set : ℕ) → known_version name o ≡ Ok set → o ≡ Some set

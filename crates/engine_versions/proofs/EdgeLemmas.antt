@@ -1,18 +1,16 @@
 -- What the operators of an evolution build, one after the other, suits the graph.
-use Rattle.std.proofs.Common.{◌≡◌, ℕ, ◌+◌, ◌<◌, ◌≤◌, List, [], ◌∷◌, ◌++◌, length, Bool, true, false, cond, Option, Some, None, Ok, Err, refl, sym, ap, subst, ◌∙◌, arith}
-use Rattle.std.specs.Prelude.{◌==◌, ◌||◌, nat_le, nat_lt, if◌then◌else◌}
-use Rattle.std.proofs.lemmas.Bool.{leb-false, ltb-false}
+use Rattle.std.proofs.Common.{◌≡◌, ℕ, ◌+◌, ◌<◌, ◌≤◌, List, [], ◌∷◌, ◌++◌, length, Bool, true, false, Option, Some, None, Ok, Err, refl, sym, ap, subst, ◌∙◌, arith}
+use Rattle.std.specs.Prelude.{◌||◌, nat_le, nat_lt, if◌then◌else◌}
+use Rattle.std.proofs.lemmas.Bool.{leb-false, ltb-false, or_parts}
 use Rattle.std.proofs.lemmas.List.{append_assoc}
 use Rattle.statements.specs.Views.{OpView}
 use Rattle.version_graph.specs.Sets.{Each}
-use Rattle.version_graph.specs.Tables.{IsHeading, FitsSet, FitInOrder, headings_after, headings_of, headings_passing}
-use Rattle.version_graph.specs.Edges.{AreEdges, operator_limit, set_after, working}
-use Rattle.version_graph.specs.declared.parts.Placed.{Placed}
+use Rattle.version_graph.specs.Tables.{IsHeading, FitInOrder, headings_after}
+use Rattle.version_graph.specs.Edges.{operator_limit}
 use Rattle.version_graph.specs.Evolve.{limit_at, limit_passed, later, targets_in, number_limit}
 use Rattle.version_graph.specs.declared.parts.Heading.{Heading}
 use Rattle.version_graph.specs.declared.parts.Edge.{Edge}
-use Rattle.version_graph.proofs.SetLaws.{each_append, each_of, each_at}
-use Rattle.version_graph.proofs.TableLaws.{in_filter, headings_next}
+use Rattle.version_graph.proofs.HeadingLaws.{headings_stay}
 use Rattle.par_base.specs.Checked.{Checked, ◌then◌}
 use Rattle.op_any.specs.Operators.{AnyView}
 use Rattle.op_any.specs.Build.{built}
@@ -30,14 +28,10 @@ neither true b m n h = absurd (cc)
 neither false true m n h = absurd (cc)
 neither false false m n h = (refl, refl)
 
-both_false : (a b : Bool) → (a || b) ≡ false → (a ≡ false) × (b ≡ false)
-both_false true b h = absurd (cc)
-both_false false b h = (refl, h)
-
 limit_none : (live operator table targets : ℕ) → limit_at live operator table targets ≡ None → (operator < number_limit) × (table + targets ≤ number_limit)
 limit_none live operator table targets h =
     let p = neither (nat_le operator_limit live) (nat_le number_limit operator || nat_lt number_limit (table + targets)) operator_limit number_limit h in
-    let q = both_false (nat_le number_limit operator) (nat_lt number_limit (table + targets)) p.1 in
+    let q = or_parts (nat_le number_limit operator) (nat_lt number_limit (table + targets)) p.1 in
     (leb-false number_limit operator q.0, ltb-false number_limit (table + targets) q.1)
 
 later_none : (now rest : Option ℕ) → later now rest ≡ None → (now ≡ None) × (rest ≡ None)
@@ -66,23 +60,6 @@ room_found counts text u h = is (limit_at counts.live counts.operator counts.tab
     is : (o : Option ℕ) → Rattle.engine_versions.specs.Evolve.within_limit o ≡ Ok u → o ≡ None
     is (Some limit) e = absurd (cc)
     is None e = refl
-
--- ---- working sets
-
-headings_stay : {O : Type 0} (set : List Heading) (e : Edge O) → Each IsHeading set → FitsSet set e → Each IsHeading (headings_after set e)
-headings_stay set e all fits =
-    each_append IsHeading (headings_passing set e.sources) e.targets
-    (each_of IsHeading (headings_passing set e.sources) (λ h i. each_at IsHeading set h (in_filter _ h set i) all)) fits.columns
-
--- each table of a graph has a heading as tables may have them
-pub headings_well : {O : Type 0} (es : List (Placed O)) → AreEdges es → (w : ℕ) → Each IsHeading (headings_of (working es w))
-headings_well [] edges w = tt
-headings_well (e ∷ es) edges w =
-    elim (w == e.number) as (λ b. Each IsHeading (headings_of (cond b (set_after (working es e.parent) e) (working es w)))) [
-      | true ↦ subst (λ hs. Each IsHeading hs) (sym (headings_next (working es e.parent) e edges.0.counted))
-          (headings_stay (headings_of (working es e.parent)) e.edge (headings_well es edges.1 e.parent) edges.0.fits)
-      | false ↦ headings_well es edges.1 w
-    ]
 
 -- ---- one operator after the other
 

@@ -11,6 +11,7 @@ use op_any::{AnyOp, build_op};
 use par_base::{Fault, List, Memory, Name, Refusal};
 use statements::OpText;
 use std::alloc::Global;
+use std::mem;
 use version_graph::{Edge, Graph, Heading, passed_limit};
 
 /// How many operators live, and the last numbers that an operator and a table were given.
@@ -113,7 +114,13 @@ fn edges_from(
     for text in texts {
         reached = with_one(reached, text)?;
         let edge = build_op(alloc, text, set.as_slice(), next)?;
-        set = tables_after(alloc, set, &edge)?;
+        match tables_after(alloc, set, &edge) {
+            Ok(after) => set = after,
+            Err(memory) => {
+                mem::drop(edge);
+                return Err(Fault::Memory(memory));
+            }
+        }
         edges.push(edge)?;
     }
     Ok(edges)

@@ -1,30 +1,12 @@
 -- Entries that rise, and the place of an identifier in them.
-use Rattle.std.specs.Prelude.{nat_lt}
 use Rattle.std.specs.List.{insert, remove}
 use Rattle.std.specs.List.Sorted.{IsNonDecreasingBy}
-use Rattle.std.proofs.Common.{◌≡◌, ℕ, zero, suc, ltb, Result, Ok, Err, IsOk, is_ok, ◌+◌, ◌<◌, ◌≤◌, ◌==◌, [], ◌∷◌, Bool, true, false, length, get_or, Option, Some, None, if◌then◌else◌, refl, sym, ap, ◌∙◌, subst, arith}
+use Rattle.std.proofs.Common.{◌≡◌, ℕ, zero, suc, ltb, Result, Ok, Err, IsOk, is_ok, ◌+◌, ◌<◌, ◌≤◌, ◌==◌, [], ◌∷◌, true, false, length, get_or, Option, Some, None, if◌then◌else◌, refl, sym, ap, ◌∙◌, subst, arith}
 use Rattle.std.proofs.lemmas.Bool.Decides.{nat_tests}
-use Rattle.std.proofs.lemmas.Bool.{cases_order, cases_lt}
+use Rattle.std.proofs.lemmas.Bool.{cases_order, cases_lt, eq-eqb, lt-ltb, le-ltb}
 use mathlib.Core.Logic.{inl, inr}
+use Rattle.par_base.proofs.TestLaws.{apart_below, apart_above, swap_tests}
 use Rattle.id_memory.specs.Pairs.{Pairs, RiseFrom, pair_of, place_of_id}
-
-pub eq_self : (n : ℕ) → (n == n) ≡ true
-eq_self n = grind (arith, nat_tests)
-
-pub apart_below : (a b : ℕ) → a < b → (a == b) ≡ false
-apart_below a b h = grind (arith, nat_tests)
-
-pub apart_above : (a b : ℕ) → b < a → (a == b) ≡ false
-apart_above a b h = grind (arith, nat_tests)
-
-pub same_number : (a b : ℕ) → (a == b) ≡ true → a ≡ b
-same_number a b h = grind (arith, nat_tests)
-
-pub lt_yes : (a b : ℕ) → a < b → nat_lt a b ≡ true
-lt_yes a b h = grind (arith, nat_tests)
-
-pub lt_no : (a b : ℕ) → b ≤ a → nat_lt a b ≡ false
-lt_no a b h = grind (arith, nat_tests)
 
 -- the pair of an entry, and a pair of two numbers
 abbrev pub pair_in : ℕ × ℕ × ℕ → Option (ℕ × ℕ)
@@ -57,18 +39,12 @@ rises_insert n (e ∷ es) p s t low rise none =
     elim (cases_order e.0 p) [
       | inl is ↦ let same : (e.0 == p) ≡ true = grind (arith, nat_tests) in let some : pair_in e ≡ None = rw same at none in cc
       | inr (inl h) ↦
-          let yes = lt_yes e.0 p h in
+          let yes = lt-ltb e.0 p h in
           let other = apart_below e.0 p h in
           let rest = rw other at none in
           rw yes (rise.0, rises_insert (e.0 + 1) es p s t (omega arith) rise.1 rest)
-      | inr (inr h) ↦ let no = lt_no e.0 p (omega arith) in rw no (low, (omega arith, rise.1))
+      | inr (inr h) ↦ let no = le-ltb e.0 p (omega arith) in rw no (low, (omega arith, rise.1))
     ]
-
-swap_tests : {A : Type 0} (a b : Bool) (x y z : A) → (a ≡ true → b ≡ false) → (if a then x else (if b then y else z)) ≡ (if b then y else (if a then x else z))
-swap_tests true true x y z h = let e = h refl in absurd (cc)
-swap_tests true false x y z h = refl
-swap_tests false true x y z h = refl
-swap_tests false false x y z h = refl
 
 pub pair_of_insert : (n : ℕ) (es : Pairs) (p s t : ℕ) → RiseFrom n es → pair_of es p ≡ None → (q : ℕ) → pair_of (insert es (place_of_id es p) (p, s, t)) q ≡ (if p == q then Some (s, t) else pair_of es q)
 pair_of_insert n [] p s t rise none q = refl
@@ -76,11 +52,11 @@ pair_of_insert n (e ∷ es) p s t rise none q =
     elim (cases_order e.0 p) [
       | inl is ↦ let same : (e.0 == p) ≡ true = grind (arith, nat_tests) in let some : pair_in e ≡ None = rw same at none in cc
       | inr (inl h) ↦
-          let yes = lt_yes e.0 p h in
+          let yes = lt-ltb e.0 p h in
           let other = apart_below e.0 p h in
           let rest = rw other at none in
           rw yes (rw (pair_of_insert (e.0 + 1) es p s t rise.1 rest q) (swap_tests (e.0 == q) (p == q) (Some (e.1, e.2)) (Some (s, t)) (pair_of es q) (λ is. grind (arith, nat_tests))))
-      | inr (inr h) ↦ let no = lt_no e.0 p (omega arith) in rw no refl
+      | inr (inr h) ↦ let no = le-ltb e.0 p (omega arith) in rw no refl
     ]
 
 -- an identifier with a pair stands at its place
@@ -89,12 +65,12 @@ place_of_pair n [] p s t rise is = cc
 place_of_pair n (e ∷ es) p s t rise is =
     elim (cases_order e.0 p) [
       | inl same ↦
-          let no = lt_no e.0 p (omega arith) in
+          let no = le-ltb e.0 p (omega arith) in
           let own : (e.0 == p) ≡ true = grind (arith, nat_tests) in
           let pair : pair_in e ≡ some_pair s t = rw own at is in
           rw no (omega arith, λ d. entry e p s t same pair)
       | inr (inl h) ↦
-          let yes = lt_yes e.0 p h in
+          let yes = lt-ltb e.0 p h in
           let other = apart_below e.0 p h in
           let rest = place_of_pair (e.0 + 1) es p s t rise.1 (rw other at is) in
           rw yes (omega (arith, rest.0), rest.1)
@@ -105,8 +81,8 @@ pub place_within : (es : Pairs) (p : ℕ) → place_of_id es p ≤ length es
 place_within [] p = omega arith
 place_within (e ∷ es) p =
     elim (cases_lt e.0 p) [
-      | inl h ↦ let yes = lt_yes e.0 p h in rw yes (omega (arith, place_within es p))
-      | inr h ↦ let no = lt_no e.0 p h in rw no (omega arith)
+      | inl h ↦ let yes = lt-ltb e.0 p h in rw yes (omega (arith, place_within es p))
+      | inr h ↦ let no = le-ltb e.0 p h in rw no (omega arith)
     ]
 
 -- what stands at the place of an identifier is its pair, or it has none
@@ -115,13 +91,13 @@ pair_at n [] p d rise within here = absurd (omega arith)
 pair_at n (e ∷ es) p d rise within here =
     elim (cases_lt e.0 p) [
       | inl h ↦
-          let yes = lt_yes e.0 p h in
+          let yes = lt-ltb e.0 p h in
           let other = apart_below e.0 p h in
           let within_rest = rw yes at within in
           let here_rest = rw yes at here in
           rw (yes, other) (pair_at (e.0 + 1) es p d rise.1 (omega (arith, within_rest)) here_rest)
       | inr h ↦
-          let no = lt_no e.0 p h in
+          let no = le-ltb e.0 p h in
           let here_now = rw no at here in
           let same : (e.0 == p) ≡ true = grind (arith, nat_tests) in
           rw (no, same) refl
@@ -132,11 +108,11 @@ absent_past n [] p rise past = refl
 absent_past n (e ∷ es) p rise past =
     elim (cases_lt e.0 p) [
       | inl h ↦
-          let yes = lt_yes e.0 p h in
+          let yes = lt-ltb e.0 p h in
           let other = apart_below e.0 p h in
           let past_rest = rw yes at past in
           rw other (absent_past (e.0 + 1) es p rise.1 (omega (arith, past_rest)))
-      | inr h ↦ let no = lt_no e.0 p h in let past_now = rw no at past in absurd (omega (arith, past_now))
+      | inr h ↦ let no = le-ltb e.0 p h in let past_now = rw no at past in absurd (omega (arith, past_now))
     ]
 
 pub absent_at : (n : ℕ) (es : Pairs) (p : ℕ) (d : ℕ × ℕ × ℕ) → RiseFrom n es → place_of_id es p < length es → ((get_or es (place_of_id es p) d).0 ≡ p → ⊥) → pair_of es p ≡ None
@@ -144,13 +120,13 @@ absent_at n [] p d rise within here = refl
 absent_at n (e ∷ es) p d rise within here =
     elim (cases_lt e.0 p) [
       | inl h ↦
-          let yes = lt_yes e.0 p h in
+          let yes = lt-ltb e.0 p h in
           let other = apart_below e.0 p h in
           let within_rest = rw yes at within in
           let here_rest = rw yes at here in
           rw other (absent_at (e.0 + 1) es p d rise.1 (omega (arith, within_rest)) here_rest)
       | inr h ↦
-          let no = lt_no e.0 p h in
+          let no = le-ltb e.0 p h in
           let here_now : e.0 ≡ p → ⊥ = rw no at here in
           let other : (e.0 == p) ≡ false = apart_above e.0 p (omega (arith, here_now)) in
           rw other (none_under (e.0 + 1) es p rise.1 (omega (arith, here_now)))
@@ -162,10 +138,10 @@ rises_remove n [] p rise within = absurd (omega arith)
 rises_remove n (e ∷ es) p rise within =
     elim (cases_lt e.0 p) [
       | inl h ↦
-          let yes = lt_yes e.0 p h in
+          let yes = lt-ltb e.0 p h in
           let within_rest = rw yes at within in
           rw yes (rise.0, rises_remove (e.0 + 1) es p rise.1 (omega (arith, within_rest)))
-      | inr h ↦ let no = lt_no e.0 p h in rw no (rise_more n (e.0 + 1) es (omega (arith, rise.0)) rise.1)
+      | inr h ↦ let no = le-ltb e.0 p h in rw no (rise_more n (e.0 + 1) es (omega (arith, rise.0)) rise.1)
     ]
 
 pub pair_of_remove : (n : ℕ) (es : Pairs) (p : ℕ) (d : ℕ × ℕ × ℕ) → RiseFrom n es → place_of_id es p < length es → (get_or es (place_of_id es p) d).0 ≡ p → (q : ℕ) → pair_of (remove es (place_of_id es p)) q ≡ (if p == q then None else pair_of es q)
@@ -173,12 +149,12 @@ pair_of_remove n [] p d rise within here q = absurd (omega arith)
 pair_of_remove n (e ∷ es) p d rise within here q =
     elim (cases_lt e.0 p) [
       | inl h ↦
-          let yes = lt_yes e.0 p h in
+          let yes = lt-ltb e.0 p h in
           let within_rest = rw yes at within in
           let here_rest = rw yes at here in
           rw yes (rw (pair_of_remove (e.0 + 1) es p d rise.1 (omega (arith, within_rest)) here_rest q) (swap_tests (e.0 == q) (p == q) (Some (e.1, e.2)) None (pair_of es q) (λ is. grind (arith, nat_tests))))
       | inr h ↦
-          let no = lt_no e.0 p h in
+          let no = le-ltb e.0 p h in
           let here_now : e.0 ≡ p = rw no at here in
           rw (no, here_now) (elim (cases_order p q) [
             | inl same ↦
@@ -220,23 +196,23 @@ entries_order n (e ∷ es) rise (suc i) (suc j) d le h = entries_order (e.0 + 1)
 pub ext : (n : ℕ) (s t : Pairs) → RiseFrom n s → RiseFrom n t → ((p : ℕ) → pair_of s p ≡ pair_of t p) → s ≡ t
 ext n [] [] rise_s rise_t same = refl
 ext n [] (e ∷ es) rise_s rise_t same =
-    let own = eq_self e.0 in
+    let own = eq-eqb e.0 e.0 refl in
     let is : None ≡ pair_in e = rw own at (same e.0) in
     cc
 ext n (e ∷ es) [] rise_s rise_t same =
-    let own = eq_self e.0 in
+    let own = eq-eqb e.0 e.0 refl in
     let is : pair_in e ≡ None = rw own at (same e.0) in
     cc
 ext n (a ∷ xs) (b ∷ ys) rise_s rise_t same =
     let apart : (p q : ℕ × ℕ × ℕ) (ps qs : Pairs) → p.0 < q.0 → RiseFrom (q.0 + 1) qs → pair_of (p ∷ ps) p.0 ≡ pair_of (q ∷ qs) p.0 → ⊥ =
     λ p q ps qs h rise e.
-    let own = eq_self p.0 in
+    let own = eq-eqb p.0 p.0 refl in
     let some : pair_in p ≡ pair_of (q ∷ qs) p.0 = rw own at e in
     let none = none_under q.0 (q ∷ qs) p.0 (omega arith, rise) h in
     cc in
     elim (cases_order a.0 b.0) [
       | inl e ↦
-          let own_a = eq_self a.0 in
+          let own_a = eq-eqb a.0 a.0 refl in
           let own_b : (b.0 == a.0) ≡ true = grind (arith, nat_tests) in
           let some : pair_in a ≡ some_pair b.1 b.2 = rw (own_a, own_b) at (same a.0) in
           let tail : xs ≡ ys = ext (a.0 + 1) xs ys rise_s.1 (subst (λ (k : ℕ). RiseFrom (k + 1) ys) (sym e) rise_t.1)

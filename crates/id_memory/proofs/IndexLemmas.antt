@@ -2,13 +2,13 @@
 use Rattle.std.specs.Prelude.{◌&&◌, count_by, IfSome, IfNone, ◌↔◌}
 use Rattle.std.proofs.Common.{◌≡◌, ℕ, ◌+◌, ◌<◌, ◌≤◌, ◌==◌, ◌⊎◌, List, [], ◌∷◌, Bool, true, false, if◌then◌else◌, Option, Some, None, refl, sym, ap, ◌∙◌, subst, arith}
 use Rattle.std.proofs.lemmas.Bool.Decides.{nat_tests}
-use Rattle.std.proofs.lemmas.Bool.{and_from, and_parts, cases_lt}
+use Rattle.std.proofs.lemmas.Bool.{and_from, and_parts, cases_lt, eq-eqb, eqb-true}
 use mathlib.Core.Logic.{inl, inr}
 use Rattle.id_memory.specs.Pairs.{Pairs, RiseFrom, IsOneToOne, pair_of, id_of, has_pair}
 use Rattle.id_memory.specs.PairKeys.{SortedFrom, has_key, is_triple}
 use Rattle.id_memory.specs.inner.Calls.{CountsMore, CountsLess}
 use Rattle.id_memory.specs.Indexed.{IsIndexed, by_pair, by_turned_pair}
-use Rattle.id_memory.proofs.EntryLemmas.{eq_self, same_number, entry, none_under}
+use Rattle.id_memory.proofs.EntryLemmas.{entry, none_under}
 use Rattle.id_memory.proofs.KeyLemmas.{count_cons, count_yes, count_no}
 
 none_by : (e : ℕ × ℕ × ℕ) (es : Pairs) (s t : ℕ) (b : Bool) → has_pair s t e ≡ b → count_by (has_pair s t) (e ∷ es) ≡ 0 → (count_by (has_pair s t) es ≡ 0 → id_of es s t ≡ None) → id_of (e ∷ es) s t ≡ None
@@ -48,7 +48,7 @@ id_from : (s t p : ℕ) (e : ℕ × ℕ × ℕ) → is_triple s t p (by_pair e) 
 id_from s t p e is =
     let parts = and_parts (e.1 == s) (e.2 == t && e.0 == p) is in
     let rest = and_parts (e.2 == t) (e.0 == p) parts.1 in
-    same_number e.0 p rest.1
+    eqb-true e.0 p rest.1
 
 found_by : (e : ℕ × ℕ × ℕ) (es : Pairs) (s t p : ℕ) (b c : Bool) → has_pair s t e ≡ b → is_triple s t p (by_pair e) ≡ c
     → count_by (has_pair s t) (e ∷ es) ≤ 1 → 0 < count_by (λ e. is_triple s t p (by_pair e)) (e ∷ es)
@@ -73,7 +73,7 @@ id_found (e ∷ es) s t p one some = found_by e es s t p (has_pair s t e) (is_tr
 
 listed_by : (test : ℕ × ℕ × ℕ → Bool) (e : ℕ × ℕ × ℕ) (es : Pairs) (p s t : ℕ) (b : Bool) → (e.0 == p) ≡ b → pair_of (e ∷ es) p ≡ Some (s, t) → test (p, s, t) ≡ true → (pair_of es p ≡ Some (s, t) → test (p, s, t) ≡ true → 0 < count_by test es) → 0 < count_by test (e ∷ es)
 listed_by test e es p s t true own is passes rest =
-    let same = entry e p s t (same_number e.0 p own) (rw own at is) in
+    let same = entry e p s t (eqb-true e.0 p own) (rw own at is) in
     omega (arith, count_yes test e es (ap test same ∙ passes))
 listed_by test e es p s t false own is passes rest = omega (arith, count_cons test e es, rest (rw own at is) passes)
 
@@ -83,7 +83,7 @@ listed test [] p s t is passes = cc
 listed test (e ∷ es) p s t is passes = listed_by test e es p s t (e.0 == p) refl is passes (listed test es p s t)
 
 pub triple_passes : (a b c : ℕ) → is_triple a b c (a, b, c) ≡ true
-triple_passes a b c = rw (eq_self a, eq_self b, eq_self c) refl
+triple_passes a b c = rw (eq-eqb a a refl, eq-eqb b b refl, eq-eqb c c refl) refl
 
 and_turned : (a b : Bool) → (a && b) ≡ (b && a)
 and_turned true true = refl
@@ -109,7 +109,7 @@ there_second es first second p s t is has = subst (λ (n : ℕ). 0 < n) (sym (is
 one_more : (es now : Pairs) (p s t u v : ℕ) (b : Bool) → has_pair u v (p, s, t) ≡ b → IsOneToOne es → count_by (has_pair s t) es ≡ 0 → count_by (has_pair u v) now ≡ count_by (has_pair u v) es + (if has_pair u v (p, s, t) then 1 else 0) → count_by (has_pair u v) now ≤ 1
 one_more es now p s t u v true is one none more =
     let parts = and_parts (s == u) (t == v) is in
-    let same : count_by (has_pair u v) es ≡ 0 = subst (λ (k : ℕ). count_by (has_pair k v) es ≡ 0) (same_number s u parts.0) (subst (λ (k : ℕ). count_by (has_pair s k) es ≡ 0) (same_number t v parts.1) none) in
+    let same : count_by (has_pair u v) es ≡ 0 = subst (λ (k : ℕ). count_by (has_pair k v) es ≡ 0) (eqb-true s u parts.0) (subst (λ (k : ℕ). count_by (has_pair s k) es ≡ 0) (eqb-true t v parts.1) none) in
     let all : count_by (has_pair u v) now ≡ count_by (has_pair u v) es + 1 = rw is at more in
     omega (arith, same, all)
 one_more es now p s t u v false is one none more =
@@ -157,7 +157,7 @@ id_some_by n e es s t p true has rise is rest =
     let same : e.0 ≡ p = cc in
     let own : (e.0 == p) ≡ true = grind (arith, nat_tests) in
     let parts = and_parts (e.1 == s) (e.2 == t) has in
-    let pair : ◌≡◌ {A = ℕ × ℕ} (e.1, e.2) (s, t) = ap (λ (k : ℕ). (k, e.2)) (same_number e.1 s parts.0) ∙ ap (λ (k : ℕ). (s, k)) (same_number e.2 t parts.1) in
+    let pair : ◌≡◌ {A = ℕ × ℕ} (e.1, e.2) (s, t) = ap (λ (k : ℕ). (k, e.2)) (eqb-true e.1 s parts.0) ∙ ap (λ (k : ℕ). (s, k)) (eqb-true e.2 t parts.1) in
     rw own (ap (λ (k : ℕ × ℕ). Some k) pair)
 id_some_by n e es s t p false has rise is rest =
     let there = rest (rw has at is) in

@@ -3,25 +3,15 @@ use Rattle.std.specs.List.{position}
 use Rattle.std.specs.Option.{option_map_or}
 use Rattle.std.proofs.Common.{◌≡◌, if◌then◌else◌, ℕ, ◌==◌, List, Bool, true, false, Option, Some, None, slice_index_or, slice_set, refl, ap, sym, ◌∙◌, subst}
 use Rattle.std.proofs.lemmas.Bool.{eq-eqb, eqb-true}
-use Rattle.std.proofs.lemmas.List.{set-get_or}
 use Rattle.version_graph.specs.Sets.{In}
 use Rattle.op_law.proofs.OnlyLaws.{by_test}
 use Rattle.version_model.specs.Kept.{value_of}
 use Rattle.version_model.specs.declared.numbered.Numbered.{Numbered}
-use Rattle.version_model.proofs.NumberedLaws.{numbers_set, replaced, unplaced}
+use Rattle.version_model.proofs.NumberedLaws.{numbers_set, replaced, unplaced, value_here}
 use Rattle.db_state.specs.Fields.{numbers_in}
 use Rattle.kept_changes.proofs.ChangesLaws.{value_missing}
 
 module _ {T : Type 0} where
-  -- the item at the place of a number has its value
-  pub value_here : (items : List (Numbered T)) (k at : ℕ) (d : Numbered T) → position (λ (i : Numbered T). k == i.number) items ≡ Some at → value_of items k ≡ Some (slice_index_or items at d).value
-  value_here items k at d found =
-      let x : Numbered T = slice_index_or items at d in
-      let same : slice_set items at x ≡ items = set-get_or items at d in
-      ap (λ (l : List (Numbered T)). value_of l k) (sym same)
-      ∙ replaced items k at x.value d found k
-      ∙ ap (λ (b : Bool). if b then Some x.value else value_of items k) (eq-eqb k k refl)
-
   -- a listed number has a place
   pub has_place : (items : List (Numbered T)) (k : ℕ) → In k (numbers_in items) → position (λ (i : Numbered T). k == i.number) items ≡ None → ⊥
   has_place items k i none = value_missing items k i (unplaced items k none)

@@ -9,13 +9,12 @@ ghost use Rattle.kept_changes.specs.Undo.{SideLeadsBack, SideLeadsBackAt, AuxesL
 ghost use Rattle.kept_changes.specs.Undo.{AuxesUndoable, RestoresAuxes};
 ghost use Rattle.kept_changes.specs.inner.Calls.{OtherSidesStay};
 
-use crate::one_table::place_of;
 use crate::side::{change_side, undo_side};
 use op_law::Aux;
 use par_base::List;
 use row_changes::SideChanges;
 use std::alloc::Global;
-use version_model::Numbered;
+use version_model::{Numbered, place_of};
 
 /// Kept auxiliary tables with their changes, and the changes that lead back.
 #[derive(Drop)]

@@ -1,13 +1,11 @@
 //! One table: changes in place, and the way back.
-ghost use Rattle.std.specs.Prelude.{◌≡◌, ◌≤◌, ◌==◌, length};
-ghost use Rattle.std.specs.List.{position};
+ghost use Rattle.std.specs.Prelude.{◌≡◌, ◌≤◌, length};
 ghost use Rattle.row_store.specs.Rows.{Rows};
 ghost use Rattle.row_store.specs.Changes.{AreOld};
 ghost use Rattle.row_changes.specs.Changed.{changed};
 ghost use Rattle.kept_changes.specs.Undo.{LeadsBack};
 
 use row_store::{Changes, Table};
-use version_model::Numbered;
 
 /// The table with changes, which become the reverse ones. It takes no memory, and the time of
 /// `Table::apply`.
@@ -28,11 +26,4 @@ pub(crate) fn undo(table: &mut Table, back: Changes)
 {
     let mut left = back;
     table.undo(&mut left);
-}
-
-/// The place of a number.
-pub(crate) fn place_of<T>(items: &[Numbered<T>], number: u32) -> Option<usize>
-    ensures { result ≡ position (λ item. number == item.number) items.now }
-{
-    items.iter().position(|item| number == item.number)
 }

@@ -7,14 +7,13 @@ ghost use Rattle.kept_changes.specs.Changes.{AreOldAt, AreSidesAt, IsSideAt};
 ghost use Rattle.kept_changes.specs.Room.{room_at, rooms_at, FitAt, SidesFitAt, IsSideFitAt};
 ghost use Rattle.kept_changes.specs.inner.Calls.{AreAtLeast};
 
-use crate::one_table::place_of;
 use crate::side::reserve_side;
 use op_law::Aux;
 use par_base::Memory;
 use row_changes::SideChanges;
 use row_store::{Changes, Table};
 use std::alloc::Global;
-use version_model::Numbered;
+use version_model::{Numbered, place_of};
 
 fn reserve_table(tables: &mut Vec<Numbered<Table>>, number: u32, more: usize) -> Result<(), Memory>
     requires { In number (numbers_in tables.old.items) }

@@ -11,10 +11,10 @@ ghost use Rattle.kept_changes.specs.Undo.{LeadsBack, LeadsBackAt, TablesLeadBack
 ghost use Rattle.kept_changes.specs.Undo.{TablesUndoable, RestoresTables};
 ghost use Rattle.kept_changes.specs.inner.Calls.{OthersStay};
 
-use crate::one_table::{change, place_of, undo};
+use crate::one_table::{change, undo};
 use par_base::List;
 use row_store::{Changes, Table};
-use version_model::Numbered;
+use version_model::{Numbered, place_of};
 
 /// Kept tables with their changes, and the changes that lead back.
 #[derive(Drop)]

@@ -1,14 +1,8 @@
 -- Keys that are added in the order of a table.
-use Rattle.std.proofs.Common.{◌≡◌, ℕ, zero, suc, ◌+◌, ◌<◌, ◌≤◌, ◌==◌, List, [], ◌∷◌, ◌++◌, length, get_or, None, false, refl, sym, subst, arith}
-use Rattle.std.proofs.lemmas.Bool.Decides.{nat_tests}
+use Rattle.std.proofs.Common.{◌≡◌, ℕ, zero, suc, ◌+◌, ◌<◌, ◌≤◌, List, [], ◌∷◌, ◌++◌, length, get_or, sym, subst, arith}
 use Rattle.par_base.specs.declared.value.Value.{Value}
-use Rattle.row_store.specs.Rows.{Rows, RiseFrom, AreBelow, row_of}
+use Rattle.row_store.specs.Rows.{Rows, RiseFrom, AreBelow}
 use Rattle.key_index.specs.Tables.{AreWithin, key_in, keys_in}
-
--- an identifier above all others has no row
-pub absent_above : (rows : Rows) (id : ℕ) → AreBelow rows id → row_of rows id ≡ None
-absent_above [] id below = refl
-absent_above (r ∷ rs) id below = let other : (r.0 == id) ≡ false = grind (arith, nat_tests, below.0) in rw other (absent_above rs id below.1)
 
 keys_in_rise : (columns : List ℕ) (n : ℕ) (rows : Rows) → RiseFrom n rows → RiseFrom n (keys_in columns rows)
 keys_in_rise columns n [] rise = tt

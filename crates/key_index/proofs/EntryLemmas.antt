@@ -2,7 +2,8 @@
 use Rattle.std.specs.Ordering.{is_eq}
 use Rattle.std.proofs.Common.{◌≡◌, ℕ, ◌+◌, ◌≤◌, ◌==◌, ◌⊎◌, nat_lt, Bool, true, false, List, [], ◌∷◌, Option, Some, None, if◌then◌else◌, Ordering, inl, inr, true≢false, refl, sym, ap, ◌∙◌, subst, arith}
 use Rattle.std.proofs.lemmas.Bool.Decides.{nat_tests}
-use Rattle.std.proofs.lemmas.Bool.{cases_order}
+use Rattle.std.proofs.lemmas.Bool.{cases_order, eqb-true}
+use Rattle.par_base.proofs.TestLaws.{swap_tests, twice}
 use Rattle.par_base.specs.declared.value.Value.{Value}
 use Rattle.row_store.specs.Rows.{Rows, RiseFrom, row_of}
 use Rattle.ordered_pages.specs.Orders.{IsTotal}
@@ -23,22 +24,6 @@ PutsKey id slot before now = (q : ℕ) → key_of now q ≡ (if id == q then slo
 
 pub laws : IsTotal keyed_order
 laws = record { total = keyed_total; same = keyed_same }
-
-eq_self : (n : ℕ) → (n == n) ≡ true
-eq_self n = grind (arith, nat_tests)
-
-eq_is : (a b : ℕ) → (a == b) ≡ true → a ≡ b
-eq_is a b h = grind (arith, nat_tests)
-
-swap_tests : {A : Type 0} (a b : Bool) (x y z : A) → (a ≡ true → b ≡ false) → (if a then x else (if b then y else z)) ≡ (if b then y else (if a then x else z))
-swap_tests true true x y z h = let e = h refl in absurd (cc)
-swap_tests true false x y z h = refl
-swap_tests false true x y z h = refl
-swap_tests false false x y z h = refl
-
-twice : {A : Type 0} (a : Bool) (x y z : A) → (if a then x else z) ≡ (if a then x else (if a then y else z))
-twice true x y z = refl
-twice false x y z = refl
 
 pick_key : (b : Bool) (key : List Value) (rest : Option (List Value)) (other : List Value) → rest ≡ Some other → (found : List Value) × ((if b then Some key else rest) ≡ Some found)
 pick_key true key rest other is = (key, refl)
@@ -107,7 +92,7 @@ stands (e ∷ es) q key rise is =
     elim (if_cases (e.id == q) (Some e.key) (key_of es q) (Some key) is) [
       | inl h ↦
           let own : e.key ≡ key = cc in
-          let same : ◌≡◌ {A = List Value × ℕ} (e.key, e.id) (key, q) = ap (λ (k : List Value). (k, e.id)) own ∙ ap (λ (n : ℕ). (key, n)) (eq_is e.id q h.0) in
+          let same : ◌≡◌ {A = List Value × ℕ} (e.key, e.id) (key, q) = ap (λ (k : List Value). (k, e.id)) own ∙ ap (λ (n : ℕ). (key, n)) (eqb-true e.id q h.0) in
           (e, entry_here keyed_order laws es e (key, q) same)
       | inr h ↦
           let rest = stands es q key rise.1 h.1 in
@@ -173,7 +158,7 @@ module _ (before now : List Keyed) (id : ℕ) (key : List Value) (new : Keyed) (
       puts (key, id) ∙ ap (λ (r : Ordering). if is_eq r then Some new else entry_of keyed_order before (key, id)) same
 
   put_at : (q : ℕ) (b : Bool) → (id == q) ≡ b → key_of now q ≡ (if b then Some key else key_of before q)
-  put_at q true e = ap (key_of now) (sym (eq_is id q e)) ∙ is_key now id key new rise_now put_each own
+  put_at q true e = ap (key_of now) (sym (eqb-true id q e)) ∙ is_key now id key new rise_now put_each own
   put_at q false e =
       let other : id ≡ q → ⊥ = λ same. let yes : (id == q) ≡ true = grind (arith, nat_tests) in true≢false (sym yes ∙ e) in
       same_option (key_of now q) (key_of before q)
@@ -208,7 +193,7 @@ module _ (before now : List Keyed) (id : ℕ) (key : List Value) (rise : Rise ke
       same_option (key_of now q) None
       (λ x is. let there = stands now q x rise_now is in
       let kept = still x q there.0 there.1 in
-      let same : id ≡ q = eq_is id q e in
+      let same : id ≡ q = eqb-true id q e in
       let old : key_of before id ≡ Some x = subst (λ (n : ℕ). key_of before n ≡ Some x) (sym same) (is_key before q x there.0 rise each kept.1) in
       let both : Some key ≡ Some x = sym was ∙ old in
       let key_is : key ≡ x = cc in

@@ -1,6 +1,8 @@
 -- A pass over changed keys: what its first changes made of the keys, and of what is ready.
 use Rattle.std.proofs.Common.{◌≡◌, ℕ, zero, suc, ◌+◌, ◌<◌, ◌≤◌, ◌==◌, List, [], ◌∷◌, Bool, true, false, take, length, get_or, set, Option, Some, None, if◌then◌else◌, refl, sym, ap, ◌∙◌, subst, arith}
 use Rattle.std.proofs.lemmas.Bool.Decides.{nat_tests}
+use Rattle.std.proofs.lemmas.Bool.{eq-eqb, eqb-true}
+use Rattle.par_base.proofs.TestLaws.{swap_tests, apart_below}
 use Rattle.par_base.specs.declared.value.Value.{Value}
 use Rattle.row_store.specs.declared.change.Change.{Change}
 use Rattle.row_store.specs.Rows.{Rows, row_of}
@@ -71,22 +73,13 @@ next_above n [] at d rise h = absurd (omega arith)
 next_above n (c ∷ cs) zero d rise h = rise.0
 next_above n (c ∷ cs) (suc at) d rise h = omega (arith, rise.0, next_above (c.id + 1) cs at d rise.1 (omega arith))
 
-apart : (a b : ℕ) → a < b → (a == b) ≡ false
-apart a b h = grind (arith, nat_tests)
-
 -- the first changes say nothing of the next one's identifier
 not_yet : (n : ℕ) (cs : List Change) (at : ℕ) (d : Change) (row : Option (List Value)) → ChangesRise n cs → at < length cs → after (take at cs) (get_or cs at d).id row ≡ row
 not_yet n [] at d row rise h = absurd (omega arith)
 not_yet n (c ∷ cs) zero d row rise h = refl
 not_yet n (c ∷ cs) (suc at) d row rise h =
-    let other = apart c.id (get_or cs at d).id (omega (arith, next_above (c.id + 1) cs at d rise.1 (omega arith))) in
+    let other = apart_below c.id (get_or cs at d).id (omega (arith, next_above (c.id + 1) cs at d rise.1 (omega arith))) in
     rw other (not_yet (c.id + 1) cs at d row rise.1 (omega arith))
-
-swap_tests : {A : Type 0} (a b : Bool) (x y z : A) → (a ≡ true → b ≡ false) → (if a then x else (if b then y else z)) ≡ (if b then y else (if a then x else z))
-swap_tests true true x y z h = let e = h refl in absurd (cc)
-swap_tests true false x y z h = refl
-swap_tests false true x y z h = refl
-swap_tests false false x y z h = refl
 
 -- one change more
 one_more : (n : ℕ) (cs : List Change) (at : ℕ) (d : Change) (q : ℕ) (row : Option (List Value)) → ChangesRise n cs → at < length cs
@@ -144,19 +137,13 @@ pub back_olds : (cs : List Change) → olds (all_told Back cs) ≡ news cs
 back_olds [] = refl
 back_olds (c ∷ cs) = ap (λ (rest : List (Option (List Value))). c.new ∷ rest) (back_olds cs)
 
-eq_self : (n : ℕ) → (n == n) ≡ true
-eq_self n = grind (arith, nat_tests)
-
-eq_is : (a b : ℕ) → (a == b) ≡ true → a ≡ b
-eq_is a b h = grind (arith, nat_tests)
-
 -- after changes each new key is there
 new_from : (before now : Rows) (n : ℕ) (cs : List Change) → ChangesRise n cs → ((id : ℕ) → n ≤ id → row_of now id ≡ after cs id (row_of before id)) → AreOld now (all_told Back cs)
 new_from before now n [] rise was = tt
 new_from before now n (c ∷ cs) rise was =
-    let own = eq_self c.id in
+    let own = eq-eqb c.id c.id refl in
     let new : row_of now c.id ≡ c.new = rw own at (was c.id rise.0) in
-    (sym new, new_from before now (c.id + 1) cs rise.1 (λ id h. let other = apart c.id id (omega (arith, h)) in rw other at (was id (omega (arith, rise.0, h)))))
+    (sym new, new_from before now (c.id + 1) cs rise.1 (λ id h. let other = apart_below c.id id (omega (arith, h)) in rw other at (was id (omega (arith, rise.0, h)))))
 
 pub are_new : (before now : Rows) (cs : List Change) → ChangesRise 0 cs → ((id : ℕ) → row_of now id ≡ after cs id (row_of before id)) → AreOld now (all_told Back cs)
 are_new before now cs rise was = new_from before now 0 cs rise (λ id h. was id)
@@ -165,7 +152,7 @@ are_new before now cs rise was = new_from before now 0 cs rise (λ id h. was id)
 back_by : (before : Rows) (c : Change) (cs : List Change) (id : ℕ) (t : Bool) → (c.id == id) ≡ t → c.old ≡ row_of before c.id
     → after (all_told Back cs) id (after cs id (row_of before id)) ≡ row_of before id
     → (if t then c.old else after (all_told Back cs) id (if t then c.new else after cs id (row_of before id))) ≡ row_of before id
-back_by before c cs id true e fit rest = fit ∙ ap (row_of before) (eq_is c.id id e)
+back_by before c cs id true e fit rest = fit ∙ ap (row_of before) (eqb-true c.id id e)
 back_by before c cs id false e fit rest = rest
 
 pub back_again : (before : Rows) (cs : List Change) (id : ℕ) → AreOld before cs → after (all_told Back cs) id (after cs id (row_of before id)) ≡ row_of before id

@@ -2,7 +2,7 @@
 use Rattle.std.specs.Ordering.{is_lt, nat_cmp, ordering_then}
 use Rattle.std.proofs.Common.{◌≡◌, ℕ, suc, ◌≤◌, ◌==◌, nat_lt, Bool, true, false, List, [], ◌∷◌, length, Option, Some, None, if◌then◌else◌, Ordering, Less, Equal, Greater, inl, inr, true≢false, refl, sym, ap, ◌∙◌, subst, arith}
 use Rattle.std.proofs.lemmas.Bool.Decides.{nat_tests}
-use Rattle.std.proofs.lemmas.Bool.{cases_order}
+use Rattle.std.proofs.lemmas.Bool.{cases_order, eqb-true}
 use Rattle.std.proofs.lemmas.Cmp.{nat_cmp_total, ranked, tied_itself}
 use Rattle.par_base.specs.declared.value.Value.{Value}
 use Rattle.par_base.specs.declared.value.Value.TheVariants.{Null, Int, Text, Reference}
@@ -83,9 +83,6 @@ reference_key id = (Reference id ∷ [], 0)
 abbrev IsFrom : ℕ → Keyed → Type 0
 IsFrom id e = is_lt (keyed_cmp (e.key, e.id) (reference_key id)) ≡ false
 
-eq_is : (a b : ℕ) → (a == b) ≡ true → a ≡ b
-eq_is a b h = grind (arith, nat_tests)
-
 own_number : (n : ℕ) → nat_cmp n n ≡ Equal
 own_number n = tied_itself nat_cmp_total n
 
@@ -105,7 +102,7 @@ refers_from (Null ∷ vs) n id is = absurd (true≢false (sym is))
 refers_from (Int number ∷ vs) n id is = absurd (true≢false (sym is))
 refers_from (Text bytes ∷ vs) n id is = absurd (true≢false (sym is))
 refers_from (Reference m ∷ vs) n id is =
-    let same : nat_cmp m id ≡ Equal = subst (λ (k : ℕ). nat_cmp m k ≡ Equal) (eq_is m id is) (own_number m) in
+    let same : nat_cmp m id ≡ Equal = subst (λ (k : ℕ). nat_cmp m k ≡ Equal) (eqb-true m id is) (own_number m) in
     ap (λ (r : Ordering). is_lt (ordering_then (ordering_then r (row_cmp vs [])) (nat_cmp n 0))) same ∙ not_before vs n
 
 -- what is greater than those that refer comes before none of them
@@ -134,7 +131,7 @@ apart key (Null ∷ ys) i j id low none before is = true≢false (sym is)
 apart key (Int number ∷ ys) i j id low none before is = true≢false (sym is)
 apart key (Text bytes ∷ ys) i j id low none before is = true≢false (sym is)
 apart key (Reference m ∷ ys) i j id low none before is =
-    above key i j id ys low none (subst (λ (k : ℕ). keyed_cmp (key, i) (Reference k ∷ ys, j) ≡ Less) (eq_is m id is) before)
+    above key i j id ys low none (subst (λ (k : ℕ). keyed_cmp (key, i) (Reference k ∷ ys, j) ≡ Less) (eqb-true m id is) before)
 
 none_by : (e x : Keyed) (es : List Keyed) (id : ℕ) (b : Bool) → refers_to x.key id ≡ b → IsFrom id e → refers_to e.key id ≡ false → keyed_cmp (e.key, e.id) (x.key, x.id) ≡ Less → count_refs es id ≡ 0 → (if b then suc (count_refs es id) else count_refs es id) ≡ 0
 none_by e x es id true is low none before rest = absurd (apart e.key x.key e.id x.id id low none before is)

@@ -23,11 +23,11 @@ fn key_at(alloc: Global, row: &[Value], columns: &[usize]) -> Result<Row, Memory
     requires { AreWithin columns.now (length row.now) }
     ensures { IfOk result (λ key. key ≡ key_in columns.now row.now) }
 {
-    let mut key = List::with_room(alloc, columns.len())?;
+    let mut key = Vec::with_capacity(alloc, columns.len())?;
     for column in columns {
         key.push(value_at(row, *column).copy(alloc)?)?;
     }
-    Row::from_list(alloc, key)
+    Row::from_list(alloc, List::from_vec(key))
 }
 
 /// Adds the key of a greater identifier.

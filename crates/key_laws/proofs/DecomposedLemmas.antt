@@ -1,15 +1,17 @@
 -- What a write of R makes of S and T on a foreign key: the cases of the operator, in the words of the tables.
 use Rattle.std.proofs.Common.{◌≡◌, ℕ, ◌+◌, ◌≤◌, ◌==◌, ◌⊎◌, List, [], ◌∷◌, Bool, true, false, not, ◌&&◌, ◌||◌, cond, length, Option, Some, None, IsSome, refl, ap, sym, ◌∙◌, arith}
 use Rattle.std.specs.Prelude.{◌≢◌}
+use Rattle.std.proofs.lemmas.Bool.{eqb-true}
 use mathlib.Core.Logic.{inl, inr}
 use Rattle.par_base.specs.declared.value.Value.{Value}
 use Rattle.par_base.specs.declared.value.Value.TheVariants.{Null, Reference}
 use Rattle.par_base.specs.SameRows.{same_row}
 use Rattle.par_base.specs.inner.SameLaws.{row_equal}
 use Rattle.row_store.specs.Rows.{Rows, RiseFrom, row_of}
-use Rattle.op_law.proofs.OnlyLaws.{is_same}
+use Rattle.row_store.specs.inner.FoundRows.{from_at}
+use Rattle.op_law.proofs.SoundLaws.{sound_at, wide_at}
 use Rattle.row_parts.specs.RowCells.{Cell, is_there, row_or, map_cell, id_or, by_test, by_option}
-use Rattle.op_tables.specs.Lookups.{sound_at, wide_at, from_at, sound0, sound1}
+use Rattle.op_tables.specs.Lookups.{sound0, sound1}
 use Rattle.op_tables.specs.inner.CellFacts.{is_some}
 use Rattle.foreign_keys.specs.KeyParts.{FkParts, FkWell}
 use Rattle.foreign_keys.specs.References.{goal_of, at_goal, referred, far_part}
@@ -40,7 +42,7 @@ module _ (k : FkParts) where
       let some : Some r.1 ≡ Some b = rw e at at in
       let is : r.1 ≡ b = cc in
       let same = told_same r.1 b is in
-      let own : alone k s t r.0 ≡ false = ap (alone k s t) (is_same r.0 q e) ∙ al in
+      let own : alone k s t r.0 ≡ false = ap (alone k s t) (eqb-true r.0 q e) ∙ al in
       let no : true ≡ false = rw (same, own) at g in
       absurd (cc))
       (λ e.

@@ -4,8 +4,10 @@ use Rattle.par_base.specs.declared.value.Value.{Value}
 use Rattle.par_base.specs.declared.value.Value.TheVariants.{Reference}
 use Rattle.par_base.specs.SameRows.{same_row}
 use Rattle.row_store.specs.Rows.{Rows, RiseFrom, row_of}
+use Rattle.row_store.specs.inner.FoundRows.{from_at}
+use Rattle.op_law.proofs.SoundLaws.{wide_at}
 use Rattle.row_parts.specs.RowCells.{Cell, or_else, map_cell, id_or, value_or, by_test, by_option}
-use Rattle.op_tables.specs.Lookups.{wide_at, from_at, sound0, sound1}
+use Rattle.op_tables.specs.Lookups.{sound0, sound1}
 use Rattle.op_tables.specs.inner.CellFacts.{is_some}
 use Rattle.foreign_keys.specs.KeyParts.{FkParts, FkWell}
 use Rattle.foreign_keys.specs.References.{goal_of, at_goal}

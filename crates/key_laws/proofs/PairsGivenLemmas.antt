@@ -2,6 +2,7 @@
 use Rattle.std.specs.Prelude.{◌≢◌}
 use Rattle.std.specs.Option.{option_map}
 use Rattle.std.proofs.Common.{◌≡◌, ℕ, ◌+◌, ◌==◌, List, [], ◌∷◌, ◌++◌, length, Bool, true, false, not, ◌||◌, Option, Some, None, IsSome, refl, ap, sym, ◌∙◌, subst}
+use Rattle.std.proofs.lemmas.Bool.{eqb-true, eq-eqb}
 use Rattle.par_base.specs.declared.value.Value.{Value}
 use Rattle.par_base.specs.SameRows.{same_row}
 use Rattle.par_base.specs.inner.SameLaws.{row_same}
@@ -9,6 +10,7 @@ use Rattle.row_store.specs.Rows.{Rows, row_of}
 use Rattle.id_memory.specs.Pairs.{Pairs, RiseFrom, pair_of}
 use Rattle.op_law.specs.Meaning.{exchanged}
 use Rattle.op_law.specs.Sound.{RowsSound}
+use Rattle.op_law.proofs.SoundLaws.{below_sound}
 use Rattle.row_parts.specs.Places.{pick as part, ArePartition}
 use Rattle.row_parts.specs.RowCells.{Cell, by_test, by_option}
 use Rattle.pair_rows.specs.Halves.{first_of, second_of}
@@ -16,8 +18,7 @@ use Rattle.pair_rows.specs.Shown.{Joining, IsJoined}
 use Rattle.pair_rows.specs.Sides.{JoinFits}
 use Rattle.pair_rows.specs.Stays.{stands}
 use Rattle.pair_rows.specs.Given.{got, own, or_id, least, unchanged}
-use Rattle.pair_rows.specs.inner.Numbers.{same_number, is_own}
-use Rattle.pair_rows.specs.inner.Lookups.{below_sound, filter_found, filter_lost}
+use Rattle.pair_rows.specs.inner.Lookups.{filter_found, filter_lost}
 use Rattle.pair_rows.specs.inner.ShownLaws.{row_for, joined_found, joined_has}
 use Rattle.pair_rows.specs.inner.TwoSides.{TwoTables, two_tables, table_sound}
 use Rattle.op_cond_join.specs.Assigned.{Assigning, Placed, first_got, place_changed, place_by, place_row, assigned, ending, beginning}
@@ -36,7 +37,7 @@ stands_in : (pick : ℕ × ℕ × ℕ → ℕ) (n : ℕ) (m : Pairs) (id : ℕ) 
 stands_in pick n [] id rise h = absurd (cc)
 stands_in pick n (e ∷ es) id rise h =
     by_test (pick e == id)
-    (λ q. let own = is_own e.0 in (e.0, (e.1, e.2), rw own refl, same_number (pick e) id q))
+    (λ q. let own = eq-eqb e.0 e.0 refl in (e.0, (e.1, e.2), rw own refl, eqb-true (pick e) id q))
     (λ q.
     let later : stands pick es id ≡ true = rw q at h in
     let rest = stands_in pick (e.0 + 1) es id rise.1 later in
@@ -50,8 +51,8 @@ in_stands pick (e ∷ es) p x at =
     (λ u.
     let is : ◌≡◌ {A = Option (ℕ × ℕ)} (Some (e.1, e.2)) (Some x) = rw u at at in
     let pair : ◌≡◌ {A = ℕ × ℕ} (e.1, e.2) x = cc in
-    let same : pick e ≡ pick (p, x.0, x.1) = ap (λ (i : ℕ). pick (i, e.1, e.2)) (same_number e.0 p u) ∙ ap (λ (k : ℕ × ℕ). pick (p, k.0, k.1)) pair in
-    let here : (pick e == pick (p, x.0, x.1)) ≡ true = let own = is_own (pick e) in subst (λ (i : ℕ). (pick e == i) ≡ true) same own in
+    let same : pick e ≡ pick (p, x.0, x.1) = ap (λ (i : ℕ). pick (i, e.1, e.2)) (eqb-true e.0 p u) ∙ ap (λ (k : ℕ × ℕ). pick (p, k.0, k.1)) pair in
+    let here : (pick e == pick (p, x.0, x.1)) ≡ true = let own = eq-eqb (pick e) (pick e) refl in subst (λ (i : ℕ). (pick e == i) ≡ true) same own in
     rw here refl)
     (λ u.
     let later : pair_of es p ≡ Some x = rw u at at in
@@ -167,7 +168,7 @@ module _ (j : Joining) (r : Rows) (m : Pairs) where
   head_is : (z : ℕ × List Value) (p : ℕ) (x : List Value) → (z.0 == p) ≡ true → Some z.1 ≡ Some x → z ≡ (p, x)
   head_is z p x e at =
       let values : z.1 ≡ x = cc in
-      ap (λ (i : ℕ). (i, z.1)) (same_number z.0 p e) ∙ ap (λ (v : List Value). (p, v)) values
+      ap (λ (i : ℕ). (i, z.1)) (eqb-true z.0 p e) ∙ ap (λ (v : List Value). (p, v)) values
 
   -- its row of T
   second_is : (d : Assigning) (z : ℕ × List Value) (a b : ℕ) → ◌≡◌ {A = Option (ℕ × ℕ)} (Some ((place_row j r m d z).first, (place_row j r m d z).second)) (Some (a, b)) → (place_row j r m d z).second ≡ b

@@ -1,6 +1,6 @@
 -- Entries of memories, and the pairs that are shown after a write of S and T.
 use Rattle.std.proofs.Common.{◌≡◌, ℕ, ◌+◌, ◌≤◌, ◌==◌, ◌⊎◌, List, [], ◌∷◌, ◌++◌, filter, Bool, true, false, not, ◌&&◌, ◌||◌, Option, Some, IsSome, is_some, refl, ap, sym, ◌∙◌, subst, arith}
-use Rattle.std.proofs.lemmas.Bool.{and_parts}
+use Rattle.std.proofs.lemmas.Bool.{and_parts, eqb-true, eq-eqb, or_right}
 use mathlib.Core.Logic.{inl, inr}
 use Rattle.par_base.specs.declared.value.Value.{Value}
 use Rattle.row_store.specs.Rows.{Rows, row_of}
@@ -8,7 +8,6 @@ use Rattle.id_memory.specs.Pairs.{Pairs, RiseFrom, pair_of, has_pair}
 use Rattle.row_parts.specs.RowCells.{Cell, by_test, by_option}
 use Rattle.pair_rows.specs.Shown.{Joining, join_cells, row_at, holds_in, matches, IsJoined, has, is_shown, pairs_with, all_pairs, new_pairs, numbered, kept_pairs}
 use Rattle.pair_rows.specs.Sides.{table_at}
-use Rattle.pair_rows.specs.inner.Numbers.{same_number, is_own}
 use Rattle.pair_rows.specs.inner.ShownLaws.{there_cells, pair_is_there, pairs_rise, still_shown}
 use Rattle.key_laws.specs.PairsShown.{Matches, HasPair, SourcesWritten, s_before, t_before, s_after, t_after, pairs_before, pairs_after, UnchangedRowsKeepTheirPair, DeletedPairStaysAway, MatchIsShown, UnmatchedPairGoes, PutPairStays}
 
@@ -87,8 +86,8 @@ has_of (e ∷ es) p a b at =
     (λ u.
     let is : ◌≡◌ {A = Option (ℕ × ℕ)} (Some (e.1, e.2)) (Some (a, b)) = rw u at at in
     let both = both_of e a b is in
-    let one : (e.1 == a) ≡ true = let own = is_own e.1 in subst (λ (i : ℕ). (e.1 == i) ≡ true) both.0 own in
-    let two : (e.2 == b) ≡ true = let own = is_own e.2 in subst (λ (i : ℕ). (e.2 == i) ≡ true) both.1 own in
+    let one : (e.1 == a) ≡ true = let own = eq-eqb e.1 e.1 refl in subst (λ (i : ℕ). (e.1 == i) ≡ true) both.0 own in
+    let two : (e.2 == b) ≡ true = let own = eq-eqb e.2 e.2 refl in subst (λ (i : ℕ). (e.2 == i) ≡ true) both.1 own in
     let own : has_pair a b e ≡ true = rw (one, two) refl in
     rw own refl)
     (λ u.
@@ -102,7 +101,7 @@ above n [] p x rise at = absurd (cc)
 above n (e ∷ es) p x rise at =
     let low = rise.0 in
     by_test (e.0 == p)
-    (λ u. let same = same_number e.0 p u in omega (arith, low, same))
+    (λ u. let same = eqb-true e.0 p u in omega (arith, low, same))
     (λ u. let later : pair_of es p ≡ Some x = rw u at at in let rest = above (e.0 + 1) es p x rise.1 later in omega (arith, low, rest))
 
 -- what an entry behind the first has, the memory has
@@ -110,7 +109,7 @@ pub behind_first : (e : ℕ × ℕ × ℕ) (es : Pairs) (p : ℕ) (x : ℕ × �
 behind_first e es p x rise at =
     let low = above (e.0 + 1) es p x rise at in
     by_test (e.0 == p)
-    (λ u. let same = same_number e.0 p u in absurd (omega (arith, low, same)))
+    (λ u. let same = eqb-true e.0 p u in absurd (omega (arith, low, same)))
     (λ u. rw u at)
 
 -- a pair of the memory has an identifier
@@ -120,9 +119,9 @@ of_has n (e ∷ es) a b rise h =
     by_test (has_pair a b e)
     (λ q.
     let same = and_parts (e.1 == a) (e.2 == b) q in
-    let one = same_number e.1 a same.0 in
-    let two = same_number e.2 b same.1 in
-    let own = is_own e.0 in
+    let one = eqb-true e.1 a same.0 in
+    let two = eqb-true e.2 b same.1 in
+    let own = eq-eqb e.0 e.0 refl in
     let is : ◌≡◌ {A = Option (ℕ × ℕ)} (Some (e.1, e.2)) (Some (a, b)) = ap (λ (i : ℕ). Some (i, e.2)) one ∙ ap (λ (i : ℕ). Some (a, i)) two in
     (e.0, rw own is))
     (λ q.
@@ -140,11 +139,6 @@ abbrev listed : ℕ → ℕ → List (ℕ × ℕ) → Bool
 listed a b [] = false
 listed a b (x ∷ xs) = (x.0 == a && x.1 == b) || listed a b xs
 
--- the second of two
-or_true : (a b : Bool) → b ≡ true → (a || b) ≡ true
-or_true true b e = refl
-or_true false b e = e
-
 -- a pair in front
 listed_front : (a b : ℕ) (xs ys : List (ℕ × ℕ)) → listed a b xs ≡ true → listed a b (xs ++ ys) ≡ true
 listed_front a b [] ys h = absurd (cc)
@@ -156,7 +150,7 @@ listed_front a b (x ∷ xs) ys h =
 -- and one behind
 listed_back : (a b : ℕ) (xs ys : List (ℕ × ℕ)) → listed a b ys ≡ true → listed a b (xs ++ ys) ≡ true
 listed_back a b [] ys h = h
-listed_back a b (x ∷ xs) ys h = or_true (x.0 == a && x.1 == b) (listed a b (xs ++ ys)) (listed_back a b xs ys h)
+listed_back a b (x ∷ xs) ys h = or_right (x.0 == a && x.1 == b) (listed a b (xs ++ ys)) (listed_back a b xs ys h)
 
 -- a pair of one row
 listed_with : (a b k : ℕ) (t : Rows) (v : List Value) → k ≡ a → row_of t b ≡ Some v → listed a b (pairs_with k t) ≡ true
@@ -164,18 +158,18 @@ listed_with a b k [] v same at = absurd (cc)
 listed_with a b k (r ∷ rs) v same at =
     by_test (r.0 == b)
     (λ u.
-    let own : (k == a) ≡ true = let own = is_own k in subst (λ (i : ℕ). (k == i) ≡ true) same own in
+    let own : (k == a) ≡ true = let own = eq-eqb k k refl in subst (λ (i : ℕ). (k == i) ≡ true) same own in
     rw (own, u) refl)
     (λ u.
     let later : row_of rs b ≡ Some v = rw u at at in
-    or_true (k == a && r.0 == b) (listed a b (pairs_with k rs)) (listed_with a b k rs v same later))
+    or_right (k == a && r.0 == b) (listed a b (pairs_with k rs)) (listed_with a b k rs v same later))
 
 -- and of any
 listed_all : (a b : ℕ) (s t : Rows) (u v : List Value) → row_of s a ≡ Some u → row_of t b ≡ Some v → listed a b (all_pairs s t) ≡ true
 listed_all a b [] t u v at other = absurd (cc)
 listed_all a b (r ∷ rs) t u v at other =
     by_test (r.0 == a)
-    (λ q. listed_front a b (pairs_with r.0 t) (all_pairs rs t) (listed_with a b r.0 t v (same_number r.0 a q) other))
+    (λ q. listed_front a b (pairs_with r.0 t) (all_pairs rs t) (listed_with a b r.0 t v (eqb-true r.0 a q) other))
     (λ q. let later : row_of rs a ≡ Some u = rw q at at in listed_back a b (pairs_with r.0 t) (all_pairs rs t) (listed_all a b rs t u v later other))
 
 -- a listed pair that passes is numbered
@@ -185,7 +179,7 @@ listed_numbered test n a b (x ∷ xs) h passes =
     by_test (x.0 == a && x.1 == b)
     (λ q.
     let same = and_parts (x.0 == a) (x.1 == b) q in
-    let own : test x.0 x.1 ≡ true = ap (λ (i : ℕ). test i x.1) (same_number x.0 a same.0) ∙ ap (λ (i : ℕ). test a i) (same_number x.1 b same.1) ∙ passes in
+    let own : test x.0 x.1 ≡ true = ap (λ (i : ℕ). test i x.1) (eqb-true x.0 a same.0) ∙ ap (λ (i : ℕ). test a i) (eqb-true x.1 b same.1) ∙ passes in
     rw own (rw q refl))
     (λ q.
     let later : listed a b xs ≡ true = rw q at h in

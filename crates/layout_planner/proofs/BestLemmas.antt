@@ -2,11 +2,11 @@
 use Rattle.std.specs.Prelude.{◌<◌, ◌==◌, nat_le, Option, Some, None, slice_get, slice_index, MatchOption, find}
 use Rattle.std.specs.Option.{option_and_then}
 use Rattle.std.proofs.Common.{◌≡◌, ℕ, ◌+◌, ◌≤◌, List, [], ◌∷◌, Bool, true, false, length, get_or, suc, zero, refl, sym, ap, ◌∙◌, subst, arith, inl, inr}
-use Rattle.std.proofs.lemmas.Bool.{cond-false, cond-true}
+use Rattle.std.proofs.lemmas.Bool.{cond-false, cond-true, false_from_ne_true}
 use Rattle.std.proofs.lemmas.Bool.Decides.{nat_tests}
 use Rattle.std.proofs.lemmas.List.{get_or-map, length-map}
 use Rattle.version_graph.specs.Sets.{In}
-use Rattle.layout_rules.proofs.LookupLaws.{all_at, all_true, off}
+use Rattle.layout_rules.proofs.LookupLaws.{all_at, all_true}
 use Rattle.layout_rules.proofs.PassLaws.{got_in}
 use Rattle.layout_planner.specs.Best.{IsBest, best, is_least, numbers_of}
 use Rattle.layout_planner.specs.declared.planning.VersionCost.{VersionCost}
@@ -82,7 +82,7 @@ module _ (costs : List VersionCost) (at : ℕ) (is : IsBest (numbers_of costs) a
 
   earlier : (k : ℕ) (y : VersionCost) → k < at → slice_get costs k ≡ Some y → is_least costs y ≡ false
   earlier k y h there =
-      off (is_least costs y) (λ all.
+      false_from_ne_true (is_least costs y) (λ all.
       let test = all_at (λ (d : VersionCost). nat_le y.cost d.cost) costs all c (got_in costs at c (sym got)) in
       let first = is.first k h in
       let mine = cost_got costs at c got in

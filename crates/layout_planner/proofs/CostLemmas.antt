@@ -3,7 +3,7 @@ use Rattle.std.specs.Prelude.{◌<◌, ◌==◌, ◌||◌, Some, option_to_list,
 use Rattle.std.specs.Option.{IsSome}
 use Rattle.std.specs.Str.{bytes_eq}
 use Rattle.std.proofs.Common.{◌≡◌, ℕ, ◌+◌, ◌≤◌, List, [], ◌∷◌, ◌++◌, Bool, true, false, cond, filter, map, length, take, inl, inr, refl, sym, ap, ◌∙◌, subst, arith}
-use Rattle.std.proofs.lemmas.Bool.{eq-eqb, eqb-true}
+use Rattle.std.proofs.lemmas.Bool.{eq-eqb, eqb-true, false_from_ne_true}
 use Rattle.std.proofs.lemmas.List.{length-map, map-append, reverse-reverse, take_all}
 use mathlib.Core.List.{reverse}
 use Rattle.version_graph.specs.Sets.{In}
@@ -17,7 +17,6 @@ use Rattle.version_graph.proofs.SetLaws.{each_at, in_map, in_of_test, is_in_true
 use Rattle.version_graph.proofs.TreeLaws.{tree_in_walk, walk_in_tree}
 use Rattle.version_graph.proofs.WalkStepLaws.{in_reverse}
 use Rattle.layout_rules.specs.Lookups.{tables_along}
-use Rattle.layout_rules.proofs.LookupLaws.{off}
 use Rattle.layout_rules.proofs.PassLaws.{along_both, filter_next, got_in, rises_lower, tables_rise}
 use Rattle.layout_planner.specs.Costs.{costs_among, in_tree, tables_of, version_cost}
 use Rattle.layout_planner.specs.declared.planning.Plan.{Plan}
@@ -108,7 +107,7 @@ module _ {O : Type 0} (g : Drawn O) (graph : IsGraph g) (w : ℕ) where
       here : (b : Bool) → is_in n (crossed (walk (forest g.edges) w)) ≡ b → b ≡ in_tree g.edges w n
       here true on = sym (eq-eqb (tree (forest g.edges) n) (tree (forest g.edges) w) (walk_in_tree g.edges graph.edges w n (in_of_test n (crossed (walk (forest g.edges) w)) on)))
       here false out =
-          sym (off (in_tree g.edges w n) (λ same.
+          sym (false_from_ne_true (in_tree g.edges w n) (λ same.
           let listed = tree_in_walk g.edges w n i (eqb-true (tree (forest g.edges) n) (tree (forest g.edges) w) same) in
           let clash : true ≡ false = sym (is_in_true n (crossed (walk (forest g.edges) w)) listed) ∙ out in
           cc))

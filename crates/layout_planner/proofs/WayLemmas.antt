@@ -1,7 +1,7 @@
 -- The length of a way is the number of the operators on it.
 use Rattle.std.specs.Prelude.{◌↔◌}
 use Rattle.std.proofs.Common.{◌≡◌, ℕ, ◌≤◌, List, [], ◌∷◌, Bool, true, false, cond, filter, map, length, inl, inr, refl, sym, ◌∙◌, subst, arith}
-use Rattle.std.proofs.lemmas.Bool.{cond-false, cond-true}
+use Rattle.std.proofs.lemmas.Bool.{cond-false, cond-true, false_from_ne_true}
 use Rattle.std.proofs.lemmas.List.{length-map}
 use Rattle.std.proofs.lemmas.List.Sums.{count_by-le-length, length-filter}
 use Rattle.version_graph.specs.Sets.{In, Distinct}
@@ -15,7 +15,6 @@ use Rattle.layout_rules.specs.Layouts.{IsValid}
 use Rattle.layout_rules.specs.Passes.{meet}
 use Rattle.layout_rules.specs.Ways.{IsOnWay, ReadsOver}
 use Rattle.layout_rules.proofs.LinkLaws.{number_listed}
-use Rattle.layout_rules.proofs.LookupLaws.{off}
 use Rattle.layout_rules.proofs.NeededLaws.{meet_at, meet_true}
 use Rattle.layout_rules.proofs.WayLaws.{all_reached, reached_read}
 use Rattle.layout_planner.specs.Costs.{is_read_over, read_for, way_length}
@@ -59,7 +58,7 @@ module _ {O : Type 0} (es : List (Link O)) (forest : IsForest es) (layout : List
   -- and over each operator on the way one is read
   reads_over : (e : Link O) (u : ℕ) → In u ts → ReadsOver es layout u e → over e ≡ true
   reads_over e u i (inl up) =
-      cond-false (is_in e.number layout) (meet e.sources ts) (meet e.targets ts) (off (is_in e.number layout) (λ h. up.1 (in_of_test e.number layout h))) ∙ meet_true u e.targets ts up.0 i
+      cond-false (is_in e.number layout) (meet e.sources ts) (meet e.targets ts) (false_from_ne_true (is_in e.number layout) (λ h. up.1 (in_of_test e.number layout h))) ∙ meet_true u e.targets ts up.0 i
   reads_over e u i (inr down) =
       cond-true (is_in e.number layout) (meet e.sources ts) (meet e.targets ts) (is_in_true e.number layout down.2) ∙ meet_true u e.sources ts down.1 i
 

@@ -3,7 +3,7 @@ use Rattle.std.specs.Prelude.{◌<◌, ◌≤◌, ◌==◌, ◌&&◌, if◌then�
 use Rattle.std.specs.List.{find, list_all, list_any}
 use Rattle.std.specs.Option.{IsSome}
 use Rattle.std.proofs.Common.{◌≡◌, ℕ, ◌+◌, List, [], ◌∷◌, ◌++◌, Bool, true, false, not, cond, filter, length, take, drop, get_or, inl, inr, refl, sym, ap, ◌∙◌, subst, arith}
-use Rattle.std.proofs.lemmas.Bool.{and_from, and_parts, eq-eqb, false≢true, ne_eqb}
+use Rattle.std.proofs.lemmas.Bool.{and_from, and_parts, eq-eqb, false≢true, ne_eqb, false_from_ne_true}
 use Rattle.std.proofs.lemmas.List.{append_assoc, append-nil, drop_more, reverse-reverse, take-append-drop, take_more}
 use mathlib.Core.List.{reverse}
 use Rattle.par_base.specs.declared.fault.Fault.{Fault}
@@ -153,7 +153,7 @@ module _ {O : Type 0} where
     stays_in n own = ap (λ (b : Bool). if b then is_in n wanted else is_in n layout) (is_in_true (tree (forest es) n) trees own)
 
     stays_out : (n : ℕ) → (IsIn (forest es) trees n → ⊥) → stays es trees wanted layout n ≡ is_in n layout
-    stays_out n other = ap (λ (b : Bool). if b then is_in n wanted else is_in n layout) (Rattle.layout_rules.proofs.LookupLaws.off (in_trees es trees n) (λ h. other (in_of_test (tree (forest es) n) trees h)))
+    stays_out n other = ap (λ (b : Bool). if b then is_in n wanted else is_in n layout) (false_from_ne_true (in_trees es trees n) (λ h. other (in_of_test (tree (forest es) n) trees h)))
 
     abbrev new : List ℕ
     new = filter (stays es trees wanted layout) (numbers_up es)

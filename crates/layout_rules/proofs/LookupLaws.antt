@@ -3,7 +3,7 @@ use Rattle.std.specs.Prelude.{◌==◌, ◌&&◌, ◌||◌, ◌↔◌, Option, S
 use Rattle.std.specs.List.{find, list_all, list_any}
 use Rattle.std.specs.Option.{option_map_or}
 use Rattle.std.proofs.Common.{◌≡◌, ℕ, List, [], ◌∷◌, Bool, true, false, not, cond, inl, inr, refl, sym, ap, ◌∙◌, subst, arith}
-use Rattle.std.proofs.lemmas.Bool.{and_from, and_parts, cases_eq, cond-false, cond-true, eq-eqb, eqb-true, false≢true, ne_eqb}
+use Rattle.std.proofs.lemmas.Bool.{and_from, and_parts, cases_eq, cond-false, cond-true, eq-eqb, eqb-true, false≢true, ne_eqb, false_from_ne_true}
 use Rattle.std.proofs.lemmas.List.{reverse-reverse}
 use mathlib.Core.List.{reverse}
 use Rattle.version_graph.specs.Sets.{In}
@@ -51,16 +51,12 @@ module _ {X : Type 0} (test : X → Bool) where
         | false ↦ λ is k. absurd (false≢true k)
       ]) refl h
 
-pub off : (b : Bool) → (b ≡ true → ⊥) → b ≡ false
-off true h = absurd (h refl)
-off false h = refl
-
 pub not_off : (b : Bool) → not b ≡ true → b ≡ true → ⊥
 not_off true h k = false≢true h
 not_off false h k = false≢true k
 
 pub not_on : (b : Bool) → (b ≡ true → ⊥) → not b ≡ true
-not_on b h = ap not (off b h)
+not_on b h = ap not (false_from_ne_true b h)
 
 -- ---- sources and makers
 
@@ -92,7 +88,7 @@ module _ {O : Type 0} where
       ∙ ap (λ (y : Link O). Some y.number) (sym same)
   maker_link (e ∷ es) edges f t (inr i) a =
       let fit = (is_forest (e ∷ es) edges).0 in
-      let other = off (is_in t e.tables) (λ h. fit.fresh t (in_of_test t e.tables h) (target_listed (forest es) f t i a)) in
+      let other = false_from_ne_true (is_in t e.tables) (λ h. fit.fresh t (in_of_test t e.tables h) (target_listed (forest es) f t i a)) in
       ap (option_map (λ (x : Placed O). x.number)) (cond-false (is_in t e.tables) (Some e) (find (λ (x : Placed O). is_in t x.tables) es) other) ∙ maker_link es edges.1 f t i a
 
   pub link_maker : (es : List (Placed O)) (t n : ℕ) → maker_of es t ≡ Some n → (f : Link O) × In f (forest es) × (n ≡ f.number) × In t f.targets

@@ -1,7 +1,7 @@
 -- One pass finds what closing needs, and no more.
-use Rattle.std.specs.Prelude.{◌&&◌, ◌||◌, ◌⊎◌}
+use Rattle.std.specs.Prelude.{◌&&◌, ◌||◌}
 use Rattle.std.proofs.Common.{◌≡◌, ℕ, List, [], ◌∷◌, ◌++◌, Bool, true, false, cond, inl, inr, refl, sym, ap, ◌∙◌, subst, arith}
-use Rattle.std.proofs.lemmas.Bool.{and_parts, cases_eq, cond-true, false≢true}
+use Rattle.std.proofs.lemmas.Bool.{and_parts, cases_eq, cond-true, false≢true, or_cases}
 use Rattle.version_graph.specs.Sets.{In}
 use Rattle.version_graph.specs.Edges.{is_in}
 use Rattle.version_graph.specs.Forest.{Link, tree}
@@ -32,10 +32,6 @@ meet_at (x ∷ xs) ys h =
 empty_is : (xs : List ℕ) → is_empty xs ≡ true → xs ≡ []
 empty_is [] h = refl
 empty_is (x ∷ xs) h = absurd (false≢true h)
-
-pub either_true : (a b : Bool) → (a || b) ≡ true → (a ≡ true) ⊎ (b ≡ true)
-either_true true b h = inl refl
-either_true false b h = inr h
 
 by_create : (a b c : Bool) → a ≡ true → b ≡ true → (a && (b || c)) ≡ true
 by_create a b c is empty = ap (λ (x : Bool). x && (b || c)) is ∙ ap (λ (x : Bool). x || c) empty
@@ -115,7 +111,7 @@ module _ {O : Type 0} (named : ℕ → Bool) where
   least_here : (x : Link O) (tables layout : List ℕ) → test x tables ≡ true → (named x.number ≡ true → IsCreate x → In x.number layout) → (named x.number ≡ true → (t : ℕ) → In t x.targets → In t tables → In x.number layout) → In x.number layout
   least_here x tables layout is creates makers =
       let p = and_parts (named x.number) (is_empty x.sources || meet x.targets tables) is in
-      elim (either_true (is_empty x.sources) (meet x.targets tables) p.1) as (λ _. In x.number layout) [
+      elim (or_cases (is_empty x.sources) (meet x.targets tables) p.1) as (λ _. In x.number layout) [
         | inl none ↦ creates p.0 (empty_is x.sources none)
         | inr met ↦ (let m = meet_at x.targets tables met in makers p.0 m.0 m.1 m.2)
       ]

@@ -2,7 +2,7 @@
 use Rattle.std.specs.Prelude.{◌&&◌, ◌||◌, ◌↔◌, if◌then◌else◌, Option, Some, None, option_to_list, slice_get}
 use Rattle.std.proofs.Common.{◌≡◌, ℕ, ◌+◌, ◌-◌, ◌<◌, ◌≤◌, List, [], ◌∷◌, ◌++◌, Bool, true, false, not, cond, map, length, take, inl, inr, refl, sym, ap, ◌∙◌, subst, arith}
 use Rattle.std.proofs.lemmas.List.{append_assoc, append-nil, reverse-reverse, take_all}
-use Rattle.std.proofs.lemmas.Bool.{and_from, and_parts}
+use Rattle.std.proofs.lemmas.Bool.{and_from, and_parts, or_cases, or_left, or_right}
 use mathlib.Core.List.{reverse}
 use Rattle.version_graph.specs.Sets.{In}
 use Rattle.version_graph.specs.Edges.{AreEdges, Rises, is_in}
@@ -16,7 +16,7 @@ use Rattle.layout_rules.specs.Passes.{meet}
 use Rattle.layout_rules.specs.Ways.{IsOnWay, ReadsOver}
 use Rattle.layout_rules.specs.Lookups.{sources_or_none}
 use Rattle.layout_rules.specs.inner.Reached.{down_from, down_with, goes_down, goes_up, up_from, up_with, way_along, way_with}
-use Rattle.layout_rules.proofs.NeededLaws.{either_true, meet_at, meet_true}
+use Rattle.layout_rules.proofs.NeededLaws.{meet_at, meet_true}
 use Rattle.layout_rules.proofs.LookupLaws.{not_off, not_on, sources_link}
 use Rattle.layout_rules.proofs.PassLaws.{map_reverse, rises_lower, take_next}
 use Rattle.layout_rules.proofs.DownLaws.{Beside, SameSides, below, below_next, beside, link_listed}
@@ -139,20 +139,13 @@ module _ {O : Type 0} (es : List (Placed O)) (edges : AreEdges es) (layout : Lis
   sources_beside : (e : Placed O) (f : Link O) → In f (forest es) → SameSides e f → sources_or_none es e.number ≡ f.sources
   sources_beside e f i same = ap (sources_or_none es) same.0 ∙ sources_link es edges f i
 
-  or_left : (a b : Bool) → a ≡ true → (a || b) ≡ true
-  or_left a b h = ap (λ (x : Bool). x || b) h
-
-  or_right : (a b : Bool) → b ≡ true → (a || b) ≡ true
-  or_right true b h = refl
-  or_right false b h = h
-
   module _ (valid : IsValid (forest es) layout) (t : ℕ) where
     abbrev found : List ℕ
     found = reached (forest es) (is_forest es edges) layout valid t
 
     over_edge : (e : Placed O) (f : Link O) → In f (forest es) → SameSides e f → goes found e ≡ true → (u : ℕ) × In u found × ReadsOver (forest es) layout u f
     over_edge e f i same h =
-        elim (either_true (goes_up layout found e) (goes_down es layout found e) h) as (λ _. (u : ℕ) × In u found × ReadsOver (forest es) layout u f) [
+        elim (or_cases (goes_up layout found e) (goes_down es layout found e) h) as (λ _. (u : ℕ) × In u found × ReadsOver (forest es) layout u f) [
           | inl a ↦ (
               let p = and_parts (not (is_in e.number layout)) (meet e.tables found) a in
               let m = meet_at e.tables found p.1 in

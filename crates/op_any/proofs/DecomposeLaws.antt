@@ -3,7 +3,7 @@ use Rattle.std.proofs.Common.{◌≡◌, ℕ, List, [], ◌∷◌, ◌++◌, len
 use Rattle.std.specs.Prelude.{◌||◌}
 use Rattle.std.specs.List.{insert}
 use Rattle.std.specs.Str.{bytes_eq}
-use Rattle.std.proofs.lemmas.Bool.{false≢true}
+use Rattle.std.proofs.lemmas.Bool.{false≢true, or_parts}
 use Rattle.std.proofs.lemmas.List.Edits.{insert_end}
 use Rattle.expr_lang.specs.Val.{fits_row}
 use Rattle.expr_lang.specs.Resolved.{resolved}
@@ -20,7 +20,6 @@ use Rattle.op_any.specs.NameChecks.{heading_named, is_passing, repeated, known_t
 use Rattle.op_any.specs.BuildJoins.{Parting, parting, divided, with_column, decomposing_in_one, decomposing_on_pk, decomposing_on_fk, decomposing_on}
 use Rattle.op_any.specs.Laws.{as_seen, headings_taken, is_create_table, is_local_form}
 use Rattle.op_any.specs.Texts.{TextsFit}
-use Rattle.op_any.proofs.NameLists.{either}
 use Rattle.op_any.proofs.TableListsLaws.{found_stands, stands_named, none_passing}
 use Rattle.op_any.proofs.Suits.{Suits, if_then, at_ok, table_is, is_new, names_differ, expression_is, are_few, ids_known, new_once, heading_at, reads_columns, is_closed, one_fits, two_targets_fit, one_taken}
 use Rattle.op_any.proofs.Placed.{ArePlaced, placed_at, placed_once, many_placed, some_columns, listed_once, divided_names, names_divide, distinct_left, distinct_right}
@@ -77,7 +76,7 @@ parting_found set table s u =
     if_then _ (new_table u.name (bytes_eq u.name s.name || is_passing set (table ∷ []) u.name)) _ (λ w other_free.
     if_then _ (known_places h.columns s.columns) _ (λ first listed.
     if_then _ (known_places h.columns u.columns) _ (λ second other_listed.
-    let neither = either (bytes_eq u.name s.name) (is_passing set (table ∷ []) u.name) (is_new u.name _ w other_free) in
+    let neither = or_parts (bytes_eq u.name s.name) (is_passing set (table ∷ []) u.name) (is_new u.name _ w other_free) in
     record {
       found = table_is table _ h known;
       first_free = is_new s.name _ v free;

@@ -4,7 +4,7 @@ use Rattle.std.specs.Prelude.{◌⊎◌, ◌||◌, MatchOption}
 use Rattle.std.specs.List.{list_any, insert, remove}
 use Rattle.std.specs.Option.{option_or}
 use Rattle.std.specs.Str.{bytes_eq}
-use Rattle.std.proofs.lemmas.Bool.{false≢true}
+use Rattle.std.proofs.lemmas.Bool.{false≢true, or_parts}
 use Rattle.std.proofs.lemmas.List.{append_assoc, append-nil}
 use Rattle.version_graph.specs.Sets.{In, Apart, Distinct}
 use Rattle.version_graph.proofs.SetLaws.{in_left, in_right}
@@ -56,16 +56,11 @@ module _ {X : Type 0} where
   insert-remove (x ∷ xs) zero d h = refl
   insert-remove (x ∷ xs) (suc place) d h = ap (λ (ys : List X). x ∷ ys) (insert-remove xs place d (omega arith))
 
--- neither holds where not one of them does
-pub either : (a b : Bool) → (a || b) ≡ false → (a ≡ false) × (b ≡ false)
-either true b e = absurd (false≢true (sym e))
-either false b e = (refl, e)
-
 -- a name that no test finds isn't there
 pub not_member : (name : List ℕ) (names : List (List ℕ)) → list_any (bytes_eq name) names ≡ false → In name names → ⊥
 not_member name [] e i = i
-not_member name (n ∷ names) e (inl same) = false≢true (sym (either _ _ e).0 ∙ name_is name n same)
-not_member name (n ∷ names) e (inr i) = not_member name names (either _ _ e).1 i
+not_member name (n ∷ names) e (inl same) = false≢true (sym (or_parts _ _ e).0 ∙ name_is name n same)
+not_member name (n ∷ names) e (inr i) = not_member name names (or_parts _ _ e).1 i
 
 pub member : (name : List ℕ) (names : List (List ℕ)) → list_any (bytes_eq name) names ≡ true → In name names
 member name [] e = absurd (false≢true e)

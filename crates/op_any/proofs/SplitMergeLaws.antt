@@ -2,7 +2,7 @@
 use Rattle.std.proofs.Common.{◌≡◌, ℕ, List, [], ◌∷◌, length, true, Option, Some, None, Ok, IfOk, refl, sym, ap, subst, arith}
 use Rattle.std.specs.Prelude.{◌||◌}
 use Rattle.std.specs.Str.{bytes_eq}
-use Rattle.std.proofs.lemmas.Bool.{false≢true}
+use Rattle.std.proofs.lemmas.Bool.{false≢true, or_parts}
 use Rattle.expr_lang.specs.Val.{fits_row}
 use Rattle.expr_lang.specs.Resolved.{resolved}
 use Rattle.statements.specs.Views.{BranchView}
@@ -12,7 +12,6 @@ use Rattle.version_graph.specs.declared.parts.Heading.{Heading}
 use Rattle.op_kinds.specs.Operators as «any»
 use Rattle.op_any.specs.NameChecks.{heading_named, is_passing, known_table, other_table, new_table, known_columns, same_columns, known_ids}
 use Rattle.op_any.specs.Build.{splitting_in_one, splitting_in_two, splitting_table, merging_tables}
-use Rattle.op_any.proofs.NameLists.{either}
 use Rattle.op_any.proofs.TableListsLaws.{found_stands, stands_named, none_passing}
 use Rattle.op_any.proofs.Suits.{Suits, if_then, table_is, is_new, names_differ, sources_differ, expression_is, are_same, ids_known, heading_at, reads_columns, is_closed, one_fits, two_targets_fit, two_sources_fit, one_taken, two_taken}
 
@@ -50,7 +49,7 @@ module _ (set : List Heading) (next : ℕ) where
       if_then _ (known_ids next r.condition) _ (λ w ids.
       if_then _ (known_ids next s.condition) _ (λ x other_ids.
       let found = table_is table _ h known in
-      let apart = either (bytes_eq s.table r.table) (is_passing set (table ∷ []) s.table) (is_new s.table _ v other_free) in
+      let apart = or_parts (bytes_eq s.table r.table) (is_passing set (table ∷ []) s.table) (is_new s.table _ v other_free) in
       let read : resolved h.columns r.condition ≡ Ok c = expression_is _ c reads in
       let other_read : resolved h.columns s.condition ≡ Ok d = expression_is _ d other_reads in
       record {

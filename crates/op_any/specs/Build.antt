@@ -1,5 +1,5 @@
 -- What an operator's text builds on a working set, or the first of its checks that fails.
-use Rattle.std.specs.Prelude.{ℕ, Bool, true, false, not, List, [], ◌∷◌, ◌++◌, length, ◌||◌, Option, Some, None, Ok}
+use Rattle.std.specs.Prelude.{◌≡◌, ℕ, Bool, true, false, not, List, [], ◌∷◌, ◌++◌, length, ◌||◌, Option, Some, None, Ok}
 use Rattle.std.specs.List.{insert, remove}
 use Rattle.std.specs.Str.{bytes_eq}
 use Rattle.expr_lang.specs.Resolved.{place_of, resolved}
@@ -139,6 +139,11 @@ planned_edge set next («text».DecomposeSingle table target columns) = decompos
 planned_edge set next («text».Decompose table first first_columns second second_columns key) =
     decomposing_table set next table (record { name = first; columns = first_columns }) (record { name = second; columns = second_columns }) key
 planned_edge set next («text».Join outer first second target key) = joining_tables set next outer first second target key
+
+-- the text builds this operator on some working set, while some identifier is the next
+abbrev pub IsOf : OpView → Built → Type 0
+IsOf text operator =
+    (set : List Heading) × (next : ℕ) × (e : Edge Built) × (planned_edge set next text ≡ Ok e) × (e.operator ≡ operator)
 
 -- the same edge, of an operator that keeps its text
 abbrev pub with_text : OpView → Edge Built → Edge AnyView

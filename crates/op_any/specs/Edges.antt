@@ -4,7 +4,7 @@ use Rattle.version_graph.specs.declared.parts.Heading.{Heading}
 use Rattle.version_graph.specs.declared.parts.Edge.{Edge}
 use Rattle.op_kinds.specs.Operators.{Built}
 use Rattle.op_kinds.specs.Views.{built_view}
-use Rattle.op_kinds.specs.declared.any_op.BuiltOp.{BuiltOp}
+use Rattle.op_kinds.specs.declared.built_op.BuiltOp.{BuiltOp}
 
 -- an edge of a built operator
 abbrev pub edge_view : Edge BuiltOp → Edge Built

@@ -1,5 +1,6 @@
 -- Expressions whose text literals aren't too long.
-use Rattle.std.specs.Prelude.{◌≤◌, List, [], ◌∷◌, length, Option, Some, None}
+use Rattle.std.specs.Prelude.{◌≤◌, List, [], ◌∷◌, length, Option, Some, None, IsUtf8, FitsSigned}
+use Rattle.std.specs.Int.{w64}
 use Rattle.par_base.specs.declared.value.Value.{Value}
 use Rattle.par_base.specs.declared.value.Value.TheVariants.{Null, Int, Text, Reference}
 use Rattle.expr_lang.specs.Operations.{text_limit}
@@ -7,14 +8,14 @@ use Rattle.expr_lang.specs.Terms.{Term, Literal, Column, Unary, Binary}
 use Rattle.statements.specs.Views.{Tree, KeyView, BranchView, OpView, Primary, Foreign, Condition, CreateTable, DropTable, RenameTable, RenameColumn, AddColumn, DropColumn, DecomposeSingle, Decompose, Join, Split, Merge}
 use Rattle.version_graph.specs.Sets.{Each}
 
--- a text has at most `text_limit` bytes
+-- an integer has 64 bits, and a text is UTF-8 of at most `text_limit` bytes
 abbrev pub ValueFits : Value → Type 0
 ValueFits Null = Unit {0}
-ValueFits (Int number) = Unit {0}
-ValueFits (Text bytes) = length bytes ≤ text_limit
+ValueFits (Int number) = FitsSigned w64 number
+ValueFits (Text bytes) = (length bytes ≤ text_limit) × IsUtf8 bytes
 ValueFits (Reference id) = Unit {0}
 
--- so has each text literal of an expression
+-- so have the literals of an expression
 abbrev pub TermFits : {C : Type 0} → Term C → Type 0
 TermFits (Literal v) = ValueFits v
 TermFits (Column c) = Unit {0}

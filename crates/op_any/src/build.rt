@@ -2,13 +2,17 @@
 ghost use Rattle.std.specs.Prelude.{◌≡◌};
 ghost use Rattle.statements.specs.Views.{key_view, op_view};
 ghost use Rattle.par_base.specs.Checked.{Gives};
-ghost use Rattle.op_any.specs.Build.{built, is_built as is_built_form, is_built_join as is_built_join_form};
+ghost use Rattle.op_kinds.specs.Views.{built_view};
+ghost use Rattle.op_any.specs.Edges.{edge_view};
+ghost use Rattle.op_any.specs.Build.{IsOf, built, is_built as is_built_form, is_built_join as is_built_join_form, with_text as text_beside};
 
+use crate::any_op::AnyOp;
 use crate::plan::plan;
-use op_kinds::{AnyOp, copy_text};
+use op_kinds::BuiltOp;
 use par_base::{Fault, Refusal};
-use statements::{KeyText, OpText};
+use statements::{KeyText, OpText, copy_text};
 use std::alloc::Global;
+use std::mem;
 use version_graph::{Edge, Heading};
 
 fn is_built_join(outer: bool, key: &KeyText) -> bool
@@ -30,6 +34,18 @@ pub fn is_built(text: &OpText) -> bool
     }
 }
 
+// The edge of what was built of this text.
+fn with_text(edge: Edge<BuiltOp>, text: OpText) -> Edge<AnyOp>
+    requires { IsOf (op_view text) (built_view edge.operator) }
+    ensures { result ≡ text_beside (op_view text) (edge_view edge) }
+{
+    Edge {
+        operator: AnyOp::new(text, edge.operator),
+        sources: edge.sources,
+        targets: edge.targets,
+    }
+}
+
 /// The edge of an operator on the working set of these tables, while `next` is the next identifier,
 /// or the first of its checks that refuses it. It takes time in the number of pairs of names, and
 /// in the length of the expressions.
@@ -42,15 +58,11 @@ pub fn build_op(
     ensures { Gives (λ edge. edge) result (built set.now next (op_view text.now)) }
 {
     let edge = plan(alloc, text, set, next)?;
-    let text = copy_text(alloc, text)?;
-    let Edge {
-        operator,
-        sources,
-        targets,
-    } = edge;
-    Ok(Edge {
-        operator: AnyOp::new(text, operator),
-        sources,
-        targets,
-    })
+    match copy_text(alloc, text) {
+        Ok(text) => Ok(with_text(edge, text)),
+        Err(memory) => {
+            mem::drop(edge);
+            Err(Fault::Memory(memory))
+        }
+    }
 }

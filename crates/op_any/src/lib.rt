@@ -2,16 +2,17 @@
 //!
 //! It promises the crates above that an operator's text builds exactly what `specs/Build.antt` and
 //! `specs/BuildJoins.antt` say on a working set, or is refused by the first check that it fails; that
-//! an edge which is built fits the working set, and its operator its tables; and that the operator
-//! keeps its text. `specs/Refusals.antt` says in words of the text in which one order all operators
-//! are checked, and which tables with which columns a built edge has. The one form for which
-//! `is_built` is false, OUTER JOIN on a condition, is refused as not built yet. It knows nothing of
-//! versions, of limits on operators, or of stored tables.
+//! an edge which is built fits the working set, and its operator its tables; and that every `AnyOp`
+//! keeps the text that built it on some working set (`IsOf`), and keeps the laws. `specs/Refusals.antt`
+//! says in words of the text in which one order all operators are checked, and which tables with which
+//! columns a built edge has. The one form for which `is_built` is false, OUTER JOIN on a condition, is
+//! refused as not built yet. It knows nothing of versions, of limits on operators, or of stored tables.
 //!
 //! Lemmas that crates above may use stand in proofs/: `TableListsLaws`, `SoundTextsLaws` and
 //! `BuiltLaws`.
 #![tactic(auto)]
 
+mod any_op;
 mod build;
 mod checks;
 mod edges;
@@ -22,6 +23,7 @@ mod plan_decompose;
 mod plan_joins;
 mod plan_two;
 
+pub use any_op::AnyOp;
 pub use build::{build_op, is_built};
 pub use checks::{find_place, resolve_value};
 pub use laws::{
@@ -29,4 +31,3 @@ pub use laws::{
     built_operators_are_closed, first_failed_check_refuses, first_misdivided_column_is_refused,
     first_missing_name_is_refused, first_repeated_column_is_refused, other_forms_are_not_built,
 };
-pub use op_kinds::AnyOp;

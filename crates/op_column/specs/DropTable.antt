@@ -1,8 +1,9 @@
 -- DROP TABLE: the source table is unrestricted, and the target is empty of tables.
 use Rattle.std.specs.Prelude.{◌≡◌, ℕ, [], ◌∷◌, length, true, refl}
 use Rattle.std.proofs.Common.{inr, sym, ap}
+use Rattle.op_law.specs.Tables.{widths}
 use Rattle.op_rows.specs.RowMeaning.{RowMeaning, RowHalf, RowLaws, flip_row}
-use Rattle.op_column.specs.OneTable.{widths, one_cell, one_long, no_cell, no_cell_wide}
+use Rattle.op_column.specs.OneTable.{one_cell, one_long, no_cell, no_cell_wide}
 
 -- the source has so many columns; where the target is stored, all its rows are kept beside
 abbrev pub drop_table : ℕ → RowMeaning

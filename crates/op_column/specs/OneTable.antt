@@ -1,12 +1,8 @@
 -- Sides with one table, at one identifier.
-use Rattle.std.specs.Prelude.{◌≡◌, ℕ, List, [], ◌∷◌, length, map, refl}
+use Rattle.std.specs.Prelude.{◌≡◌, ℕ, List, [], ◌∷◌, length, refl}
 use Rattle.std.proofs.Common.{subst}
-use Rattle.op_law.specs.Tables.{Heading}
+use Rattle.op_law.specs.Tables.{Heading, widths}
 use Rattle.op_rows.specs.Cells.{Cells, first_cell, CellWide, AreCellsOf, CellSound, CellsSound}
-
--- how many columns each table has
-abbrev pub widths : List Heading → List ℕ
-widths headings = map (λ heading. length heading.columns) headings
 
 -- what a side with one table has: one cell, and a row in it has so many values
 pub record OneCell (width : ℕ) (cs : Cells) : Type 0 where

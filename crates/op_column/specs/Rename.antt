@@ -1,10 +1,9 @@
 -- Another name for a table or a column: both sides have the same rows.
 use Rattle.std.specs.Prelude.{◌≡◌, ℕ, List, [], ◌∷◌, length, true, refl}
 use Rattle.std.proofs.Common.{inr, sym, subst}
-use Rattle.op_law.specs.Tables.{Heading}
+use Rattle.op_law.specs.Tables.{Heading, widths}
 use Rattle.op_rows.specs.Cells.{Cells, CellWide, AreCellsOf}
 use Rattle.op_rows.specs.RowMeaning.{RowMeaning, RowHalf, RowLaws, flip_row}
-use Rattle.op_column.specs.OneTable.{widths}
 
 abbrev pub rename : RowMeaning
 rename = record {

@@ -21,7 +21,7 @@ pub(crate) fn first_row(cells: &Cells) -> Option<&Row>
 pub(crate) fn one_value(alloc: Global, value: Value) -> Result<Row, Memory>
     ensures { IfOk result (λ row. row ≡ value ∷ []) }
 {
-    let mut row = List::with_room(alloc, 1)?;
+    let mut row = Vec::with_capacity(alloc, 1)?;
     row.push(value)?;
-    Row::from_list(alloc, row)
+    Row::from_list(alloc, List::from_vec(row))
 }

@@ -12,10 +12,10 @@ use Rattle.pair_rows.specs.inner.Draws.{WasRefused}
 use Rattle.op_cond_join.specs.inner.Assignings.{AreBelowNext}
 use Rattle.par_base.specs.declared.value.Value.{Value}
 use Rattle.row_store.specs.Rows.{Rows, AreBelow, row_of}
+use Rattle.row_store.specs.inner.FoundRows.{below_more, below_push}
 use Rattle.id_memory.specs.Pairs.{Pairs, pair_of}
 use Rattle.pair_rows.specs.Shown.{Joining, has}
 use Rattle.row_parts.specs.Places.{pick as part}
-use Rattle.pair_rows.specs.inner.Lookups.{below_behind, below_weaker}
 use Rattle.pair_rows.proofs.GivenLaws.{got_rises, got_below}
 use Rattle.pair_rows.specs.Given.{unchanged, kept_entry, kept_in, Got, got, least, own, or_id, side_got}
 use Rattle.op_cond_join.specs.Assigned.{Assigning, first_got, second_got, last_got, place_changed, place_by, place_row, assigned, ending}
@@ -71,8 +71,8 @@ changed_below j r m d x below =
     let two : a.next ≤ b.next = side_rises j.second (row_of r x.0) (option_map (λ pair. pair.1) (pair_of m x.0)) x.1 d.second a.next in
     let three : b.next ≤ c.next = got_rises (if has d.taken a.id b.id then None else Some a.id) a.rows (part j.first x.1) b.next in
     let first : AreBelow a.rows a.next = side_below j.first (row_of r x.0) (option_map (λ pair. pair.0) (pair_of m x.0)) x.1 d.first d.next below.0 in
-    let second : AreBelow b.rows b.next = side_below j.second (row_of r x.0) (option_map (λ pair. pair.1) (pair_of m x.0)) x.1 d.second a.next (below_weaker d.second d.next a.next one below.1) in
-    (got_below (if has d.taken a.id b.id then None else Some a.id) a.rows (part j.first x.1) b.next (below_weaker a.rows a.next b.next two first), below_weaker b.rows b.next c.next three second)
+    let second : AreBelow b.rows b.next = side_below j.second (row_of r x.0) (option_map (λ pair. pair.1) (pair_of m x.0)) x.1 d.second a.next (below_more d.second d.next a.next one below.1) in
+    (got_below (if has d.taken a.id b.id then None else Some a.id) a.rows (part j.first x.1) b.next (below_more a.rows a.next b.next two first), below_more b.rows b.next c.next three second)
 
 -- the same of both kinds of rows
 below_by : (j : Joining) (r : Rows) (m : Pairs) (d : Assigning) (x : ℕ × List Value) (o : Option (ℕ × ℕ)) → AreBelowNext d → AreBelowNext (place_by j r m d x o).after

@@ -7,8 +7,8 @@ use Rattle.op_law.specs.Calls.{first_refused}
 use Rattle.op_law.specs.Tables.{Tables}
 use Rattle.op_law.specs.Meaning.{PairState, flip, exchanged}
 use Rattle.op_law.specs.Premises.{SomeMap}
+use Rattle.op_law.proofs.SoundLaws.{below_sound}
 use Rattle.pair_rows.specs.Shown.{Joining, IsJoined, shown_pairs}
-use Rattle.pair_rows.specs.inner.Lookups.{below_sound}
 use Rattle.pair_rows.specs.inner.TwoSides.{table_sound}
 use Rattle.pair_rows.specs.Given.{kept_in}
 use Rattle.op_cond_join.specs.Assigned.{Assigning, beginning, assigned, ending}

@@ -1,12 +1,12 @@
 -- JOIN ON a condition. DECOMPOSE ON a condition is its flip.
 use Rattle.std.specs.Prelude.{ℕ, ◌+◌, [], ◌∷◌, length, true, false}
 use Rattle.row_store.specs.Rows.{Rows}
-use Rattle.op_law.specs.Tables.{Tables}
+use Rattle.op_law.specs.Tables.{Tables, widths}
 use Rattle.op_law.specs.SoundTerms.{TermSound}
 use Rattle.op_law.specs.Meaning.{Meaning, PairState, Mapped}
 use Rattle.pair_rows.specs.Halves.{first_of, second_of}
 use Rattle.pair_rows.specs.Shown.{Joining, IsJoined, joined, shown_pairs, new_pairs}
-use Rattle.pair_rows.specs.Sides.{widths, table_at, JoinFits}
+use Rattle.pair_rows.specs.Sides.{table_at, JoinFits}
 use Rattle.op_cond_join.specs.Assigned.{beginning, assigned, ending}
 use Rattle.pair_rows.specs.Stays.{staying}
 use Rattle.pair_rows.specs.Kept.{alone, side_read}

@@ -9,6 +9,8 @@ ghost use Rattle.op_law.specs.Premises.{SomeMap};
 ghost use Rattle.op_cond_join.specs.Joinings.{joining, Reads};
 ghost use Rattle.op_cond_join.specs.JoinOn.{join_on, join_forward, join_backward};
 ghost use Rattle.pair_rows.specs.inner.Draws.{Draws};
+ghost use Rattle.pair_rows.specs.Given.{kept_in as kept_entries};
+ghost use Rattle.op_cond_join.specs.inner.Assignings.{Knows};
 ghost use Rattle.op_cond_join.specs.inner.Calls.{shown_in, new_in};
 
 use crate::assigning::{Assigning, assign};
@@ -108,6 +110,30 @@ fn source_of(
     Ok(Far { side, memory })
 }
 
+// What stands before the first row of a new target is placed: the old rows of both sides, and the
+// pairs of the rows that stay as they were.
+fn assigning_from(
+    alloc: Global,
+    before: &OldTarget<'_>,
+    new: &Table,
+    first: &Table,
+    second: &Table,
+) -> Result<Assigning, Memory>
+    ensures first { IfOk result (λ it. it.first.table.rows ≡ first.now.rows) }
+    ensures second { IfOk result (λ it. it.second.table.rows ≡ second.now.rows) }
+    ensures taken { IfOk result (λ it. it.taken.entries ≡ kept_entries before.now.rows.now.rows before.now.memory.now.entries new.now.rows) }
+    ensures knows { IfOk result Knows }
+{
+    let first = growing_from(alloc, first)?;
+    let second = growing_from(alloc, second)?;
+    let taken = kept_in(alloc, before, new)?;
+    Ok(Assigning {
+        first,
+        second,
+        taken,
+    })
+}
+
 /// The new source and memory, from a new target. It takes look-ups in the number of the rows.
 pub(crate) fn backward<L: Ledger>(
     alloc: Global,
@@ -128,11 +154,9 @@ pub(crate) fn backward<L: Ledger>(
         memory: &old.memory,
     };
     let new = table_in(near, 0, &none);
-    let mut it = Assigning {
-        first: growing_from(alloc, table_in(&old.source, 0, &none))?,
-        second: growing_from(alloc, table_in(&old.source, 1, &none))?,
-        taken: kept_in(alloc, &before, new)?,
-    };
+    let first = table_in(&old.source, 0, &none);
+    let second = table_in(&old.source, 1, &none);
+    let mut it = assigning_from(alloc, &before, new, first, second)?;
     let mut drawn = ids.copy();
     let pairs = assign(alloc, join, &before, new, &mut it, &mut drawn)?;
     let far = source_of(

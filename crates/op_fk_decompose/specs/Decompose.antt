@@ -175,30 +175,37 @@ module _ (k : FkParts) where
   abbrev pub get_second : Rows → Rows → Rows → Rows → Rows
   get_second r s dang kept = table_from (ids_over (r ∷ kept ∷ []) (goals_in (leads dang) s)) (get_at r s dang kept)
 
--- the target from a new source: the values are drawn for first
+-- S and T from a new R: the values are drawn for first
+abbrev pub target_from : FkParts → Rows → Rows → Rows → ℕ → Mapped
+target_from k s t near n = record {
+  far = s_after k s t near n ∷ t_after k s t near n ∷ [];
+  memory = [];
+  next = n + length (values_drawn k s t near);
+}
+
+-- the target from a new source
 abbrev pub decompose_forward : FkParts → Tables → PairState → ℕ → Mapped
-decompose_forward k near old n =
-    let s = first_table old.target in
-    let t = second_table old.target in
-    record {
-      far = s_after k s t (first_table near) n ∷ t_after k s t (first_table near) n ∷ [];
-      memory = [];
-      next = n + length (values_drawn k s t (first_table near));
-    }
+decompose_forward k near old n = target_from k (first_table old.target) (second_table old.target) (first_table near) n
 
 -- the source from a new target
 abbrev pub decompose_source : FkParts → Tables → Tables
 decompose_source k st = joined_table k (first_table st) (second_table st) ∷ []
 
+-- what is kept beside of S and T: the foreign keys, those that dangle, and the rows of T that R doesn't show
+abbrev pub aux_from : FkParts → Rows → Rows → Tables
+aux_from k s t = refs k s ∷ dangling k s t ∷ kept_rows k s t ∷ []
+
 -- what a stored source keeps beside
 abbrev pub decompose_aux : FkParts → Tables → Tables
-decompose_aux k st = refs k (first_table st) ∷ dangling k (first_table st) (second_table st) ∷ kept_rows k (first_table st) (second_table st) ∷ []
+decompose_aux k st = aux_from k (first_table st) (second_table st)
+
+-- the target from R, the foreign keys that are kept beside, those that dangle, and the rows of T that are kept
+abbrev pub read_under : FkParts → Rows → Rows → Rows → Rows → Tables
+read_under k r keys dangling kept = let s = get_first k r keys in s ∷ get_second k r s dangling kept ∷ []
 
 -- the target from a source and what it keeps beside
 abbrev pub decompose_read : FkParts → Tables → Tables → Tables
-decompose_read k r aux =
-    let s = get_first k (first_table r) (first_table aux) in
-    s ∷ get_second k (first_table r) s (second_table aux) (third_table aux) ∷ []
+decompose_read k r aux = read_under k (first_table r) (first_table aux) (second_table aux) (third_table aux)
 
 -- DECOMPOSE ON FK for headings that fit, with these parts
 abbrev pub decompose_fk : (List Heading → List Heading → Type 0) → FkParts → Meaning

@@ -3,7 +3,7 @@ ghost use Rattle.std.specs.Prelude.{◌≡◌, IfOk};
 ghost use Rattle.op_law.specs.Calls.{tables_of};
 ghost use Rattle.foreign_keys.specs.References.{dangles as leads_nowhere};
 ghost use Rattle.op_fk_decompose.specs.Decompose.{ref_at, dangling_at, kept_at};
-ghost use Rattle.op_fk_decompose.specs.Decompose.{refs, dangling, kept_rows, decompose_aux};
+ghost use Rattle.op_fk_decompose.specs.Decompose.{refs, dangling, kept_rows, aux_from, decompose_aux};
 
 use crate::target_rows::TargetRows;
 use foreign_keys::RowParts;
@@ -132,6 +132,18 @@ fn kept_table<P: RowParts>(alloc: Global, target: &TargetRows<'_, P>) -> Result<
     Ok(table)
 }
 
+/// The three auxiliary tables, of S and T.
+fn aux_under<P: RowParts>(alloc: Global, parts: &P, s: &Table, t: &Table) -> Result<Aux, Memory>
+    ensures { IfOk result (λ aux. tables_of aux ≡ aux_from (P.parts parts.now) s.now.rows t.now.rows) }
+{
+    let target = &TargetRows::new(alloc, parts, s, t)?;
+    let mut tables = List::new(alloc);
+    tables.push(refs_table(alloc, parts, s)?)?;
+    tables.push(dangling_table(alloc, parts, s, t)?)?;
+    tables.push(kept_table(alloc, target)?)?;
+    Ok(Aux { tables })
+}
+
 /// What the source of this target keeps beside. It takes a fixed number of passes, and for each row
 /// comparisons in the logarithm of the rows.
 pub(crate) fn aux_of<P: RowParts>(alloc: Global, parts: &P, target: &Side) -> Result<Aux, Memory>
@@ -140,9 +152,5 @@ pub(crate) fn aux_of<P: RowParts>(alloc: Global, parts: &P, target: &Side) -> Re
     let empty = Table::new(alloc);
     let s = first_of(target.tables(), &empty);
     let t = second_of(target.tables(), &empty);
-    let mut tables = List::new(alloc);
-    tables.push(refs_table(alloc, parts, s)?)?;
-    tables.push(dangling_table(alloc, parts, s, t)?)?;
-    tables.push(kept_table(alloc, &TargetRows::new(alloc, parts, s, t)?)?)?;
-    Ok(Aux { tables })
+    aux_under(alloc, parts, s, t)
 }

@@ -46,6 +46,17 @@ fn table_of<P: RowParts>(alloc: Global, it: &TargetRows<'_, P>) -> Result<Table,
     Ok(table)
 }
 
+fn source_under<P: RowParts>(
+    alloc: Global,
+    parts: &P,
+    s: &Table,
+    t: &Table,
+) -> Result<Table, Memory>
+    ensures { IfOk result (λ table. table.rows ≡ joined_table (P.parts parts.now) s.now.rows t.now.rows) }
+{
+    table_of(alloc, &TargetRows::new(alloc, parts, s, t)?)
+}
+
 /// The source of a target. It takes two passes over the target, and for each row comparisons in the
 /// logarithm of the rows.
 pub(crate) fn source_of<P: RowParts>(
@@ -58,6 +69,6 @@ pub(crate) fn source_of<P: RowParts>(
     let empty = Table::new(alloc);
     let s = first_of(target.tables(), &empty);
     let t = second_of(target.tables(), &empty);
-    let table = table_of(alloc, &TargetRows::new(alloc, parts, s, t)?)?;
+    let table = source_under(alloc, parts, s, t)?;
     Ok(Side::one(alloc, table)?)
 }

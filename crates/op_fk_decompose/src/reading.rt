@@ -4,7 +4,7 @@ ghost use Rattle.op_law.specs.Calls.{tables_of};
 ghost use Rattle.foreign_keys.specs.Seeking.{seek as sought, goals_in};
 ghost use Rattle.foreign_keys.specs.Shared.{second_part_at};
 ghost use Rattle.op_fk_decompose.specs.Decompose.{first_again, leads, get_at};
-ghost use Rattle.op_fk_decompose.specs.Decompose.{get_first, get_second, decompose_read};
+ghost use Rattle.op_fk_decompose.specs.Decompose.{get_first, get_second, read_under, decompose_read};
 ghost use Rattle.op_fk_decompose.specs.Calls.{FindsLeads};
 
 use foreign_keys::{Leads, RowParts, goals_of, leads_to, part_of};
@@ -136,6 +136,49 @@ fn second_table<P: RowParts>(
     Ok(table)
 }
 
+/// T, where S was read.
+fn second_under<P: RowParts>(
+    alloc: Global,
+    parts: &P,
+    r: &Table,
+    s: &Table,
+    dangling: &Table,
+    kept: &Table,
+) -> Result<Table, Memory>
+    ensures { let made = get_second (P.parts parts.now) r.now.rows s.now.rows dangling.now.rows kept.now.rows in
+        IfOk result (λ table. table.rows ≡ made) }
+{
+    let live = LiveKeys { parts, dangling };
+    let goals = goals_of(alloc, &live, s)?;
+    let led = &leads_to(alloc, &live, s)?;
+    let it = Second {
+        parts,
+        r,
+        s,
+        dangling,
+        kept,
+        led,
+    };
+    second_table(alloc, &it, &goals)
+}
+
+/// The target of R and the tables that are kept beside.
+fn target_under<P: RowParts>(
+    alloc: Global,
+    parts: &P,
+    r: &Table,
+    keys: &Table,
+    dangling: &Table,
+    kept: &Table,
+) -> Result<Side, Memory>
+    ensures { let read = read_under (P.parts parts.now) r.now.rows keys.now.rows dangling.now.rows kept.now.rows in
+        IfOk result (λ side. side ≡ read) }
+{
+    let s = first_table(alloc, &First { parts, r, keys })?;
+    let t = second_under(alloc, parts, r, &s, dangling, kept)?;
+    Ok(Side::two(alloc, s, t)?)
+}
+
 /// The target of a source and what it keeps beside. It takes a fixed number of passes, and for each
 /// row comparisons in the logarithm of the rows.
 pub(crate) fn target_of<P: RowParts>(
@@ -152,21 +195,5 @@ pub(crate) fn target_of<P: RowParts>(
     let keys = first_of(aux.tables.as_slice(), &empty);
     let dangling = second_of(aux.tables.as_slice(), &empty);
     let kept = third_of(aux.tables.as_slice(), &empty);
-    let s = first_table(alloc, &First { parts, r, keys })?;
-    let live = LiveKeys { parts, dangling };
-    let goals = goals_of(alloc, &live, &s)?;
-    let led = leads_to(alloc, &live, &s)?;
-    let t = second_table(
-        alloc,
-        &Second {
-            parts,
-            r,
-            s: &s,
-            dangling,
-            kept,
-            led: &led,
-        },
-        &goals,
-    )?;
-    Ok(Side::two(alloc, s, t)?)
+    target_under(alloc, parts, r, keys, dangling, kept)
 }

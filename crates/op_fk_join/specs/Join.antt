@@ -160,24 +160,33 @@ module _ (k : FkParts) where
 abbrev pub join_target : FkParts → Tables → Tables
 join_target k st = join_table k (first_table st) (second_table st) ∷ []
 
+-- S and T from a new R: the values are drawn for first
+abbrev pub source_from : FkParts → Rows → Rows → Rows → ℕ → Mapped
+source_from k s t near n = record {
+  far = s_before k s t near n ∷ t_before k s t near n ∷ [];
+  memory = [];
+  next = n + length (join_drawn k s t near);
+}
+
 -- the source from a new target: the values are drawn for first
 abbrev pub join_backward : FkParts → Tables → PairState → ℕ → Mapped
-join_backward k near old n =
-    let s = first_table old.source in
-    let t = second_table old.source in
-    record {
-      far = s_before k s t (first_table near) n ∷ t_before k s t (first_table near) n ∷ [];
-      memory = [];
-      next = n + length (join_drawn k s t (first_table near));
-    }
+join_backward k near old n = source_from k (first_table old.source) (second_table old.source) (first_table near) n
+
+-- what is kept beside, of S, T and R
+abbrev pub aux_from : FkParts → Rows → Rows → Rows → Tables
+aux_from k s t r = join_refs k s r ∷ unjoined s r ∷ unreferred k s t ∷ []
 
 -- what a stored target keeps beside, of the source and the target
 abbrev pub join_aux : FkParts → Tables → Tables → Tables
-join_aux k st r = join_refs k (first_table st) (first_table r) ∷ unjoined (first_table st) (first_table r) ∷ unreferred k (first_table st) (second_table st) ∷ []
+join_aux k st r = aux_from k (first_table st) (second_table st) (first_table r)
+
+-- the source from R, the references that are kept beside, and the rows of S and of T that R lacks
+abbrev pub read_under : FkParts → Rows → Rows → Rows → Rows → Tables
+read_under k r keys others more = back_first k r keys others ∷ back_second k r keys more ∷ []
 
 -- the source from a target and what it keeps beside
 abbrev pub join_read : FkParts → Tables → Tables → Tables
-join_read k r aux = back_first k (first_table r) (first_table aux) (second_table aux) ∷ back_second k (first_table r) (first_table aux) (third_table aux) ∷ []
+join_read k r aux = read_under k (first_table r) (first_table aux) (second_table aux) (third_table aux)
 
 -- the operator: R has the joined rows, and nothing is remembered
 abbrev pub join_fk : (List Heading → List Heading → Type 0) → FkParts → Meaning

@@ -3,7 +3,7 @@ ghost use Rattle.std.specs.Prelude.{◌≡◌, IfOk};
 ghost use Rattle.op_law.specs.Calls.{tables_of};
 ghost use Rattle.foreign_keys.specs.References.{AreReferred};
 ghost use Rattle.op_fk_join.specs.Join.{key_here, join_refs, unjoined_here, unjoined};
-ghost use Rattle.op_fk_join.specs.Join.{unreferred_here, unreferred, join_aux};
+ghost use Rattle.op_fk_join.specs.Join.{unreferred_here, unreferred, aux_from, join_aux};
 
 use foreign_keys::{RowParts, referred_ids};
 use op_law::{Aux, Side, copy_of};
@@ -121,6 +121,24 @@ fn unreferred_table<P: RowParts>(
     Ok(table)
 }
 
+/// The three auxiliary tables, of S, T and R.
+fn aux_under<P: RowParts>(
+    alloc: Global,
+    parts: &P,
+    s: &Table,
+    t: &Table,
+    r: &Table,
+) -> Result<Aux, Memory>
+    ensures { let kept = aux_from (P.parts parts.now) s.now.rows t.now.rows r.now.rows in
+        IfOk result (λ aux. tables_of aux ≡ kept) }
+{
+    let mut tables = List::new(alloc);
+    tables.push(keys_table(alloc, parts, s, r)?)?;
+    tables.push(unjoined_table(alloc, s, r)?)?;
+    tables.push(unreferred_table(alloc, parts, s, t)?)?;
+    Ok(Aux { tables })
+}
+
 /// What the target keeps beside, of this source and this target. It goes over each table a fixed
 /// number of times, with comparisons in the logarithm of the rows for each row.
 pub(crate) fn aux_of<P: RowParts>(
@@ -136,9 +154,5 @@ pub(crate) fn aux_of<P: RowParts>(
     let s = first_of(source.tables(), &empty);
     let t = second_of(source.tables(), &empty);
     let r = first_of(target.tables(), &empty);
-    let mut tables = List::new(alloc);
-    tables.push(keys_table(alloc, parts, s, r)?)?;
-    tables.push(unjoined_table(alloc, s, r)?)?;
-    tables.push(unreferred_table(alloc, parts, s, t)?)?;
-    Ok(Aux { tables })
+    aux_under(alloc, parts, s, t, r)
 }

@@ -1,9 +1,9 @@
 //! JOIN ON FK: the source from a new target.
-ghost use Rattle.std.specs.Prelude.{◌≡◌, IfOk, Some};
+ghost use Rattle.std.specs.Prelude.{◌≡◌, ◌∷◌, [], IfOk, Some};
 ghost use Rattle.row_store.specs.Rows.{row_of};
 ghost use Rattle.op_law.specs.Calls.{seen, IsMapped};
 ghost use Rattle.op_fk_join.specs.Join.{joined_row, ref_join, left_in, join_first_in, join_first};
-ghost use Rattle.op_fk_join.specs.Join.{join_second_from, s_from, t_from, join_backward};
+ghost use Rattle.op_fk_join.specs.Join.{join_second_from, s_from, t_from, source_from, join_backward};
 ghost use Rattle.op_fk_join.specs.inner.Calls.{MayDraw};
 
 use crate::keys::kept_key;
@@ -142,8 +142,75 @@ fn second_table(alloc: Global, t: &Table, drawn: &Table) -> Result<Table, Memory
     Ok(table)
 }
 
-/// S and T from a new R. The values are drawn for first, from a copy of the counter, which is
-/// written back at the end. It goes over each table a fixed number of times, with comparisons in
+// S and T, from the old source, the new target, and the values that are drawn.
+fn far_of<P: RowParts>(
+    alloc: Global,
+    it: &NewFirst<'_, P>,
+    t: &Table,
+    drawn: &Table,
+) -> Result<Far, Memory>
+    requires { MayDraw it.now.next it.now.values.now }
+    ensures memory { IfOk result (λ far. far.memory.entries ≡ []) }
+    ensures side { let k = P.parts it.now.old.now.by in let old = it.now.old.now in
+        let new = s_from k old.s old.t it.now.next it.now.values.now it.now.near.now.rows in
+        IfOk result (λ far. far.side ≡ new ∷ t_from t.now.rows drawn.now.rows ∷ []) }
+{
+    let new = first_table(alloc, it)?;
+    let other = second_table(alloc, t, drawn)?;
+    Ok(Far {
+        side: Side::two(alloc, new, other)?,
+        memory: PairMemory::new(alloc),
+    })
+}
+
+// From the old source. The values are drawn for first, from a copy of the counter, which is written
+// back at the end.
+fn backward_from<P: RowParts>(
+    alloc: Global,
+    parts: &P,
+    old: &OldSource<'_, P>,
+    near: &Table,
+    t: &Table,
+    ids: &mut IdCounter,
+) -> Result<Far, Fault<IdsSpent>>
+    requires by { P.parts old.now.by ≡ P.parts parts.now }
+    requires second { old.now.t ≡ t.now.rows }
+    ensures { let mapped =
+        source_from (P.parts parts.now) old.now.s t.now.rows near.now.rows ids.old.next in
+        IsMapped mapped ids.old ids.new result }
+{
+    let values = &draw_values(alloc, parts, old, near)?;
+    let mut left = ids.copy();
+    let drawn = &number(alloc, values.values(), &mut left)?;
+    let next = ids.next();
+    let it = &NewFirst {
+        old,
+        near,
+        values,
+        next,
+    };
+    let far = far_of(alloc, it, t, drawn)?;
+    *ids = left;
+    Ok(far)
+}
+
+fn backward_over<P: RowParts>(
+    alloc: Global,
+    parts: &P,
+    near: &Table,
+    s: &Table,
+    t: &Table,
+    ids: &mut IdCounter,
+) -> Result<Far, Fault<IdsSpent>>
+    ensures { let mapped =
+        source_from (P.parts parts.now) s.now.rows t.now.rows near.now.rows ids.old.next in
+        IsMapped mapped ids.old ids.new result }
+{
+    let old = OldSource::new(alloc, parts, s, t)?;
+    backward_from(alloc, parts, &old, near, t, ids)
+}
+
+/// S and T from a new R. It goes over each table a fixed number of times, with comparisons in
 /// the logarithm of the rows for each value.
 pub(crate) fn backward<P: RowParts>(
     alloc: Global,
@@ -159,25 +226,5 @@ pub(crate) fn backward<P: RowParts>(
     let near = first_of(near.tables(), &empty);
     let s = first_of(old.source.tables(), &empty);
     let t = second_of(old.source.tables(), &empty);
-    let old = &OldSource::new(alloc, parts, s, t)?;
-    let values = &draw_values(alloc, parts, old, near)?;
-    let mut left = ids.copy();
-    let rows = number(alloc, values.values(), &mut left)?;
-    let next = ids.next();
-    let new = first_table(
-        alloc,
-        &NewFirst {
-            old,
-            near,
-            values,
-            next,
-        },
-    )?;
-    let other = second_table(alloc, t, &rows)?;
-    let far = Far {
-        side: Side::two(alloc, new, other)?,
-        memory: PairMemory::new(alloc),
-    };
-    *ids = left;
-    Ok(far)
+    backward_over(alloc, parts, near, s, t, ids)
 }

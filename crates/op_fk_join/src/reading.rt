@@ -4,7 +4,7 @@ ghost use Rattle.op_law.specs.Calls.{tables_of};
 ghost use Rattle.foreign_keys.specs.Seeking.{seek as sought, AreFirstLed};
 ghost use Rattle.foreign_keys.specs.Shared.{second_part_at};
 ghost use Rattle.op_fk_join.specs.Join.{key_leads, back_first_at, back_first};
-ghost use Rattle.op_fk_join.specs.Join.{back_second_at, back_second, join_read};
+ghost use Rattle.op_fk_join.specs.Join.{back_second_at, back_second, read_under, join_read};
 
 use foreign_keys::{Leads, RowParts, goal_at, goals_of, leads_to, part_of};
 use op_law::{Aux, Side};
@@ -121,6 +121,42 @@ fn second_table<P: RowParts>(alloc: Global, it: &Second<'_, P>) -> Result<Table,
     Ok(table)
 }
 
+/// The source of R and the tables that are kept beside.
+fn source_under<P: RowParts>(
+    alloc: Global,
+    parts: &P,
+    r: &Table,
+    keys: &Table,
+    others: &Table,
+    more: &Table,
+) -> Result<Side, Memory>
+    ensures { let k = P.parts parts.now in
+        let read = read_under k r.now.rows keys.now.rows others.now.rows more.now.rows in
+        IfOk result (λ side. side ≡ read) }
+{
+    let s = first_table(
+        alloc,
+        &First {
+            parts,
+            r,
+            keys,
+            others,
+        },
+    )?;
+    let led = &leads_to(alloc, &KeptKeys {}, keys)?;
+    let t = second_table(
+        alloc,
+        &Second {
+            parts,
+            r,
+            keys,
+            led,
+            others: more,
+        },
+    )?;
+    Ok(Side::two(alloc, s, t)?)
+}
+
 /// The source of a target and what it keeps beside. It goes over each table a fixed number of
 /// times, with comparisons in the logarithm of the rows for each row.
 pub(crate) fn source_of<P: RowParts>(
@@ -135,25 +171,7 @@ pub(crate) fn source_of<P: RowParts>(
     let empty = Table::new(alloc);
     let r = first_of(target.tables(), &empty);
     let keys = first_of(aux.tables.as_slice(), &empty);
-    let s = first_table(
-        alloc,
-        &First {
-            parts,
-            r,
-            keys,
-            others: second_of(aux.tables.as_slice(), &empty),
-        },
-    )?;
-    let led = &leads_to(alloc, &KeptKeys {}, keys)?;
-    let t = second_table(
-        alloc,
-        &Second {
-            parts,
-            r,
-            keys,
-            led,
-            others: third_of(aux.tables.as_slice(), &empty),
-        },
-    )?;
-    Ok(Side::two(alloc, s, t)?)
+    let others = second_of(aux.tables.as_slice(), &empty);
+    let more = third_of(aux.tables.as_slice(), &empty);
+    source_under(alloc, parts, r, keys, others, more)
 }

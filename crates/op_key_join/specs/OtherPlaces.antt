@@ -1,6 +1,6 @@
 -- The places of a row that a list leaves out: both lists together divide the row.
 use Rattle.std.proofs.Common.{◌≡◌, ℕ, zero, suc, ◌<◌, ◌==◌, List, [], ◌∷◌, ◌++◌, Bool, true, false, ◌||◌, if◌then◌else◌, refl, sym, ◌∙◌, ap, subst, arith}
-use Rattle.std.proofs.lemmas.Bool.{false≢true, eqb-true}
+use Rattle.std.proofs.lemmas.Bool.{false≢true, eqb-true, or_from, or_left, or_right}
 use Rattle.std.proofs.lemmas.Bool.Decides.{nat_tests}
 use Rattle.row_parts.specs.RowCells.{by_test}
 use Rattle.row_parts.specs.Places.{has_place, AreOnce}
@@ -16,26 +16,17 @@ has_either : (xs ys : List ℕ) (q : ℕ) → has_place (xs ++ ys) q ≡ (has_pl
 has_either [] ys q = refl
 has_either (x ∷ xs) ys q = by_test (x == q) (λ e. rw e refl) (λ e. rw e (has_either xs ys q))
 
-neither : (u v : Bool) → u ≡ false → v ≡ false → (u || v) ≡ false
-neither u v f g = grind arith
-
 -- no place stands twice in two lists that have none in common
 once_both : (xs ys : List ℕ) → AreOnce xs → AreOnce ys → ((q : ℕ) → has_place xs q ≡ true → has_place ys q ≡ false) → AreOnce (xs ++ ys)
 once_both [] ys once other apart = other
 once_both (x ∷ xs) ys once other apart =
     let own : (x == x) ≡ true = grind (arith, nat_tests) in (
-      has_either xs ys x ∙ neither (has_place xs x) (has_place ys x) once.0 (apart x (rw own refl)),
+      has_either xs ys x ∙ or_from (has_place xs x) (has_place ys x) once.0 (apart x (rw own refl)),
       once_both xs ys once.1 other (λ q h. apart q (by_test (x == q) (λ e. rw e refl) (λ e. rw e h))),
     )
 
 one_of : (u v : Bool) → (u || v) ≡ true → u ≡ false → v ≡ true
 one_of u v h e = grind arith
-
-or_first : (u v : Bool) → u ≡ true → (u || v) ≡ true
-or_first u v h = grind arith
-
-or_second : (u v : Bool) → v ≡ true → (u || v) ≡ true
-or_second u v h = grind arith
 
 module _ (places : List ℕ) where
   abbrev last : ℕ → List ℕ
@@ -80,10 +71,10 @@ module _ (places : List ℕ) where
       (λ e.
       let at = eqb-true q width e in
       let has : has_place (last width) q ≡ true = subst (λ (i : ℕ). has_place (last width) i ≡ true) (sym at) (last_has width (ap (has_place places) (sym at) ∙ unlisted)) in
-      or_second (has_place (others places width) q) (has_place (last width) q) has)
+      or_right (has_place (others places width) q) (has_place (last width) q) has)
       (λ e.
       let less : q < width = grind (arith, nat_tests, e, below) in
-      or_first (has_place (others places width) q) (has_place (last width) q) (others_have width q less unlisted))
+      or_left (has_place (others places width) q) (has_place (last width) q) (others_have width q less unlisted))
 
   -- each once
   pub others_once : (width : ℕ) → AreOnce (others places width)
@@ -111,5 +102,5 @@ module _ (places : List ℕ) where
       (λ q below.
       has_either places (others places width) q
       ∙ by_test (has_place places q)
-      (or_first (has_place places q) (has_place (others places width) q))
-      (λ out. or_second (has_place places q) (has_place (others places width) q) (others_have width q below out)))
+      (or_left (has_place places q) (has_place (others places width) q))
+      (λ out. or_right (has_place places q) (has_place (others places width) q) (others_have width q below out)))

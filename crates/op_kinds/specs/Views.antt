@@ -3,8 +3,8 @@ use Rattle.std.specs.Option.{option_map}
 use Rattle.expr_lang.specs.Terms.{expr_term}
 use Rattle.op_kinds.specs.Operators as «any»
 use Rattle.op_kinds.specs.Operators.{Built}
-use Rattle.op_kinds.specs.declared.any_op.BuiltOp.{BuiltOp}
-use Rattle.op_kinds.specs.declared.any_op.BuiltOp.TheVariants.{CreateTable, DropTable, Rename, AddColumn, AddTracked, DropColumn, Split, Merge, DecomposeSingle, DecomposePk, OuterJoinPk, JoinPk, DecomposeFk, OuterJoinFk, JoinFk, JoinOn, DecomposeOn}
+use Rattle.op_kinds.specs.declared.built_op.BuiltOp.{BuiltOp}
+use Rattle.op_kinds.specs.declared.built_op.BuiltOp.TheVariants.{CreateTable, DropTable, Rename, AddColumn, AddTracked, DropColumn, Split, Merge, DecomposeSingle, DecomposePk, OuterJoinPk, JoinPk, DecomposeFk, OuterJoinFk, JoinFk, JoinOn, DecomposeOn}
 
 -- a built operator, without where its expression lies in memory
 abbrev pub built_view : BuiltOp → Built

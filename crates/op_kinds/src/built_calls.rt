@@ -2,7 +2,7 @@
 ghost use Rattle.op_kinds.specs.Operators.{meaning_of, laws_of};
 ghost use Rattle.op_kinds.specs.Views.{built_view};
 
-use crate::any_op::BuiltOp;
+use crate::built_op::BuiltOp;
 use expr_lang::Steps;
 use id_memory::{IdCounter, PairMemory};
 use op_law::{Aux, Far, Operator, Pair, Side};

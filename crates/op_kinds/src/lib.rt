@@ -1,16 +1,14 @@
 //! The kinds of operators, as one type.
 //!
-//! It promises the crates above that an `AnyOp` is an `Operator` that means what `specs/Operators.antt`
-//! says of what was built, that it keeps the laws, and that it keeps the text that it was built from.
-//! It knows nothing of names of tables, of working sets, or of why an operator is refused.
+//! It promises the crates above that a `BuiltOp` is an `Operator` that means what `specs/Operators.antt`
+//! says of what was built. It knows nothing of the texts that build operators, of names of tables, of
+//! working sets, or of why an operator is refused.
 #![tactic(auto)]
 
-mod any_op;
 mod built_calls;
-mod copies;
+mod built_op;
 
-pub use any_op::{AnyOp, BuiltOp};
-pub use copies::copy_text;
+pub use built_op::BuiltOp;
 pub use op_cond_join::JoinOn;
 pub use op_fk_decompose::DecomposeFk;
 pub use op_fk_join::JoinFk;

@@ -2,14 +2,14 @@
 use Rattle.std.specs.Prelude.{nat_lt}
 use Rattle.std.proofs.Common.{◌≡◌, ℕ, ◌+◌, ◌<◌, ◌≤◌, ◌==◌, ◌⊎◌, List, [], ◌∷◌, Bool, true, false, cond, Option, Some, IsSome, refl, sym, ◌∙◌, arith, length}
 use Rattle.std.proofs.lemmas.Bool.Decides.{nat_tests}
-use Rattle.std.proofs.lemmas.Bool.{cases_order, false≢true}
+use Rattle.std.proofs.lemmas.Bool.{cases_order, false≢true, eqb-true, eq-eqb}
 use mathlib.Core.Logic.{inl, inr}
 use Rattle.par_base.specs.declared.value.Value.{Value}
 use Rattle.row_store.specs.Rows.{Rows, row_of}
 use Rattle.op_law.specs.Tables.{Tables}
 use Rattle.op_law.specs.Sound.{HasRow}
 use Rattle.op_law.specs.Identifiers.{put_id, ids_in, ids_over, has_id, IdsRise, NoneStandsTwice, AllWithRows}
-use Rattle.op_law.proofs.OnlyLaws.{by_test, is_same}
+use Rattle.op_law.proofs.OnlyLaws.{by_test}
 
 -- tests in either order
 cond_swap : (a b c : Bool) → cond a true (cond b true c) ≡ cond b true (cond a true c)
@@ -130,9 +130,6 @@ none_stands_twice tables = tables_rise tables [] tt
 pub all_with_rows : AllWithRows
 all_with_rows tables id = (λ listed. has_row tables id (has_over tables [] id listed), rows_listed tables [] id)
 
-eq_self : (n : ℕ) → (n == n) ≡ true
-eq_self n = grind (arith, nat_tests)
-
 -- no identifier stands before the least
 pub none_before : (n : ℕ) (xs : List ℕ) (id : ℕ) → IdsRise n xs → id < n → has_id xs id ≡ false
 none_before n [] id rise h = refl
@@ -144,17 +141,17 @@ none_before n (x ∷ xs) id rise h =
 pub no_more : (n k : ℕ) (xs ys : List ℕ) → IdsRise n xs → IdsRise k ys → ((id : ℕ) → has_id xs id ≡ true → has_id ys id ≡ true) → length xs ≤ length ys
 no_more n k [] ys rise_x rise_y within = omega arith
 no_more n k (x ∷ xs) [] rise_x rise_y within =
-    let own = eq_self x in
+    let own = eq-eqb x x refl in
     let no : false ≡ true = within x (rw own refl) in
     absurd (false≢true no)
 no_more n k (x ∷ xs) (y ∷ ys) rise_x rise_y within =
-    let own = eq_self x in
+    let own = eq-eqb x x refl in
     let here = within x (rw own refl) in
     elim (cases_order x y) [
       | inl e ↦
           let rest = no_more (x + 1) (y + 1) xs ys rise_x.1 rise_y.1 (λ id has.
           by_test (y == id)
-          (λ same. let low = none_before (x + 1) xs id rise_x.1 (omega (arith, is_same y id same)) in absurd (false≢true (sym low ∙ has)))
+          (λ same. let low = none_before (x + 1) xs id rise_x.1 (omega (arith, eqb-true y id same)) in absurd (false≢true (sym low ∙ has)))
           (λ other. let there = within id (either_passes (x == id) (has_id xs id) has) in rw other at there)) in
           omega (arith, rest)
       | inr (inl h) ↦
@@ -163,7 +160,7 @@ no_more n k (x ∷ xs) (y ∷ ys) rise_x rise_y within =
       | inr (inr h) ↦
           let rest = no_more n (y + 1) (x ∷ xs) ys rise_x rise_y.1 (λ id has.
           by_test (y == id)
-          (λ same. let low = none_before (y + 1) (x ∷ xs) id (omega arith, rise_x.1) (omega (arith, is_same y id same)) in absurd (false≢true (sym low ∙ has)))
+          (λ same. let low = none_before (y + 1) (x ∷ xs) id (omega arith, rise_x.1) (omega (arith, eqb-true y id same)) in absurd (false≢true (sym low ∙ has)))
           (λ other. let there = within id has in rw other at there)) in
           omega (arith, rest)
     ]

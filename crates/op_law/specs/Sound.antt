@@ -1,5 +1,6 @@
 -- What may stand in tables and memories while n is the next identifier.
-use Rattle.std.specs.Prelude.{ℕ, ◌<◌, ◌≤◌, ◌⊎◌, List, [], ◌∷◌, length, IsSome}
+use Rattle.std.specs.Prelude.{ℕ, ◌<◌, ◌≤◌, ◌⊎◌, List, [], ◌∷◌, length, IsSome, IsUtf8, FitsSigned}
+use Rattle.std.specs.Int.{w64}
 use Rattle.par_base.specs.declared.value.Value.{Value}
 use Rattle.par_base.specs.declared.value.Value.TheVariants.{Null, Int, Text, Reference}
 use Rattle.expr_lang.specs.Operations.{text_limit}
@@ -11,11 +12,11 @@ use Rattle.op_law.specs.Tables.{Tables}
 abbrev pub IsBelow : ℕ → ℕ → Type 0
 IsBelow n id = (1 ≤ id) × (id < n)
 
--- a reference is below n, and a text isn't too long
+-- an integer has 64 bits, a text is UTF-8 and not too long, and a reference is below n
 abbrev pub ValueSound : ℕ → Value → Type 0
 ValueSound n Null = Unit {0}
-ValueSound n (Int number) = Unit {0}
-ValueSound n (Text text) = length text ≤ text_limit
+ValueSound n (Int number) = FitsSigned w64 number
+ValueSound n (Text text) = (length text ≤ text_limit) × IsUtf8 text
 ValueSound n (Reference id) = IsBelow n id
 
 abbrev pub ValuesSound : ℕ → List Value → Type 0

@@ -16,6 +16,10 @@ pub record Heading : Type 0 where
   pub name : List ℕ
   pub columns : List (List ℕ)
 
+-- how many columns each table has
+abbrev pub widths : List Heading → List ℕ
+widths headings = map (λ heading. length heading.columns) headings
+
 -- each row has this many values
 abbrev pub RowsWide : ℕ → Rows → Type 0
 RowsWide width [] = Unit {0}

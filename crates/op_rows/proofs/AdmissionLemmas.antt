@@ -1,11 +1,12 @@
 -- What the rows of each identifier admit is what the tables admit.
-use Rattle.std.proofs.Common.{◌≡◌, ℕ, zero, suc, ◌+◌, ◌<◌, ◌==◌, List, [], ◌∷◌, Bool, true, false, cond, length, Option, Some, None, refl, ap, sym, ◌∙◌, subst, arith}
+use Rattle.std.proofs.Common.{◌≡◌, ℕ, zero, suc, ◌+◌, ◌==◌, List, [], ◌∷◌, Bool, true, false, cond, length, Option, Some, None, refl, ap, sym, ◌∙◌, subst, arith}
 use Rattle.std.proofs.lemmas.Bool.{false≢true}
 use Rattle.std.proofs.lemmas.Bool.Decides.{nat_tests}
 use Rattle.par_base.specs.declared.value.Value.{Value}
 use Rattle.id_memory.specs.Pairs.{Pairs}
 use Rattle.row_store.specs.Rows.{Rows, RiseFrom, row_of}
 use Rattle.row_store.specs.States.{TableState}
+use Rattle.row_store.specs.inner.FoundRows.{none_under}
 use Rattle.op_law.specs.Tables.{Tables, Heading, contents, RowsWide, AreTablesOf}
 use Rattle.op_law.specs.Identifiers.{ids_over}
 use Rattle.op_law.specs.Premises.{IsPair}
@@ -31,12 +32,6 @@ at_unlisted (suc k) ids f id out =
     ap (λ (c : Option (List Value)). c ∷ cells_at (tables_from k ids (λ id. other_cells (f id))) id) first
     ∙ ap (λ (cs : Cells). None ∷ cs) (at_unlisted k ids (λ id. other_cells (f id)) id out)
 
-none_below : (n : ℕ) (rows : Rows) (id : ℕ) → RiseFrom n rows → id < n → row_of rows id ≡ None
-none_below n [] id rise h = refl
-none_below n (r ∷ rs) id rise h =
-    let other : (r.0 == id) ≡ false = grind (arith, nat_tests, rise.0) in
-    rw other (none_below (r.0 + 1) rs id rise.1 (omega (arith, rise.0)))
-
 -- rows are as wide as what the table has at each identifier
 wide_by_cells : (w n : ℕ) (rows : Rows) → RiseFrom n rows → ((id : ℕ) → CellWide w (row_of rows id)) → RowsWide w rows
 wide_by_cells w n [] rise wide = tt
@@ -47,7 +42,7 @@ wide_by_cells w n (r ∷ rs) rise wide =
       wide_by_cells w (r.0 + 1) rs rise.1 (λ id.
           let M : Bool → Type 0 = λ b. (r.0 == id) ≡ b → CellWide w (cond b (Some r.1) (row_of rs id)) → CellWide w (row_of rs id) in
           let both : M (r.0 == id) = elim (r.0 == id) as (λ b. M b) [
-            | true ↦ λ e here. let none : row_of rs id ≡ None = none_below (r.0 + 1) rs id rise.1 (grind (arith, nat_tests)) in rw none tt
+            | true ↦ λ e here. let none : row_of rs id ≡ None = none_under (r.0 + 1) rs id rise.1 (grind (arith, nat_tests)) in rw none tt
             | false ↦ λ e here. here
           ] in
           both refl (wide id)),

@@ -1,12 +1,13 @@
 -- Tables that grow behind, identifier by identifier.
 use Rattle.std.proofs.Common.{◌≡◌, ℕ, zero, suc, ◌+◌, ◌<◌, ◌≤◌, ◌==◌, List, [], ◌∷◌, ◌++◌, Bool, true, false, if◌then◌else◌, length, take, drop, get_or, set, Option, Some, None, refl, ap, sym, ◌∙◌, subst, arith}
+use Rattle.std.proofs.lemmas.Bool.{eqb-true}
 use Rattle.par_base.specs.declared.value.Value.{Value}
 use Rattle.row_store.specs.Rows.{Rows, RiseFrom, AreBelow}
 use Rattle.row_store.specs.States.{TableState}
 use Rattle.op_law.specs.Tables.{Tables, contents}
 use Rattle.op_law.specs.Identifiers.{ids_in, ids_over}
 use Rattle.op_rows.specs.Cells.{Cells, cells_at, first_cell, other_cells, with_row, table_from, tables_from}
-use Rattle.op_rows.specs.inner.CellLemmas.{IdsRise, AllRise, has_id, is_same}
+use Rattle.op_rows.specs.inner.CellLemmas.{IdsRise, AllRise, has_id}
 use Rattle.op_rows.specs.RowMeaning.{RowMeaning}
 use Rattle.op_rows.specs.RowCalls.{AdmitsRows}
 use Rattle.op_rows.specs.inner.Passes.{AllBelow, without_rows, with_cells, read_at}
@@ -113,7 +114,7 @@ has_next [] i d id P h before next has = absurd (omega arith)
 has_next (x ∷ xs) zero d id P h before next has =
     let M : Bool → Type 0 = λ b. (x == id) ≡ b → (if b then true else false) ≡ true → P id in
     let both : M (x == id) = elim (x == id) as (λ b. M b) [
-      | true ↦ λ e h. subst P (is_same x id e) next
+      | true ↦ λ e h. subst P (eqb-true x id e) next
       | false ↦ λ e h. absurd (cc)
     ] in
     both refl has

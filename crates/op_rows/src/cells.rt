@@ -35,17 +35,17 @@ pub fn row_at(cells: &Cells, at: usize) -> Option<&Row>
 pub fn one_cell(alloc: Global, cell: Option<Row>) -> Result<Cells, Memory>
     ensures { IfOk result (λ cells. cells ≡ cell ∷ []) }
 {
-    let mut cells = List::with_room(alloc, 1)?;
+    let mut cells = Vec::with_capacity(alloc, 1)?;
     cells.push(cell)?;
-    Ok(cells)
+    Ok(List::from_vec(cells))
 }
 
 /// What a side with two tables has. It takes room for two rows.
 pub fn two_cells(alloc: Global, first: Option<Row>, second: Option<Row>) -> Result<Cells, Memory>
     ensures { IfOk result (λ cells. cells ≡ first ∷ second ∷ []) }
 {
-    let mut cells = List::with_room(alloc, 2)?;
+    let mut cells = Vec::with_capacity(alloc, 2)?;
     cells.push(first)?;
     cells.push(second)?;
-    Ok(cells)
+    Ok(List::from_vec(cells))
 }

@@ -1,12 +1,12 @@
 -- What the calls of SPLIT suppose, and which rows it admits.
 use Rattle.std.proofs.Common.{◌≡◌, ℕ, List, true, Option, Some, None, refl, sym, ◌∙◌, ap, subst}
 use Rattle.expr_lang.specs.Terms.{Term}
-use Rattle.op_law.specs.Tables.{Heading}
+use Rattle.op_law.specs.Tables.{Heading, widths}
 use Rattle.op_rows.specs.Cells.{Cells, nth_cell, CellWide, AreCellsOf}
 use Rattle.op_rows.specs.RowMeaning.{flip_row}
 use Rattle.op_rows.specs.RowCalls.{NearRows, SomeRows, MayRows, StoredRows, AdmitsRows}
 use Rattle.row_parts.specs.RowCells.{Cell}
-use Rattle.op_split_merge.specs.Sides.{widths, targets_of, source_wide, target_wide}
+use Rattle.op_split_merge.specs.Sides.{targets_of, source_wide, target_wide}
 use Rattle.op_split_merge.specs.Split.{reads_within, SplitFits, split_read_target, split_read_source, split}
 use Rattle.op_split_merge.specs.inner.SplitLaws.{source_of, target_of, split_laws}
 use Rattle.op_split_merge.specs.inner.Calls.{CanTest, CanTestBoth, TestsWithin, TargetBelongs, SourceBelongs}

@@ -1,14 +1,10 @@
 -- The sides of SPLIT at one identifier: one source, and one target or two.
-use Rattle.std.specs.Prelude.{◌≡◌, ℕ, List, [], ◌∷◌, length, map, Option, Some, None, refl}
+use Rattle.std.specs.Prelude.{◌≡◌, ℕ, List, [], ◌∷◌, length, Option, Some, None, refl}
 use Rattle.std.proofs.Common.{subst}
 use Rattle.expr_lang.specs.Terms.{Term}
-use Rattle.op_law.specs.Tables.{Heading}
+use Rattle.op_law.specs.Tables.{Heading, widths}
 use Rattle.op_rows.specs.Cells.{Cells, nth_cell, CellWide, AreCellsOf, CellSound, CellsSound}
 use Rattle.row_parts.specs.RowCells.{Cell}
-
--- how many columns each table has
-abbrev pub widths : List Heading → List ℕ
-widths headings = map (λ heading. length heading.columns) headings
 
 -- one for each target: without a second condition there is no second target
 abbrev pub targets_of : {A : Type 0} → Option (Term ℕ) → A → A → List A

@@ -2,12 +2,12 @@
 use Rattle.std.specs.Prelude.{◌≡◌, ℕ, List, [], ◌∷◌, Bool, true, false, length, Option, Some, None}
 use Rattle.expr_lang.specs.Terms.{Term}
 use Rattle.expr_lang.specs.Val.{holds_at, fits_row}
-use Rattle.op_law.specs.Tables.{Heading}
+use Rattle.op_law.specs.Tables.{Heading, widths}
 use Rattle.op_law.specs.SoundTerms.{TermSound}
 use Rattle.op_rows.specs.Cells.{Cells, nth_cell}
 use Rattle.op_rows.specs.RowMeaning.{RowMeaning}
 use Rattle.op_split_merge.specs.Twins.{Test, first_to, second_to, AreTwinsOf, rest_of, source_to}
-use Rattle.op_split_merge.specs.Sides.{widths, targets_of}
+use Rattle.op_split_merge.specs.Sides.{targets_of}
 use Rattle.op_split_merge.specs.Auxiliary.{split_aux, shown_by, second_by}
 
 -- which rows meet a condition; where there is none, no row does

@@ -1,65 +1,17 @@
 -- Look-ups in tables: what stands at an identifier is as the table is, and tables made over identifiers.
-use Rattle.std.proofs.Common.{◌≡◌, ℕ, ◌+◌, ◌<◌, ◌≤◌, ◌==◌, List, [], ◌∷◌, true, false, length, Some, None, refl, ap, sym, ◌∙◌, subst, arith}
-use Rattle.std.proofs.lemmas.Bool.Decides.{nat_tests}
-use Rattle.std.proofs.lemmas.Bool.{cases_lt}
+use Rattle.std.proofs.Common.{◌≡◌, ℕ, List, [], ◌∷◌, length, Some, None, refl, ap, sym, ◌∙◌, subst, arith}
+use Rattle.std.proofs.lemmas.Bool.{eqb-true}
 use mathlib.Core.Logic.{inl, inr}
 use Rattle.par_base.specs.declared.value.Value.{Value}
 use Rattle.row_store.specs.Rows.{Rows, RiseFrom, row_of}
 use Rattle.op_law.specs.Tables.{Tables, Heading, RowsWide, AreTablesOf}
-use Rattle.op_law.specs.Sound.{IsBelow, ValuesSound, RowsSound, TablesSound, HasRow}
+use Rattle.op_law.specs.Sound.{RowsSound, TablesSound, HasRow}
 use Rattle.op_law.specs.Identifiers.{ids_in, ids_over}
 use Rattle.op_rows.specs.Cells.{first_cell, other_cells, with_row, table_from, CellWide, CellSound}
-use Rattle.op_rows.specs.inner.CellLemmas.{is_same, has_id, none_at, rise_ids, IdsBelow, IdsRise, rise_put}
+use Rattle.op_rows.specs.inner.CellLemmas.{has_id, none_at, rise_ids, IdsBelow, IdsRise, rise_put}
 use Rattle.op_rows.specs.inner.Tabulated.{row_from, rise_from, all_below_from}
 use Rattle.row_parts.specs.RowCells.{Cell, by_test}
 use Rattle.op_tables.specs.SideTables.{first_table, second_table}
-
--- a number is itself
-pub eq_self : (n : ℕ) → (n == n) ≡ true
-eq_self n = grind (arith, nat_tests)
-
--- and no greater one
-pub eq_above : (a b : ℕ) → a < b → (a == b) ≡ false
-eq_above a b h = grind (arith, nat_tests)
-
--- nothing stands below the first identifier
-pub none_under : (n : ℕ) (rows : Rows) (id : ℕ) → RiseFrom n rows → id < n → row_of rows id ≡ None
-none_under n [] id rise h = refl
-none_under n (r ∷ rs) id rise h =
-    let other : (r.0 == id) ≡ false = grind (arith, nat_tests, rise.0) in
-    rw other (none_under (r.0 + 1) rs id rise.1 (omega (arith, rise.0)))
-
--- an identifier that a table has is not below the first
-pub from_at : (n : ℕ) (rows : Rows) (id : ℕ) (row : List Value) → RiseFrom n rows → row_of rows id ≡ Some row → n ≤ id
-from_at n rows id row rise at =
-    elim (cases_lt id n) [ inl h ↦ let none = none_under n rows id rise h in absurd (cc) | inr h ↦ h ]
-
--- the first row stands at its identifier
-pub own_row : (r : ℕ × List Value) (rs : Rows) → row_of (r ∷ rs) r.0 ≡ Some r.1
-own_row r rs = let own = eq_self r.0 in rw own refl
-
--- what stands in the rest stands in the whole
-pub later : (r : ℕ × List Value) (rs : Rows) (id : ℕ) (row : List Value) → RiseFrom (r.0 + 1) rs → row_of rs id ≡ Some row → row_of (r ∷ rs) id ≡ Some row
-later r rs id row rise at = let u = eq_above r.0 id (omega (arith, from_at (r.0 + 1) rs id row rise at)) in rw u at
-
--- a row of a table may stand where the table may
-pub sound_at : (n : ℕ) (rows : Rows) (id : ℕ) (row : List Value) → RowsSound n rows → row_of rows id ≡ Some row → IsBelow n id × ValuesSound n row
-sound_at n [] id row b at = absurd (cc)
-sound_at n (r ∷ rs) id row b at =
-    by_test (r.0 == id)
-    (λ e.
-    let some : Some r.1 ≡ Some row = rw e at at in
-    let v : r.1 ≡ row = cc in
-    (subst (λ (i : ℕ). IsBelow n i) (is_same r.0 id e) b.0.0, subst (λ (z : List Value). ValuesSound n z) v b.0.1))
-    (λ e. let at2 : row_of rs id ≡ Some row = rw e at at in sound_at n rs id row b.1 at2)
-
--- and has as many values as each row of the table
-pub wide_at : (w : ℕ) (rows : Rows) (id : ℕ) (row : List Value) → RowsWide w rows → row_of rows id ≡ Some row → length row ≡ w
-wide_at w [] id row b at = absurd (cc)
-wide_at w (r ∷ rs) id row b at =
-    by_test (r.0 == id)
-    (λ e. let some : Some r.1 ≡ Some row = rw e at at in let v : r.1 ≡ row = cc in subst (λ (z : List Value). length z ≡ w) v b.0)
-    (λ e. let at2 : row_of rs id ≡ Some row = rw e at at in wide_at w rs id row b.1 at2)
 
 -- a table over the identifiers of one, two or three others
 pub one_at : (rows : Rows) (f : ℕ → Cell) (p : ℕ) → (row_of rows p ≡ None → f p ≡ None) → row_of (table_from (ids_in rows []) f) p ≡ f p

@@ -1,9 +1,9 @@
 -- Whether rows have so many values each, as a test.
 use Rattle.std.proofs.Common.{◌≡◌, ℕ, ◌==◌, [], ◌∷◌, length, Bool, true, false, if◌then◌else◌, refl, arith}
 use Rattle.std.proofs.lemmas.Bool.Decides.{nat_tests}
+use Rattle.std.proofs.lemmas.Bool.{eqb-true}
 use Rattle.row_store.specs.Rows.{Rows}
 use Rattle.op_law.specs.Tables.{RowsWide}
-use Rattle.op_rows.specs.inner.CellLemmas.{is_same}
 use Rattle.row_parts.specs.RowCells.{by_test}
 
 -- each row has so many values
@@ -16,7 +16,7 @@ pub wide_are : (width : ℕ) (rows : Rows) → are_wide width rows ≡ true → 
 wide_are width [] h = tt
 wide_are width (r ∷ rs) h =
     by_test (length r.1 == width)
-    (λ e. let rest : are_wide width rs ≡ true = rw e at h in (is_same (length r.1) width e, wide_are width rs rest))
+    (λ e. let rest : are_wide width rs ≡ true = rw e at h in (eqb-true (length r.1) width e, wide_are width rs rest))
     (λ e. let bad : false ≡ true = rw e at h in absurd (cc))
 
 -- and what is so passes the test

@@ -1,6 +1,6 @@
 -- A local operator's auxiliary tables change by what stands at the touched identifiers alone.
 use Rattle.std.proofs.Common.{◌≡◌, ℕ, ◌+◌, ◌*◌, ◌≤◌, List, [], ◌∷◌, Bool, true, false, not, length, suc, refl, ap, sym, ◌∙◌, subst, arith}
-use Rattle.std.proofs.lemmas.Bool.{false≢true}
+use Rattle.std.proofs.lemmas.Bool.{false≢true, not-true}
 use mathlib.Core.Logic.{inl, inr}
 use Rattle.row_store.specs.Rows.{row_of}
 use Rattle.op_law.specs.Tables.{Tables}
@@ -13,7 +13,7 @@ use Rattle.op_law.specs.Calls.{StepsWithin}
 use Rattle.op_law.proofs.IdentifierLaws.{has_over}
 use Rattle.op_rows.specs.inner.CellLemmas.{has_id, rise_ids, IdsRise, AllRise}
 use Rattle.op_rows.specs.inner.Tabulated.{all_rise}
-use Rattle.op_law.proofs.OnlyLaws.{first_table, not_true, other_tables, row_in, same_rows}
+use Rattle.op_law.proofs.OnlyLaws.{first_table, other_tables, row_in, same_rows}
 use Rattle.operator_changes.specs.AuxCalls.{AuxWithin, MayChangePair, changed_pair, touched_both}
 use Rattle.row_changes.specs.Changed.{TableChanges, AreChangesOf, changed_tables}
 use Rattle.row_changes.specs.Differences.{AreDifferences}
@@ -106,7 +106,7 @@ module _ (m : Meaning) (laws : HalfLaws m) (here : HalfLocal m) (near far : Tabl
   -- elsewhere nothing is changed
   rest_is : only Q (m.aux_at_source new) ≡ only Q (m.aux_at_source p)
   rest_is =
-      let apart : (q : ℕ) → Q q ≡ true → P q ≡ false = λ q e. not_true (P q) e in
+      let apart : (q : ℕ) → Q q ≡ true → P q ≡ false = λ q e. not-true (P q) e in
       let a : only Q new.source ≡ only Q p.source = other_changes P Q p.source near source_rise near_pass apart in
       let b : only Q new.target ≡ only Q p.target = other_changes P Q p.target far target_rise far_pass apart in
       let same : pair_only Q new ≡ pair_only Q p = cc in

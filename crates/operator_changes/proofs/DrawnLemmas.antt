@@ -1,14 +1,14 @@
 -- Identifiers of a footprint with those that were drawn.
 use Rattle.std.specs.Prelude.{nat_lt, ◌||◌, ◌&&◌, ◌-◌}
-use Rattle.std.proofs.Common.{◌≡◌, ℕ, zero, suc, ◌+◌, ◌<◌, ◌≤◌, ◌==◌, ◌⊎◌, List, [], ◌∷◌, ◌++◌, Bool, true, false, not, length, take, get_or, refl, ap, sym, ◌∙◌, arith}
-use Rattle.std.proofs.lemmas.Bool.{cases_lt, false≢true}
+use Rattle.std.proofs.Common.{◌≡◌, ℕ, zero, suc, ◌+◌, ◌<◌, ◌≤◌, ◌==◌, List, [], ◌∷◌, ◌++◌, Bool, true, false, not, length, take, get_or, refl, ap, sym, ◌∙◌, arith}
+use Rattle.std.proofs.lemmas.Bool.{cases_lt, false≢true, eqb-true, or_cases, and_right, and_parts, or_right}
 use Rattle.std.proofs.lemmas.Bool.Decides.{nat_tests}
 use mathlib.Core.Logic.{inl, inr}
 use Rattle.row_store.specs.Rows.{Rows}
 use Rattle.op_law.specs.Local.{only, rows_only}
 use Rattle.op_law.specs.Sound.{RowsSound, TablesSound}
 use Rattle.op_law.specs.Tables.{Tables}
-use Rattle.op_rows.specs.inner.CellLemmas.{has_id, is_same, IdsRise}
+use Rattle.op_rows.specs.inner.CellLemmas.{has_id, IdsRise}
 use Rattle.op_law.proofs.OnlyLaws.{by_test}
 use Rattle.operator_changes.specs.Footprint.{drawn_from, ids_under, passes, with_drawn}
 
@@ -32,10 +32,6 @@ with_rise k n c (x ∷ xs) h rise =
           rw no (with_rise k n c xs h (ids_weaker k (x + 1) xs (omega (arith, rise.0)) rise.1))
     ]
 
-and_no : (a b : Bool) → b ≡ false → (a && b) ≡ false
-and_no true b e = e
-and_no false b e = refl
-
 or_no : (a : Bool) → a ≡ (a || not true)
 or_no true = refl
 or_no false = refl
@@ -50,17 +46,17 @@ has_under n (x ∷ xs) q =
     let rest = has_under n xs q in
     by_test (nat_lt x n)
     (λ a. by_test (x == q)
-    (λ e. let s : nat_lt q n ≡ true = sym (ap (λ (k : ℕ). nat_lt k n) (is_same x q e)) ∙ a in rw (a, e, s) refl)
+    (λ e. let s : nat_lt q n ≡ true = sym (ap (λ (k : ℕ). nat_lt k n) (eqb-true x q e)) ∙ a in rw (a, e, s) refl)
     (λ e. rw (a, e) rest))
     (λ a. by_test (x == q)
-    (λ e. let s : nat_lt q n ≡ false = sym (ap (λ (k : ℕ). nat_lt k n) (is_same x q e)) ∙ a in rw (a, e, s) (rest ∙ and_no (has_id xs q) (nat_lt q n) s))
+    (λ e. let s : nat_lt q n ≡ false = sym (ap (λ (k : ℕ). nat_lt k n) (eqb-true x q e)) ∙ a in rw (a, e, s) (rest ∙ and_right (has_id xs q) (nat_lt q n) s))
     (λ e. rw (a, e) rest))
 
 has_drawn : (n c q : ℕ) → q < n + c → has_id (drawn_from c n) q ≡ not (nat_lt q n)
 has_drawn n zero q h = let yes : nat_lt q n ≡ true = grind (arith, nat_tests) in rw yes refl
 has_drawn n (suc c) q h =
     by_test (n == q)
-    (λ e. let no : nat_lt q n ≡ false = grind (arith, nat_tests, is_same n q e) in rw (e, no) refl)
+    (λ e. let no : nat_lt q n ≡ false = grind (arith, nat_tests, eqb-true n q e) in rw (e, no) refl)
     (λ e.
     let rest = has_drawn (n + 1) c q (omega arith) in
     elim (cases_lt q n) [
@@ -154,28 +150,16 @@ drawn_least : (n c q : ℕ) → has_id (drawn_from c n) q ≡ true → n ≤ q
 drawn_least n zero q h = absurd (false≢true h)
 drawn_least n (suc c) q h =
     by_test (n == q)
-    (λ e. omega (arith, is_same n q e))
+    (λ e. omega (arith, eqb-true n q e))
     (λ e. let rest : has_id (drawn_from c (n + 1)) q ≡ true = rw e at h in omega (arith, drawn_least (n + 1) c q rest))
-
-or_parts : (a b : Bool) → (a || b) ≡ true → (a ≡ true) ⊎ (b ≡ true)
-or_parts true b e = inl refl
-or_parts false b e = inr e
-
-and_first : (a b : Bool) → (a && b) ≡ true → a ≡ true
-and_first true b e = refl
-and_first false b e = e
-
-or_yes : (a b : Bool) → b ≡ true → (a || b) ≡ true
-or_yes true b e = refl
-or_yes false b e = e
 
 -- these are of the footprint, or drawn
 pub with_passes : (ids : List ℕ) (n next q : ℕ) → has_id (with_drawn ids n next) q ≡ true → passes ids n q ≡ true
 with_passes ids n next q h =
-    elim (or_parts (has_id (ids_under n ids) q) (has_id (drawn_from (next - n) n) q) (sym (has_append (ids_under n ids) (drawn_from (next - n) n) q) ∙ h)) [
-      | inl under ↦ let own : has_id ids q ≡ true = and_first (has_id ids q) (nat_lt q n) (sym (has_under n ids q) ∙ under) in rw own refl
+    elim (or_cases (has_id (ids_under n ids) q) (has_id (drawn_from (next - n) n) q) (sym (has_append (ids_under n ids) (drawn_from (next - n) n) q) ∙ h)) [
+      | inl under ↦ let own : has_id ids q ≡ true = (and_parts (has_id ids q) (nat_lt q n) (sym (has_under n ids q) ∙ under)).0 in rw own refl
       | inr drawn ↦
           let low = drawn_least n (next - n) q drawn in
           let no : nat_lt q n ≡ false = grind (arith, nat_tests) in
-          or_yes (has_id ids q) (not (nat_lt q n)) (ap not no)
+          or_right (has_id ids q) (not (nat_lt q n)) (ap not no)
     ]

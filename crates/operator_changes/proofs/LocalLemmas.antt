@@ -1,5 +1,6 @@
 -- The identifiers that changes name are a footprint of them for a local operator.
 use Rattle.std.proofs.Common.{◌≡◌, ℕ, List, [], Bool, true, false, not, ap, sym, ◌∙◌, subst}
+use Rattle.std.proofs.lemmas.Bool.{not-true}
 use Rattle.op_law.specs.Tables.{Tables, Heading}
 use Rattle.op_law.specs.Local.{HalfLocal, only, pair_only}
 use Rattle.op_law.specs.Laws.{HalfLaws}
@@ -13,7 +14,6 @@ use Rattle.row_changes.specs.Changed.{TableChanges, changed_tables}
 use Rattle.operator_changes.specs.Footprint.{IsFootprint, passes}
 use Rattle.row_changes.specs.Touched.{EachPass, touched}
 use Rattle.operator_changes.proofs.FootLemmas.{each_more, has_passes}
-use Rattle.op_law.proofs.OnlyLaws.{not_true}
 use Rattle.operator_changes.proofs.PartLemmas.{tables_sound}
 use Rattle.row_changes.proofs.ChangedLaws.{other_changes}
 use Rattle.row_changes.proofs.TouchedLaws.{rise_over, touched_pass}
@@ -50,7 +50,7 @@ module _ (m : Meaning) (laws : HalfLaws m) (here : HalfLocal m) where
     rest_is : only Q (m.forward whole p n).far ≡ only Q p.target
     rest_is =
         let rise : AllRise p.source = all_rise may.hs p.source may.may.sound.pair.source_of in
-        let apart : (q : ℕ) → Q q ≡ true → P q ≡ false = λ q e. not_true (P q) e in
+        let apart : (q : ℕ) → Q q ≡ true → P q ≡ false = λ q e. not-true (P q) e in
         let same : only Q whole ≡ only Q p.source = other_changes P Q p.source near rise near_pass apart in
         let rest : MayMap m may.hs may.ht (only Q p.source) (pair_only Q p) n = subst (λ (ts : Tables). MayMap m may.hs may.ht ts (pair_only Q p) n) same (may_only Q may.hs may.ht whole p n may.may) in
         sym (here.forward Q may.hs may.ht whole p n may.may)

@@ -1,7 +1,7 @@
 -- All identifiers together are a footprint.
-use Rattle.std.specs.Prelude.{nat_lt, ◌||◌}
+use Rattle.std.specs.Prelude.{nat_lt}
 use Rattle.std.proofs.Common.{◌≡◌, ℕ, zero, suc, ◌≤◌, ◌==◌, List, [], ◌∷◌, Bool, true, false, not, length, Option, Some, None, IsSome, refl, ap, sym, ◌∙◌, subst, arith}
-use Rattle.std.proofs.lemmas.Bool.{false≢true}
+use Rattle.std.proofs.lemmas.Bool.{false≢true, eq-eqb, or_right}
 use Rattle.std.proofs.lemmas.Bool.Decides.{nat_tests}
 use mathlib.Core.Logic.{inl, inr}
 use Rattle.par_base.specs.declared.value.Value.{Value}
@@ -24,11 +24,8 @@ use Rattle.row_changes.specs.Touched.{touched_over}
 use Rattle.operator_changes.proofs.FootLemmas.{has_passes}
 use Rattle.row_changes.proofs.TouchedLaws.{each_pass, rise_over, stays_over}
 
-eq_self : (n : ℕ) → (n == n) ≡ true
-eq_self n = grind (arith, nat_tests)
-
 first_row : (r : ℕ × List Value) (rs : Rows) → IsSome (row_of (r ∷ rs) r.0)
-first_row r rs = let own = eq_self r.0 in rw own refl
+first_row r rs = let own = eq-eqb r.0 r.0 refl in rw own refl
 
 later_row : (r : ℕ × List Value) (rs : Rows) (id : ℕ) → IsSome (row_of rs id) → IsSome (row_of (r ∷ rs) id)
 later_row r rs id has = by_test (r.0 == id) (λ e. rw e refl) (λ e. rw e has)
@@ -83,12 +80,8 @@ listed ts ids id has = by_test (has_id (ids_over ts ids) id) (λ e. e) (λ e. ab
 stays : (ts : Tables) (ids : List ℕ) (id : ℕ) → has_id ids id ≡ true → has_id (ids_over ts ids) id ≡ true
 stays ts ids id has = by_test (has_id (ids_over ts ids) id) (λ e. e) (λ e. absurd (false≢true (sym (none_at ts ids id e).1 ∙ has)))
 
-or_true : (a b : Bool) → b ≡ true → (a || b) ≡ true
-or_true true b e = refl
-or_true false b e = e
-
 not_drawn : (ids : List ℕ) (n id : ℕ) → n ≤ id → passes ids n id ≡ true
-not_drawn ids n id h = let no : nat_lt id n ≡ false = grind (arith, nat_tests) in or_true (has_id ids id) (not (nat_lt id n)) (ap not no)
+not_drawn ids n id h = let no : nat_lt id n ≡ false = grind (arith, nat_tests) in or_right (has_id ids id) (not (nat_lt id n)) (ap not no)
 
 same_sides : (p : PairState) (s t : Tables) → s ≡ p.source → t ≡ p.target → record { source = s; target = t; memory = p.memory } ≡ p
 same_sides p s t a b = ap (λ (x : Tables). record { source = x; target = t; memory = p.memory }) a ∙ ap (λ (x : Tables). record { source = p.source; target = x; memory = p.memory }) b

@@ -2,6 +2,7 @@
 use Rattle.std.specs.Ordering.{is_eq, is_lt, ordering_reverse}
 use Rattle.std.proofs.Common.{◌≡◌, ◌⊎◌, List, [], ◌∷◌, ◌++◌, Bool, true, false, Option, Some, None, if◌then◌else◌, Ordering, Less, Equal, Greater, inl, inr, true≢false, refl, sym, ap, ◌∙◌, subst}
 use Rattle.std.proofs.lemmas.Cmp.{tied_itself}
+use Rattle.par_base.proofs.TestLaws.{swap_tests, twice}
 use Rattle.ordered_pages.specs.Orders.{Order, IsTotal}
 use Rattle.ordered_pages.specs.Entries.{AreBefore, AreBehind, Rise, entry_of, entries_from, PutsAt}
 
@@ -19,16 +20,6 @@ equal_or_greater : (r : Ordering) → is_lt r ≡ false → (r ≡ Equal) ⊎ (r
 equal_or_greater Less h = cc
 equal_or_greater Equal h = inl refl
 equal_or_greater Greater h = inr refl
-
-swap_tests : {A : Type 0} (a b : Bool) (x y z : A) → (a ≡ true → b ≡ false) → (if a then x else (if b then y else z)) ≡ (if b then y else (if a then x else z))
-swap_tests true true x y z h = let e = h refl in absurd (cc)
-swap_tests true false x y z h = refl
-swap_tests false true x y z h = refl
-swap_tests false false x y z h = refl
-
-twice : {A : Type 0} (a : Bool) (x y z : A) → (if a then x else z) ≡ (if a then x else (if a then y else z))
-twice true x y z = refl
-twice false x y z = refl
 
 none_at : {A : Type 0} (a : Bool) (z : Option A) (y : A) → (a ≡ true → z ≡ None) → z ≡ (if a then None else (if a then Some y else z))
 none_at true z y h = h refl

@@ -5,10 +5,11 @@ use Rattle.par_base.specs.declared.value.Value.{Value}
 use Rattle.expr_lang.specs.Terms.{Term}
 use Rattle.expr_lang.specs.Val.{val}
 use Rattle.row_store.specs.Rows.{Rows, RiseFrom, AreBelow}
+use Rattle.row_store.specs.inner.FoundRows.{rise_more}
 use Rattle.op_law.specs.Tables.{RowsWide}
 use Rattle.op_law.specs.Sound.{ValueSound, ValuesSound, RowsSound}
 use Rattle.op_law.specs.SoundTerms.{TermSound}
-use Rattle.op_law.proofs.SoundLaws.{values_more, rows_more}
+use Rattle.op_law.proofs.SoundLaws.{values_more, rows_more, below_sound}
 use Rattle.op_law.proofs.SoundTermLaws.{val_sound}
 use Rattle.ordinary_table.specs.Shown.{shown, meets}
 use Rattle.ordinary_table.specs.Written.{SetTerm, numbered, inserted, value_after, values_after, updated_row, updated, deleted}
@@ -20,10 +21,6 @@ pub all_behind : {X : Type 0} (P : X → Type 0) (x : X) (xs : List X) → All P
 all_behind P x xs all k d within = all (suc k) d (omega arith)
 
 -- ---- identifiers
-
-pub rise_more : (n m : ℕ) (rows : Rows) → n ≤ m → RiseFrom m rows → RiseFrom n rows
-rise_more n m [] h rise = tt
-rise_more n m (r ∷ rs) h rise = (omega (arith, rise.0), rise.1)
 
 rises_append : (n m : ℕ) (rows more : Rows) → n ≤ m → RiseFrom n rows → AreBelow rows m → RiseFrom m more → RiseFrom n (rows ++ more)
 rises_append n m [] more h rise below behind = rise_more n m more h behind
@@ -48,11 +45,6 @@ rises_cons n false r rs h rise = rise_more n (r.0 + 1) rs (omega arith) rise
 pub rises_deleted : (n : ℕ) (rows : Rows) (condition : Option (Term ℕ)) → RiseFrom n rows → RiseFrom n (deleted rows condition)
 rises_deleted n [] condition rise = tt
 rises_deleted n (r ∷ rs) condition rise = rises_cons n (not (meets condition r)) r (deleted rs condition) rise.0 (rises_deleted (r.0 + 1) rs condition rise.1)
-
--- identifiers that may stand are below the next one
-pub sound_below : (n : ℕ) (rows : Rows) → RowsSound n rows → AreBelow rows n
-sound_below n [] sound = tt
-sound_below n (r ∷ rs) sound = (sound.0.0.1, sound_below n rs sound.1)
 
 -- ---- widths
 
@@ -126,7 +118,7 @@ sound_deleted n (r ∷ rs) condition sound = sound_cons n (not (meets condition 
 
 pub insert_keeps : (width n : ℕ) (rows : Rows) (new : List (List Value)) → 1 ≤ n → IsTable width n rows → All (IsNewRow width n) new → IsTable width (n + length new) (inserted rows new n)
 insert_keeps width n rows new some table all = record {
-  rises = rises_inserted rows new n table.rises (sound_below n rows table.sound);
+  rises = rises_inserted rows new n table.rises (below_sound n rows table.sound);
   wide = wide_append width rows (numbered n new) table.wide (wide_numbered width n n new all);
   sound = sound_append (n + length new) rows (numbered n new) (rows_more n (n + length new) (omega arith) rows table.sound)
       (sound_numbered width n n (n + length new) new some (omega arith) (omega arith) all);

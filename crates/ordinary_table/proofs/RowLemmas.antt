@@ -48,10 +48,6 @@ below_at n (r ∷ rs) (suc i) d rise within = (omega (arith, least_at (r.0 + 1) 
 pub below_row : (rows : Rows) (i : ℕ) (r : ℕ × List Value) → IsRowAt rows i r → RiseFrom 0 rows → AreBelow (take i rows) r.0
 below_row rows i r at rise = subst (λ (q : ℕ × List Value). AreBelow (take i rows) q.0) (sym at.is) (below_at 0 rows i r rise at.within)
 
-pub below_more : (rows : Rows) (n m : ℕ) → n ≤ m → AreBelow rows n → AreBelow rows m
-below_more [] n m h below = tt
-below_more (r ∷ rs) n m h below = (omega (arith, below.0), below_more rs n m h below.1)
-
 pub below_numbered : (next : ℕ) (new : List (List Value)) (n : ℕ) → next + length new ≤ n → AreBelow (numbered next new) n
 unfolding numbered
 below_numbered next [] n h = tt

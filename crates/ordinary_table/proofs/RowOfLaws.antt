@@ -1,22 +1,17 @@
 -- What INSERT, UPDATE and DELETE leave at an identifier.
 use Rattle.std.specs.Prelude.{nat_lt, slice_get}
 use Rattle.std.specs.Option.{option_map, option_and_then}
-use Rattle.std.proofs.Common.{◌≡◌, ◌∙◌, ℕ, zero, suc, ◌+◌, ◌-◌, ◌<◌, ◌==◌, List, [], ◌∷◌, Bool, true, false, not, if◌then◌else◌, cond, Option, Some, None, refl, ap, arith}
+use Rattle.std.proofs.Common.{◌≡◌, ◌∙◌, ℕ, zero, suc, ◌+◌, ◌-◌, ◌==◌, List, [], ◌∷◌, Bool, true, false, not, if◌then◌else◌, cond, Option, Some, None, refl, ap, arith}
 use Rattle.std.proofs.lemmas.Bool.Decides.{nat_tests}
 use Rattle.std.proofs.lemmas.Bool.{cases_order}
 use mathlib.Core.Logic.{inl, inr}
 use Rattle.par_base.specs.declared.value.Value.{Value}
 use Rattle.expr_lang.specs.Terms.{Term}
 use Rattle.row_store.specs.Rows.{Rows, RiseFrom, AreBelow, row_of}
+use Rattle.row_store.specs.inner.FoundRows.{none_under}
 use Rattle.ordinary_table.specs.Shown.{meets}
 use Rattle.ordinary_table.specs.Written.{SetTerm, numbered, inserted, updated_row, updated, deleted}
 use Rattle.ordinary_table.proofs.KeptLaws.{rises_deleted}
-
-none_under : (n : ℕ) (rows : Rows) (id : ℕ) → RiseFrom n rows → id < n → row_of rows id ≡ None
-none_under n [] id rise h = refl
-none_under n (r ∷ rs) id rise h =
-    let other : (r.0 == id) ≡ false = grind (arith, nat_tests, rise.0) in
-    rw other (none_under (r.0 + 1) rs id rise.1 (omega (arith, rise.0)))
 
 row_of_numbered : (next : ℕ) (new : List (List Value)) (id : ℕ) → row_of (numbered next new) id ≡ (if nat_lt id next then None else slice_get new (id - next))
 unfolding numbered

@@ -3,7 +3,7 @@ use Rattle.std.specs.Option.{option_map, option_and_then}
 use Rattle.std.specs.List.{filter}
 use Rattle.std.proofs.Common.{◌≡◌, ◌∙◌, ℕ, suc, ◌+◌, ◌<◌, ◌≤◌, ◌==◌, List, [], ◌∷◌, ◌++◌, Bool, true, false, if◌then◌else◌, cond, map, length, take, get_or, Option, Some, None, refl, ap, sym, arith, append-nil, add-one}
 use Rattle.std.proofs.lemmas.Bool.Decides.{nat_tests}
-use Rattle.std.proofs.lemmas.Bool.{cases_order, cases_lt}
+use Rattle.std.proofs.lemmas.Bool.{cases_order, cases_lt, eq-eqb}
 use Rattle.std.proofs.lemmas.List.{length-map, map-append}
 use Rattle.std.proofs.lemmas.List.Sums.{length-filter}
 use mathlib.Core.Logic.{inl, inr}
@@ -12,7 +12,7 @@ use Rattle.expr_lang.specs.Terms.{Term}
 use Rattle.row_store.specs.declared.change.Change.{Change}
 use Rattle.row_store.specs.Rows.{Rows, RiseFrom, AreBelow, row_of}
 use Rattle.row_store.specs.Changes.{IsAbove, AreOld, after}
-use Rattle.row_store.specs.inner.SameTables.{eq_self, apart_below, none_under}
+use Rattle.row_store.specs.inner.FoundRows.{none_under, below_more, later, none_above}
 use Rattle.row_changes.specs.Changed.{changed}
 use Rattle.row_changes.proofs.ChangedLaws.{changed_is}
 use Rattle.ordinary_table.specs.Shown.{HasChosen, meets}
@@ -20,7 +20,7 @@ use Rattle.ordinary_table.specs.Written.{SetTerm, numbered, inserted, set_row, u
 use Rattle.ordinary_table.specs.inner.Told.{Renewal, set_to, gone, change_to, chosen_change, chosen_changes, added, added_changes}
 use Rattle.ordinary_table.proofs.KeptLaws.{rises_numbered, rises_inserted, rises_updated, rises_deleted}
 use Rattle.ordinary_table.proofs.RowOfLaws.{row_of_updated, row_of_deleted}
-use Rattle.ordinary_table.proofs.RowLemmas.{IsRowAt, below_more, below_numbered}
+use Rattle.ordinary_table.proofs.RowLemmas.{IsRowAt, below_numbered}
 use Rattle.ordinary_table.proofs.StepLemmas.{filter_row, numbered_suc}
 
 -- ---- one more change
@@ -155,22 +155,14 @@ old_cons : (whole : Rows) (now : Renewal) (b : Bool) (r : ℕ × List Value) (rs
 old_cons whole now true r rs is old = (is, old)
 old_cons whole now false r rs is old = old
 
--- a row of the others is one of the whole
-row_behind : (r : ℕ × List Value) (rs : Rows) (id : ℕ) (row : List Value) → RiseFrom (r.0 + 1) rs → row_of rs id ≡ Some row → row_of (r ∷ rs) id ≡ Some row
-row_behind r rs id row rise is =
-    elim (cases_lt r.0 id) [
-      | inl h ↦ let other = apart_below r.0 id h in rw other is
-      | inr h ↦ let none = none_under (r.0 + 1) rs id rise (omega arith) in absurd cc
-    ]
-
 old_among : (n : ℕ) (whole : Rows) (condition : Option (Term ℕ)) (now : Renewal) (rows : Rows) → RiseFrom n rows → ((id : ℕ) (row : List Value) → row_of rows id ≡ Some row → row_of whole id ≡ Some row)
     → AreOld whole (chosen_changes condition now rows)
 old_among n whole condition now [] rise in_whole = tt
 old_among n whole condition now (r ∷ rs) rise in_whole =
-    let own = eq_self r.0 in
+    let own = eq-eqb r.0 r.0 refl in
     let first : row_of (r ∷ rs) r.0 ≡ Some r.1 = rw own refl in
     old_cons whole now (meets condition r) r (filter (meets condition) rs) (sym (in_whole r.0 r.1 first))
-    (old_among (r.0 + 1) whole condition now rs rise.1 (λ id row is. in_whole id row (row_behind r rs id row rise.1 is)))
+    (old_among (r.0 + 1) whole condition now rs rise.1 (λ id row is. in_whole id row (later r rs id row rise.1 is)))
 
 -- each old row is the table's
 pub old_chosen : (condition : Option (Term ℕ)) (now : Renewal) (rows : Rows) → RiseFrom 0 rows → AreOld rows (chosen_changes condition now rows)
@@ -203,12 +195,6 @@ changed_deleted rows condition rise =
     }))
 
 -- ---- changes that add rows
-
-none_above : (rows : Rows) (n id : ℕ) → AreBelow rows n → n ≤ id → row_of rows id ≡ None
-none_above [] n id below h = refl
-none_above (r ∷ rs) n id below h =
-    let other = apart_below r.0 id (omega (arith, below.0)) in
-    rw other (none_above rs n id below.1 h)
 
 abbrev first_of : Option (List Value) → Option (List Value) → Option (List Value)
 first_of None later = later

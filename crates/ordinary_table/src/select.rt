@@ -30,11 +30,11 @@ fn listed_row(alloc: Global, row: &(u64, Row), places: &[usize]) -> Result<Row, 
     requires { All (λ place. place ≤ length row.now.1) places.now }
     ensures { IfOk result (λ made. made ≡ listed places.now row.now) }
 {
-    let mut made = List::with_room(alloc, places.len())?;
+    let mut made = Vec::with_capacity(alloc, places.len())?;
     for place in places {
         made.push(value_at(alloc, row, *place)?)?;
     }
-    Row::from_list(alloc, made)
+    Row::from_list(alloc, List::from_vec(made))
 }
 
 /// What the rows that meet the condition show at the places, by ascending identifier. Place 0 shows

@@ -1,10 +1,10 @@
-mod CountingLaws
+pub mod CountingLaws
 mod RenewedLaws
 mod AbsentLaws
 mod EntryLaws
 mod StillLaws
 pub mod ForwardLaws
-mod SubsetLaws
+pub mod SubsetLaws
 mod HalfLaws
 mod StepLaws
 mod ChoiceLaws

@@ -6,7 +6,8 @@
 //! new target, row by row; `specs/OuterOn.antt` is the operator. It promises that the operator keeps
 //! the laws, both ways. It knows nothing of tables in memory, names or versions.
 //!
-//! Lemmas that crates above may use stand in proofs/: `StartLaws`, `ForwardLaws` and `BackwardLaws`.
+//! Lemmas that crates above may use stand in proofs/: `CountingLaws`, `SubsetLaws`, `StartLaws`,
+//! `ForwardLaws` and `BackwardLaws`.
 #![tactic(auto)]
 
 mod laws;

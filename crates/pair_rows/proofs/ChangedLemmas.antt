@@ -1,14 +1,12 @@
 -- Rows that are as they were, and pairs with them.
 use Rattle.std.proofs.Common.{◌≡◌, ℕ, zero, suc, ◌+◌, ◌<◌, List, [], ◌∷◌, ◌++◌, length, take, filter, slice_index_or, true, false, ◌&&◌, not, Some, None, is_some, refl, ap, sym, ◌∙◌, arith}
-use Rattle.std.proofs.lemmas.Bool.{false≢true}
+use Rattle.std.proofs.lemmas.Bool.{false≢true, ne_eqb, eq-eqb}
 use Rattle.std.proofs.lemmas.List.{take_more}
 use Rattle.par_base.specs.declared.value.Value.{Value}
 use Rattle.row_store.specs.Rows.{Rows, RiseFrom, row_of}
 use Rattle.id_memory.specs.Pairs.{Pairs}
 use Rattle.row_parts.specs.RowCells.{Cell, by_test}
 use Rattle.par_base.specs.inner.SameLaws.{row_equal}
-use Rattle.pair_rows.specs.inner.Numbers.{is_own}
-use Rattle.pair_rows.specs.inner.Lookups.{apart}
 use Rattle.pair_rows.specs.Shown.{Joining, join_cells, row_at, holds_in, matches, has, is_shown, pairs_with}
 use Rattle.pair_rows.specs.inner.ShownLaws.{still_none}
 use Rattle.pair_rows.specs.inner.Changed.{as_before, changed_in, ids_of, pairs_of, AreRowsOf}
@@ -49,13 +47,13 @@ rows_of_more : (x : ℕ × List Value) (table rows : Rows) (k : ℕ) → x.0 < k
 rows_of_more x table [] k h rise all = tt
 rows_of_more x table (r ∷ rs) k h rise all =
     let low = rise.0 in
-    let other = apart x.0 r.0 (λ q. absurd (omega (arith, q, low, h))) in
+    let other = ne_eqb x.0 r.0 (λ q. absurd (omega (arith, q, low, h))) in
     (rw other all.0, rows_of_more x table rs (r.0 + 1) (omega (arith, h, low)) rise.1 all.1)
 
 -- all rows are
 pub rows_of : (k : ℕ) (rows : Rows) → RiseFrom k rows → AreRowsOf rows rows
 rows_of k [] rise = tt
-rows_of k (r ∷ rs) rise = (let own = is_own r.0 in rw own refl, rows_of_more r rs rs (r.0 + 1) (omega arith) rise.1 (rows_of (r.0 + 1) rs rise.1))
+rows_of k (r ∷ rs) rise = (let own = eq-eqb r.0 r.0 refl in rw own refl, rows_of_more r rs rs (r.0 + 1) (omega arith) rise.1 (rows_of (r.0 + 1) rs rise.1))
 
 -- each of such rows is found
 row_each : (table rows : Rows) (i : ℕ) (d : ℕ × List Value) → i < length rows → AreRowsOf table rows → row_of table (slice_index_or rows i d).0 ≡ Some (slice_index_or rows i d).1

@@ -6,11 +6,11 @@ use Rattle.par_base.specs.declared.fault.Fault.TheVariants.{Refused, Memory as O
 use Rattle.par_base.specs.declared.refusal.IdsSpent.{IdsSpent}
 use Rattle.par_base.specs.declared.value.Value.{Value}
 use Rattle.row_store.specs.Rows.{Rows, AreBelow, row_of}
+use Rattle.row_store.specs.inner.FoundRows.{below_more, below_push}
 use Rattle.id_memory.specs.Pairs.{Pairs, pair_of}
 use Rattle.id_memory.specs.States.{CounterState}
 use Rattle.op_law.specs.Calls.{first_refused}
 use Rattle.pair_rows.specs.inner.Draws.{WasRefused}
-use Rattle.pair_rows.specs.inner.Lookups.{below_behind, below_weaker}
 use Rattle.pair_rows.specs.Given.{unchanged, kept_entry, kept_in, Got, got}
 
 -- an entry in front of two lists
@@ -43,11 +43,11 @@ got_rises None rows x n = omega arith
 -- and so does what is below
 pub got_below : (choice : Option ℕ) (rows : Rows) (x : List Value) (n : ℕ) → AreBelow rows n → AreBelow (got choice rows x n).rows (got choice rows x n).next
 got_below (Some id) rows x n below = below
-got_below None rows x n below = below_behind rows n x below
+got_below None rows x n below = below_push rows n x below
 
 -- other rows are below a later number
 pub later_below : (rows : Rows) (n next : ℕ) (to : Got) → next ≡ to.next → n ≤ to.next → AreBelow rows n → AreBelow rows next
-later_below rows n next to is rises below = below_weaker rows n next (omega (arith, is, rises)) below
+later_below rows n next to is rises below = below_more rows n next (omega (arith, is, rises)) below
 
 -- the same of the rows that were found or drawn
 pub same_below : (rows : Rows) (next : ℕ) (to : Got) → rows ≡ to.rows → next ≡ to.next → AreBelow to.rows to.next → AreBelow rows next

@@ -1,6 +1,7 @@
 -- Passes over entries and pairs.
 use Rattle.std.proofs.Common.{◌≡◌, ℕ, zero, suc, ◌+◌, ◌<◌, ◌≤◌, ◌==◌, List, [], ◌∷◌, ◌++◌, length, filter, drop, take, slice_index_or, count_by, Bool, true, false, if◌then◌else◌, Option, Some, None, refl, ap, sym, ◌∙◌, subst, append_assoc, append-nil, length-take-le, take-append-drop, arith}
 use Rattle.std.proofs.lemmas.List.{take_more, drop_more}
+use Rattle.std.proofs.lemmas.Bool.{ne_eqb, eqb-true, eq-eqb}
 use Rattle.par_base.specs.declared.value.Value.{Value}
 use Rattle.row_store.specs.Rows.{Rows}
 use Rattle.id_memory.specs.Pairs.{Pairs, RiseFrom, pair_of, id_of, has_pair, IsOneToOne, IsWith}
@@ -8,8 +9,7 @@ use Rattle.id_memory.specs.Laws.{OneMemoryHasThem}
 use Rattle.id_memory.specs.States.{CounterState}
 use Rattle.op_law.specs.Calls.{first_refused}
 use Rattle.row_parts.specs.RowCells.{by_test}
-use Rattle.pair_rows.specs.inner.Numbers.{is_own, same_number}
-use Rattle.pair_rows.specs.inner.Lookups.{apart, filter_append}
+use Rattle.pair_rows.specs.inner.Lookups.{filter_append}
 use Rattle.pair_rows.specs.inner.PairLemmas.{count_append, count_yes, count_no, AllIn}
 use Rattle.pair_rows.specs.Shown.{has, pairs_with, all_pairs, numbered}
 use Rattle.pair_rows.specs.inner.Changed.{pairs_of}
@@ -74,7 +74,7 @@ none_pair_under : (n : ℕ) (es : Pairs) (p : ℕ) → RiseFrom n es → p < n �
 none_pair_under n [] p rise h = refl
 none_pair_under n (e ∷ es) p rise h =
     let low = rise.0 in
-    let other = apart e.0 p (λ q. absurd (omega (arith, q, low, h))) in
+    let other = ne_eqb e.0 p (λ q. absurd (omega (arith, q, low, h))) in
     rw other (none_pair_under (e.0 + 1) es p rise.1 (omega (arith, low, h)))
 
 -- an entry behind rising ones is above them
@@ -84,7 +84,7 @@ behind_all n (x ∷ xs) e fs rise =
     let rest = behind_all (x.0 + 1) xs e fs rise.1 in
     let low = rise.0 in
     let high = rest.0 in
-    let other = apart x.0 e.0 (λ q. absurd (omega (arith, q, high))) in
+    let other = ne_eqb x.0 e.0 (λ q. absurd (omega (arith, q, high))) in
     (omega (arith, low, high), rw other rest.1)
 
 -- a list in two at an entry
@@ -108,8 +108,8 @@ pub new_pair : (es : Pairs) (i : ℕ) → i < length es → IsOneToOne es → id
 new_pair es i h one =
     let e = slice_index_or es i (0, 0, 0) in
     let p = has_pair e.1 e.2 in
-    let first = is_own e.1 in
-    let second = is_own e.2 in
+    let first = eq-eqb e.1 e.1 refl in
+    let second = eq-eqb e.2 e.2 refl in
     let here : p e ≡ true = rw (first, second) refl in
     let all = ap (count_by p) (split_at es i h) in
     let parts = count_append p (take i es) (e ∷ drop (i + 1) es) in
@@ -133,8 +133,8 @@ pair_behind (x ∷ xs) e q none =
     let ih = pair_behind xs e q rest in
     by_test (x.0 == q)
     (λ u.
-    let same = same_number x.0 q u in
-    let other : (e.0 == q) ≡ false = apart e.0 q (λ v. let back : (x.0 == e.0) ≡ true = subst (λ (i : ℕ). (x.0 == i) ≡ true) (same ∙ sym v) (is_own x.0) in absurd (cc)) in
+    let same = eqb-true x.0 q u in
+    let other : (e.0 == q) ≡ false = ne_eqb e.0 q (λ v. let back : (x.0 == e.0) ≡ true = subst (λ (i : ℕ). (x.0 == i) ≡ true) (same ∙ sym v) (eq-eqb x.0 x.0 refl) in absurd (cc)) in
     rw (u, other) refl)
     (λ u. rw u ih)
 

@@ -1,17 +1,18 @@
 -- A row of one side that was found or drawn.
 use Rattle.std.proofs.Common.{true, subst, ◌≡◌, ℕ, ◌+◌, ◌<◌, ◌≤◌, ◌==◌, ◌⊎◌, List, [], ◌∷◌, length, Option, Some, None, IsSome, refl, ap, ◌∙◌, arith}
+use Rattle.std.proofs.lemmas.Bool.{eqb-true, eq-eqb}
 use mathlib.Core.Logic.{inl, inr}
 use Rattle.par_base.specs.declared.value.Value.{Value}
 use Rattle.row_store.specs.Rows.{Rows, RiseFrom, AreBelow, row_of}
+use Rattle.row_store.specs.inner.FoundRows.{later, below_push, rises_push}
 use Rattle.op_law.specs.Tables.{RowsWide}
 use Rattle.op_law.specs.Sound.{ValuesSound, RowsSound}
 use Rattle.op_law.proofs.SoundLaws.{rows_more, values_more}
 use Rattle.row_parts.specs.Places.{pick as part}
 use Rattle.row_parts.specs.RowCells.{Cell, by_test}
-use Rattle.pair_rows.specs.inner.Numbers.{same_number, is_own}
 use Rattle.par_base.specs.SameRows.{same_row}
 use Rattle.par_base.specs.inner.SameLaws.{row_equal}
-use Rattle.pair_rows.specs.inner.Lookups.{found_later, rises_behind, found_before, found_behind, behind_or, wide_behind, sound_behind, below_behind}
+use Rattle.pair_rows.specs.inner.Lookups.{found_before, found_behind, behind_or, wide_behind, sound_behind}
 use Rattle.pair_rows.specs.Given.{Got, got, least, own, or_id, side_got}
 
 -- the least row with some values has them
@@ -22,10 +23,10 @@ least_found n (r ∷ rs) x id rise is =
     (λ e.
     let some : Some r.0 ≡ Some id = rw e at is in
     let number : r.0 ≡ id = cc in
-    let here : (r.0 == id) ≡ true = let own = is_own r.0 in subst (λ (i : ℕ). (r.0 == i) ≡ true) number own in
+    let here : (r.0 == id) ≡ true = let own = eq-eqb r.0 r.0 refl in subst (λ (i : ℕ). (r.0 == i) ≡ true) number own in
     let values = row_equal r.1 x e in
     rw here (ap (λ (v : List Value). Some v) values))
-    (λ e. let later : least rs x ≡ Some id = rw e at is in found_later n r rs id x rise (least_found (r.0 + 1) rs x id rise.1 later))
+    (λ e. let rest : least rs x ≡ Some id = rw e at is in later r rs id x rise.1 (least_found (r.0 + 1) rs x id rise.1 rest))
 
 -- the row has these values, and the rows are as before, but for one that was drawn
 pub record IsGot (rows : Rows) (x : List Value) (n : ℕ) (g : Got) : Type 0 where
@@ -52,8 +53,8 @@ got_is (Some id) rows x n rise below found = record {
 }
 got_is None rows x n rise below found = record {
   next = omega arith;
-  rise = rises_behind 0 rows n x (omega arith) rise below;
-  below = below_behind rows n x below;
+  rise = rises_push 0 rows n x (omega arith) rise below;
+  below = below_push rows n x below;
   found = found_behind rows n x below;
   keeps = λ k row at. found_before rows ((n, x) ∷ []) k row at;
   drawn = λ k some. elim (behind_or rows k n x some) [ inl old ↦ inl old | inr new ↦ inr (omega (arith, new)) ];
@@ -66,7 +67,7 @@ pub under : (rows : Rows) (n id : ℕ) (row : List Value) → AreBelow rows n �
 under [] n id row below found = absurd (cc)
 under (r ∷ rs) n id row below found =
     by_test (r.0 == id)
-    (λ e. let same = same_number r.0 id e in let h = below.0 in omega (arith, same, h))
+    (λ e. let same = eqb-true r.0 id e in let h = below.0 in omega (arith, same, h))
     (λ e. let later : row_of rs id ≡ Some row = rw e at found in under rs n id row below.1 later)
 
 -- the old identifier has the old row's part

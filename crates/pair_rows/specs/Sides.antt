@@ -1,14 +1,10 @@
 -- The tables of a side, by their number, and what an operator is built for.
-use Rattle.std.specs.Prelude.{◌≡◌, ℕ, ◌+◌, List, [], ◌∷◌, length, map, slice_get, unwrap_or, true}
+use Rattle.std.specs.Prelude.{◌≡◌, ℕ, ◌+◌, List, [], ◌∷◌, length, slice_get, unwrap_or, true}
 use Rattle.expr_lang.specs.Val.{fits_row}
 use Rattle.row_store.specs.Rows.{Rows}
-use Rattle.op_law.specs.Tables.{Tables, Heading}
+use Rattle.op_law.specs.Tables.{Tables, Heading, widths}
 use Rattle.row_parts.specs.Places.{ArePartition}
 use Rattle.pair_rows.specs.Shown.{Joining}
-
--- how many columns each table has
-abbrev pub widths : List Heading → List ℕ
-widths headings = map (λ heading. length heading.columns) headings
 
 -- a table of a side, counted from 0; past the last there is an empty one
 abbrev pub table_at : ℕ → Tables → Rows

@@ -1,3 +1,4 @@
 pub mod LiteralLaws
 mod NameText
 mod SameLemmas
+pub mod TestLaws

@@ -5,8 +5,9 @@ ghost use Rattle.par_base.specs.Checked.{ran_out};
 
 use std::alloc::{AllocError, AllocFailed};
 
-/// Memory ran out. The error of a call that refuses nothing. It is made from the error of an
-/// allocation, or of a count of more things than memory holds; its field is private.
+/// Memory ran out. The error of a call that refuses nothing. Its field is private, and it is made
+/// here alone: from the error of an allocation by `from`, from the error of a crate of the kit by
+/// `meant_by`, and for a count of more things than memory holds by `add_counts`.
 #[derive(Clone, Copy, Debug, PartialEq, Eq, Drop)]
 pub struct Memory {
     passed: (),
@@ -16,6 +17,12 @@ impl Memory {
     /// Memory has run out, or would, as with more things than can be in memory.
     pub(crate) fn passed() -> Memory {
         Memory { passed: () }
+    }
+
+    /// Want of memory, where the error of a crate of the kit says so, or where the call that ended
+    /// with it can fail for nothing else. The caller says which of the two it is.
+    pub fn meant_by<E: Drop>(_error: E) -> Memory {
+        Memory::passed()
     }
 }
 

@@ -5,7 +5,7 @@
 //! no other, that a `Name` is always a name in lower case, and that values and rows are told the
 //! same exactly where they are equal. It knows nothing of statements, tables or versions.
 //!
-//! Lemmas that crates above may use stand in proofs/: `LiteralLaws`.
+//! Lemmas that crates above may use stand in proofs/: `LiteralLaws`, `TestLaws`.
 #![tactic(auto)]
 
 mod counts;

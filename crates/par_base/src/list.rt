@@ -1,5 +1,5 @@
 //! A `Vec` that contracts see as the list of its items.
-ghost use Rattle.std.specs.Prelude.{◌≡◌, [], ◌∷◌, ◌++◌, ◌<◌, ◌≤◌, ◌==◌, length, take, slice_get, insert, remove, MatchOption, IfOk, OnOk, OnErr, OnSome};
+ghost use Rattle.std.specs.Prelude.{◌≡◌, [], ◌∷◌, ◌++◌, ◌<◌, ◌≤◌, ◌==◌, length, take, slice_get, insert, remove, MatchOption, OnOk, OnErr, OnSome};
 ghost use Rattle.std.specs.Option.{option_copied, option_copied_mut};
 ghost use Rattle.std.specs.Borrow.{sem};
 
@@ -7,7 +7,9 @@ use crate::Memory;
 use std::alloc::Global;
 use std::marker::Model;
 
-/// A growable list. The methods mean what those of `Vec` mean.
+/// A growable list. The methods mean what those of `Vec` mean. Contracts see its items and not its
+/// room: what is made in room that is taken at once is made as a `Vec`, whose contracts tell its
+/// capacity, and becomes a list by `from_vec`.
 #[derive(Debug, Drop)]
 pub struct List<T> {
     items: Vec<T>,
@@ -34,14 +36,6 @@ impl<T> List<T> {
         List {
             items: Vec::new(alloc),
         }
-    }
-
-    /// The empty list, with memory taken at once for so many items.
-    pub fn with_room(alloc: Global, items: usize) -> Result<List<T>, Memory>
-        ensures { IfOk result (λ made. made ≡ []) }
-    {
-        let items = Vec::with_capacity(alloc, items)?;
-        Ok(List { items })
     }
 
     /// Where memory for further items is taken.

@@ -84,9 +84,9 @@ impl Row {
 fn copy_values(alloc: Global, values: &[Value]) -> Result<List<Value>, Memory>
     ensures { IfOk result (λ made. made ≡ values.now) }
 {
-    let mut made = List::with_room(alloc, values.len())?;
+    let mut made = Vec::with_capacity(alloc, values.len())?;
     for value in values {
         made.push(value.copy(alloc)?)?;
     }
-    Ok(made)
+    Ok(List::from_vec(made))
 }

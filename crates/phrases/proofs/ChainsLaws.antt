@@ -1,11 +1,12 @@
 -- item { op item }, within limits: for any operators, items and trees.
 use Rattle.std.proofs.Common.{◌≡◌, ◌++◌, ◌∷◌, [], ℕ, zero, suc, ◌+◌, ◌-◌, ◌≤◌, List, Bool, true, false, refl, ap, append_assoc, ◌∙◌, subst, inl, inr, arith}
 use Rattle.std.specs.Prelude.{Option, Some}
+use Rattle.std.proofs.lemmas.Bool.{or_parts}
 use Rattle.phrases.specs.Reading.{and_then, starts, is, is_some, none, or}
 use Rattle.phrases.specs.Phrases.{Nothing, Seq, Either, OneOf}
 use Rattle.phrases.specs.Reads.{Reads}
 use Rattle.phrases.specs.Chains.{Part, Item, Within, opens, Joined, Chain, Pair, joined, chain, pair}
-use Rattle.phrases.proofs.ReadersLaws.{then-reads, done-reads, unless-reads, either-reads, one-reads, respell, starts_left, starts_right, starts_none, or_left}
+use Rattle.phrases.proofs.ReadersLaws.{then-reads, done-reads, unless-reads, either-reads, one-reads, respell, starts_left, starts_right, starts_none}
 
 pub opens-append : {Tok : Type 0} (weight : Tok → ℕ) (us vs : List Tok) → opens weight (us ++ vs) ≡ opens weight us + opens weight vs
 opens-append weight [] vs = omega arith
@@ -128,7 +129,7 @@ module _ {Tok Op E : Type 0} (join : Op → E → E → E) (cost : E → ℕ) (w
   pub joined-reads : (n : ℕ) (a : E) (ops parens : ℕ) → Reads goes (JoinedIn n a ops parens) (joined join op item n a ops parens)
   unfolding joined
   joined-reads zero a ops parens = respell goes goes _ _ _ (done-reads goes (a, ops, parens)) (ends 0 a ops parens) (joined_zero a ops parens) (λ t h. h)
-  joined-reads (suc n) a zero parens = respell (is op) goes _ _ _ (unless-reads (is op) (a, 0, parens)) (ends (suc n) a 0 parens) (joined_none (suc n) a parens) (λ t h. or_left (is op t) (ci t) h)
+  joined-reads (suc n) a zero parens = respell (is op) goes _ _ _ (unless-reads (is op) (a, 0, parens)) (ends (suc n) a 0 parens) (joined_none (suc n) a parens) (λ t h. (or_parts (is op t) (ci t) h).0)
   joined-reads (suc n) a (suc ops) parens =
       respell goes goes _ _ _
       (either-reads goes (is op) (Further n a ops parens) (Nothing (a, suc ops, parens)) _ _

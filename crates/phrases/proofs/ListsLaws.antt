@@ -1,10 +1,11 @@
 -- Optional phrases, and lists with separators.
 use Rattle.std.proofs.Common.{◌≡◌, ◌++◌, ◌∷◌, [], List, Bool, true, false, ap, append_assoc, ◌∙◌}
 use Rattle.std.specs.Prelude.{Option, Some, None}
+use Rattle.std.proofs.lemmas.Bool.{or_parts}
 use Rattle.phrases.specs.Reading.{Read, starts, and_then, done, either, is, none, or, rest_at, behind_at, optional_at, separated_at, enclosed_at}
 use Rattle.phrases.specs.Phrases.{Nothing, Seq, Either, OneOf, Many, Behind, Optional, Separated, Enclosed}
 use Rattle.phrases.specs.Reads.{Reads}
-use Rattle.phrases.proofs.ReadersLaws.{then-reads, done-reads, either-reads, respell, word, begins_one, known, starts_left, or_right}
+use Rattle.phrases.proofs.ReadersLaws.{then-reads, done-reads, either-reads, respell, word, begins_one, known, starts_left}
 use Rattle.phrases.proofs.Manys.{many-reads, apart}
 
 -- a phrase with a value made of it
@@ -22,7 +23,7 @@ module _ {Tok A : Type 0} (c g : Tok → Bool) (S : List Tok → A → Type 0) (
 
   pub optional-reads : Reads (or g c) (Optional S) (optional_at g p)
   optional-reads = either-reads (or g c) g (Seq S λ a. Nothing (Some a)) (Nothing None) (and_then p λ a. done (Some a)) (done None)
-      (respell c (or g c) _ _ _ (made-reads c S p (λ a. Some a) r) (λ front a h. h) (λ front a h. h) (λ t h. or_right (g t) (c t) h))
+      (respell c (or g c) _ _ _ (made-reads c S p (λ a. Some a) r) (λ front a h. h) (λ front a h. h) (λ t h. (or_parts (g t) (c t) h).1))
       (done-reads (or g c) None)
       some_begins
       (λ front us o h clear. ap (λ (l : List Tok). starts g (l ++ us)) h.0 ∙ starts_left g c us clear)
@@ -64,7 +65,7 @@ module _ {Tok X A : Type 0} (c : Tok → Bool) (f : Tok → Option X) (sign : To
 
     list-reads : Reads goes (Either (Separated f S) (Nothing [])) (either g (separated_at f p) (done []))
     list-reads = either-reads goes g (Separated f S) (Nothing []) (separated_at f p) (done [])
-        (respell (or (is f) c) goes _ _ _ separated-reads (λ front a h. h) (λ front a h. h) (λ t h. or_right (g t) (or (is f) c t) h))
+        (respell (or (is f) c) goes _ _ _ separated-reads (λ front a h. h) (λ front a h. h) (λ t h. (or_parts (g t) (or (is f) c t) h).1))
         (done-reads goes [])
         list_begins
         (λ front us as' h clear. ap (λ (l : List Tok). starts g (l ++ us)) h.0 ∙ starts_left g (or (is f) c) us clear)

@@ -1,6 +1,7 @@
 -- Items that are known by their first token or by their first two.
 use Rattle.std.proofs.Common.{◌≡◌, ◌≢◌, ◌++◌, ◌∷◌, [], ℕ, zero, suc, take, ◌≤◌, List, Bool, true, false, Ok, Err, refl, ap, ◌∙◌, ◌<◌, ◌+◌, length, arith}
 use Rattle.std.specs.Prelude.{Some, not, ◌||◌, ◌&&◌}
+use Rattle.std.proofs.lemmas.Bool.{or_parts, or_left}
 use Rattle.phrases.specs.Reading.{Read, next, none, many_at, begins_item}
 use Rattle.phrases.specs.Phrases.{Many}
 use Rattle.phrases.specs.Reads.{Reads, ReadsLast}
@@ -17,9 +18,6 @@ pub record GoesOn {Tok A : Type 0} (item : List Tok → Read Tok A) (front : Lis
   pub answer : A × List Tok
   pub starts' : next more ≡ Some t
   pub whole : item (front ++ more) ≡ Ok answer
-
-either_true : (a b : Bool) → a ≡ true → (a || b) ≡ true
-either_true a b h = ap (λ (x : Bool). x || b) h
 
 both_true : (a b c : Bool) → b ≡ true → c ≡ true → (a || (b && c)) ≡ true
 both_true true true true h k = refl
@@ -62,8 +60,8 @@ module _ {Tok A : Type 0} (one two : Tok → Bool) (both : Tok → Tok → Bool)
   knows = begins_item one two both
 
   at_one : (ended : Bool) (t : Tok) (us : List Tok) → one t ≡ true → knows ended (t ∷ us) ≡ true
-  at_one ended t [] h = either_true (one t) (two t && not ended) h
-  at_one ended t (u ∷ us) h = either_true (one t) (two t && both t u) h
+  at_one ended t [] h = or_left (one t) (two t && not ended) h
+  at_one ended t (u ∷ us) h = or_left (one t) (two t && both t u) h
 
   knows_begun : (ended : Bool) (front us : List Tok) → Begun one two both front → knows ended (front ++ us) ≡ true
   knows_begun ended front us (by_one t vs e h) = ap (λ (l : List Tok). knows ended (l ++ us)) e ∙ at_one ended t (vs ++ us) h
@@ -122,13 +120,9 @@ stays_shown one two both ended (t ∷ []) [] h = shown_bool (one t) (two t) (not
 stays_shown one two both ended (t ∷ []) (u ∷ more) h = shown_bool (one t) (two t) (both t u) h
 stays_shown one two both ended (t ∷ u ∷ ts) more h = h
 
-first_false : (a b : Bool) → (a || b) ≡ false → a ≡ false
-first_false true b h = cc
-first_false false b h = refl
-
 first_shown : {Tok : Type 0} (one two : Tok → Bool) (both : Tok → Tok → Bool) (t : Tok) (ts : List Tok) → begins_item one two both true (t ∷ ts) ≡ false → one t ≡ false
-first_shown one two both t [] h = first_false (one t) (two t && false) h
-first_shown one two both t (u ∷ ts) h = first_false (one t) (two t && both t u) h
+first_shown one two both t [] h = (or_parts (one t) (two t && false) h).0
+first_shown one two both t (u ∷ ts) h = (or_parts (one t) (two t && both t u) h).0
 
 -- the first tokens show it as all of them do, where they are more than one token of `two`
 pub front_shown : {Tok : Type 0} (one two : Tok → Bool) (both : Tok → Tok → Bool) (ts more : List Tok) (n : ℕ) → 0 < n → n ≤ length ts

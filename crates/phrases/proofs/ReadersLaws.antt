@@ -1,6 +1,7 @@
 -- What every reader of a phrase keeps.
 use Rattle.std.proofs.Common.{◌≡◌, ◌++◌, ◌∷◌, [], List, Bool, true, false, Ok, Err, refl, ap, append_assoc, ◌∙◌, sym, cond, inl, inr}
-use Rattle.std.specs.Prelude.{Option, Some, None, ◌||◌}
+use Rattle.std.specs.Prelude.{Option, Some, None}
+use Rattle.std.proofs.lemmas.Bool.{or_parts}
 use Rattle.phrases.specs.Reading.{Read, ◌>>=◌, and_then, next, test, starts, taken, one_at, done, done_unless, either, is, is_some, none, or}
 use Rattle.phrases.specs.Phrases.{Nothing, Seq, Either, OneOf, Begins}
 use Rattle.phrases.specs.Reads.{Takes, Stops, Reads}
@@ -277,21 +278,13 @@ module _ {Tok A : Type 0} (c : Tok → Bool) (f : Tok → Option A) (t : Tok) (a
 
 -- ---- sets of tokens
 
-pub or_left : (a b : Bool) → (a || b) ≡ false → a ≡ false
-or_left true b h = cc
-or_left false b h = refl
-
-pub or_right : (a b : Bool) → (a || b) ≡ false → b ≡ false
-or_right true b h = cc
-or_right false b h = h
-
 pub starts_left : {Tok : Type 0} (f g : Tok → Bool) (us : List Tok) → starts (or f g) us ≡ false → starts f us ≡ false
 starts_left f g [] h = refl
-starts_left f g (t ∷ us) h = or_left (f t) (g t) h
+starts_left f g (t ∷ us) h = (or_parts (f t) (g t) h).0
 
 pub starts_right : {Tok : Type 0} (f g : Tok → Bool) (us : List Tok) → starts (or f g) us ≡ false → starts g us ≡ false
 starts_right f g [] h = refl
-starts_right f g (t ∷ us) h = or_right (f t) (g t) h
+starts_right f g (t ∷ us) h = (or_parts (f t) (g t) h).1
 
 pub starts_none : {Tok : Type 0} (us : List Tok) → starts none us ≡ false
 starts_none [] = refl

@@ -1,28 +1,25 @@
 -- Look-ups in tables after changes.
 use Rattle.std.specs.Prelude.{nat_lt}
-use Rattle.std.proofs.Common.{◌≡◌, ℕ, suc, length, ◌+◌, ◌<◌, ◌≤◌, ◌==◌, List, [], ◌∷◌, Bool, true, false, if◌then◌else◌, Option, Some, None, refl, ap, sym, ◌∙◌, arith}
+use Rattle.std.proofs.Common.{◌≡◌, ℕ, suc, length, ◌+◌, ◌≤◌, ◌==◌, List, [], ◌∷◌, Bool, true, false, if◌then◌else◌, Option, Some, None, refl, ap, sym, ◌∙◌, arith}
 use Rattle.std.proofs.lemmas.Bool.Decides.{nat_tests}
-use Rattle.std.proofs.lemmas.Bool.{cases_order}
+use Rattle.std.proofs.lemmas.Bool.{cases_order, eqb-true}
 use mathlib.Core.Logic.{inl, inr}
+use Rattle.par_base.proofs.TestLaws.{swap_tests}
 use Rattle.par_base.specs.declared.value.Value.{Value}
 use Rattle.row_store.specs.declared.change.Change.{Change}
 use Rattle.row_store.specs.Rows.{Rows, RiseFrom, row_of}
 use Rattle.row_store.specs.Changes.{AreOld, after, IsChanged}
+use Rattle.row_store.specs.inner.FoundRows.{rise_more, none_under}
 use Rattle.row_store.proofs.UndoLaws.{ext}
 use Rattle.op_law.specs.Local.{rows_only, only}
 use Rattle.op_rows.specs.Cells.{with_row}
-use Rattle.op_rows.specs.inner.CellLemmas.{is_same}
 use Rattle.op_law.proofs.OnlyLaws.{row_in, row_out, rise_only, by_test}
 use Rattle.op_law.specs.Tables.{Tables, AllRise}
 use Rattle.row_changes.specs.Changed.{put_row, changed, TableChanges, changed_tables, AreChangesOf}
 use Rattle.row_changes.specs.Touched.{AllPass, EachPass}
 
-less_rise : (n k : ℕ) (rows : Rows) → n ≤ k → RiseFrom k rows → RiseFrom n rows
-less_rise n k [] h rise = tt
-less_rise n k (r ∷ rs) h rise = (omega arith, rise.1)
-
 with_rise : (n id : ℕ) (new : Option (List Value)) (rows : Rows) → n ≤ id → RiseFrom (id + 1) rows → RiseFrom n (with_row id new rows)
-with_rise n id None rows h rise = less_rise n (id + 1) rows (omega arith) rise
+with_rise n id None rows h rise = rise_more n (id + 1) rows (omega arith) rise
 with_rise n id (Some row) rows h rise = (h, rise)
 
 pub put_rise : (n id : ℕ) (new : Option (List Value)) (rows : Rows) → n ≤ id → RiseFrom n rows → RiseFrom n (put_row id new rows)
@@ -32,7 +29,7 @@ put_rise n id new (r ∷ rs) h rise =
       | inl e ↦
           let no : nat_lt r.0 id ≡ false = grind (arith, nat_tests) in
           let same : (r.0 == id) ≡ true = grind (arith, nat_tests) in
-          rw (no, same) (with_rise n id new rs h (less_rise (id + 1) (r.0 + 1) rs (omega arith) rise.1))
+          rw (no, same) (with_rise n id new rs h (rise_more (id + 1) (r.0 + 1) rs (omega arith) rise.1))
       | inr (inl k) ↦
           let yes : nat_lt r.0 id ≡ true = grind (arith, nat_tests) in
           rw yes (rise.0, put_rise (r.0 + 1) id new rs (omega arith) rise.1)
@@ -42,21 +39,9 @@ put_rise n id new (r ∷ rs) h rise =
           rw (no, other) (with_rise n id new (r ∷ rs) h (omega arith, rise.1))
     ]
 
-none_below : (n : ℕ) (rows : Rows) (id : ℕ) → RiseFrom n rows → id < n → row_of rows id ≡ None
-none_below n [] id rise h = refl
-none_below n (r ∷ rs) id rise h =
-    let other : (r.0 == id) ≡ false = grind (arith, nat_tests, rise.0) in
-    rw other (none_below (r.0 + 1) rs id rise.1 (omega (arith, rise.0)))
-
 with_at : (id : ℕ) (new : Option (List Value)) (rows : Rows) (q : ℕ) → row_of rows id ≡ None → row_of (with_row id new rows) q ≡ (if id == q then new else row_of rows q)
-with_at id None rows q none = by_test (id == q) (λ e. rw e (ap (row_of rows) (sym (is_same id q e)) ∙ none)) (λ e. rw e refl)
+with_at id None rows q none = by_test (id == q) (λ e. rw e (ap (row_of rows) (sym (eqb-true id q e)) ∙ none)) (λ e. rw e refl)
 with_at id (Some row) rows q none = refl
-
-swap : {A : Type 0} (a b : Bool) (x y z : A) → (a ≡ true → b ≡ false) → (if a then x else (if b then y else z)) ≡ (if b then y else (if a then x else z))
-swap true true x y z h = let e = h refl in absurd (cc)
-swap true false x y z h = refl
-swap false true x y z h = refl
-swap false false x y z h = refl
 
 over : {A : Type 0} (a b : Bool) (x y z : A) → (a ≡ b) → (if b then y else z) ≡ (if b then y else (if a then x else z))
 over true true x y z e = refl
@@ -72,16 +57,16 @@ put_at n id new (r ∷ rs) q rise =
       | inl e ↦
           let no : nat_lt r.0 id ≡ false = grind (arith, nat_tests) in
           let same : (r.0 == id) ≡ true = grind (arith, nat_tests) in
-          let none = none_below (r.0 + 1) rs id rise.1 (omega arith) in
+          let none = none_under (r.0 + 1) rs id rise.1 (omega arith) in
           let equal : (r.0 == q) ≡ (id == q) = ap (λ (k : ℕ). k == q) e in
           rw (no, same) (with_at id new rs q none ∙ over (r.0 == q) (id == q) (Some r.1) new (row_of rs q) equal)
       | inr (inl k) ↦
           let yes : nat_lt r.0 id ≡ true = grind (arith, nat_tests) in
-          rw yes (rw (put_at (r.0 + 1) id new rs q rise.1) (swap (r.0 == q) (id == q) (Some r.1) new (row_of rs q) (λ e. grind (arith, nat_tests))))
+          rw yes (rw (put_at (r.0 + 1) id new rs q rise.1) (swap_tests (r.0 == q) (id == q) (Some r.1) new (row_of rs q) (λ e. grind (arith, nat_tests))))
       | inr (inr k) ↦
           let no : nat_lt r.0 id ≡ false = grind (arith, nat_tests) in
           let other : (r.0 == id) ≡ false = grind (arith, nat_tests) in
-          let none : row_of (r ∷ rs) id ≡ None = none_below (id + 1) (r ∷ rs) id (omega arith, rise.1) (omega arith) in
+          let none : row_of (r ∷ rs) id ≡ None = none_under (id + 1) (r ∷ rs) id (omega arith, rise.1) (omega arith) in
           rw (no, other) (with_at id new (r ∷ rs) q none)
     ]
 
@@ -106,7 +91,7 @@ pub after_other : (P : ℕ → Bool) (cs : List Change) (q : ℕ) (row : Option 
 after_other P [] q row pass h = refl
 after_other P (c ∷ cs) q row pass h =
     let rest = after_other P cs q row pass.1 h in
-    by_test (c.id == q) (λ e. let same = ap P (is_same c.id q e) in absurd (cc)) (λ e. rw e rest)
+    by_test (c.id == q) (λ e. let same = ap P (eqb-true c.id q e) in absurd (cc)) (λ e. rw e rest)
 
 -- a table restricted to identifiers that have all changes is changed in the same way
 pub only_changed : (P : ℕ → Bool) (rows : Rows) (cs : List Change) → RiseFrom 0 rows → AllPass P cs → rows_only P (changed rows cs) ≡ changed (rows_only P rows) cs

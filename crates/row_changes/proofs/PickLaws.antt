@@ -1,14 +1,13 @@
 -- Picked changes are exactly a difference.
 use Rattle.std.proofs.Common.{◌≡◌, ℕ, zero, suc, ◌+◌, ◌<◌, ◌≤◌, ◌==◌, List, [], ◌∷◌, ◌++◌, Bool, true, false, Option, take, get_or, length, refl, ap, sym, ◌∙◌, subst, arith}
-use Rattle.std.proofs.lemmas.Bool.{false≢true}
-use Rattle.std.proofs.lemmas.Bool.Decides.{nat_tests}
+use Rattle.std.proofs.lemmas.Bool.{false≢true, eq-eqb, eqb-true}
 use mathlib.Core.Logic.{inl, inr}
 use Rattle.par_base.specs.declared.value.Value.{Value}
 use Rattle.row_store.specs.declared.change.Change.{Change}
 use Rattle.row_store.specs.Rows.{Rows, RiseFrom, row_of}
 use Rattle.row_store.specs.Changes.{ChangesRise, IsAbove, AreOld, after}
 use Rattle.row_store.proofs.UndoLaws.{ext}
-use Rattle.op_rows.specs.inner.CellLemmas.{has_id, IdsRise, is_same, none_at, rise_ids}
+use Rattle.op_rows.specs.inner.CellLemmas.{has_id, IdsRise, none_at, rise_ids}
 use Rattle.op_law.proofs.OnlyLaws.{by_test}
 use Rattle.row_changes.specs.Changed.{changed}
 use Rattle.row_changes.specs.Differences.{AllDiffer, IsDifference}
@@ -80,11 +79,8 @@ picks_differ f g [] cs p = subst AllDiffer (sym p) tt
 picks_differ f g (x ∷ xs) cs (inl p) = picks_differ f g xs cs p.1
 picks_differ f g (x ∷ xs) cs (inr p) = subst AllDiffer (sym p.1.1) (p.0, picks_differ f g xs p.1.0 p.1.2)
 
-eq_self : (n : ℕ) → (n == n) ≡ true
-eq_self n = grind (arith, nat_tests)
-
 first_has : (x : ℕ) (xs : List ℕ) → has_id (x ∷ xs) x ≡ true
-first_has x xs = let own = eq_self x in rw own refl
+first_has x xs = let own = eq-eqb x x refl in rw own refl
 
 later_has : (x : ℕ) (xs : List ℕ) (id : ℕ) → has_id xs id ≡ true → has_id (x ∷ xs) id ≡ true
 later_has x xs id h = by_test (x == id) (λ e. rw e refl) (λ e. rw e h)
@@ -112,10 +108,10 @@ picks_out f g (x ∷ xs) cs q row p h =
     ])
 
 here_is : (x q : ℕ) (f g : Lookup) (rest : List Change) (row : Option (List Value)) → (x == q) ≡ true → after (change_between f g x ∷ rest) q row ≡ g q
-here_is x q f g rest row e = rw e (ap g (is_same x q e))
+here_is x q f g rest row e = rw e (ap g (eqb-true x q e))
 
 not_later : (x : ℕ) (xs : List ℕ) (q : ℕ) → IdsRise (x + 1) xs → (x == q) ≡ true → has_id xs q ≡ false
-not_later x xs q rise e = none_before (x + 1) xs q rise (omega (arith, is_same x q e))
+not_later x xs q rise e = none_before (x + 1) xs q rise (omega (arith, eqb-true x q e))
 
 -- an identifier that is among these gets what it is to have
 pub picks_in : (f g : Lookup) (n : ℕ) (ids : List ℕ) (cs : List Change) (q : ℕ) → IdsRise n ids → Picks f g ids cs → has_id ids q ≡ true → after cs q (f q) ≡ g q
@@ -123,7 +119,7 @@ picks_in f g n [] cs q rise p h = absurd (false≢true h)
 picks_in f g n (x ∷ xs) cs q rise p h =
     by_test (x == q)
     (λ e. elim p [
-      | inl same ↦ picks_out f g xs cs q (f q) same.1 (not_later x xs q rise.1 e) ∙ sym (ap f (is_same x q e)) ∙ same.0 ∙ ap g (is_same x q e)
+      | inl same ↦ picks_out f g xs cs q (f q) same.1 (not_later x xs q rise.1 e) ∙ sym (ap f (eqb-true x q e)) ∙ same.0 ∙ ap g (eqb-true x q e)
       | inr more ↦ ap (λ (l : List Change). after l q (f q)) more.1.1 ∙ here_is x q f g more.1.0 (f q) e
     ])
     (λ e.

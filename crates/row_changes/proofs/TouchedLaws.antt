@@ -1,6 +1,6 @@
 -- The identifiers that changes name.
 use Rattle.std.proofs.Common.{◌≡◌, ℕ, ◌==◌, List, [], ◌∷◌, Bool, true, false, cond, refl, ap, ◌∙◌, arith}
-use Rattle.std.proofs.lemmas.Bool.Decides.{nat_tests}
+use Rattle.std.proofs.lemmas.Bool.{eq-eqb}
 use Rattle.row_store.specs.declared.change.Change.{Change}
 use Rattle.op_rows.specs.inner.CellLemmas.{has_id, has_put, rise_put, IdsRise}
 use Rattle.row_changes.specs.Changed.{TableChanges}
@@ -27,13 +27,10 @@ pub stays_over : (changes : TableChanges) (ids : List ℕ) (id : ℕ) → has_id
 stays_over [] ids id h = h
 stays_over (c ∷ cs) ids id h = stays_over cs (touched_in c ids) id (stays_in c ids id h)
 
-eq_self : (n : ℕ) → (n == n) ≡ true
-eq_self n = grind (arith, nat_tests)
-
 own_pass : (all cs : List Change) (ids : List ℕ) (P : ℕ → Bool) → ((id : ℕ) → has_id (touched_in cs ids) id ≡ true → P id ≡ true) → AllPass P cs
 own_pass all [] ids P h = tt
 own_pass all (c ∷ cs) ids P h = (
-  h c.id (has_put c.id (touched_in cs ids) c.id ∙ ap (λ (b : Bool). cond b true (has_id (touched_in cs ids) c.id)) (eq_self c.id)),
+  h c.id (has_put c.id (touched_in cs ids) c.id ∙ ap (λ (b : Bool). cond b true (has_id (touched_in cs ids) c.id)) (eq-eqb c.id c.id refl)),
   own_pass all cs ids P (λ id e. h id (has_put c.id (touched_in cs ids) id ∙ true_or (c.id == id) (has_id (touched_in cs ids) id) e)),
 )
 

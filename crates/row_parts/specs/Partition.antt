@@ -1,8 +1,8 @@
 -- When two lists divide the places of a row: no place stands twice, each is below the width, and none is left out.
-use Rattle.std.proofs.Common.{◌≡◌, ℕ, zero, suc, ◌+◌, ◌<◌, ◌==◌, List, [], ◌∷◌, ◌++◌, length, Bool, true, false, ◌||◌, if◌then◌else◌, refl, ap, sym, ◌∙◌, subst, arith}
+use Rattle.std.proofs.Common.{◌≡◌, ℕ, zero, suc, ◌+◌, ◌<◌, ◌==◌, List, [], ◌∷◌, ◌++◌, length, true, false, ◌||◌, if◌then◌else◌, refl, ap, sym, ◌∙◌, subst, arith}
 use Rattle.std.proofs.lemmas.Bool.Decides.{nat_tests}
 use Rattle.std.proofs.lemmas.List.{length-append}
-use Rattle.std.proofs.lemmas.Bool.{eqb-true}
+use Rattle.std.proofs.lemmas.Bool.{eqb-true, or_parts, or_left, or_right}
 use Rattle.row_parts.specs.RowCells.{by_test}
 use Rattle.row_parts.specs.Places.{has_place, AreOnce, ArePartition}
 
@@ -82,19 +82,11 @@ has_append [] ys q = refl
 -- a place of both lists together stands in one of them
 has_append (x ∷ xs) ys q = by_test (x == q) (λ e. rw e refl) (λ e. rw e (has_append xs ys q))
 
--- where neither of two tests holds, the first does not
-or_left : (u v : Bool) → (u || v) ≡ false → u ≡ false
-or_left u v h = grind arith
-
--- nor does the second
-or_right : (u v : Bool) → (u || v) ≡ false → v ≡ false
-or_right u v h = grind arith
-
 -- where places of both lists stand once, so do those of the first
 left_once : (xs ys : List ℕ) → AreOnce (xs ++ ys) → AreOnce xs
 left_once [] ys once = tt
 -- where places of both lists stand once, so do those of the first
-left_once (x ∷ xs) ys once = (or_left (has_place xs x) (has_place ys x) (sym (has_append xs ys x) ∙ once.0), left_once xs ys once.1)
+left_once (x ∷ xs) ys once = ((or_parts (has_place xs x) (has_place ys x) (sym (has_append xs ys x) ∙ once.0)).0, left_once xs ys once.1)
 
 -- and those of the second
 right_once : (xs ys : List ℕ) → AreOnce (xs ++ ys) → AreOnce ys
@@ -108,16 +100,8 @@ apart_of [] ys once q h = absurd (cc)
 -- and none stands in both
 apart_of (x ∷ xs) ys once q h =
     by_test (x == q)
-    (λ e. subst (λ (i : ℕ). has_place ys i ≡ false) (eqb-true x q e) (or_right (has_place xs x) (has_place ys x) (sym (has_append xs ys x) ∙ once.0)))
+    (λ e. subst (λ (i : ℕ). has_place ys i ≡ false) (eqb-true x q e) ((or_parts (has_place xs x) (has_place ys x) (sym (has_append xs ys x) ∙ once.0)).1))
     (λ e. let rest : has_place xs q ≡ true = rw e at h in apart_of xs ys once.1 q rest)
-
--- one of two tests is enough
-in_left : (u v : Bool) → u ≡ true → (u || v) ≡ true
-in_left u v h = grind arith
-
--- and so is the other
-in_right : (u v : Bool) → v ≡ true → (u || v) ≡ true
-in_right u v h = grind arith
 
 -- two lists divide the places below a width
 pub record Divides (first second : List ℕ) (w : ℕ) : Type 0 where
@@ -134,8 +118,8 @@ divides first second w once within all =
         first_once = left_once first second once;
         second_once = right_once first second once;
         apart = apart_of first second once;
-        first_within = λ q h. let below = within q (has_append first second q ∙ in_left (has_place first q) (has_place second q) h) in omega (arith, below, wide);
-        second_within = λ q h. let below = within q (has_append first second q ∙ in_right (has_place first q) (has_place second q) h) in omega (arith, below, wide);
+        first_within = λ q h. let below = within q (has_append first second q ∙ or_left (has_place first q) (has_place second q) h) in omega (arith, below, wide);
+        second_within = λ q h. let below = within q (has_append first second q ∙ or_right (has_place first q) (has_place second q) h) in omega (arith, below, wide);
         all = λ q h. sym (has_append first second q) ∙ all q (omega (arith, h, wide));
       };
     }

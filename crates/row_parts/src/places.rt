@@ -22,22 +22,22 @@ pub fn value_at(alloc: Global, row: &Row, place: usize) -> Result<Value, Memory>
 pub fn pick(alloc: Global, places: &[usize], row: &Row) -> Result<Row, Memory>
     ensures { IfOk result (λ part. part ≡ picked places.now row.now) }
 {
-    let mut part = List::with_room(alloc, places.len())?;
+    let mut part = Vec::with_capacity(alloc, places.len())?;
     for place in places {
         part.push(value_at(alloc, row, *place)?)?;
     }
-    Row::from_list(alloc, part)
+    Row::from_list(alloc, List::from_vec(part))
 }
 
 /// So many nulls.
 pub fn nulls(alloc: Global, count: usize) -> Result<Row, Memory>
     ensures { IfOk result (λ row. row ≡ null_row count) }
 {
-    let mut row = List::with_room(alloc, count)?;
+    let mut row = Vec::with_capacity(alloc, count)?;
     for _ in 0..count {
         row.push(Value::Null)?;
     }
-    Row::from_list(alloc, row)
+    Row::from_list(alloc, List::from_vec(row))
 }
 
 /// The value of a place, where these values stand at these places.

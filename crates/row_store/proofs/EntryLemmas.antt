@@ -4,12 +4,12 @@ use Rattle.std.specs.Ordering.{is_eq, nat_cmp}
 use Rattle.std.proofs.Common.{◌≡◌, ℕ, ◌+◌, ◌==◌, List, [], ◌∷◌, Bool, true, false, Option, Some, None, if◌then◌else◌, Ordering, Less, Equal, Greater, refl, sym, ap, ◌∙◌, arith}
 use Rattle.std.proofs.lemmas.Bool.Decides.{nat_tests}
 use Rattle.std.proofs.lemmas.Cmp.{ranked}
+use Rattle.par_base.proofs.TestLaws.{apart_below, apart_above}
 use Rattle.par_base.specs.declared.value.Value.{Value}
 use Rattle.ordered_pages.specs.Entries.{AreBehind, Rise, entry_of, PutsAt as PutsEntry}
 use Rattle.row_store.specs.Rows.{Rows, RiseFrom, row_of}
 use Rattle.row_store.specs.inner.Entries.{id_order}
 use Rattle.row_store.specs.inner.Passes.{PutsAt}
-use Rattle.row_store.specs.inner.SameTables.{apart_above, apart_below}
 
 -- entries whose keys rise are rows whose identifiers rise
 behind_rises : (id : ℕ) (rows : Rows) → AreBehind id_order id rows → Rise id_order rows → RiseFrom (id + 1) rows

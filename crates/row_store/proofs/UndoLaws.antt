@@ -1,7 +1,10 @@
 -- Changes that were applied, and the two passes that undo them.
 use Rattle.std.specs.Prelude.{IsSome, is_none}
 use Rattle.std.proofs.Common.{◌≡◌, ℕ, zero, suc, ◌+◌, ◌<◌, ◌≤◌, ◌==◌, List, [], ◌∷◌, ◌++◌, Bool, true, false, length, get_or, Option, Some, None, if◌then◌else◌, refl, sym, ap, ◌∙◌, subst, arith}
+use Rattle.std.proofs.lemmas.Bool.{eq-eqb, eqb-true}
+use Rattle.std.proofs.Math.Bool.{and-false}
 use mathlib.Core.Logic.{inr}
+use Rattle.par_base.proofs.TestLaws.{apart_below, apart_above, swap_tests}
 use Rattle.par_base.specs.declared.value.Value.{Value}
 use Rattle.row_store.specs.declared.change.Change.{Change}
 use Rattle.row_store.specs.declared.exchange.Which.{Which}
@@ -9,10 +12,8 @@ use Rattle.row_store.specs.declared.exchange.Which.TheVariants.{All, Added, Othe
 use Rattle.row_store.specs.Rows.{Rows, RiseFrom, AreBelow, row_of}
 use Rattle.row_store.specs.Changes.{ChangesRise, AreOld, after, back_to, reverse_of, WasApplied}
 use Rattle.row_store.specs.inner.Passes.{is_in, after_in, exchanged, exchanged_one, HasRoom, PutsAt}
-use Rattle.row_store.specs.inner.SameTables.{apart_above, apart_below, eq_self}
+use Rattle.row_store.specs.inner.FoundRows.{rises_push}
 pub use Rattle.row_store.specs.inner.SameTables.{ext}
-use Rattle.row_store.proofs.PlaceLemmas.{swap_tests, rises_push}
-use Rattle.row_store.proofs.PassLemmas.{and_false, same_number}
 
 -- a pass over all changes is all that they say
 pub after_all : (cs : List Change) (id : ℕ) (row : Option (List Value)) → after_in All cs id row ≡ after cs id row
@@ -46,7 +47,7 @@ still_by : (before now : Rows) (c : Change) (cs : List Change) (id : ℕ) (t : B
     → after_in Others (exchanged Added now (reverse_of before cs)) id (row_of before id) ≡ row_of before id
     → after_in Others (exchanged Added now (reverse_of before (c ∷ cs))) id (row_of before id) ≡ row_of before id
 still_by before now c cs id true None e old rest = rw old rest
-still_by before now c cs id true (Some row) e old rest = rw (old, e) (ap (row_of before) (same_number c.id id e))
+still_by before now c cs id true (Some row) e old rest = rw (old, e) (ap (row_of before) (eqb-true c.id id e))
 still_by before now c cs id false None e old rest = rw old rest
 still_by before now c cs id false (Some row) e old rest = rw (old, e) rest
 
@@ -58,9 +59,9 @@ restored_by : (before now : Rows) (c : Change) (cs : List Change) (id : ℕ) (t 
     → after_in Others (exchanged Added now (reverse_of before cs)) id (after_in Added (reverse_of before cs) id (after cs id (row_of before id))) ≡ row_of before id
     → after_in Others (exchanged Added now (reverse_of before (c ∷ cs))) id (after_in Added (reverse_of before (c ∷ cs)) id (after (c ∷ cs) id (row_of before id))) ≡ row_of before id
 restored_by before now c cs id true None e old rest =
-    let same : row_of before c.id ≡ row_of before id = ap (row_of before) (same_number c.id id e) in
+    let same : row_of before c.id ≡ row_of before id = ap (row_of before) (eqb-true c.id id e) in
     rw (old, e) (ap (after_in Others (exchanged Added now (reverse_of before cs)) id) same ∙ still before now cs id)
-restored_by before now c cs id true (Some row) e old rest = rw (old, e) (ap (row_of before) (same_number c.id id e))
+restored_by before now c cs id true (Some row) e old rest = rw (old, e) (ap (row_of before) (eqb-true c.id id e))
 restored_by before now c cs id false None e old rest = rw (old, e) rest
 restored_by before now c cs id false (Some row) e old rest = rw (old, e) rest
 
@@ -74,9 +75,9 @@ kept_by : (before : Rows) (c : Change) (cs : List Change) (id : ℕ) (t : Bool) 
     → IsSome (after_in Added (reverse_of before (c ∷ cs)) id (after (c ∷ cs) id (row_of before id))) → IsSome (row_of before id)
 kept_by before c cs id true None e old fit rest some =
     let has : IsSome (row_of before c.id) = rw (old, e) at some in
-    subst (λ (k : ℕ). IsSome (row_of before k)) (same_number c.id id e) has
+    subst (λ (k : ℕ). IsSome (row_of before k)) (eqb-true c.id id e) has
 kept_by before c cs id true (Some row) e old fit rest some =
-    let is : row_of before id ≡ Some row = ap (row_of before) (sym (same_number c.id id e)) ∙ sym fit ∙ old in
+    let is : row_of before id ≡ Some row = ap (row_of before) (sym (eqb-true c.id id e)) ∙ sym fit ∙ old in
     rw is refl
 kept_by before c cs id false None e old fit rest some = rest (rw (old, e) at some)
 kept_by before c cs id false (Some row) e old fit rest some = rest (rw (old, e) at some)
@@ -101,7 +102,7 @@ none_later : (w : Which) (before : Rows) (n : ℕ) (cs : List Change) (id : ℕ)
 none_later w before n [] id row rise h = refl
 none_later w before n (c ∷ cs) id row rise h =
     let other = apart_above c.id id (omega (arith, rise.0)) in
-    let no = and_false (is_in w (back_to before c)) in
+    let no = and-false (is_in w (back_to before c)) in
     rw (other, no) (none_later w before (c.id + 1) cs id row rise.1 (omega (arith, rise.0)))
 
 renewed_one : (before now rows : Rows) (c : Change) (cs : List Change) (o : Option (List Value)) → c.old ≡ o → ChangesRise (c.id + 1) cs
@@ -123,12 +124,12 @@ pub renewed : (before now rows : Rows) (n : ℕ) (cs : List Change) → ChangesR
     → exchanged Others rows (exchanged Added now (reverse_of before cs)) ≡ cs
 renewed before now rows n [] rise was passed = refl
 renewed before now rows n (c ∷ cs) rise was passed =
-    let own = eq_self c.id in
+    let own = eq-eqb c.id c.id refl in
     let new : row_of now c.id ≡ c.new = rw own at (was c.id rise.0) in
     let head = renewed_one before now rows c cs c.old refl rise.1 new (passed c.id rise.0) in
     let tail = renewed before now rows (c.id + 1) cs rise.1
     (λ id h. let other = apart_below c.id id (omega arith) in rw other at (was id (omega (arith, rise.0))))
-    (λ id h. let other = apart_below c.id id (omega arith) in rw (other, and_false (is_none c.old)) at (passed id (omega (arith, rise.0)))) in
+    (λ id h. let other = apart_below c.id id (omega arith) in rw (other, and-false (is_none c.old)) at (passed id (omega (arith, rise.0)))) in
     cc
 
 -- the first pass of an undo needs no room
@@ -181,7 +182,7 @@ undone last rows now before cs left kept_left last_left was rise passed is rise_
 row_of_push : (rows : Rows) (id : ℕ) (row : List Value) (q : ℕ) → AreBelow rows id → row_of (rows ++ (id, row) ∷ []) q ≡ (if id == q then Some row else row_of rows q)
 row_of_push [] id row q below = refl
 row_of_push (r ∷ rs) id row q below =
-    rw (row_of_push rs id row q below.1) (swap_tests (r.0 == q) (id == q) (Some r.1) (Some row) (row_of rs q) (λ e. let same = same_number r.0 q e in apart_above id q (omega (arith, same, below.0))))
+    rw (row_of_push rs id row q below.1) (swap_tests (r.0 == q) (id == q) (Some r.1) (Some row) (row_of rs q) (λ e. let same = eqb-true r.0 q e in apart_above id q (omega (arith, same, below.0))))
 
 pub pushed : (rows now : Rows) (id : ℕ) (row : List Value) → RiseFrom 0 rows → AreBelow rows id → RiseFrom 0 now → PutsAt id (Some row) rows now → now ≡ rows ++ (id, row) ∷ []
 pushed rows now id row rise below rise_now puts =

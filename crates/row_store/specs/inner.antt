@@ -1,4 +1,5 @@
 pub mod Entries
+pub mod FoundRows
 pub mod Passes
 pub mod RowsLeft
 pub mod SameTables

@@ -3,6 +3,7 @@ use Rattle.std.specs.Prelude.{◌||◌, ⊤}
 use Rattle.std.specs.Str.{bytes_eq}
 use Rattle.std.proofs.Common.{◌≡◌, Bool, true, false, List, [], ◌∷◌, ◌++◌, Some, None, refl, sym, ◌∙◌}
 use Rattle.std.proofs.lemmas.Slice.Eq.{bytes_eq-Decides}
+use Rattle.std.proofs.lemmas.Bool.{or_parts}
 use Rattle.clap.specs.Walk.{Row, Text, has_row}
 use Rattle.run_words.specs.Words.{Given, value_of}
 use Rattle.run_words.proofs.ClapLemmas.{row}
@@ -11,10 +12,6 @@ use Rattle.run_words.proofs.ClapLemmas.{row}
 abbrev pub HaveNone : List Given → List Row → Type 0
 HaveNone [] rows = ⊤
 HaveNone (g ∷ gs) rows = (has_row g.name rows ≡ false) × HaveNone gs rows
-
-or_parts : (a b : Bool) → (a || b) ≡ false → (a ≡ false) × (b ≡ false)
-or_parts true b e = cc
-or_parts false b e = (refl, e)
 
 more_rows : (name : Text) (rows : List Row) (r : Row) → has_row name (rows ++ r ∷ []) ≡ (has_row name rows || bytes_eq r.id name)
 more_rows name [] r = go (bytes_eq r.id name)

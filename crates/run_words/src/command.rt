@@ -37,7 +37,7 @@ pub fn match_words<'a>(
     match options(alloc)?.try_get_matches_from(words) {
         Ok(matches) => Ok(matches),
         Err(error) if error.kind() == ErrorKind::OutOfMemory => {
-            Err(Fault::Memory(Memory::from(AllocError)))
+            Err(Fault::Memory(Memory::meant_by(error)))
         }
         Err(_) => Err(Fault::Refused(BadWords)),
     }

@@ -65,7 +65,7 @@ number_spelled : (n : ℕ) → n ≤ 3 → Spelled LiteralRule (Int (pos n))
 number_spelled n h = right_one _ _ _ (lone unsigned_of (number n) (Int (pos n)) (ap (λ (b : Bool). cond b (Some (Int (pos n))) None) (le-leb n (2 ^ 63 - 1) (omega (arith, h)))))
 
 -- one byte of ASCII
-byte_utf8 : (c : ℕ) → c < 128 → IsUtf8 (c ∷ [])
+pub byte_utf8 : (c : ℕ) → c < 128 → IsUtf8 (c ∷ [])
 byte_utf8 c h = IsUtf8-from_ascii (c ∷ []) is_ascii
   where
     is_ascii : (k : ℕ) → get_or (c ∷ []) k 0 < 128

@@ -13,6 +13,7 @@ use bidel_text::print_statement;
 use par_base::{Memory, Text};
 use statements::Statement;
 use std::alloc::Global;
+use std::mem;
 
 // The statement at a place.
 fn make(alloc: Global, place: Place) -> Result<Option<Statement>, Memory>
@@ -44,7 +45,11 @@ pub fn generated_text(alloc: Global, n: u32, k: u64) -> Result<Option<Text>, Mem
     ensures { IfOk result (λ found. found ≡ option_map statement_text (generated_statement n k)) }
 {
     match generated(alloc, n, k)? {
-        Some(statement) => Ok(Some(print_statement(alloc, &statement)?)),
+        Some(statement) => {
+            let text = print_statement(alloc, &statement);
+            mem::drop(statement);
+            Ok(Some(text?))
+        }
         None => Ok(None),
     }
 }

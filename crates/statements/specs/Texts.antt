@@ -1,17 +1,18 @@
--- The texts of statements: the text literals of rows and expressions, and the text of an IMPORT.
-use Rattle.std.specs.Prelude.{◌≤◌, ℕ, List, length, IfSome, ⊤}
+-- The values that statements spell: the literals of rows and expressions, and the text of an IMPORT.
+use Rattle.std.specs.Prelude.{◌≤◌, ℕ, List, length, IfSome, ⊤, IsUtf8, FitsSigned}
+use Rattle.std.specs.Int.{w64}
 use Rattle.std.specs.List.{All}
 use Rattle.par_base.specs.declared.value.Value.{Value}
 use Rattle.par_base.specs.declared.value.Value.TheVariants.{Null, Int, Text, Reference}
 use Rattle.expr_lang.specs.Terms.{Term, Literal, Column, Unary, Binary}
 use Rattle.statements.specs.Views.{KeyView, Primary, Foreign, Condition, BranchView, OpView, AddColumn, DropColumn, Decompose, Join, Split, Merge, AssignmentView, StatementView, CreateVersion, Insert, Import, Update, Delete, Select}
 
--- ---- P holds of each text ..
+-- ---- each integer has 64 bits, and P holds of each text ..
 
 -- of a value
 abbrev pub ValueTexts : (List ℕ → Type 0) → Value → Type 0
 ValueTexts P Null = ⊤
-ValueTexts P (Int number) = ⊤
+ValueTexts P (Int number) = FitsSigned w64 number
 ValueTexts P (Text bytes) = P bytes
 ValueTexts P (Reference id) = ⊤
 
@@ -62,6 +63,10 @@ StatementTexts P _ = ⊤
 
 -- ---- how long they are
 
--- each text of a statement has at most n bytes
+-- a text in UTF-8 of at most n bytes
+abbrev pub IsTextWithin : ℕ → List ℕ → Type 0
+IsTextWithin n bytes = (length bytes ≤ n) × IsUtf8 bytes
+
+-- each integer of a statement has 64 bits, and each text is UTF-8 of at most n bytes
 abbrev pub TextsWithin : ℕ → StatementView → Type 0
-TextsWithin n statement = StatementTexts (λ bytes. length bytes ≤ n) statement
+TextsWithin n statement = StatementTexts (IsTextWithin n) statement

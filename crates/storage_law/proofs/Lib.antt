@@ -1,4 +1,5 @@
 pub mod LinkLaws
+pub mod OrderLaws
 pub mod ReadLaws
 pub mod CanonicalLaws
 mod FlipLemmas

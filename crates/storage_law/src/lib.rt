@@ -8,8 +8,8 @@
 //! (`specs/Flips.antt`), and evolutions and drops move no data (`specs/Changes.antt`). The crate
 //! knows operators by their laws alone, and that the source of each is read back from its target.
 //!
-//! Lemmas that crates above may use stand in proofs/: `LinkLaws`, `ReadLaws`, `CanonicalLaws` and
-//! `DropLaws`.
+//! Lemmas that crates above may use stand in proofs/: `LinkLaws`, `OrderLaws`, `ReadLaws`,
+//! `CanonicalLaws` and `DropLaws`.
 #![tactic(auto)]
 
 mod laws;

@@ -2,7 +2,7 @@
 use mathlib.Core.List.{reverse}
 use Rattle.std.proofs.Common.{◌≡◌, ℕ, ◌-◌, ◌<◌, ◌≤◌, List, [], ◌∷◌, get_or, take, drop, Bool, true, false, cond, refl, sym, ap, ◌∙◌, subst, length, arith, inl, inr}
 use Rattle.std.specs.Prelude.{◌==◌, ◌&&◌}
-use Rattle.std.proofs.lemmas.Bool.{and_from, cond-false, cond-true, eq-eqb, eqb-true, ne_eqb}
+use Rattle.std.proofs.lemmas.Bool.{and_from, cond-false, cond-true, eq-eqb, eqb-true, ne_eqb, and_parts}
 use Rattle.version_graph.specs.Sets.{In, Each}
 use Rattle.version_graph.specs.Edges.{AreEdges, numbers, is_in}
 use Rattle.version_graph.specs.Finished.{HasBelow, are_needed, way}
@@ -12,14 +12,6 @@ use Rattle.version_graph.specs.declared.node.Node.{Node}
 use Rattle.version_graph.specs.declared.parts.Placed.{Placed}
 use Rattle.version_graph.proofs.SetLaws.{each_at, each_more, each_of, in_of_test, is_in_true}
 use Rattle.version_graph.proofs.ShedLemmas.{above, opened}
-
-first_holds : (a b : Bool) → (a && b) ≡ true → a ≡ true
-first_holds true b e = refl
-first_holds false b e = e
-
-second_holds : (a b : Bool) → (a && b) ≡ true → b ≡ true
-second_holds true b e = e
-second_holds false b e = cc
 
 module _ {O : Type 0} where
   -- a way begins at its own operator, and goes on from the parent
@@ -94,8 +86,8 @@ module _ {O : Type 0} where
   pub needed_below : (es : List (Placed O)) (sets : List ℕ) → AreEdges es → are_needed sets es ≡ true → Each (HasBelow es sets) (numbers es)
   needed_below [] sets edges e = tt
   needed_below (f ∷ es) sets edges e =
-      let kept = in_of_test f.number sets (first_holds (is_in f.number sets) (are_needed (f.parent ∷ sets) es) e) in
-      let more = needed_below es (f.parent ∷ sets) edges.1 (second_holds (is_in f.number sets) (are_needed (f.parent ∷ sets) es) e) in
+      let kept = in_of_test f.number sets ((and_parts (is_in f.number sets) (are_needed (f.parent ∷ sets) es) e).0) in
+      let more = needed_below es (f.parent ∷ sets) edges.1 ((and_parts (is_in f.number sets) (are_needed (f.parent ∷ sets) es) e).1) in
       (newest_below f es sets kept, each_more (HasBelow es (f.parent ∷ sets)) (HasBelow (f ∷ es) sets) (λ n h. from_parent f es sets n edges kept h) (numbers es) more)
 
   pub below_needed : (es : List (Placed O)) (sets : List ℕ) → AreEdges es → Each (HasBelow es sets) (numbers es) → are_needed sets es ≡ true

@@ -4,12 +4,12 @@ pub mod NodeLaws
 pub mod SetLaws
 pub mod TableLaws
 pub mod TakenLaws
+pub mod HeadingLaws
 pub mod GrowLaws
 pub mod EvolveLaws
 pub mod WalkStepLaws
 mod ShedLemmas
 pub mod StayLaws
-mod Example
 pub mod WalkLaws
 pub mod PlaceLaws
 mod FinishLemmas

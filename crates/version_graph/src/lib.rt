@@ -14,8 +14,8 @@
 //! It knows nothing of what an operator does: `O` is any type.
 //!
 //! Lemmas that crates above may use stand in proofs/: `NameLaws`, `NodeLaws`, `SetLaws`,
-//! `TableLaws`, `TakenLaws`, `GrowLaws`, `EvolveLaws`, `WalkStepLaws`, `StayLaws`, `WalkLaws`,
-//! `PlaceLaws`, `UnneededLaws`, `TreeLaws` and `BackLaws`.
+//! `TableLaws`, `TakenLaws`, `HeadingLaws`, `GrowLaws`, `EvolveLaws`, `WalkStepLaws`, `StayLaws`,
+//! `WalkLaws`, `PlaceLaws`, `UnneededLaws`, `TreeLaws` and `BackLaws`.
 #![tactic(auto)]
 
 mod build;

@@ -1,10 +1,10 @@
 -- A table has the same heading in each graph where it lives.
-use Rattle.std.proofs.Common.{◌≡◌, ℕ, List, [], ◌∷◌, true, false, refl, sym, ap, ◌∙◌, subst, map, length}
+use Rattle.std.proofs.Common.{◌≡◌, ℕ, List, [], ◌∷◌, true, false, inl, inr, refl, sym, ap, ◌∙◌, subst, map, length}
 use Rattle.std.specs.Prelude.{Option, Some}
 use Rattle.std.specs.Option.{option_map_or}
 use Rattle.row_store.specs.Rows.{Rows, RiseFrom}
 use Rattle.version_graph.specs.Sets.{In, Within}
-use Rattle.version_graph.specs.Tables.{TableVersion, table_numbers}
+use Rattle.version_graph.specs.Tables.{TableVersion, headings_of, table_numbers}
 use Rattle.version_graph.specs.Edges.{AreEdges, heading_of, is_in, made, made_by_edge}
 use Rattle.version_graph.specs.declared.parts.Heading.{Heading as TableHeading}
 use Rattle.version_graph.specs.declared.parts.Placed.{Placed}
@@ -52,3 +52,14 @@ module _ {O : Type 0} where
       rows = well.rows;
       memories = well.memories;
     }
+
+module _ {O : Type 0} (es : List (Placed O)) (edges : AreEdges es) where
+  -- tables by their numbers have the headings that they were made with
+  pub seen_as : (set : List TableVersion) → Within set (made es) → map (headings es) (table_numbers set) ≡ map as_seen (headings_of set)
+  seen_as [] within = refl
+  seen_as (v ∷ set) within =
+      let none : Heading = record { name = []; columns = [] } in
+      let first : headings es v.number ≡ as_seen v.heading =
+      ap (λ (o : Option TableHeading). option_map_or as_seen o none) (heading_known es edges v (within v (inl refl))) in
+      let rest = seen_as set (λ u i. within u (inr i)) in
+      ap (λ (h : Heading). h ∷ map (headings es) (table_numbers set)) first ∙ ap (λ (hs : List Heading). as_seen v.heading ∷ hs) rest

@@ -3,10 +3,10 @@ use Rattle.std.specs.Prelude.{nat_lt}
 use Rattle.std.specs.List.{find, position, position_or_len}
 use Rattle.std.proofs.Common.{◌≡◌, if◌then◌else◌, ℕ, zero, suc, ◌+◌, ◌==◌, List, [], ◌∷◌, ◌++◌, Bool, true, false, not, cond, length, map, Option, Some, None, option_map, slice_index_or, slice_set, refl, ap, sym, ◌∙◌, arith}
 use Rattle.std.proofs.lemmas.Bool.Decides.{nat_tests}
-use Rattle.std.proofs.lemmas.Bool.{eqb-true, eqb-false, false≢true}
+use Rattle.std.proofs.lemmas.Bool.{eqb-true, eqb-false, false≢true, eq-eqb}
 use Rattle.version_model.specs.Kept.{value_of, latest_of, renewed}
 use mathlib.Core.List.{reverse}
-use Rattle.std.proofs.lemmas.List.{reverse-append}
+use Rattle.std.proofs.lemmas.List.{reverse-append, set-get_or}
 use Rattle.version_model.specs.declared.numbered.Numbered.{Numbered}
 
 less : (a b : ℕ) → nat_lt (suc a) (suc b) ≡ true → nat_lt a b ≡ true
@@ -176,3 +176,13 @@ pub numbers_set : {T : Type 0} (items : List (Numbered T)) (at : ℕ) (value : T
 numbers_set [] at value d = refl
 numbers_set (x ∷ xs) zero value d = refl
 numbers_set {T} (x ∷ xs) (suc at) value d = ap (λ (l : List ℕ). x.number ∷ l) (numbers_set xs at value d)
+
+module _ {T : Type 0} where
+  -- what stands at a place is the value under its number
+  pub value_here : (items : List (Numbered T)) (k at : ℕ) (d : Numbered T) → position (λ (i : Numbered T). k == i.number) items ≡ Some at → value_of items k ≡ Some (slice_index_or items at d).value
+  value_here items k at d found =
+      let x : Numbered T = slice_index_or items at d in
+      let same : slice_set items at x ≡ items = set-get_or items at d in
+      ap (λ (l : List (Numbered T)). value_of l k) (sym same)
+      ∙ replaced items k at x.value d found k
+      ∙ ap (λ (b : Bool). if b then Some x.value else value_of items k) (eq-eqb k k refl)

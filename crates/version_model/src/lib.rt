@@ -35,6 +35,6 @@ pub use laws::{
 };
 pub use live::{keep_live_operators, keep_live_tables};
 pub use now::{copy_now, memory_at, memory_now, put_side, side_now};
-pub use numbered::{Numbered, latest_of, replace_all, value_of};
+pub use numbered::{Numbered, latest_of, place_of, replace_all, value_of};
 pub use progress::{Before, Made};
 pub use write::{Written, write_rows};

@@ -46,7 +46,8 @@ pub fn latest_of<T>(items: &[Numbered<T>], number: u32) -> Option<&T>
     }
 }
 
-fn place_of<T>(items: &[Numbered<T>], number: u32) -> Option<usize>
+/// The place of a number. It takes one comparison for each item before it.
+pub fn place_of<T>(items: &[Numbered<T>], number: u32) -> Option<usize>
     ensures { result ≡ position (λ item. number == item.number) items.now }
 {
     items.iter().position(|item| number == item.number)

@@ -2,12 +2,11 @@
 use Rattle.std.specs.List.{position}
 use Rattle.std.proofs.Common.{◌≡◌, if◌then◌else◌, ℕ, ◌==◌, List, [], ◌∷◌, Bool, Option, Some, None, slice_index_or, slice_set, refl, ap, sym, ◌∙◌, subst}
 use Rattle.std.proofs.lemmas.Bool.{eq-eqb, eqb-true}
-use Rattle.std.proofs.lemmas.List.{set-get_or}
 use Rattle.version_graph.specs.Sets.{Distinct, In}
 use Rattle.op_law.proofs.OnlyLaws.{by_test}
 use Rattle.version_model.specs.Kept.{renewed, value_of}
 use Rattle.version_model.specs.declared.numbered.Numbered.{Numbered}
-use Rattle.version_model.proofs.NumberedLaws.{replaced}
+use Rattle.version_model.proofs.NumberedLaws.{replaced, value_here}
 use Rattle.db_state.specs.Fields.{numbers_in}
 use Rattle.kept_changes.proofs.ChangesLaws.{value_first, value_rest, value_unlisted}
 
@@ -15,15 +14,6 @@ module _ {T : Type 0} where
   pub renewed_none : (o : Option T) → renewed o None ≡ o
   renewed_none None = refl
   renewed_none (Some x) = refl
-
-  -- the item at the place of a number has its value
-  value_here : (items : List (Numbered T)) (k at : ℕ) (d : Numbered T) → position (λ (i : Numbered T). k == i.number) items ≡ Some at → value_of items k ≡ Some (slice_index_or items at d).value
-  value_here items k at d found =
-      let x : Numbered T = slice_index_or items at d in
-      let same : slice_set items at x ≡ items = set-get_or items at d in
-      ap (λ (l : List (Numbered T)). value_of l k) (sym same)
-      ∙ replaced items k at x.value d found k
-      ∙ ap (λ (b : Bool). if b then Some x.value else value_of items k) (eq-eqb k k refl)
 
   -- the older value over the newer one is what was there
   pub older_there : (items : List (Numbered T)) (k at : ℕ) (v : T) (d : Numbered T) → position (λ (i : Numbered T). k == i.number) items ≡ Some at → (n : ℕ)

@@ -1,6 +1,7 @@
 -- Changes that were made of the rows that a write names alone are the plan of the whole write.
 use Rattle.std.specs.Option.{option_map_or}
 use Rattle.std.proofs.Common.{◌≡◌, ℕ, ◌<◌, ◌≤◌, List, [], ◌∷◌, Bool, true, false, not, cond, length, map, suc, Ok, Err, Option, inl, inr, refl, sym, ap, ◌∙◌, subst}
+use Rattle.std.proofs.lemmas.Bool.{not-true}
 use Rattle.par_base.specs.declared.fault.Fault.{Fault}
 use Rattle.par_base.specs.declared.fault.Fault.TheVariants.{Refused, Memory as OutOfMemory}
 use Rattle.par_base.specs.declared.refusal.IdsSpent.{IdsSpent}
@@ -29,7 +30,6 @@ use Rattle.row_changes.specs.Touched.{AllPass}
 use Rattle.row_changes.specs.declared.change.SideChanges.{SideChanges}
 use Rattle.row_changes.proofs.ChangedLaws.{other_changed}
 use Rattle.row_changes.proofs.DifferenceLaws.{difference_of_part, differences_of_part, differences_fit, differences_make}
-use Rattle.op_law.proofs.OnlyLaws.{not_true}
 use Rattle.version_model.specs.Kept.{rows_at}
 use Rattle.version_model.specs.Sound.{IsSound}
 use Rattle.version_model.specs.States.{State, headings}
@@ -161,7 +161,7 @@ module _ {O : Type 0} (meaning : O → Meaning) (laws : (o : O) → Laws (meanin
 
   rests_start : Rests fails tree s start
   rests_start t i =
-      let same : rows_only fails rows ≡ rows_only fails (s.tables w.table) = other_changed test fails (s.tables w.table) w.changes (rise_before w.table) named (λ q e. not_true (test q) e) in
+      let same : rows_only fails rows ≡ rows_only fails (s.tables w.table) = other_changed test fails (s.tables w.table) w.changes (rise_before w.table) named (λ q e. not-true (test q) e) in
       put_only fails s.tables (λ u. rows_only fails (s.tables u)) (w.table ∷ []) (rows ∷ []) t refl ∙ put_same_at t same
     where
       put_same_at : (t : ℕ) → rows_only fails rows ≡ rows_only fails (s.tables w.table) → put (λ u. rows_only fails (s.tables u)) (w.table ∷ []) (rows_only fails rows ∷ []) t ≡ rows_only fails (s.tables t)

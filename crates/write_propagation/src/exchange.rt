@@ -1,24 +1,17 @@
 //! Newer values in the place of older ones, which are handed back.
 ghost use Rattle.std.specs.Prelude.{◌≡◌, ◌==◌, ℕ, Some, None, if◌then◌else◌};
-ghost use Rattle.std.specs.List.{position};
 ghost use Rattle.version_model.specs.Kept.{value_of, latest_of, renewed};
 ghost use Rattle.db_state.specs.Fields.{numbers_in};
 
 use par_base::List;
 use std::mem;
-use version_model::Numbered;
+use version_model::{Numbered, place_of};
 
 /// Values, and those in whose place they came, the last ones first.
 #[derive(Drop)]
 pub(crate) struct Exchanged<T> {
     pub(crate) values: List<Numbered<T>>,
     pub(crate) older: List<Numbered<T>>,
-}
-
-fn place_of<T>(items: &[Numbered<T>], number: u32) -> Option<usize>
-    ensures { result ≡ position (λ item. number == item.number) items.now }
-{
-    items.iter().position(|item| number == item.number)
 }
 
 fn exchange_one<T>(items: &mut Vec<Numbered<T>>, item: &mut Numbered<T>)

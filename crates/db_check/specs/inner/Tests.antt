@@ -1,9 +1,10 @@
 -- Tests of what may stand before the next identifier, as truth values.
 use Rattle.std.specs.Prelude.{◌≡◌, [], ◌∷◌, ℕ, Bool, true, ◌&&◌, ◌==◌, nat_lt, nat_le, List, length}
 use Rattle.std.specs.List.{list_all}
+use Rattle.std.specs.Str.{is_utf8}
 use Rattle.par_base.specs.declared.value.Value.{Value}
 use Rattle.par_base.specs.declared.value.Value.TheVariants.{Null, Int, Text, Reference}
-use Rattle.expr_lang.specs.Operations.{text_limit}
+use Rattle.expr_lang.specs.Operations.{fits_i64, text_limit}
 use Rattle.row_store.specs.Rows.{RiseFrom, Rows}
 use Rattle.row_store.specs.States.{TableState}
 use Rattle.id_memory.specs.Pairs.{Pairs}
@@ -23,8 +24,8 @@ id_below next id = nat_le 1 id && nat_lt id next
 
 abbrev pub value_below : ℕ → Value → Bool
 value_below next Null = true
-value_below next (Int number) = true
-value_below next (Text text) = nat_le (length text) text_limit
+value_below next (Int number) = fits_i64 number
+value_below next (Text text) = nat_le (length text) text_limit && is_utf8 text
 value_below next (Reference id) = id_below next id
 
 abbrev pub row_below : ℕ → ℕ × List Value → Bool

@@ -1,18 +1,19 @@
 -- The list of drawn values: in it stands what needs an identifier, nothing else, each once.
 use Rattle.std.proofs.Common.{◌≡◌, ℕ, ◌+◌, ◌<◌, ◌≤◌, ◌==◌, List, [], ◌∷◌, Bool, true, false, cond, length, Some, None, refl, ap, sym, ◌∙◌, subst, arith}
 use Rattle.std.proofs.lemmas.Bool.Decides.{nat_tests}
+use Rattle.std.proofs.lemmas.Bool.{eqb-true}
 use Rattle.par_base.specs.declared.value.Value.{Value}
 use Rattle.row_store.specs.Rows.{Rows, RiseFrom, row_of}
+use Rattle.row_store.specs.inner.FoundRows.{later, own_row}
 use Rattle.op_law.specs.Tables.{RowsWide}
 use Rattle.op_law.specs.Sound.{ValuesSound, RowsSound}
-use Rattle.op_rows.specs.inner.CellLemmas.{is_same}
 use Rattle.row_parts.specs.RowCells.{by_test, by_option}
 use Rattle.foreign_keys.specs.KeyParts.{FkParts, FkWell}
 use Rattle.foreign_keys.specs.DrawnIds.{Values, numbered, add_once, has, place, drawn}
-use Rattle.op_tables.specs.Lookups.{eq_above, own_row, later, wide_at}
-use Rattle.op_law.proofs.SoundLaws.{rows_more}
+use Rattle.op_law.proofs.SoundLaws.{rows_more, wide_at}
 use Rattle.par_base.specs.SameRows.{same_row}
 use Rattle.par_base.specs.inner.SameLaws.{row_equal, row_same}
+use Rattle.par_base.proofs.TestLaws.{apart_below}
 
 -- each value stands there once
 abbrev pub Distinct : List (List Value) → Type 0
@@ -62,7 +63,7 @@ numbered_at n (x ∷ xs) v h =
     (λ e.
     let h2 : has xs v ≡ true = rw e at h in
     let ih = numbered_at (n + 1) xs v h2 in
-    let other = eq_above n (n + (place xs v + 1)) (omega arith) in
+    let other = apart_below n (n + (place xs v + 1)) (omega arith) in
     let m : n + (place xs v + 1) ≡ (n + 1) + place xs v = omega arith in
     rw (e, other) (ap (λ (i : ℕ). row_of (numbered (n + 1) xs) i) m ∙ ih))
 
@@ -75,7 +76,7 @@ numbered_from n (x ∷ xs) q v dis at =
     let some : Some x ≡ Some v = rw e at at in
     let xv : x ≡ v = cc in
     let i : same_row x v ≡ true = subst (λ (z : List Value). same_row x z ≡ true) xv (row_same x) in
-    let nq = is_same n q e in
+    let nq = eqb-true n q e in
     rw i (refl, (omega (arith, nq), omega (arith, nq))))
     (λ e.
     let at2 : row_of (numbered (n + 1) xs) q ≡ Some v = rw e at at in
@@ -111,7 +112,7 @@ module _ (k : FkParts) (needs : ℕ → List Value → Bool) where
       (λ e.
       let found : Some r.1 ≡ Some row = rw e at at in
       let v : r.1 ≡ row = cc in
-      let q = is_same r.0 p e in
+      let q = eqb-true r.0 p e in
       let n2 : needs r.0 r.1 ≡ true = ap (λ (i : ℕ). needs i r.1) q ∙ ap (λ (z : List Value). needs p z) v ∙ need in
       let c = has_add (k.second r.1) seen (k.second row) in
       let i : same_row (k.second r.1) (k.second row) ≡ true = subst (λ (z : List Value). same_row (k.second r.1) (k.second z) ≡ true) v (row_same (k.second r.1)) in

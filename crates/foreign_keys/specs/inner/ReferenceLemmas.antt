@@ -1,14 +1,14 @@
 -- References: who refers to an identifier.
 use Rattle.std.proofs.Common.{◌≡◌, ℕ, ◌+◌, ◌==◌, List, [], ◌∷◌, true, Option, Some, None, refl, ap, ◌∙◌, subst}
+use Rattle.std.proofs.lemmas.Bool.{eqb-true, eq-eqb}
 use Rattle.par_base.specs.declared.value.Value.{Value}
 use Rattle.par_base.specs.declared.value.Value.TheVariants.{Null, Int, Text, Reference}
 use Rattle.row_store.specs.Rows.{Rows, RiseFrom, row_of}
+use Rattle.row_store.specs.inner.FoundRows.{later, own_row}
 use Rattle.op_law.specs.Sound.{IsBelow, ValueSound}
-use Rattle.op_rows.specs.inner.CellLemmas.{is_same}
 use Rattle.row_parts.specs.RowCells.{by_test}
 use Rattle.foreign_keys.specs.KeyParts.{FkParts}
 use Rattle.foreign_keys.specs.References.{goal_of, is_goal, referred}
-use Rattle.op_tables.specs.Lookups.{eq_self, own_row, later}
 
 -- a sound value refers below n
 pub goal_below : (n : ℕ) (v : Value) (q : ℕ) → ValueSound n v → goal_of v ≡ Some q → IsBelow n q
@@ -20,11 +20,11 @@ goal_below n (Text x) q b e = absurd (cc)
 -- what passes the test of a goal is the goal
 pub is_goal_of : (o : Option ℕ) (q : ℕ) → is_goal o q ≡ true → o ≡ Some q
 is_goal_of None q h = absurd (cc)
-is_goal_of (Some p) q h = ap Some (is_same p q h)
+is_goal_of (Some p) q h = ap Some (eqb-true p q h)
 
 -- a goal passes its test
 pub goal_is : (o : Option ℕ) (q : ℕ) → o ≡ Some q → is_goal o q ≡ true
-goal_is o q e = rw e (eq_self q)
+goal_is o q e = rw e (eq-eqb q q refl)
 
 -- a row of S that refers to q
 pub record Referrer (k : FkParts) (s : Rows) (q : ℕ) : Type 0 where

@@ -1,12 +1,13 @@
 -- What is sought: nothing where no row has the goal, and one answer where all that have it agree.
 use Rattle.std.proofs.Common.{◌≡◌, ℕ, ◌+◌, ◌==◌, List, [], ◌∷◌, Bool, true, false, cond, Option, Some, None, refl, ap, sym, ◌∙◌, subst, arith}
+use Rattle.std.proofs.lemmas.Bool.{eqb-true}
 use Rattle.par_base.specs.declared.value.Value.{Value}
 use Rattle.row_store.specs.Rows.{Rows, RiseFrom, row_of}
-use Rattle.op_rows.specs.inner.CellLemmas.{is_same, has_id, IdsRise, has_put, rise_put}
+use Rattle.row_store.specs.inner.FoundRows.{later, own_row}
+use Rattle.op_rows.specs.inner.CellLemmas.{has_id, IdsRise, has_put, rise_put}
 use Rattle.row_parts.specs.RowCells.{Cell, by_test}
 use Rattle.foreign_keys.specs.KeyParts.{FkParts}
 use Rattle.foreign_keys.specs.References.{goal_of, is_goal, referred}
-use Rattle.op_tables.specs.Lookups.{own_row, later}
 use Rattle.foreign_keys.specs.Seeking.{put_goal, seek, first_led, out_at, goals_in}
 
 -- neither of two tests that together fail holds
@@ -62,7 +63,7 @@ module _ (goal : ℕ → List Value → Option ℕ) (out : ℕ → Cell) where
       (λ u.
       let some : Some x.1 ≡ Some v0 = rw u at at in
       let xv : x.1 ≡ v0 = cc in
-      let i = is_same x.0 p0 u in
+      let i = eqb-true x.0 p0 u in
       let g3 : is_goal (goal x.0 x.1) q ≡ true = subst (λ (y : ℕ). is_goal (goal y x.1) q ≡ true) (sym i) (subst (λ (y : List Value). is_goal (goal p0 y) q ≡ true) (sym xv) g) in
       absurd (cc))
       (λ u. rw u at at)) g))

@@ -5,13 +5,13 @@ use Rattle.std.proofs.lemmas.List.Edits.{length-insert, length-remove}
 use Rattle.par_base.specs.declared.value.Value.{Value}
 use Rattle.expr_lang.specs.Terms.{Term}
 use Rattle.expr_lang.specs.Val.{val}
-use Rattle.op_law.specs.Tables.{Heading}
+use Rattle.op_law.specs.Tables.{Heading, widths}
 use Rattle.op_law.specs.Sound.{ValueSound}
 use Rattle.op_law.specs.SoundTerms.{TermSound}
 use Rattle.op_law.proofs.SoundTermLaws.{place_sound, val_sound, term_more}
 use Rattle.op_rows.specs.Cells.{Cells, first_cell, CellWide, AreCellsOf, CellSound}
 use Rattle.op_rows.specs.RowMeaning.{RowHalf, RowLaws, flip_row}
-use Rattle.op_column.specs.OneTable.{widths, one_cell, one_wide, one_long, first_sound}
+use Rattle.op_column.specs.OneTable.{one_cell, one_wide, one_long, first_sound}
 use Rattle.row_parts.specs.RowEdits.{remove-insert, insert-remove, insert_sound, remove_sound}
 use Rattle.op_column.specs.AddColumn.{with_column, without_column, column_alone, added_value, added, restored, AddColumnFits, add_column}
 

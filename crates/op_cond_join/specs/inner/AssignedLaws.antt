@@ -1,18 +1,19 @@
 -- The pairs that the rows of a new joined table get, and the rows that are there at the end.
 use Rattle.std.specs.Option.{option_map}
 use Rattle.std.proofs.Common.{◌≡◌, ℕ, ◌+◌, ◌<◌, ◌≤◌, ◌==◌, ◌⊎◌, List, [], ◌∷◌, length, count_by, if◌then◌else◌, Bool, true, false, Option, Some, None, IsSome, refl, ap, sym, ◌∙◌, subst, arith}
-use Rattle.std.proofs.lemmas.Bool.{and_parts}
+use Rattle.std.proofs.lemmas.Bool.{and_parts, ne_eqb, eqb-true, eq-eqb}
 use mathlib.Core.Logic.{inl, inr}
 use Rattle.par_base.specs.declared.value.Value.{Value}
 use Rattle.row_store.specs.Rows.{Rows, RiseFrom, AreBelow, row_of}
+use Rattle.row_store.specs.inner.FoundRows.{below_more}
 use Rattle.id_memory.specs.Pairs.{Pairs, IsOneToOne, pair_of, has_pair}
 use Rattle.op_law.specs.Tables.{RowsWide}
 use Rattle.op_law.specs.Sound.{PairsSound}
+use Rattle.op_law.proofs.SoundLaws.{wide_at}
 use Rattle.row_parts.specs.Places.{pick as part, row_of_both as joined_row, ArePartition}
 use Rattle.row_parts.specs.RowCells.{Cell, by_test, by_option}
 use Rattle.row_parts.specs.inner.PlaceLemmas.{length-pick, first_join, second_join}
-use Rattle.pair_rows.specs.inner.Numbers.{same_number, is_own, count_cons}
-use Rattle.pair_rows.specs.inner.Lookups.{apart, below_weaker, wide_at}
+use Rattle.pair_rows.specs.inner.Numbers.{count_cons}
 use Rattle.pair_rows.specs.inner.PairLemmas.{count_yes, count_no, has_not}
 use Rattle.pair_rows.specs.Shown.{Joining, join_cells, row_at, IsJoined, has}
 use Rattle.pair_rows.specs.inner.ShownLaws.{row_for, joined_found}
@@ -107,7 +108,7 @@ module _ (j : Joining) (parts : ArePartition j.first j.second) (s t r : Rows) (m
   second_is n d x ready =
       let next = (first_is n d x ready).next in
       side_is j.second (row_of r x.0) (option_map (λ pair. pair.1) (pair_of m x.0)) x.1 d.second (first_got j r m d x).next ready.second_rise
-      (below_weaker d.second d.next (first_got j r m d x).next next ready.second_below) (own_second n d x.0 ready)
+      (below_more d.second d.next (first_got j r m d x).next next ready.second_below) (own_second n d x.0 ready)
 
   -- a row that was chosen
   chosen_is : (b : Bool) (k id : ℕ) → ◌≡◌ {A = Option ℕ} (if b then None else Some k) (Some id) → k ≡ id
@@ -122,7 +123,7 @@ module _ (j : Joining) (parts : ArePartition j.first j.second) (s t r : Rows) (m
       let first = first_is n d x ready in
       let second = second_is n d x ready in
       got_is (if has d.taken a.id b.id then None else Some a.id) a.rows (part j.first x.1) b.next first.rise
-      (below_weaker a.rows a.next b.next second.next first.below)
+      (below_more a.rows a.next b.next second.next first.below)
       (λ id e. let same = chosen_is (has d.taken a.id b.id) a.id id e in subst (λ (i : ℕ). row_of a.rows i ≡ Some (part j.first x.1)) same first.found)
 
   -- a changed row has a pair of its parts
@@ -145,7 +146,7 @@ module _ (j : Joining) (parts : ArePartition j.first j.second) (s t r : Rows) (m
           first_below = last.below;
           first_keeps = λ id row at. last.keeps id row (first.keeps id row (ready.first_keeps id row at));
           second_rise = second.rise;
-          second_below = below_weaker b.rows b.next c.next three second.below;
+          second_below = below_more b.rows b.next c.next three second.below;
           second_keeps = λ id row at. second.keeps id row (ready.second_keeps id row at);
           taken_below = firsts_behind c.next d.taken (x.0, c.id, b.id) (firsts_weaker d.next c.next d.taken (omega (arith, one, two, three)) ready.taken_below) (under c.rows c.next c.id (part j.first x.1) last.below last.found);
         };
@@ -223,8 +224,8 @@ module _ (j : Joining) (parts : ArePartition j.first j.second) (s t r : Rows) (m
       (λ q.
       let more = count_yes (has_pair a b) (x.0, p.first, p.second) (assigned j r m p.after xs) q in
       let same = and_parts (p.first == a) (p.second == b) q in
-      let first = same_number p.first a same.0 in
-      let second = same_number p.second b same.1 in
+      let first = eqb-true p.first a same.0 in
+      let second = eqb-true p.second b same.1 in
       let not_there : has d.taken a b ≡ false = sym (ap (λ (i : ℕ). has d.taken i p.second) first ∙ ap (λ (i : ℕ). has d.taken a i) second) ∙ free in
       let there = has_behind d.taken (x.0, p.first, p.second) a b q in
       let none : room a b p.after.taken ≡ 0 = rw there refl in
@@ -251,8 +252,8 @@ module _ (j : Joining) (parts : ArePartition j.first j.second) (s t r : Rows) (m
       (λ q.
       let pairs : ◌≡◌ {A = Option (ℕ × ℕ)} (Some (e.1, e.2)) (Some (a, b)) = rw q at at in
       let pair : ◌≡◌ {A = ℕ × ℕ} (e.1, e.2) (a, b) = cc in
-      let first : (e.1 == a) ≡ true = let own = is_own e.1 in subst (λ (i : ℕ). (e.1 == i) ≡ true) (ap (λ (k : ℕ × ℕ). k.0) pair) own in
-      let second : (e.2 == b) ≡ true = let own = is_own e.2 in subst (λ (i : ℕ). (e.2 == i) ≡ true) (ap (λ (k : ℕ × ℕ). k.1) pair) own in
+      let first : (e.1 == a) ≡ true = let own = eq-eqb e.1 e.1 refl in subst (λ (i : ℕ). (e.1 == i) ≡ true) (ap (λ (k : ℕ × ℕ). k.0) pair) own in
+      let second : (e.2 == b) ≡ true = let own = eq-eqb e.2 e.2 refl in subst (λ (i : ℕ). (e.2 == i) ≡ true) (ap (λ (k : ℕ × ℕ). k.1) pair) own in
       let both : has_pair a b e ≡ true = rw (first, second) refl in
       let more = count_yes (has_pair a b) e es both in
       omega (arith, more))
@@ -266,14 +267,14 @@ module _ (j : Joining) (parts : ArePartition j.first j.second) (s t r : Rows) (m
       λ id u is.
       let pairs : ◌≡◌ {A = Option (ℕ × ℕ)} (Some (e.1, e.2)) (Some (a, b)) = rw u at is in
       let pair : ◌≡◌ {A = ℕ × ℕ} (e.1, e.2) (a, b) = cc in
-      let first : (e.1 == a) ≡ true = let own = is_own e.1 in subst (λ (i : ℕ). (e.1 == i) ≡ true) (ap (λ (k : ℕ × ℕ). k.0) pair) own in
-      let second : (e.2 == b) ≡ true = let own = is_own e.2 in subst (λ (i : ℕ). (e.2 == i) ≡ true) (ap (λ (k : ℕ × ℕ). k.1) pair) own in
+      let first : (e.1 == a) ≡ true = let own = eq-eqb e.1 e.1 refl in subst (λ (i : ℕ). (e.1 == i) ≡ true) (ap (λ (k : ℕ × ℕ). k.0) pair) own in
+      let second : (e.2 == b) ≡ true = let own = eq-eqb e.2 e.2 refl in subst (λ (i : ℕ). (e.2 == i) ≡ true) (ap (λ (k : ℕ × ℕ). k.1) pair) own in
       let both : has_pair a b e ≡ true = rw (first, second) refl in
       count_yes (has_pair a b) e es both in
       by_test (e.0 == p)
       (λ u.
-      let same = same_number e.0 p u in
-      let away = apart e.0 q (λ v. absurd (omega (arith, same, v, h))) in
+      let same = eqb-true e.0 p u in
+      let away = ne_eqb e.0 q (λ v. absurd (omega (arith, same, v, h))) in
       let later : pair_of es q ≡ Some (a, b) = rw away at other in
       let one = one_entry es q a b later in
       let more = head p u at in
@@ -292,8 +293,8 @@ module _ (j : Joining) (parts : ArePartition j.first j.second) (s t r : Rows) (m
       by_test (has_pair a b (x.0, pair.0, pair.1))
       (λ q.
       let same = and_parts (pair.0 == a) (pair.1 == b) q in
-      let first = same_number pair.0 a same.0 in
-      let second = same_number pair.1 b same.1 in
+      let first = eqb-true pair.0 a same.0 in
+      let second = eqb-true pair.1 b same.1 in
       let there : pair_of m x.0 ≡ Some (a, b) = is_pair ∙ ap (λ (i : ℕ). Some (i, pair.1)) first ∙ ap (λ (i : ℕ). Some (a, i)) second in
       let two = two_entries m p x.0 a b h at there in
       let one = is.one a b in
@@ -316,8 +317,8 @@ module _ (j : Joining) (parts : ArePartition j.first j.second) (s t r : Rows) (m
       by_test (has_pair a b (x.0, pair.0, pair.1))
       (λ q.
       let same = and_parts (pair.0 == a) (pair.1 == b) q in
-      let first = same_number pair.0 a same.0 in
-      let second = same_number pair.1 b same.1 in
+      let first = eqb-true pair.0 a same.0 in
+      let second = eqb-true pair.1 b same.1 in
       let there : pair_of m x.0 ≡ Some (a, b) = is_pair ∙ ap (λ (i : ℕ). Some (i, pair.1)) first ∙ ap (λ (i : ℕ). Some (a, i)) second in
       let none = kept_none x.0 a b (x.0 + 1) xs there (omega arith) rise in
       let more = count_yes (has_pair a b) (x.0, pair.0, pair.1) (kept_in r m xs) q in

@@ -5,14 +5,13 @@ use Rattle.row_store.specs.Rows.{Rows, RiseFrom, row_of}
 use Rattle.id_memory.specs.Pairs.{Pairs, RiseFrom as PairsRise, pair_of}
 use Rattle.op_law.specs.Tables.{RowsWide}
 use Rattle.op_law.specs.Sound.{IsBelow, ValuesSound, RowsSound, PairsSound}
-use Rattle.op_law.proofs.SoundLaws.{rows_more}
+use Rattle.op_law.proofs.SoundLaws.{rows_more, sound_at}
 use Rattle.op_rows.specs.Cells.{with_row}
 use Rattle.row_parts.specs.Places.{pick as part, ArePartition}
 use Rattle.row_parts.specs.RowCells.{Cell, map_cell, by_test, by_option}
 use Rattle.row_parts.specs.inner.PlaceLemmas.{pick_sound, join_parts}
-use Rattle.pair_rows.specs.inner.Numbers.{is_own}
 use Rattle.par_base.specs.inner.SameLaws.{row_same}
-use Rattle.pair_rows.specs.inner.Lookups.{apart, sound_at, filter_found, filter_all}
+use Rattle.pair_rows.specs.inner.Lookups.{filter_found, filter_all}
 use Rattle.pair_rows.specs.Shown.{Joining, row_at, joined, AreThere, IsJoined}
 use Rattle.pair_rows.specs.inner.ShownLaws.{row_for, joined_found, there_cells}
 use Rattle.pair_rows.specs.Given.{unchanged}

@@ -6,13 +6,13 @@ use Rattle.row_store.specs.Rows.{Rows}
 use Rattle.id_memory.specs.Pairs.{Pairs, has_pair}
 use Rattle.op_law.specs.Tables.{Tables, Heading, AllRise, empty_tables}
 use Rattle.op_law.specs.Sound.{RowsSound, PairsSound, HasRow}
-use Rattle.op_law.proofs.SoundLaws.{rows_more}
+use Rattle.op_law.proofs.SoundLaws.{rows_more, below_sound}
 use Rattle.op_law.proofs.SoundTermLaws.{term_more}
 use Rattle.op_law.specs.Meaning.{PairState, flip, exchanged}
 use Rattle.op_law.specs.Premises.{IsPair, MayMap}
 use Rattle.op_law.specs.Laws.{HalfLaws, Laws, InPair}
 use Rattle.row_parts.specs.Places.{ArePartition}
-use Rattle.pair_rows.specs.inner.Lookups.{below_sound, filter_rise, filter_wide, filter_sound, filter_has}
+use Rattle.pair_rows.specs.inner.Lookups.{filter_rise, filter_wide, filter_sound, filter_has}
 use Rattle.pair_rows.specs.Shown.{Joining, IsJoined, joined, shown_pairs, new_pairs}
 use Rattle.pair_rows.specs.inner.ShownLaws.{forward_joined, joined_rise, joined_wide, target_sound, pairs_sound, shown_drawn, same_pairs, none_new}
 use Rattle.op_cond_join.specs.Assigned.{Assigning, beginning, assigned, ending}

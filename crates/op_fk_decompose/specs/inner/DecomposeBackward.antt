@@ -11,13 +11,14 @@ use Rattle.op_law.specs.Sound.{ValuesSound, TablesSound, HasRow}
 use Rattle.op_law.specs.Identifiers.{ids_over}
 use Rattle.op_law.specs.Meaning.{Meaning, flip}
 use Rattle.op_law.specs.Laws.{HalfLaws}
+use Rattle.op_law.proofs.SoundLaws.{sound_at, wide_at}
 use Rattle.op_rows.specs.Cells.{CellWide, CellSound}
 use Rattle.op_rows.specs.inner.CellLemmas.{below_ids}
 use Rattle.row_parts.specs.RowCells.{Cell, row_or, by_option}
 use Rattle.op_tables.specs.SideTables.{first_table, second_table}
 use Rattle.foreign_keys.specs.KeyParts.{FkParts, FkWell}
 use Rattle.foreign_keys.specs.References.{goal_of, at_goal, far_part}
-use Rattle.op_tables.specs.Lookups.{sound_at, wide_at, two_at, two_rise, wide_table, sound_table, Two, one_wide, sound0, sound1, in_first, in_second}
+use Rattle.op_tables.specs.Lookups.{two_at, two_rise, wide_table, sound_table, Two, one_wide, sound0, sound1, in_first, in_second}
 use Rattle.op_fk_decompose.specs.Decompose.{alone, joined_in, joined, joined_table, decompose_fk}
 use Rattle.foreign_keys.specs.Shared.{FkFits}
 use Rattle.op_tables.specs.inner.CellFacts.{is_some}

@@ -3,10 +3,10 @@ use Rattle.std.proofs.Common.{◌≡◌, ℕ, ◌+◌, List, [], ◌∷◌, Bool
 use Rattle.par_base.specs.declared.value.Value.{Value}
 use Rattle.par_base.specs.declared.value.Value.TheVariants.{Reference}
 use Rattle.row_store.specs.Rows.{Rows, RiseFrom, row_of}
+use Rattle.row_store.specs.inner.FoundRows.{later, own_row}
 use Rattle.row_parts.specs.RowCells.{Cell, by_test}
 use Rattle.foreign_keys.specs.KeyParts.{FkParts}
 use Rattle.foreign_keys.specs.References.{far_part}
-use Rattle.op_tables.specs.Lookups.{own_row, later}
 use Rattle.op_fk_decompose.specs.Decompose.{alone, least_in, how_in, draws_for}
 use Rattle.par_base.specs.SameRows.{same_row}
 

@@ -13,8 +13,7 @@ use Rattle.foreign_keys.specs.KeyParts.{FkParts, FkWell}
 use Rattle.foreign_keys.specs.References.{referred}
 use Rattle.foreign_keys.specs.Shared.{Ready}
 use Rattle.foreign_keys.specs.DrawnIds.{numbered, has, place}
-use Rattle.op_tables.specs.Lookups.{sound_at}
-use Rattle.op_law.proofs.SoundLaws.{below_more, value_more, values_more}
+use Rattle.op_law.proofs.SoundLaws.{below_more, value_more, values_more, sound_at}
 use Rattle.foreign_keys.specs.inner.DrawnLemmas.{place_under, has_needed}
 use Rattle.op_fk_decompose.specs.Decompose.{alone, least_in, how, draws_for, needs, values_drawn, ref, near_row, new_first, new_second, s_after, t_after}
 use Rattle.op_fk_decompose.specs.inner.DecomposeFacts.{Least, least, from_keep}

@@ -1,5 +1,6 @@
 -- The relation after a mapping forward.
-use Rattle.std.proofs.Common.{◌≡◌, ℕ, ◌+◌, ◌≤◌, List, [], Bool, true, false, not, ◌&&◌, ◌||◌, cond, length, Option, Some, None, refl, ap, sym, ◌∙◌, subst, arith}
+use Rattle.std.proofs.Common.{◌≡◌, ℕ, ◌+◌, ◌≤◌, List, [], Bool, true, false, not, ◌&&◌, cond, length, Option, Some, None, refl, ap, sym, ◌∙◌, subst, arith}
+use Rattle.std.proofs.lemmas.Bool.{or_left, or_from}
 use Rattle.par_base.specs.declared.value.Value.{Value}
 use Rattle.par_base.specs.declared.value.Value.TheVariants.{Null, Int, Text, Reference}
 use Rattle.row_store.specs.Rows.{Rows, row_of}
@@ -7,7 +8,7 @@ use Rattle.row_parts.specs.RowCells.{Cell, is_there, or_else, kept_if, row_or, m
 use Rattle.foreign_keys.specs.KeyParts.{FkParts, FkWell}
 use Rattle.foreign_keys.specs.References.{goal_of, referred, far_part}
 use Rattle.foreign_keys.specs.DrawnIds.{numbered, place}
-use Rattle.op_tables.specs.Lookups.{sound_at, wide_at, one_rise}
+use Rattle.op_tables.specs.Lookups.{one_rise}
 use Rattle.foreign_keys.specs.inner.ReferenceLemmas.{goal_below, referred_by, referrer}
 use Rattle.foreign_keys.specs.inner.DrawnLemmas.{Distinct, numbered_at, numbered_from, distinct, Needer, needer, low_none}
 use Rattle.op_fk_decompose.specs.Decompose.{alone, joined_in, joined, least_in, how, needs, values_drawn, ref, near_row, new_first, new_second, s_after, t_after}
@@ -16,6 +17,7 @@ use Rattle.foreign_keys.specs.Shared.{Ready}
 use Rattle.op_fk_decompose.specs.inner.DecomposeForward.{first_at, second_at, ref_is, not_alone}
 use Rattle.par_base.specs.SameRows.{same_row}
 use Rattle.par_base.specs.inner.SameLaws.{row_equal}
+use Rattle.op_law.proofs.SoundLaws.{sound_at, wide_at}
 
 -- of the three kinds of row in new T, an alone row
 pub pick_alone : (al : Bool) (x y : Cell) (v : List Value) → al ≡ true → x ≡ Some v → or_else (kept_if al x) y ≡ Some v
@@ -34,14 +36,6 @@ pick_new al false x c y e g = rw e refl
 pick_gone : (al re : Bool) (x c y : Cell) → x ≡ None → re ≡ false → y ≡ None → or_else (kept_if al x) (or_else (kept_if re c) y) ≡ None
 pick_gone true re x c y e f g = rw (e, f, g) refl
 pick_gone false re x c y e f g = rw (f, g) refl
-
--- one of two
-or_true : (a b : Bool) → a ≡ true → (a || b) ≡ true
-or_true a b h = grind arith
-
--- neither of two
-or_false : (a b : Bool) → a ≡ false → b ≡ false → (a || b) ≡ false
-or_false a b h g = grind arith
 
 -- a row that no S row has or refers to is alone
 pub is_alone : (c : Cell) (b r : Bool) (v : List Value) → c ≡ Some v → b ≡ false → r ≡ false → (is_there c && (not b && not r)) ≡ true
@@ -127,7 +121,7 @@ module _ (k : FkParts) (w a b z : ℕ) (well : FkWell k w a b z) (s t near : Row
 
   -- an old row to which one refers stays as it is
   kept_row : (q : ℕ) (v : List Value) → row_of t q ≡ Some v → alone k s t q ≡ false → referred k ns q ≡ true → row_of nt q ≡ Some v
-  kept_row q v e al re = snd_at q ∙ pick_here _ _ _ _ _ v al (or_true _ _ re) e
+  kept_row q v e al re = snd_at q ∙ pick_here _ _ _ _ _ v al (or_left _ _ re) e
 
   -- a row to which old S refers isn't alone
   shared_by : (p q : ℕ) (v : List Value) → row_of s p ≡ Some v → goal_of (k.key v) ≡ Some q → alone k s t q ≡ false
@@ -234,7 +228,7 @@ module _ (k : FkParts) (w a b z : ℕ) (well : FkWell k w a b z) (s t near : Row
       (λ re. ap (λ (u : Bool). joined_in k None (row_of nt p) u nt) (not_alone (is_there (row_of nt p)) (is_there (row_of ns p)) (referred k ns p) re))
       (λ re.
       let y : row_of (numbered n dd) p ≡ None = by_option (row_of (numbered n dd) p) (λ u. u) (λ v u. let yes = drawn_referred p v u in absurd (cc)) in
-      let gone : row_of nt p ≡ None = snd_at p ∙ pick_gone _ _ _ _ _ (ap (map_cell k.second) none) (or_false _ _ re (ap is_there m)) y in
+      let gone : row_of nt p ≡ None = snd_at p ∙ pick_gone _ _ _ _ _ (ap (map_cell k.second) none) (or_from _ _ re (ap is_there m)) y in
       ap (λ (c : Cell). joined_in k None c (alone k ns nt p) nt) gone ∙ none_joined k _ nt) in
       none ∙ sym (ap (λ (c : Cell). joined_in k c (row_of nt p) (alone k ns nt p) nt) m ∙ x))
       (λ row e. by_option (how k s t p row)

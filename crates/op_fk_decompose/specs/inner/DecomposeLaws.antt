@@ -17,8 +17,8 @@ use Rattle.op_tables.specs.SideTables.{first_table, second_table}
 use Rattle.foreign_keys.specs.KeyParts.{FkParts, FkWell}
 use Rattle.foreign_keys.specs.References.{referred}
 use Rattle.foreign_keys.specs.DrawnIds.{numbered}
-use Rattle.op_tables.specs.Lookups.{sound_at, wide_at, one_rise, three_rise, wide_table, sound_table, One, one_table, Two, two_tables, two_wide, sound0, sound1, in_first, in_second}
-use Rattle.op_law.proofs.SoundLaws.{rows_more}
+use Rattle.op_tables.specs.Lookups.{one_rise, three_rise, wide_table, sound_table, One, one_table, Two, two_tables, two_wide, sound0, sound1, in_first, in_second}
+use Rattle.op_law.proofs.SoundLaws.{rows_more, sound_at, wide_at}
 use Rattle.foreign_keys.specs.inner.DrawnLemmas.{numbered_from, distinct, numbered_rise, drawn_wide, drawn_sound}
 use Rattle.op_fk_decompose.specs.Decompose.{alone, how, needs, values_drawn, ref, near_row, new_first, new_second, s_after, t_after, decompose_fk}
 use Rattle.foreign_keys.specs.Shared.{FkFits}

@@ -1,6 +1,7 @@
 -- The target is read back from the source and its auxiliary tables; the laws together.
 use Rattle.std.proofs.Common.{◌≡◌, ℕ, List, [], ◌∷◌, Bool, true, false, not, ◌&&◌, length, Option, Some, None, refl, ap, sym, ◌∙◌, subst}
 use Rattle.std.proofs.lemmas.Bool.{false≢true}
+use Rattle.std.proofs.Math.Bool.{and-false}
 use mathlib.Core.Logic.{inr}
 use Rattle.par_base.specs.declared.value.Value.{Value}
 use Rattle.row_store.specs.Rows.{Rows, RiseFrom, row_of}
@@ -10,6 +11,7 @@ use Rattle.op_law.specs.Identifiers.{ids_over}
 use Rattle.op_law.specs.Meaning.{Meaning, PairState}
 use Rattle.op_law.specs.Premises.{IsPair}
 use Rattle.op_law.specs.Laws.{HalfLaws, Laws}
+use Rattle.op_law.proofs.SoundLaws.{wide_at}
 use Rattle.op_rows.specs.Cells.{first_cell, other_cells}
 use Rattle.op_rows.specs.inner.CellLemmas.{has_id, none_at, rise_ids}
 use Rattle.op_rows.specs.inner.Tabulated.{row_from, rise_from}
@@ -17,7 +19,7 @@ use Rattle.row_parts.specs.RowCells.{Cell, is_there, or_else, kept_if, row_or, m
 use Rattle.op_tables.specs.SideTables.{first_table, second_table}
 use Rattle.foreign_keys.specs.KeyParts.{FkParts, FkWell}
 use Rattle.foreign_keys.specs.References.{goal_of, is_goal, at_goal, dangles, referred, far_part}
-use Rattle.op_tables.specs.Lookups.{wide_at, one_at, one_rise}
+use Rattle.op_tables.specs.Lookups.{one_at, one_rise}
 use Rattle.foreign_keys.specs.inner.ReferenceLemmas.{is_goal_of, goal_is, referred_by, referrer}
 use Rattle.op_fk_decompose.specs.Decompose.{alone, joined_in, joined, ref_at, refs, dangling_at, dangling, kept_at, kept_rows, live, get_first, leads, get_at, get_second, decompose_fk}
 use Rattle.foreign_keys.specs.Shared.{head_or_null, second_part_at, FkFits}
@@ -39,11 +41,6 @@ live_in t (Some p) q h = by_test (is_there (row_of t p))
 -- a row of T that is a goal is live
 live_is : (t : Rows) (o : Option ℕ) (q : ℕ) (v : List Value) → o ≡ Some q → row_of t q ≡ Some v → live (kept_if (dangles t o) (Some [])) o ≡ Some q
 live_is t o q v e at = rw (e, at) refl
-
--- not both
-and_false : (u : Bool) → (u && false) ≡ false
-and_false true = refl
-and_false false = refl
 
 -- where no row is kept or sought, only an alone one is left
 get_cases : (kc se : Cell) (there : Bool) (rc : Cell) → kc ≡ None → se ≡ None → or_else kc (or_else se (kept_if (not there) rc)) ≡ kept_if (not there) rc
@@ -121,7 +118,7 @@ module _ (k : FkParts) (w a b z : ℕ) (well : FkWell k w a b z) (s t r : Rows) 
       (λ old at. by_test (referred k s q)
       (λ re.
       let f = referrer k 0 s q s_rise re in
-      let kn : row_of (kept_rows k s t) q ≡ None = kept_rows_at q ∙ ap (λ (u : Bool). kept_if (is_there (row_of s q) && not u) (row_of t q)) re ∙ ap (λ (u : Bool). kept_if u (row_of t q)) (and_false (is_there (row_of s q))) in
+      let kn : row_of (kept_rows k s t) q ≡ None = kept_rows_at q ∙ ap (λ (u : Bool). kept_if (is_there (row_of s q) && not u) (row_of t q)) re ∙ ap (λ (u : Bool). kept_if u (row_of t q)) (and-false (is_there (row_of s q))) in
       let ss = seek_some (leads k dg) (second_part_at k r) 0 s q (Some old) f.id f.row s_rise
       (λ p v e g.
       let gq = (live_in t (goal_of (k.key v)) q (sym (live_at p v e) ∙ is_goal_of _ q g)).0 in

@@ -8,7 +8,7 @@ use Rattle.row_parts.specs.RowCells.{Cell, is_there, row_or, map_cell, by_test, 
 use Rattle.foreign_keys.specs.KeyParts.{FkParts, FkWell}
 use Rattle.foreign_keys.specs.References.{goal_of, at_goal, referred, far_part}
 use Rattle.foreign_keys.specs.DrawnIds.{numbered}
-use Rattle.op_tables.specs.Lookups.{wide_at, one_rise, three_rise}
+use Rattle.op_tables.specs.Lookups.{one_rise, three_rise}
 use Rattle.foreign_keys.specs.inner.DrawnLemmas.{numbered_rise, drawn_none}
 use Rattle.op_fk_decompose.specs.Decompose.{alone, joined_in, joined, least_in, how_in, how, draws_for, needs, values_drawn, new_first, new_second, s_after, t_after}
 use Rattle.foreign_keys.specs.Shared.{Ready}
@@ -16,6 +16,7 @@ use Rattle.op_fk_decompose.specs.inner.DecomposeForward.{alone_parts}
 use Rattle.op_fk_decompose.specs.inner.DecomposeKept.{pick_alone, pick_here, pick_new, alone_none, snd_at, is_made, none_made}
 use Rattle.par_base.specs.SameRows.{same_row}
 use Rattle.par_base.specs.inner.SameLaws.{row_same}
+use Rattle.op_law.proofs.SoundLaws.{wide_at}
 
 -- what isn't alone is used
 here : (b r : Bool) → (not b && not r) ≡ false → (r || b) ≡ true

@@ -2,17 +2,18 @@
 use Rattle.std.proofs.Common.{◌≡◌, ℕ, ◌+◌, ◌<◌, ◌≤◌, List, [], ◌∷◌, Bool, true, false, cond, length, Option, Some, None, refl, ap, sym, ◌∙◌, subst, arith}
 use Rattle.par_base.specs.declared.value.Value.{Value}
 use Rattle.row_store.specs.Rows.{Rows, RiseFrom, row_of}
+use Rattle.row_store.specs.inner.FoundRows.{later, own_row}
 use Rattle.row_parts.specs.RowCells.{Cell, or_else, map_cell, id_or, value_or, by_test, by_option}
 use Rattle.foreign_keys.specs.KeyParts.{FkParts, FkWell}
 use Rattle.foreign_keys.specs.References.{goal_of, at_goal}
 use Rattle.foreign_keys.specs.DrawnIds.{numbered, place}
-use Rattle.op_tables.specs.Lookups.{own_row, later, sound_at, wide_at}
 use Rattle.foreign_keys.specs.inner.ReferenceLemmas.{goal_below}
 use Rattle.foreign_keys.specs.inner.DrawnLemmas.{Distinct, numbered_at, distinct, has_needed, low_none}
 use Rattle.op_fk_join.specs.Join.{joined_row, stays_at, key_kept, first_with, draws_join, needs_join, join_drawn, ref_join, left_in, join_first_in, join_first, join_second}
 use Rattle.foreign_keys.specs.Shared.{Ready}
 use Rattle.par_base.specs.SameRows.{same_row}
 use Rattle.par_base.specs.inner.SameLaws.{row_equal, row_same}
+use Rattle.op_law.proofs.SoundLaws.{sound_at, wide_at}
 
 -- the least row with a value has the value
 pub first_at_of : (m : ℕ) (rows : Rows) (b : List Value) (q : ℕ) → RiseFrom m rows → first_with rows b ≡ Some q → row_of rows q ≡ Some b

@@ -12,13 +12,14 @@ use Rattle.op_law.specs.Identifiers.{ids_in}
 use Rattle.op_law.specs.Meaning.{Meaning, PairState, flip}
 use Rattle.op_law.specs.Premises.{IsPair, MayMap, pair_after}
 use Rattle.op_law.specs.Laws.{HalfLaws, InPair, IsBelowNext}
+use Rattle.op_law.proofs.SoundLaws.{sound_at, wide_at}
 use Rattle.op_rows.specs.Cells.{CellWide, CellSound}
 use Rattle.op_rows.specs.inner.CellLemmas.{below_ids}
 use Rattle.row_parts.specs.RowCells.{Cell, by_option}
 use Rattle.op_tables.specs.SideTables.{first_table, second_table}
 use Rattle.foreign_keys.specs.KeyParts.{FkParts, FkWell}
 use Rattle.foreign_keys.specs.References.{goal_of, at_goal}
-use Rattle.op_tables.specs.Lookups.{sound_at, wide_at, one_at, one_rise, wide_table, sound_table, One, one_table, Two, two_tables, one_wide, two_wide, sound0, sound1, in_first, in_second}
+use Rattle.op_tables.specs.Lookups.{one_at, one_rise, wide_table, sound_table, One, one_table, Two, two_tables, one_wide, two_wide, sound0, sound1, in_first, in_second}
 use Rattle.op_fk_join.specs.Join.{joined_row, s_before, t_before, join_table, join_fk}
 use Rattle.foreign_keys.specs.Shared.{Ready}
 use Rattle.op_tables.specs.inner.CellFacts.{map_has, is_some}

@@ -1,6 +1,6 @@
 -- The sources are read back from the target and its auxiliary tables; the laws together.
 use Rattle.std.proofs.Common.{◌≡◌, ℕ, List, [], ◌∷◌, Bool, true, false, not, Option, Some, None, refl, ap, sym, ◌∙◌, subst}
-use Rattle.std.proofs.lemmas.Bool.{false≢true}
+use Rattle.std.proofs.lemmas.Bool.{false≢true, not_from_true}
 use mathlib.Core.Logic.{inr}
 use Rattle.par_base.specs.declared.value.Value.{Value}
 use Rattle.row_store.specs.Rows.{Rows, RiseFrom, row_of}
@@ -10,6 +10,7 @@ use Rattle.op_law.specs.Identifiers.{ids_over}
 use Rattle.op_law.specs.Meaning.{Meaning, PairState, flip}
 use Rattle.op_law.specs.Premises.{IsPair}
 use Rattle.op_law.specs.Laws.{HalfLaws, Laws}
+use Rattle.op_law.proofs.SoundLaws.{wide_at}
 use Rattle.op_rows.specs.Cells.{first_cell}
 use Rattle.op_rows.specs.inner.CellLemmas.{has_id, none_at, rise_ids}
 use Rattle.op_rows.specs.inner.Tabulated.{row_from, rise_from}
@@ -17,7 +18,7 @@ use Rattle.row_parts.specs.RowCells.{Cell, is_there, or_else, kept_if, map_cell,
 use Rattle.op_tables.specs.SideTables.{first_table, second_table}
 use Rattle.foreign_keys.specs.KeyParts.{FkParts, FkWell}
 use Rattle.foreign_keys.specs.References.{goal_of, is_goal, at_goal, referred}
-use Rattle.op_tables.specs.Lookups.{wide_at, one_at, two_at, one_rise, two_rise}
+use Rattle.op_tables.specs.Lookups.{one_at, two_at, one_rise, two_rise}
 use Rattle.foreign_keys.specs.inner.ReferenceLemmas.{is_goal_of, goal_is, referrer}
 use Rattle.op_fk_join.specs.Join.{joined_row, key_here, join_refs, unjoined_here, unjoined, unreferred_here, unreferred, back_first_at, back_first, back_second_at, back_second, join_fk}
 use Rattle.foreign_keys.specs.Shared.{FkFits, head_or_null}
@@ -29,10 +30,6 @@ use Rattle.op_fk_join.specs.inner.JoinLaws.{none_join, at_goal_is, target_one, s
 or_none : (c : Cell) → or_else c None ≡ c
 or_none None = refl
 or_none (Some v) = refl
-
--- what is true is not false
-not_true : (u : Bool) → u ≡ true → not u ≡ false
-not_true u e = rw e refl
 
 module _ (k : FkParts) (w a b z : ℕ) (well : FkWell k w a b z) (s t r : Rows) (s_rise : RiseFrom 0 s) (t_rise : RiseFrom 0 t) (r_rise : RiseFrom 0 r) (s_wide : RowsWide z s) (t_wide : RowsWide b t) (rel : (p : ℕ) → row_of r p ≡ joined_row k (row_of s p) t) where
   -- the foreign keys that are kept beside
@@ -144,7 +141,7 @@ module _ (k : FkParts) (w a b z : ℕ) (well : FkWell k w a b z) (s t r : Rows) 
       ap (λ (c : Cell). or_else c (seek goal part_of keys q)) fn ∙ sn ∙ sym none)
       (λ old at. by_test (referred k s q)
       (λ re.
-      let fn : row_of free q ≡ None = free_at q ∙ ap (λ (u : Bool). kept_if u (row_of t q)) (not_true (referred k s q) re) in
+      let fn : row_of free q ≡ None = free_at q ∙ ap (λ (u : Bool). kept_if u (row_of t q)) (not_from_true (referred k s q) re) in
       let f = referrer k 0 s q s_rise re in
       let rr : row_of r f.id ≡ Some (k.join (k.part f.row) old) = rel f.id ∙ ap (λ (c : Cell). joined_row k c t) f.at ∙ ap (λ (o : Option ℕ). map_cell (k.join (k.part f.row)) (at_goal t o)) f.goal ∙ ap (map_cell (k.join (k.part f.row))) at in
       let kk : row_of keys f.id ≡ Some (k.key f.row ∷ []) = keys_at f.id ∙ ap (λ (c : Cell). in_cell c (λ row. map_cell (λ v. k.key v ∷ []) (row_of s f.id))) rr ∙ ap (map_cell (λ v. k.key v ∷ [])) f.at in

@@ -13,8 +13,8 @@ use Rattle.row_parts.specs.RowCells.{Cell, or_else, id_or, value_or, by_test, by
 use Rattle.foreign_keys.specs.KeyParts.{FkParts, FkWell}
 use Rattle.foreign_keys.specs.References.{goal_of, at_goal}
 use Rattle.foreign_keys.specs.DrawnIds.{numbered, place}
-use Rattle.op_tables.specs.Lookups.{sound_at, wide_at, two_at, two_rise, wide_table, sound_table}
-use Rattle.op_law.proofs.SoundLaws.{below_more, value_more, rows_more}
+use Rattle.op_tables.specs.Lookups.{two_at, two_rise, wide_table, sound_table}
+use Rattle.op_law.proofs.SoundLaws.{below_more, value_more, rows_more, sound_at, wide_at}
 use Rattle.foreign_keys.specs.inner.DrawnLemmas.{place_under, numbered_from, distinct, has_needed, numbered_rise, drawn_none, drawn_wide, drawn_sound}
 use Rattle.op_fk_join.specs.Join.{joined_row, stays_at, key_kept, first_with, draws_join, needs_join, join_drawn, ref_join, left_in, join_first_in, join_first, join_second, s_before, t_before}
 use Rattle.foreign_keys.specs.Shared.{Ready}

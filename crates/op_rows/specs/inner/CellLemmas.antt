@@ -13,7 +13,6 @@ use Rattle.op_law.specs.Sound.{IsBelow, RowsSound, TablesSound}
 use Rattle.op_law.specs.Identifiers.{put_id, ids_in, ids_over}
 pub use Rattle.op_law.specs.Identifiers.{has_id, IdsRise}
 pub use Rattle.op_law.proofs.IdentifierLaws.{has_put, rise_put}
-pub use Rattle.op_law.proofs.OnlyLaws.{is_same}
 use Rattle.op_rows.specs.Cells.{Cells, cells_at, nones, nth_cell, first_cell, other_cells, CellSound, CellsSound}
 
 abbrev pub IdsBelow : ℕ → List ℕ → Type 0

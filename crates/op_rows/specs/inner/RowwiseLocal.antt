@@ -1,37 +1,16 @@
 -- Restricting all that is given to some identifiers restricts the results.
-use Rattle.std.proofs.Common.{◌≡◌, ℕ, zero, suc, ◌+◌, ◌≤◌, ◌==◌, List, [], ◌∷◌, Bool, true, false, cond, length, Some, None, refl, ap, sym, ◌∙◌, arith}
-use Rattle.row_store.specs.Rows.{Rows, RiseFrom, row_of}
+use Rattle.std.proofs.Common.{◌≡◌, ℕ, zero, suc, List, [], ◌∷◌, Bool, true, false, cond, length, refl, ap, sym, ◌∙◌}
+use Rattle.row_store.specs.Rows.{Rows}
 use Rattle.op_law.specs.Tables.{Tables, Heading, RowsWide, AllRise, AreTablesOf}
 use Rattle.op_law.specs.Meaning.{PairState}
 use Rattle.op_law.specs.Premises.{IsPair}
+use Rattle.op_law.proofs.OnlyLaws.{by_test, row_in, row_out, rise_only}
 use Rattle.op_law.specs.Local.{rows_only, only, pair_only, HalfLocal, IsLocal}
 use Rattle.op_rows.specs.Cells.{Cells, cells_at, nones, tables_from}
-use Rattle.op_rows.specs.inner.CellLemmas.{ext_all, is_same}
+use Rattle.op_rows.specs.inner.CellLemmas.{ext_all}
 use Rattle.op_rows.specs.inner.Tabulated.{all_rise_from, tables_long}
 use Rattle.op_rows.specs.RowMeaning.{RowMeaning, flip_row, rowwise, RowHalf, RowLaws}
 use Rattle.op_rows.specs.inner.RowwiseAt.{none_fwd, far_at, far_rise, aux_at, aux_rise, recovers}
-
-row_in : (P : ℕ → Bool) (rows : Rows) (id : ℕ) → P id ≡ true → row_of (rows_only P rows) id ≡ row_of rows id
-row_in P [] id h = refl
-row_in P (r ∷ rs) id h =
-    let M : Bool → Bool → Type 0 = λ b c. P r.0 ≡ b → (r.0 == id) ≡ c → row_of (cond b (r ∷ rows_only P rs) (rows_only P rs)) id ≡ cond c (Some r.1) (row_of rs id) in
-    let rest = row_in P rs id h in
-    let all : M (P r.0) (r.0 == id) = elim (P r.0) as (λ b. M b (r.0 == id)) [
-      | true ↦ λ e f. let M2 : Bool → Type 0 = λ c. cond c (Some r.1) (row_of (rows_only P rs) id) ≡ cond c (Some r.1) (row_of rs id) in elim (r.0 == id) as (λ c. M2 c) [ true ↦ refl | false ↦ rest ]
-      | false ↦ λ e f. elim (r.0 == id) as (λ c. (r.0 == id) ≡ c → row_of (rows_only P rs) id ≡ cond c (Some r.1) (row_of rs id)) [ true ↦ λ k. let s = ap P (is_same r.0 id k) in absurd (cc) | false ↦ λ k. rest ] refl
-    ] in
-    all refl refl
-
-row_out : (P : ℕ → Bool) (rows : Rows) (id : ℕ) → P id ≡ false → row_of (rows_only P rows) id ≡ None
-row_out P [] id h = refl
-row_out P (r ∷ rs) id h =
-    let rest = row_out P rs id h in
-    let M : Bool → Type 0 = λ b. P r.0 ≡ b → row_of (cond b (r ∷ rows_only P rs) (rows_only P rs)) id ≡ None in
-    let all : M (P r.0) = elim (P r.0) as (λ b. M b) [
-      | true ↦ λ e. elim (r.0 == id) as (λ c. (r.0 == id) ≡ c → cond c (Some r.1) (row_of (rows_only P rs) id) ≡ None) [ true ↦ λ k. let s = ap P (is_same r.0 id k) in absurd (cc) | false ↦ λ k. rest ] refl
-      | false ↦ λ e. rest
-    ] in
-    all refl
 
 pub cells_in : (P : ℕ → Bool) (ts : Tables) (id : ℕ) → P id ≡ true → cells_at (only P ts) id ≡ cells_at ts id
 cells_in P [] id h = refl
@@ -40,16 +19,6 @@ cells_in P (t ∷ ts) id h = let a = row_in P t id h in let b = cells_in P ts id
 pub cells_out : (P : ℕ → Bool) (ts : Tables) (id : ℕ) → P id ≡ false → cells_at (only P ts) id ≡ nones (length ts)
 cells_out P [] id h = refl
 cells_out P (t ∷ ts) id h = let a = row_out P t id h in let b = cells_out P ts id h in cc
-
-rise_less : (n k : ℕ) (rows : Rows) → n ≤ k → RiseFrom k rows → RiseFrom n rows
-rise_less n k [] h rise = tt
-rise_less n k (r ∷ rs) h rise = (omega arith, rise.1)
-
-rise_only : (P : ℕ → Bool) (n : ℕ) (rows : Rows) → RiseFrom n rows → RiseFrom n (rows_only P rows)
-rise_only P n [] h = tt
-rise_only P n (r ∷ rs) h =
-    let rest = rise_only P (r.0 + 1) rs h.1 in
-    elim (P r.0) as (λ b. RiseFrom n (cond b (r ∷ rows_only P rs) (rows_only P rs))) [ true ↦ (h.0, rest) | false ↦ rise_less n (r.0 + 1) (rows_only P rs) (omega arith) rest ]
 
 wide_only : (P : ℕ → Bool) (w : ℕ) (rows : Rows) → RowsWide w rows → RowsWide w (rows_only P rows)
 wide_only P w [] h = tt
@@ -70,10 +39,6 @@ all_rise_only P (t ∷ ts) h = (rise_only P 0 t h.0, all_rise_only P ts h.1)
 made_long : (k : ℕ) (ids : List ℕ) (f : ℕ → Cells) → length (tables_from k ids f) ≡ k
 made_long zero ids f = refl
 made_long (suc k) ids f = ap suc (made_long k ids _)
-
-by_test : (b : Bool) {A : Type 0} → (b ≡ true → A) → (b ≡ false → A) → A
-by_test true f g = f refl
-by_test false f g = g refl
 
 module _ (r : RowMeaning) (h : RowHalf r) (P : ℕ → Bool) where
   nothing_at : (hs ht : List Heading) (p : PairState) → IsPair (rowwise r) hs ht p → (id : ℕ) → P id ≡ false → (cells_at (only P p.source) id ≡ nones r.sources) × (cells_at (only P p.target) id ≡ nones r.targets)

@@ -1,20 +1,21 @@
 -- Tables made from what they are to have at each identifier.
 use Rattle.std.proofs.Common.{◌≡◌, ℕ, zero, suc, ◌+◌, ◌≤◌, ◌==◌, List, [], ◌∷◌, Bool, true, false, cond, length, Option, Some, None, IsSome, refl, ap, sym, ◌∙◌, subst, arith}
-use Rattle.std.proofs.lemmas.Bool.{false≢true}
+use Rattle.std.proofs.lemmas.Bool.{false≢true, eqb-true}
 use mathlib.Core.Logic.{inl, inr}
 use Rattle.par_base.specs.declared.value.Value.{Value}
 use Rattle.row_store.specs.Rows.{Rows, RiseFrom, row_of}
+use Rattle.row_store.specs.inner.FoundRows.{rise_more}
 use Rattle.op_law.specs.Tables.{Tables, Heading, RowsWide, AreTablesOf, empty_tables}
 use Rattle.op_law.specs.Sound.{IsBelow, RowsSound, TablesSound, HasRow}
 use Rattle.op_rows.specs.Cells.{Cells, cells_at, nones, first_cell, other_cells, with_row, table_from, tables_from, CellWide, AreCellsOf, CellSound, CellsSound}
-use Rattle.op_rows.specs.inner.CellLemmas.{is_same, has_id, IdsRise, IdsBelow, AllRise}
+use Rattle.op_rows.specs.inner.CellLemmas.{has_id, IdsRise, IdsBelow, AllRise}
 
 from_head : (x : ℕ) (xs : List ℕ) (f : ℕ → Option (List Value)) (id : ℕ) (o : Option (List Value)) → f x ≡ o → row_of (table_from xs f) id ≡ cond (has_id xs id) (f id) None → row_of (with_row x o (table_from xs f)) id ≡ cond (cond (x == id) true (has_id xs id)) (f id) None
 from_head x xs f id None e rest =
     let M : Bool → Type 0 = λ b. (x == id) ≡ b → row_of (table_from xs f) id ≡ cond (cond b true (has_id xs id)) (f id) None in
     let both : M (x == id) = elim (x == id) as (λ b. M b) [
       | true ↦ λ h.
-          let same : None ≡ f id = sym e ∙ ap f (is_same x id h) in
+          let same : None ≡ f id = sym e ∙ ap f (eqb-true x id h) in
           let N : Bool → Type 0 = λ b. cond b (f id) None ≡ f id in
           let out : N (has_id xs id) = elim (has_id xs id) as (λ b. N b) [ true ↦ refl | false ↦ same ] in
           rest ∙ out
@@ -24,7 +25,7 @@ from_head x xs f id None e rest =
 from_head x xs f id (Some row) e rest =
     let M : Bool → Type 0 = λ b. (x == id) ≡ b → cond b (Some row) (row_of (table_from xs f) id) ≡ cond (cond b true (has_id xs id)) (f id) None in
     let both : M (x == id) = elim (x == id) as (λ b. M b) [
-      | true ↦ λ h. sym e ∙ ap f (is_same x id h)
+      | true ↦ λ h. sym e ∙ ap f (eqb-true x id h)
       | false ↦ λ h. rest
     ] in
     both refl
@@ -33,12 +34,8 @@ pub row_from : (ids : List ℕ) (f : ℕ → Option (List Value)) (id : ℕ) →
 row_from [] f id = refl
 row_from (x ∷ xs) f id = from_head x xs f id (f x) refl (row_from xs f id)
 
-rise_weaker : (n k : ℕ) (rows : Rows) → n ≤ k → RiseFrom k rows → RiseFrom n rows
-rise_weaker n k [] h rise = tt
-rise_weaker n k (r ∷ rs) h rise = (omega arith, rise.1)
-
 rise_head : (n x : ℕ) (o : Option (List Value)) (rows : Rows) → n ≤ x → RiseFrom (x + 1) rows → RiseFrom n (with_row x o rows)
-rise_head n x None rows h rise = rise_weaker n (x + 1) rows (omega arith) rise
+rise_head n x None rows h rise = rise_more n (x + 1) rows (omega arith) rise
 rise_head n x (Some row) rows h rise = (h, rise)
 
 pub rise_from : (n : ℕ) (ids : List ℕ) (f : ℕ → Option (List Value)) → IdsRise n ids → RiseFrom n (table_from ids f)

@@ -1,16 +1,17 @@
 -- Entries whose rows are the parts of joined rows, and the parts of joined rows.
-use Rattle.std.proofs.Common.{◌≡◌, ℕ, ◌+◌, ◌<◌, ◌==◌, List, [], ◌∷◌, length, Bool, true, false, not, ◌||◌, Option, Some, None, IsSome, refl, ap, sym, ◌∙◌, subst, arith}
+use Rattle.std.proofs.Common.{◌≡◌, ℕ, ◌+◌, ◌<◌, ◌==◌, List, [], ◌∷◌, length, true, false, not, ◌||◌, Option, Some, None, IsSome, refl, ap, sym, ◌∙◌, subst, arith}
+use Rattle.std.proofs.lemmas.Bool.{ne_eqb, eq-eqb, or_right}
 use Rattle.par_base.specs.declared.value.Value.{Value}
 use Rattle.row_store.specs.Rows.{Rows, RiseFrom, row_of}
 use Rattle.id_memory.specs.Pairs.{Pairs, RiseFrom as PairsRise, pair_of}
 use Rattle.op_law.specs.Tables.{RowsWide}
 use Rattle.op_law.specs.Sound.{IsBelow, RowsSound, PairsSound}
+use Rattle.op_law.proofs.SoundLaws.{sound_at, wide_at}
 use Rattle.op_rows.specs.Cells.{with_row}
 use Rattle.row_parts.specs.Places.{pick as part, row_of_both as joined_row, ArePartition}
 use Rattle.row_parts.specs.RowCells.{Cell, map_cell, by_test, by_option}
 use Rattle.row_parts.specs.inner.PlaceLemmas.{first_join, second_join, join_parts}
-use Rattle.pair_rows.specs.inner.Numbers.{is_own}
-use Rattle.pair_rows.specs.inner.Lookups.{apart, sound_at, wide_at, filter_found}
+use Rattle.pair_rows.specs.inner.Lookups.{filter_found}
 use Rattle.pair_rows.specs.Shown.{Joining, join_cells, row_at, joined, AreThere, IsJoined}
 use Rattle.pair_rows.specs.Stays.{stands, staying}
 use Rattle.pair_rows.specs.inner.ShownLaws.{row_for, joined_found, there_cells}
@@ -81,16 +82,11 @@ all_stand_more pick e m (f ∷ fs) all = (by_test (pick e == pick f) (λ q. rw q
 -- the identifiers of all pairs stand in one
 pub all_stand : (pick : ℕ × ℕ × ℕ → ℕ) (m : Pairs) → AllStand pick m m
 all_stand pick [] = tt
-all_stand pick (e ∷ es) = (let own = is_own (pick e) in rw own refl, all_stand_more pick e es es (all_stand pick es))
-
--- either is true
-or_true : (a b : Bool) → b ≡ true → (a || b) ≡ true
-or_true true b e = refl
-or_true false b e = e
+all_stand pick (e ∷ es) = (let own = eq-eqb (pick e) (pick e) refl in rw own refl, all_stand_more pick e es es (all_stand pick es))
 
 -- a row that stands in a pair is found
 stays_found : (pick : ℕ × ℕ × ℕ → ℕ) (old new : Pairs) (rows : Rows) (id : ℕ) → stands pick new id ≡ true → row_of (staying pick old new rows) id ≡ row_of rows id
-stays_found pick old new rows id h = filter_found (λ i. not (stands pick old i) || stands pick new i) rows id (or_true (not (stands pick old id)) (stands pick new id) h)
+stays_found pick old new rows id h = filter_found (λ i. not (stands pick old i) || stands pick new i) rows id (or_right (not (stands pick old id)) (stands pick new id) h)
 
 -- so what was found stays
 pub found_stays : (j : Joining) (old new : Pairs) (a b : Rows) (es : Pairs) (xs : Rows) → AllStand (λ e. e.1) new es → AllStand (λ e. e.2) new es → AreFound j a b es xs → AreFound j (staying (λ e. e.1) old new a) (staying (λ e. e.2) old new b) es xs
@@ -116,13 +112,13 @@ all_paired_more : (e : ℕ × ℕ × ℕ) (es fs : Pairs) (k : ℕ) → e.0 < k 
 all_paired_more e es [] k h rise all = tt
 all_paired_more e es (f ∷ fs) k h rise all =
     let low = rise.0 in
-    let other = apart e.0 f.0 (λ q. absurd (omega (arith, q, low, h))) in
+    let other = ne_eqb e.0 f.0 (λ q. absurd (omega (arith, q, low, h))) in
     (rw other all.0, all_paired_more e es fs (f.0 + 1) (omega (arith, h, low)) rise.1 all.1)
 
 -- each entry is found by its identifier
 pub all_paired : (k : ℕ) (es : Pairs) → PairsRise k es → AllPaired es es
 all_paired k [] rise = tt
-all_paired k (e ∷ es) rise = (let own = is_own e.0 in rw own refl, all_paired_more e es es (e.0 + 1) (omega arith) rise.1 (all_paired (e.0 + 1) es rise.1))
+all_paired k (e ∷ es) rise = (let own = eq-eqb e.0 e.0 refl in rw own refl, all_paired_more e es es (e.0 + 1) (omega arith) rise.1 (all_paired (e.0 + 1) es rise.1))
 
 -- a joined row from its cells
 join_some : (j : Joining) → ArePartition j.first j.second → (c d : Cell) (o : List Value) → ((a : List Value) → c ≡ Some a → length a ≡ length j.first) → ((b : List Value) → d ≡ Some b → length b ≡ length j.second) → join_cells j c d ≡ Some o → (c ≡ Some (part j.first o)) × (d ≡ Some (part j.second o))

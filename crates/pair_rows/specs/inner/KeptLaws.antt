@@ -1,5 +1,6 @@
 -- The source is read back from the target, the memory and the rows in no pair.
 use Rattle.std.proofs.Common.{◌≡◌, ℕ, ◌==◌, List, [], ◌∷◌, if◌then◌else◌, Bool, true, false, cond, not, Some, None, refl, ap, sym, ◌∙◌, arith}
+use Rattle.std.proofs.lemmas.Bool.{eqb-true}
 use Rattle.row_store.specs.Rows.{Rows, RiseFrom, row_of}
 use Rattle.row_store.proofs.UndoLaws.{ext}
 use Rattle.id_memory.specs.Pairs.{Pairs}
@@ -9,7 +10,6 @@ use Rattle.op_rows.specs.inner.CellLemmas.{has_id, IdsRise, has_put, rise_put, r
 use Rattle.op_rows.specs.inner.Tabulated.{row_from, rise_from}
 use Rattle.row_parts.specs.RowCells.{Cell, map_cell, or_else, by_test}
 use Rattle.row_parts.specs.Places.{pick as part}
-use Rattle.pair_rows.specs.inner.Numbers.{same_number}
 use Rattle.pair_rows.specs.inner.Lookups.{filter_found, filter_lost, filter_rise}
 use Rattle.pair_rows.specs.Stays.{stands}
 use Rattle.pair_rows.specs.Kept.{alone, paired, ids_paired, side_read}
@@ -25,12 +25,8 @@ module _ (pick : ℕ × ℕ × ℕ → ℕ) (places : List ℕ) (s r : Rows) (m 
   paired_is [] id all = refl
   paired_is (e ∷ es) id all =
       by_test (pick e == id)
-      (λ q. let same = same_number (pick e) id q in rw q (all.0 ∙ ap (λ (i : ℕ). row_of s i) same))
+      (λ q. let same = eqb-true (pick e) id q in rw q (all.0 ∙ ap (λ (i : ℕ). row_of s i) same))
       (λ q. rw q (paired_is es id all.1))
-
-  -- the other value
-  not_false : (b : Bool) → b ≡ true → not b ≡ false
-  not_false b e = ap not e
 
   -- each identifier is read back
   read_at : (id : ℕ) → ArePaired m → or_else (row_of (alone pick m s) id) (paired pick places r m id) ≡ row_of s id

@@ -1,35 +1,14 @@
 -- Look-ups in rows that were filtered, and in rows with further ones behind.
-use Rattle.std.proofs.Common.{◌≡◌, ℕ, ◌+◌, ◌<◌, ◌≤◌, ◌==◌, ◌⊎◌, List, [], ◌∷◌, ◌++◌, length, filter, Bool, true, false, Some, None, IsSome, refl, ap, subst, arith}
+use Rattle.std.proofs.Common.{◌≡◌, ℕ, ◌+◌, ◌<◌, ◌==◌, ◌⊎◌, List, [], ◌∷◌, ◌++◌, length, filter, Bool, true, false, Some, None, IsSome, refl, ap, subst, arith}
+use Rattle.std.proofs.lemmas.Bool.{eqb-true, eq-eqb, ne_eqb}
 use mathlib.Core.Logic.{inl, inr}
 use Rattle.par_base.specs.declared.value.Value.{Value}
 use Rattle.row_store.specs.Rows.{Rows, RiseFrom, AreBelow, row_of}
+use Rattle.row_store.specs.inner.FoundRows.{rise_more}
 use Rattle.op_law.specs.Tables.{RowsWide}
 use Rattle.op_law.specs.Sound.{IsBelow, ValuesSound, RowsSound}
 use Rattle.op_rows.specs.Cells.{CellSound, with_row}
 use Rattle.row_parts.specs.RowCells.{Cell, by_test}
-use Rattle.pair_rows.specs.inner.Numbers.{same_number, is_own}
-
--- numbers that differ
-pub apart : (a b : ℕ) → (a ≡ b → ⊥) → (a == b) ≡ false
-apart a b h = by_test (a == b) (λ e. absurd (h (same_number a b e))) (λ e. e)
-
--- no row is below rising ones
-pub none_under : (n : ℕ) (rows : Rows) (id : ℕ) → RiseFrom n rows → id < n → row_of rows id ≡ None
-none_under n [] id rise h = refl
-none_under n (r ∷ rs) id rise h =
-    let low = rise.0 in
-    let other = apart r.0 id (λ e. absurd (omega (arith, e, low, h))) in
-    rw other (none_under (r.0 + 1) rs id rise.1 (omega (arith, low, h)))
-
--- rising from below
-pub rise_more : (n k : ℕ) (rows : Rows) → n ≤ k → RiseFrom k rows → RiseFrom n rows
-rise_more n k [] h rise = tt
-rise_more n k (r ∷ rs) h rise = (let low = rise.0 in omega (arith, h, low), rise.1)
-
--- rising with one behind
-pub rises_behind : (n : ℕ) (rows : Rows) (id : ℕ) (row : List Value) → n ≤ id → RiseFrom n rows → AreBelow rows id → RiseFrom n (rows ++ (id, row) ∷ [])
-rises_behind n [] id row h rise below = (h, tt)
-rises_behind n (r ∷ rs) id row h rise below = (rise.0, rises_behind (r.0 + 1) rs id row (let b = below.0 in omega (arith, b)) rise.1 below.1)
 
 -- a row that is found stays found where further rows stand behind
 pub found_before : (xs ys : Rows) (id : ℕ) (row : List Value) → row_of xs id ≡ Some row → row_of (xs ++ ys) id ≡ Some row
@@ -41,14 +20,14 @@ found_before (x ∷ xs) ys id row found =
 
 -- the row behind all others is found
 pub found_behind : (xs : Rows) (id : ℕ) (row : List Value) → AreBelow xs id → row_of (xs ++ (id, row) ∷ []) id ≡ Some row
-found_behind [] id row below = let own = is_own id in rw own refl
+found_behind [] id row below = let own = eq-eqb id id refl in rw own refl
 found_behind (x ∷ xs) id row below =
-    let other : (x.0 == id) ≡ false = apart x.0 id (λ e. let b = below.0 in absurd (omega (arith, e, b))) in
+    let other : (x.0 == id) ≡ false = ne_eqb x.0 id (λ e. let b = below.0 in absurd (omega (arith, e, b))) in
     rw other (found_behind xs id row below.1)
 
 -- what is found in rows with one behind, is found in them or is the one behind
 pub behind_or : (xs : Rows) (id n : ℕ) (row : List Value) → IsSome (row_of (xs ++ (n, row) ∷ []) id) → IsSome (row_of xs id) ⊎ (n ≡ id)
-behind_or [] id n row some = by_test (n == id) (λ e. inr (same_number n id e)) (λ e. let none : false ≡ true = rw e at some in absurd (cc))
+behind_or [] id n row some = by_test (n == id) (λ e. inr (eqb-true n id e)) (λ e. let none : false ≡ true = rw e at some in absurd (cc))
 behind_or (x ∷ xs) id n row some =
     by_test (x.0 == id)
     (λ e. inl (rw e refl))
@@ -61,7 +40,7 @@ filter_found test (r ∷ rs) id passes =
     by_test (test r.0)
     (λ e. rw e (by_test (r.0 == id) (λ q. rw q refl) (λ q. rw q (filter_found test rs id passes))))
     (λ e.
-    let other = apart r.0 id (λ q. let same : test r.0 ≡ test id = ap test q in absurd (cc)) in
+    let other = ne_eqb r.0 id (λ q. let same : test r.0 ≡ test id = ap test q in absurd (cc)) in
     rw (e, other) (filter_found test rs id passes))
 
 -- a row that fails the test isn't there
@@ -70,7 +49,7 @@ filter_lost test [] id fails = refl
 filter_lost test (r ∷ rs) id fails =
     by_test (test r.0)
     (λ e.
-    let other = apart r.0 id (λ q. let same : test r.0 ≡ test id = ap test q in absurd (cc)) in
+    let other = ne_eqb r.0 id (λ q. let same : test r.0 ≡ test id = ap test q in absurd (cc)) in
     rw (e, other) (filter_lost test rs id fails))
     (λ e. rw e (filter_lost test rs id fails))
 
@@ -116,40 +95,6 @@ pub sound_behind : (n : ℕ) (xs : Rows) (id : ℕ) (row : List Value) → RowsS
 sound_behind n [] id row sound below values = ((below, values), tt)
 sound_behind n (x ∷ xs) id row sound below values = (sound.0, sound_behind n xs id row sound.1 below values)
 
--- below with one behind
-pub below_behind : (xs : Rows) (n : ℕ) (row : List Value) → AreBelow xs n → AreBelow (xs ++ (n, row) ∷ []) (n + 1)
-below_behind [] n row below = (omega arith, tt)
-below_behind (x ∷ xs) n row below = (let h = below.0 in omega (arith, h), below_behind xs n row below.1)
-
--- below a greater number
-pub below_weaker : (xs : Rows) (n k : ℕ) → n ≤ k → AreBelow xs n → AreBelow xs k
-below_weaker [] n k h below = tt
-below_weaker (x ∷ xs) n k h below = (let b = below.0 in omega (arith, h, b), below_weaker xs n k h below.1)
-
--- sound rows are below the next identifier
-pub below_sound : (n : ℕ) (xs : Rows) → RowsSound n xs → AreBelow xs n
-below_sound n [] sound = tt
-below_sound n (x ∷ xs) sound = (sound.0.0.1, below_sound n xs sound.1)
-
--- what a row is that is found
-pub sound_at : (n : ℕ) (rows : Rows) (id : ℕ) (row : List Value) → RowsSound n rows → row_of rows id ≡ Some row → IsBelow n id × ValuesSound n row
-sound_at n [] id row sound at = absurd (cc)
-sound_at n (r ∷ rs) id row sound at =
-    by_test (r.0 == id)
-    (λ e.
-    let some : Some r.1 ≡ Some row = rw e at at in
-    let is : r.1 ≡ row = cc in
-    (subst (λ (i : ℕ). IsBelow n i) (same_number r.0 id e) sound.0.0, subst (λ (z : List Value). ValuesSound n z) is sound.0.1))
-    (λ e. let later : row_of rs id ≡ Some row = rw e at at in sound_at n rs id row sound.1 later)
-
--- a row that is found is as wide
-pub wide_at : (w : ℕ) (rows : Rows) (id : ℕ) (row : List Value) → RowsWide w rows → row_of rows id ≡ Some row → length row ≡ w
-wide_at w [] id row wide at = absurd (cc)
-wide_at w (r ∷ rs) id row wide at =
-    by_test (r.0 == id)
-    (λ e. let some : Some r.1 ≡ Some row = rw e at at in let is : r.1 ≡ row = cc in subst (λ (z : List Value). length z ≡ w) is wide.0)
-    (λ e. let later : row_of rs id ≡ Some row = rw e at at in wide_at w rs id row wide.1 later)
-
 -- and as sound
 pub cell_sound : (n : ℕ) (rows : Rows) (id : ℕ) → RowsSound n rows → CellSound n (row_of rows id)
 cell_sound n [] id sound = tt
@@ -160,18 +105,8 @@ pub below_some : (n : ℕ) (rows : Rows) (id : ℕ) → RowsSound n rows → IsS
 below_some n [] id sound some = absurd (cc)
 below_some n (r ∷ rs) id sound some =
     by_test (r.0 == id)
-    (λ e. subst (λ (i : ℕ). IsBelow n i) (same_number r.0 id e) sound.0.0)
+    (λ e. subst (λ (i : ℕ). IsBelow n i) (eqb-true r.0 id e) sound.0.0)
     (λ e. let later : IsSome (row_of rs id) = rw e at some in below_some n rs id sound.1 later)
-
--- in rising rows each row is the one of its identifier
-pub found_later : (n : ℕ) (r : ℕ × List Value) (rs : Rows) (id : ℕ) (row : List Value) → RiseFrom n (r ∷ rs) → row_of rs id ≡ Some row → row_of (r ∷ rs) id ≡ Some row
-found_later n r rs id row rise found =
-    by_test (r.0 == id)
-    (λ e.
-    let same = same_number r.0 id e in
-    let none : row_of rs id ≡ None = none_under (r.0 + 1) rs id rise.1 (omega (arith, same)) in
-    absurd (cc))
-    (λ e. rw e found)
 
 -- what passes of two lists
 pub filter_append : {X : Type 0} (test : X → Bool) (xs ys : List X) → filter test (xs ++ ys) ≡ filter test xs ++ filter test ys

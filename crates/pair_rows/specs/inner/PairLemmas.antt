@@ -1,14 +1,13 @@
 -- Entries of memories that were filtered or numbered, and how often a pair stands there.
 use Rattle.std.proofs.Common.{◌≡◌, ℕ, suc, ◌+◌, ◌<◌, ◌≤◌, ◌==◌, ◌⊎◌, List, [], ◌∷◌, ◌++◌, length, filter, count_by, if◌then◌else◌, Bool, true, false, cond, ◌&&◌, IsSome, refl, ap, ◌∙◌, subst, arith}
-use Rattle.std.proofs.lemmas.Bool.{and_parts}
+use Rattle.std.proofs.lemmas.Bool.{and_parts, ne_eqb, eqb-true, eq-eqb}
 use Rattle.std.proofs.lemmas.List.Sums.{sum_by-append}
 use mathlib.Core.Logic.{inl, inr}
 use Rattle.row_store.specs.Rows.{Rows, RiseFrom}
 use Rattle.id_memory.specs.Pairs.{Pairs, RiseFrom as PairsRise, pair_of, has_pair}
 use Rattle.op_law.specs.Sound.{IsBelow, PairsSound}
 use Rattle.row_parts.specs.RowCells.{by_test}
-use Rattle.pair_rows.specs.inner.Numbers.{same_number, is_own, count_cons}
-use Rattle.pair_rows.specs.inner.Lookups.{apart}
+use Rattle.pair_rows.specs.inner.Numbers.{count_cons}
 use Rattle.pair_rows.specs.Shown.{has, pairs_with, all_pairs, numbered}
 
 -- one that counts
@@ -72,7 +71,7 @@ under_with : (a b k n : ℕ) (t : Rows) → b < n → RiseFrom n t → often a b
 under_with a b k n [] under rise = refl
 under_with a b k n (r ∷ rs) under rise =
     let low = rise.0 in
-    let other : (r.0 == b) ≡ false = apart r.0 b (λ e. absurd (omega (arith, e, low, under))) in
+    let other : (r.0 == b) ≡ false = ne_eqb r.0 b (λ e. absurd (omega (arith, e, low, under))) in
     by_test (k == a)
     (λ e. rw (e, other) (under_with a b k (r.0 + 1) rs (omega (arith, low, under)) rise.1))
     (λ e. rw e (under_with a b k (r.0 + 1) rs (omega (arith, low, under)) rise.1))
@@ -84,7 +83,7 @@ once_with a b k n (r ∷ rs) rise =
     by_test (k == a && r.0 == b)
     (λ e.
     let parts = and_parts (k == a) (r.0 == b) e in
-    let same = same_number r.0 b parts.1 in
+    let same = eqb-true r.0 b parts.1 in
     let none = under_with a b k (r.0 + 1) rs (omega (arith, same)) rise.1 in
     rw e (omega (arith, none)))
     (λ e. rw e (once_with a b k (r.0 + 1) rs rise.1))
@@ -94,7 +93,7 @@ under_all : (a b n : ℕ) (s t : Rows) → a < n → RiseFrom n s → often a b 
 under_all a b n [] t under rise = refl
 under_all a b n (r ∷ rs) t under rise =
     let low = rise.0 in
-    let other : (r.0 == a) ≡ false = apart r.0 a (λ e. absurd (omega (arith, e, low, under))) in
+    let other : (r.0 == a) ≡ false = ne_eqb r.0 a (λ e. absurd (omega (arith, e, low, under))) in
     let here = never_with a b r.0 t other in
     let rest = under_all a b (r.0 + 1) rs t (omega (arith, low, under)) rise.1 in
     omega (arith, often_append a b (pairs_with r.0 t) (all_pairs rs t), here, rest)
@@ -106,7 +105,7 @@ once_all a b n k (r ∷ rs) t rise other_rise =
     let all = often_append a b (pairs_with r.0 t) (all_pairs rs t) in
     by_test (r.0 == a)
     (λ e.
-    let same = same_number r.0 a e in
+    let same = eqb-true r.0 a e in
     let here = once_with a b r.0 k t other_rise in
     let rest = under_all a b (r.0 + 1) rs t (omega (arith, same)) rise.1 in
     omega (arith, all, here, rest))
@@ -204,7 +203,7 @@ pub numbered_pair : (n : ℕ) (xs : List (ℕ × ℕ)) (p : ℕ) → IsSome (pai
 numbered_pair n [] p some = absurd (cc)
 numbered_pair n (x ∷ xs) p some =
     by_test (n == p)
-    (λ q. let same = same_number n p q in omega (arith, same))
+    (λ q. let same = eqb-true n p q in omega (arith, same))
     (λ q. let later : IsSome (pair_of (numbered (n + 1) xs) p) = rw q at some in let more = numbered_pair (n + 1) xs p later in omega (arith, more))
 
 -- each of the entries is in the memory
@@ -225,6 +224,6 @@ all_in_more e m (f ∷ fs) h = (has_more e m f.1 f.2 h.0, all_in_more e m fs h.1
 pub all_in : (m : Pairs) → AllIn m m
 all_in [] = tt
 all_in (e ∷ es) =
-    let one = is_own e.1 in
-    let other = is_own e.2 in
+    let one = eq-eqb e.1 e.1 refl in
+    let other = eq-eqb e.2 e.2 refl in
     (rw (one, other) refl, all_in_more e es es (all_in es))

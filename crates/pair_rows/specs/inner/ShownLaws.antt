@@ -1,17 +1,17 @@
 -- The joined rows of the pairs that are shown.
 use Rattle.std.proofs.Common.{◌≡◌, ℕ, ◌+◌, ◌≤◌, ◌==◌, ◌⊎◌, List, [], ◌∷◌, ◌++◌, length, filter, if◌then◌else◌, Bool, true, false, not, ◌&&◌, ◌||◌, Option, Some, None, IsSome, is_some, refl, ap, sym, ◌∙◌, subst, append-nil, arith}
-use Rattle.std.proofs.lemmas.Bool.{and_parts}
+use Rattle.std.proofs.lemmas.Bool.{and_parts, eqb-true}
 use mathlib.Core.Logic.{inl, inr}
 use Rattle.row_store.specs.Rows.{Rows, RiseFrom, row_of}
+use Rattle.row_store.specs.inner.FoundRows.{rise_more}
 use Rattle.id_memory.specs.Pairs.{Pairs, RiseFrom as PairsRise, IsOneToOne, pair_of, has_pair}
 use Rattle.op_law.specs.Tables.{RowsWide}
 use Rattle.op_law.specs.Sound.{IsBelow, RowsSound, PairsSound}
 use Rattle.op_law.proofs.SoundLaws.{rows_more, pairs_more}
 use Rattle.op_rows.specs.Cells.{with_row, CellSound}
 use Rattle.row_parts.specs.RowCells.{Cell, by_test, by_option}
-use Rattle.pair_rows.specs.inner.Numbers.{same_number}
 use Rattle.pair_rows.specs.inner.JoinedRows.{joined_long, joined_sound}
-use Rattle.pair_rows.specs.inner.Lookups.{rise_more, cell_sound, below_some}
+use Rattle.pair_rows.specs.inner.Lookups.{cell_sound, below_some}
 use Rattle.pair_rows.specs.inner.PairLemmas.{often_numbered, often_filter, never, once_all, count_filter, count_append, has_not, filter_rises, numbered_rises, append_rises, filter_pairs_sound, append_pairs_sound, BothBelow, numbered_sound, append_pair, filter_pair, numbered_pair, AllIn, all_in}
 use Rattle.pair_rows.specs.Shown.{Joining, join_cells, row_at, matches, joined, AreThere, IsJoined, has, is_shown, all_pairs, new_pairs, numbered, kept_pairs, shown_pairs}
 
@@ -163,8 +163,8 @@ module _ (j : Joining) where
       by_test (x.0 == a && x.1 == b)
       (λ e.
       let same = and_parts (x.0 == a) (x.1 == b) e in
-      let first = same_number x.0 a same.0 in
-      let second = same_number x.1 b same.1 in
+      let first = eqb-true x.0 a same.0 in
+      let second = eqb-true x.1 b same.1 in
       let parts = and_parts (is_shown j s t m ns nt x.0 x.1) (not (has m x.0 x.1)) new in
       let is : has m x.0 x.1 ≡ true = ap (λ (i : ℕ). has m i x.1) first ∙ ap (λ (i : ℕ). has m a i) second ∙ old in
       let no : not true ≡ true = subst (λ (b : Bool). not b ≡ true) is parts.1 in

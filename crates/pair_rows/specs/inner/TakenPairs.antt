@@ -1,11 +1,11 @@
 -- Pairs that are taken, and those of rows that are unchanged.
 use Rattle.std.proofs.Common.{◌≡◌, ℕ, ◌<◌, ◌≤◌, List, [], ◌∷◌, ◌++◌, true, false, Option, Some, None, refl, ap, arith}
+use Rattle.std.proofs.lemmas.Bool.{ne_eqb}
 use Rattle.par_base.specs.declared.value.Value.{Value}
 use Rattle.id_memory.specs.Pairs.{Pairs, has_pair}
 use Rattle.row_parts.specs.RowCells.{Cell, by_test}
 use Rattle.par_base.specs.SameRows.{same_row}
 use Rattle.par_base.specs.inner.SameLaws.{row_equal}
-use Rattle.pair_rows.specs.inner.Lookups.{apart}
 use Rattle.pair_rows.specs.Shown.{has}
 use Rattle.pair_rows.specs.Given.{unchanged}
 
@@ -39,7 +39,7 @@ pub not_taken : (n a b : ℕ) (es : Pairs) → n ≤ a → FirstsBelow n es → 
 not_taken n a b [] h below = refl
 not_taken n a b (e ∷ es) h below =
     let low = below.0 in
-    let other = apart e.1 a (λ q. absurd (omega (arith, q, low, h))) in
+    let other = ne_eqb e.1 a (λ q. absurd (omega (arith, q, low, h))) in
     rw other (not_taken n a b es h below.1)
 
 -- the old identifier of an identifier whose row is unchanged

@@ -2,9 +2,9 @@
 use Rattle.std.proofs.Common.{◌≡◌, ℕ, zero, suc, List, [], ◌∷◌, length, IsSome, refl, subst}
 use mathlib.Core.Logic.{inl, inr}
 use Rattle.row_store.specs.Rows.{Rows, RiseFrom, row_of}
-use Rattle.op_law.specs.Tables.{Tables, Heading, RowsWide, AreTablesOf, empty_tables}
+use Rattle.op_law.specs.Tables.{Tables, Heading, RowsWide, AreTablesOf, empty_tables, widths}
 use Rattle.op_law.specs.Sound.{RowsSound, TablesSound, HasRow}
-use Rattle.pair_rows.specs.Sides.{widths, table_at}
+use Rattle.pair_rows.specs.Sides.{table_at}
 
 -- a side of two tables
 pub record TwoTables (a b : ℕ) (ts : Tables) : Type 0 where

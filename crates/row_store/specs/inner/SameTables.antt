@@ -1,48 +1,34 @@
 -- Tables with equal look-ups are equal.
-use Rattle.std.proofs.Common.{◌≡◌, ℕ, ◌+◌, ◌<◌, ◌==◌, [], ◌∷◌, List, true, false, Some, None, refl, sym, ap, ◌∙◌, subst, arith}
+use Rattle.std.proofs.Common.{◌≡◌, ℕ, ◌+◌, ◌<◌, ◌==◌, [], ◌∷◌, List, true, Some, None, refl, sym, ap, ◌∙◌, subst, arith}
 use Rattle.std.proofs.lemmas.Bool.Decides.{nat_tests}
-use Rattle.std.proofs.lemmas.Bool.{cases_order, cases_lt}
+use Rattle.std.proofs.lemmas.Bool.{cases_order, cases_lt, eq-eqb}
 use mathlib.Core.Logic.{inl, inr}
+use Rattle.par_base.proofs.TestLaws.{apart_below}
 use Rattle.par_base.specs.declared.value.Value.{Value}
 use Rattle.row_store.specs.Rows.{Rows, RiseFrom, row_of}
-
-pub eq_self : (n : ℕ) → (n == n) ≡ true
-eq_self n = grind (arith, nat_tests)
-
-pub apart_below : (a b : ℕ) → a < b → (a == b) ≡ false
-apart_below a b h = grind (arith, nat_tests)
-
-pub apart_above : (a b : ℕ) → b < a → (a == b) ≡ false
-apart_above a b h = grind (arith, nat_tests)
-
--- nothing below the bound
-pub none_under : (n : ℕ) (rows : Rows) (id : ℕ) → RiseFrom n rows → id < n → row_of rows id ≡ None
-none_under n [] id rise h = refl
-none_under n (r ∷ rs) id rise h =
-    let other = apart_above r.0 id (omega (arith, rise.0)) in
-    rw other (none_under (r.0 + 1) rs id rise.1 (omega (arith, rise.0)))
+use Rattle.row_store.specs.inner.FoundRows.{none_under}
 
 -- two tables that ascend and have the same rows are equal
 pub ext : (n : ℕ) (s t : Rows) → RiseFrom n s → RiseFrom n t → ((id : ℕ) → row_of s id ≡ row_of t id) → s ≡ t
 ext n [] [] rise_s rise_t same = refl
 ext n [] (r ∷ rs) rise_s rise_t same =
-    let own = eq_self r.0 in
+    let own = eq-eqb r.0 r.0 refl in
     let e : None ≡ Some r.1 = rw own at (same r.0) in
     cc
 ext n (r ∷ rs) [] rise_s rise_t same =
-    let own = eq_self r.0 in
+    let own = eq-eqb r.0 r.0 refl in
     let e : Some r.1 ≡ None = rw own at (same r.0) in
     cc
 ext n (a ∷ xs) (b ∷ ys) rise_s rise_t same =
     let apart : (p q : ℕ × List Value) (ps qs : Rows) → p.0 < q.0 → RiseFrom (q.0 + 1) qs → row_of (p ∷ ps) p.0 ≡ row_of (q ∷ qs) p.0 → ⊥ =
     λ p q ps qs h rise e.
-    let own = eq_self p.0 in
+    let own = eq-eqb p.0 p.0 refl in
     let some : Some p.1 ≡ row_of (q ∷ qs) p.0 = rw own at e in
     let none = none_under q.0 (q ∷ qs) p.0 (omega arith, rise) h in
     cc in
     elim (cases_order a.0 b.0) [
       | inl e ↦
-          let own_a = eq_self a.0 in
+          let own_a = eq-eqb a.0 a.0 refl in
           let own_b : (b.0 == a.0) ≡ true = grind (arith, nat_tests) in
           let some : Some a.1 ≡ Some b.1 = rw (own_a, own_b) at (same a.0) in
           let tail : xs ≡ ys = ext (a.0 + 1) xs ys rise_s.1 (subst (λ (k : ℕ). RiseFrom (k + 1) ys) (sym e) rise_t.1)

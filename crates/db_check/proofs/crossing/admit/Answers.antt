@@ -1,6 +1,7 @@
 use Rattle.std.specs.Prelude.{◌≤◌}
 use Rattle.std.proofs.Common.{ℕ, length, Option, refl, sym, ap, ◌∙◌, subst}
 use Rattle.std.proofs.lemmas.Bool.{false≢true}
+use Rattle.db_state.proofs.FoundLaws.{crosses, none_kept, same_crossing, some_kept}
 use Rattle.op_law.specs.Tables.{Tables}
 use Rattle.op_law.specs.Sound.{TablesSound}
 use Rattle.op_law.specs.Calls.{tables_of, Admits as AdmitsFar}
@@ -11,7 +12,7 @@ use Rattle.version_graph.specs.declared.parts.Step.{Step}
 use Rattle.version_model.specs.Calls.{crossing_of}
 use Rattle.version_model.specs.Kept.{rows_now}
 use Rattle.storage_law.specs.Storage.{stored_way}
-use Rattle.db_check.proofs.FoundLemmas.{crosses, near_kept, none_kept, same_crossing, some_kept}
+use Rattle.db_check.proofs.FoundLemmas.{near_kept}
 use Rattle.db_check.specs.inner.Tests.{Tells}
 use Rattle.db_check.specs.inner.Calls.{IsNone, IsOver}
 use Rattle.db_check.proofs.StepLemmas.{far_long, has_aux, has_memory, is_over, near_within, none_over, some_near, unsound}

@@ -11,8 +11,9 @@ use Rattle.db_state.specs.Fields.{state_for}
 use Rattle.db_state.specs.Parts.{seen_of}
 use Rattle.db_state.specs.inner.Passes.{SeesOver, Settles}
 use Rattle.db_state.proofs.BoundLaws.{crossed_within, seen_none}
-use Rattle.db_state.proofs.CrossLemmas.{far_long, has_aux, has_memory, may_read, near_kept, near_within, none_kept, same_crossing, settles, some_kept}
+use Rattle.db_state.proofs.CrossLemmas.{far_long, has_aux, has_memory, may_read, near_kept, near_within, settles}
 use Rattle.db_state.proofs.read.cross.Goals as goal
+use Rattle.db_state.proofs.FoundLaws.{none_kept, same_crossing, some_kept}
 
 pub unreachable-requires-in_default-value_of : goal.unreachable-requires-in_default-value_of
 unreachable-requires-in_default-value_of g c =

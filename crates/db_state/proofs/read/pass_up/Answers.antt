@@ -10,7 +10,7 @@ use Rattle.db_state.specs.Parts.{seen_of}
 use Rattle.layout_rules.proofs.DownLaws.{below}
 use Rattle.db_state.specs.inner.Passes.{passed_in}
 use Rattle.db_state.proofs.BoundLaws.{seen_none}
-use Rattle.db_state.proofs.PassLemmas.{turned}
+use Rattle.db_state.proofs.PassLaws.{turned}
 use Rattle.db_state.proofs.PlaceLemmas.{goes_up, may_up, up_end, up_more, up_most}
 use Rattle.db_state.proofs.read.pass_up.Goals as goal
 

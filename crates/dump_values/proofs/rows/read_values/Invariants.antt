@@ -6,4 +6,4 @@ use Rattle.dump_values.specs.Values.{value_of}
 use Rattle.dump_values.proofs.rows.read_values.Given as goal
 
 abbrev pub invariant-loop-item : goal.invariant-loop-item
-invariant-loop-item l = list_of value_of (items_view l.items) ≡ option_map (λ vs. l.row ++ vs) (list_of value_of (items_view (drop l.item-index l.items)))
+invariant-loop-item l = list_of value_of (items_view l.items) ≡ option_map (λ vs. l.row.items ++ vs) (list_of value_of (items_view (drop l.item-index l.items)))

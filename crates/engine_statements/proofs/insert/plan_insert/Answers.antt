@@ -1,7 +1,7 @@
 use Rattle.std.proofs.Common.{◌≡◌, ℕ, Ok, ap, sym, subst, ◌∙◌}
 use Rattle.id_memory.specs.States.{CounterState}
 use Rattle.row_store.specs.Rows.{AreBelow}
-use Rattle.ordinary_table.proofs.KeptLaws.{sound_below}
+use Rattle.op_law.proofs.SoundLaws.{below_sound}
 use Rattle.engine_statements.specs.Found.{unknown_in_rows}
 use Rattle.engine_statements.specs.Statements.{right_counts}
 use Rattle.engine_statements.specs.Calls.{rows_in}
@@ -18,7 +18,7 @@ returns-clause-taken c =
     let rows = rows_in k f.number in
     let table = c.in_ok-found.ensures.there in
     let next = c.next-next.ensures.value ∙ ap (λ (i : CounterState). i.next) c.ids.ensures in
-    let below = subst (λ (n : ℕ). AreBelow rows n) (sym next) (sound_below k.ids.next rows table.stands.sound) in
+    let below = subst (λ (n : ℕ). AreBelow rows n) (sym next) (below_sound k.ids.next rows table.stands.sound) in
     let counts = subst (λ (width : ℕ). right_counts width new ≡ Ok tt) c.len.ensures c.in_ok-check_counts.ensures in
     let known = known_none c.next-next.result (unknown_in_rows c.next-next.result new) tt c.in_ok-check_row_ids.ensures in
     record {
@@ -35,7 +35,7 @@ returns-clause-gives c =
     let rows = rows_in k f.number in
     let table = c.in_ok-found.ensures.there in
     let next = c.next-next.ensures.value ∙ ap (λ (i : CounterState). i.next) c.ids.ensures in
-    let below = subst (λ (n : ℕ). AreBelow rows n) (sym next) (sound_below k.ids.next rows table.stands.sound) in
+    let below = subst (λ (n : ℕ). AreBelow rows n) (sym next) (below_sound k.ids.next rows table.stands.sound) in
     let counts = subst (λ (width : ℕ). right_counts width new ≡ Ok tt) c.len.ensures c.in_ok-check_counts.ensures in
     insert_planned k c.args.name.now new f _ c.next-next.result c.in_ok-end.end c.in_ok-ids.ids c.in_ok-found.ensures.gives table next counts c.in_ok-check_row_ids.ensures
     (c.in_ok-changes.ensures.rows rows table.stands.rises below) c.in_ok-end.ensures c.in_ok-ids.ensures

@@ -1,13 +1,13 @@
-use Rattle.std.proofs.Common.{Some, ap, subst, ◌∙◌}
+use Rattle.std.proofs.Common.{Some, ap, subst, ◌∙◌, arith}
 use Rattle.row_store.specs.Rows.{row_of}
+use Rattle.row_store.specs.inner.FoundRows.{none_above}
 use Rattle.row_store.proofs.UndoLaws.{pushed}
 use Rattle.key_index.specs.inner.Entries.{keys_by_id, PutsRow}
-use Rattle.key_index.proofs.BuildLemmas.{absent_above}
 use Rattle.key_index.proofs.EntryLemmas.{keys_rise}
 use Rattle.key_index.proofs.build.add_key.Goals as goal
 
 pub put_key-requires-clause-none : goal.put_key-requires-clause-none
-put_key-requires-clause-none c = ap (λ es. row_of (keys_by_id es) c.args.id) c.reserve.ensures.same ∙ absent_above (keys_by_id c.args.pages.now.entries) c.args.id c.requires.below
+put_key-requires-clause-none c = ap (λ es. row_of (keys_by_id es) c.args.id) c.reserve.ensures.same ∙ none_above (keys_by_id c.args.pages.now.entries) c.args.id c.args.id c.requires.below (omega arith)
 
 pub returns-clause-rows : goal.returns-clause-rows
 returns-clause-rows c =

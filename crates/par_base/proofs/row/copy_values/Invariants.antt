@@ -2,4 +2,4 @@ use Rattle.std.proofs.Common.{◌≡◌, take}
 use Rattle.par_base.proofs.row.copy_values.Given as goal
 
 abbrev pub invariant-loop-value : goal.invariant-loop-value
-invariant-loop-value l = l.made ≡ take l.value-index l.values
+invariant-loop-value l = l.made.items ≡ take l.value-index l.values
