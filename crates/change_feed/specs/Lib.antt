@@ -1,7 +1,0 @@
-pub mod Places
-pub mod Shown
-pub mod Watchers
-pub mod Kinds
-pub mod Watches
-pub mod Feeds
-pub mod inner

@@ -1,2 +1,0 @@
-pub mod Outerings
-pub mod inner
