@@ -1,9 +1,8 @@
-//! A program that calls `inverda` over real files, and reads back what the runs left there.
+//! Runs over real files, and what they left there.
 //!
 //! Each line `status` ends what one run put. The runs show that a dump is loaded as it was written, by
 //! its rows and byte for byte; that a file that is replaced keeps its mode; that no other file is
 //! written over or left behind; and that what is no plain file can take a dump.
-#![tactic(auto)]
 
 use inverda_run::inverda;
 use outside::SureSource;
@@ -77,8 +76,9 @@ fn ends(rt: &HostRuntime) -> io::Result<()> {
     run(rt, &["--load", "list.json", "--dump", "/dev/null"], LOOK)
 }
 
-fn main(rt: HostRuntime) -> io::Result<()> {
-    replace(&rt)?;
-    read_back(&rt)?;
-    ends(&rt)
+// All runs over real files; what they put is compared with the file `stdout` of this crate.
+pub fn run_over_files(rt: &HostRuntime) -> io::Result<()> {
+    replace(rt)?;
+    read_back(rt)?;
+    ends(rt)
 }
