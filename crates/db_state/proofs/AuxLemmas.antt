@@ -12,12 +12,11 @@ use Rattle.op_law.specs.Meaning.{Meaning, PairState}
 use Rattle.op_law.specs.Premises.{SomePair}
 use Rattle.op_law.specs.declared.side.Aux.{Aux}
 use Rattle.version_model.specs.Calls.{IsCrossing, IsTold}
-use Rattle.op_law.specs.Tables.{Tables}
 use Rattle.version_model.specs.States.{State, headings}
 use Rattle.version_model.specs.Steps.{pair_in, directed}
 use Rattle.version_model.specs.declared.numbered.Numbered.{Numbered}
 use Rattle.version_model.proofs.CarryLaws.{some_is, told_is}
-use Rattle.storage_law.specs.Storage.{aux_of, stored_way}
+use Rattle.storage_law.specs.Storage.{stored_way}
 use Rattle.storage_law.proofs.CanonicalLaws.{either_way}
 use Rattle.db_state.specs.Calls.{AreAuxesOf, IsAuxOf, IsRelatedAt}
 use Rattle.db_state.proofs.FoundLaws.{crosses, few_on}
@@ -60,12 +59,6 @@ module _ {O : Type 0} (meaning : O → Meaning) (es : List (Placed O)) (layout :
         pair = either_way meaning (headings es) s false (is_in known.over.number layout) known.over known.related;
       } in
       subst (λ (x : PairState). SomePair (directed over.backward (meaning over.operator)) x) (sym same) (subst (λ (q : Crossing O). SomePair (directed q.backward (meaning q.operator)) (pair_in s q)) (sym over_is) here)
-
-  -- and they are those of the operator
-  pub aux_found : (pair : PairState) (tables : Tables) → pair ≡ pair_in s over → tables ≡ (directed over.backward (meaning over.operator)).aux_at_source pair → IsAuxOf meaning es layout s n tables
-  aux_found pair tables same aux e i number =
-      aux ∙ ap (λ (x : PairState). (directed over.backward (meaning over.operator)).aux_at_source x) same
-      ∙ ap (λ (q : Crossing O). aux_of meaning s q) (some_is over (stored_way layout e) (is e i number))
 
 -- ---- operator by operator
 

@@ -1,6 +1,6 @@
 -- The operators on the way to storage cover the table, and themselves.
 use Rattle.std.specs.Prelude.{◌↔◌, ◌≤◌}
-use Rattle.std.proofs.Common.{◌≡◌, ℕ, ◌+◌, ◌*◌, zero, suc, List, [], ◌∷◌, length, inl, inr, refl, sym, subst, arith}
+use Rattle.std.proofs.Common.{◌≡◌, ℕ, ◌+◌, ◌*◌, zero, suc, List, [], ◌∷◌, inl, inr, refl, sym, subst}
 use Rattle.std.proofs.lemmas.Bool.{cond-false, cond-true}
 use Rattle.version_graph.specs.Sets.{In}
 use Rattle.version_graph.specs.Edges.{is_in}
@@ -16,7 +16,7 @@ use Rattle.storage_law.specs.Storage.{stored_way}
 use Rattle.storage_law.proofs.LinkLaws.{not_in_false, same_test}
 use Rattle.op_law.specs.Meaning.{Meaning}
 use Rattle.db_state.specs.Covered.{Covers, CoversItself}
-use Rattle.db_state.specs.Parts.{AreLocalAt, IsLocalWay, IsWay, RowWithin, SeenWithin, WayWithin, listed_in}
+use Rattle.db_state.specs.Parts.{AreLocalAt, IsWay, SeenWithin, WayWithin, listed_in}
 use Rattle.db_state.specs.declared.sight.Sight.{Sight}
 
 module _ {O : Type 0} (es : List (Link O)) (forest : IsForest es) (layout : List ℕ) (valid : IsValid es layout) (table : ℕ) where
@@ -62,9 +62,3 @@ module _ {O : Type 0} (meaning : O → Meaning) (es : List (Placed O)) (layout :
       let both : (n : ℕ) → In n ms ↔ In n ns = λ n. (λ i. (other n).1 ((way n).0 i), λ i. (way n).1 ((other n).0 i)) in
       subst (λ (count : ℕ). SeenWithin 2 sight count old new) (listed_same ms ns both (forest es))
       (subst (λ (s : Sight). SeenWithin 2 s (listed_in ms (forest es)) old new) (same mine) within)
-
-  -- a row is what is seen of one identifier
-  pub row_within : (ids : List ℕ) (old new : ℕ) → length ids ≡ 1 → ((local : IsLocalWay meaning es layout table) → (ns : List ℕ) → IsWay es layout table ns → new ≤ old + 2 * (length ids * listed_in ns (forest es))) → RowWithin meaning es layout table old new
-  row_within ids old new one within local ns way =
-      let most = subst (λ (k : ℕ). new ≤ old + 2 * (k * listed_in ns (forest es))) one (within local ns way) in
-      omega (arith, most)

@@ -1,12 +1,11 @@
 -- Entries that are filled in are those of which the lines tell, and no others.
 use Rattle.std.specs.Prelude.{◌<◌, ◌≤◌, ◌==◌, Option, Some, None, filter, option_map, option_and_then}
-use Rattle.std.proofs.Common.{◌≡◌, ℕ, ◌+◌, List, [], ◌∷◌, ◌++◌, Bool, true, false, cond, drop, get_or, length, map, inl, refl, sym, ap, ◌∙◌, append-nil}
+use Rattle.std.proofs.Common.{◌≡◌, ℕ, ◌+◌, List, [], ◌∷◌, ◌++◌, Bool, true, false, cond, map, inl, refl, sym, ap, ◌∙◌}
 use Rattle.std.proofs.lemmas.Bool.{cond-false, cond-true, eq-eqb, eqb-true, false≢true, ne_eqb}
-use Rattle.std.proofs.lemmas.List.{append_assoc, drop_all, drop_more}
 use Rattle.version_graph.specs.Sets.{Distinct, Each, In}
 use Rattle.version_graph.proofs.SetLaws.{in_map, origin}
 use Rattle.version_graph.proofs.TableLaws.{in_filter}
-use Rattle.dump_file.specs.inner.Filled.{behind, filled, front, none_over, own_value}
+use Rattle.dump_file.specs.inner.Filled.{behind, filled, front, own_value}
 
 -- ---- what an option was made of
 
@@ -31,45 +30,8 @@ mapped (Some a) f b e = record { value = a; is = refl; gives = some_is b (f a) (
     some_is : {X : Type 0} (x y : X) → Some x ≡ Some y → x ≡ y
     some_is x y same = cc
 
-joined : {X : Type 0} (made : List X) (x : X) (o : Option (List X)) → option_map (λ r. made ++ r) (option_map (λ r. x ∷ r) o) ≡ option_map (λ r. (made ++ x ∷ []) ++ r) o
-joined made x None = refl
-joined made x (Some r) = ap (λ l. Some l) (sym (append_assoc made (x ∷ []) r))
-
 module _ {V : Type 0} (told : ℕ × V → Bool) (empty : V) where
   -- ---- one entry after the other
-
-  module _ (ns : List ℕ) (all : List (ℕ × V)) (i : ℕ) (made left : List (ℕ × V)) (so : filled told empty ns all ≡ option_map (λ r. made ++ r) (filled told empty (drop i ns) left)) where
-    -- the entries from an operator on
-    from_here : (n : ℕ) (o : Option V) → i < length ns → n ≡ get_or ns i n → own_value told empty n (front n left) ≡ o
-        → filled told empty ns all ≡ option_map (λ r. made ++ r) (option_and_then (λ v. option_map (λ r. (n, v) ∷ r) (filled told empty (drop (i + 1) ns) (behind n left))) o)
-    from_here n o within here got =
-        so
-        ∙ ap (λ ks. option_map (λ r. made ++ r) (filled told empty ks left)) (drop_more ns i n within ∙ ap (λ k. k ∷ drop (i + 1) ns) (sym here))
-        ∙ ap (λ p. option_map (λ r. made ++ r) (option_and_then (λ v. option_map (λ r. (n, v) ∷ r) (filled told empty (drop (i + 1) ns) (behind n left))) p)) got
-
-    -- the operator has its entry
-    pub fill_next : (n : ℕ) (v : V) → i < length ns → n ≡ get_or ns i n → own_value told empty n (front n left) ≡ Some v
-        → filled told empty ns all ≡ option_map (λ r. (made ++ (n, v) ∷ []) ++ r) (filled told empty (drop (i + 1) ns) (behind n left))
-    fill_next n v within here got = from_here n (Some v) within here got ∙ joined made (n, v) (filled told empty (drop (i + 1) ns) (behind n left))
-
-    -- where it has none there are no entries at all
-    pub fill_stops : (n : ℕ) → i < length ns → n ≡ get_or ns i n → own_value told empty n (front n left) ≡ None → filled told empty ns all ≡ None
-    fill_stops n within here got = from_here n None within here got
-
-    at_end : length ns ≤ i → filled told empty ns all ≡ option_map (λ r. made ++ r) (none_over left)
-    at_end past = so ∙ ap (λ ks. option_map (λ r. made ++ r) (filled told empty ks left)) (drop_all i ns past)
-
-    -- the entries are made where no line is left over
-    pub fill_ends : length ns ≤ i → left ≡ [] → filled told empty ns all ≡ Some made
-    fill_ends past none = at_end past ∙ ap (λ ls. option_map (λ r. made ++ r) (none_over ls)) none ∙ ap (λ l. Some l) (append-nil made)
-
-    -- else there are none
-    pub fill_over : length ns ≤ i → (left ≡ [] → ⊥) → filled told empty ns all ≡ None
-    fill_over past some = at_end past ∙ over left some
-      where
-        over : (ls : List (ℕ × V)) → (ls ≡ [] → ⊥) → option_map (λ r. made ++ r) (none_over ls) ≡ None
-        over [] other = absurd (other refl)
-        over (l ∷ ls) other = refl
 
   -- ---- what the entries are
 

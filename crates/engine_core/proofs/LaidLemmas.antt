@@ -1,13 +1,13 @@
 -- A statement on the data, with the layout beside it.
 use Rattle.std.specs.Prelude.{Result, Ok, Err, OnErr}
-use Rattle.std.proofs.Common.{◌≡◌, ℕ, Bool, true, false, List, [], refl, sym, ap, ◌∙◌}
+use Rattle.std.proofs.Common.{◌≡◌, ℕ, Bool, false, List, [], refl, sym, ap, ◌∙◌}
 use Rattle.par_base.specs.declared.fault.Fault.{Fault}
 use Rattle.par_base.specs.declared.fault.Fault.TheVariants.{Refused, Memory}
 use Rattle.par_base.specs.declared.limits.Target.{Target}
 use Rattle.par_base.specs.declared.refusal.Refusal.{Refusal}
 use Rattle.version_graph.specs.Edges.{Drawn}
 use Rattle.par_base.specs.Checked.{Checked, ◌then◌}
-use Rattle.op_any.specs.Operators.{AnyView, Built, CreateTable, DropTable, Rename, AddColumn, AddTracked, DropColumn, Split, Merge, DecomposeSingle, DecomposePk, OuterJoinPk, JoinPk, DecomposeFk, OuterJoinFk, JoinFk, JoinOn, DecomposeOn, any_meaning, meaning_of}
+use Rattle.op_any.specs.Operators.{AnyView, any_meaning}
 use Rattle.layout_rules.specs.Changes.{layout_after}
 use Rattle.layout_rules.proofs.AfterLaws.{same_layout}
 use Rattle.db_state.specs.Fields.{IsDatabase}
@@ -21,26 +21,6 @@ use Rattle.statements.specs.declared.statement.Statement.TheVariants as statemen
 use Rattle.statements.specs.Views.{statement_view, StatementView, CreateVersion, DropVersion, Insert, Import, Update, Delete, Select, Materialize, Step, ShowLayout, Use, Session, Advise, Watch, Unwatch, Begin, Commit, Rollback}
 use Rattle.engine_core.specs.Act.{acted, acted_data, tells_layout, with_data}
 use Rattle.engine_core.specs.Kept.{Answers, Follows, data_of, state_of}
-
--- the source of each operator is read back
-built_reads : (o : Built) → (meaning_of o).reads_source ≡ true
-built_reads CreateTable = refl
-built_reads (DropTable width) = refl
-built_reads Rename = refl
-built_reads (AddColumn place e) = refl
-built_reads (AddTracked e) = refl
-built_reads (DropColumn place e) = refl
-built_reads (Split width first second) = refl
-built_reads (Merge width first second) = refl
-built_reads (DecomposeSingle columns width) = refl
-built_reads (DecomposePk first second) = refl
-built_reads (OuterJoinPk first second) = refl
-built_reads (JoinPk first second) = refl
-built_reads (DecomposeFk first second place) = refl
-built_reads (OuterJoinFk first second place) = refl
-built_reads (JoinFk first second place) = refl
-built_reads (JoinOn first second c) = refl
-built_reads (DecomposeOn first second c) = refl
 
 -- ---- statements on the data
 

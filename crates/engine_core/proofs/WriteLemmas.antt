@@ -54,10 +54,6 @@ module _ (k : Parts AnyView) (w : WritePlan) (edges : AreEdges k.graph.edges) (s
   pub above_already : first_refused k.ids < w.next → wrote d p ≡ Err (IdsSpent (first_refused k.ids) k.ids.limit)
   above_already h = above (omega (arith, h, ordinary.rises))
 
-  pub spent_then : (spent : Spent) (new : AnyDatabase) → Writes any_meaning d w.set w.table (rows_after k w) w.next (Err (Refused spent)) new → wrote d p ≡ Err (IdsSpent spent.needed spent.limit)
-  spent_then spent new e =
-      above e.0.0 ∙ ap (λ (n : ℕ). Err (IdsSpent n k.ids.limit)) (sym e.0.1) ∙ ap (λ (n : ℕ). Err (IdsSpent spent.needed n)) (sym e.0.2)
-
   pub written_then : (new : AnyDatabase) → Writes any_meaning d w.set w.table (rows_after k w) w.next (Ok tt) new → wrote d p ≡ Ok (w.reply, new)
   written_then new e = checked false (le-ltb (first_refused k.ids) end e.0) ∙ ap (λ (s : AnyDatabase). Ok (w.reply, s)) (sym e.1)
 

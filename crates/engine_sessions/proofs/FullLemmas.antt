@@ -1,15 +1,13 @@
 -- Statements in full.
-use Rattle.std.specs.Prelude.{Option, Ok, Err, get_or, IsUtf8}
+use Rattle.std.specs.Prelude.{Option, get_or, IsUtf8}
 use Rattle.std.specs.List.{All}
-use Rattle.std.proofs.Common.{◌≡◌, ◌≤◌, ℕ, List, ◌++◌, length, Bool, refl, sym, ap, subst, ◌∙◌, arith}
-use Rattle.par_base.specs.declared.refusal.Refusal.{Refusal}
+use Rattle.std.proofs.Common.{◌≡◌, ◌≤◌, ℕ, List, ◌++◌, length, refl, ap, subst, ◌∙◌, arith}
 use Rattle.par_base.specs.declared.value.Value.{Value}
 use Rattle.par_base.specs.declared.value.Value.TheVariants.{Null, Int, Text, Reference}
-use Rattle.par_base.specs.Checked.{Checked, ◌then◌}
+use Rattle.par_base.specs.Checked.{◌then◌}
 use Rattle.expr_lang.specs.Operations.{text_limit}
 use Rattle.statements.specs.declared.statement.Statement.{Statement}
 use Rattle.statements.specs.declared.statement.Statement.TheVariants as statement
-use Rattle.statements.specs.declared.statement.TableName.{TableName}
 use Rattle.statements.specs.Texts.{IsTextWithin, RowTexts, ValueTexts, TextsWithin}
 use Rattle.statements.specs.Views.{statement_view, OpView, StatementView, CreateVersion, DropVersion, Insert, Import, Update, Delete, Select, Materialize, Step, ShowLayout, Use, Session, Advise, Watch, Unwatch, Begin, Commit, Rollback}
 use Rattle.version_graph.specs.Sets.{Within}
@@ -19,42 +17,10 @@ use Rattle.op_any.specs.Operators.{AnyView}
 use Rattle.engine_core.specs.KeptTexts.{texts_of}
 use Rattle.csv_io.specs.Tables.{csv_rows}
 use Rattle.csv_io.proofs.TextLaws.{rows_text, rows_within}
-use Rattle.engine_state.specs.declared.reply.Reply.{Reply}
-use Rattle.engine_core.specs.Laid.{Laid}
-use Rattle.engine_core.specs.Act.{act as act_in_full}
 use Rattle.engine_core.specs.Spoken.{TextsCome, operators_in}
-use Rattle.layout_planner.specs.declared.planning.TableCount.{TableCount}
 use Rattle.engine_sessions.specs.Standing.{Standing, used_by}
 use Rattle.engine_sessions.specs.InFull.{in_full, wants_csv}
-use Rattle.engine_sessions.specs.Accesses.{accessed, raised_by}
-use Rattle.engine_sessions.specs.Act.{act, answer_of, counted}
-
--- statements that are in full as they stand
-pub rest_in_full : (used : Option (List ℕ)) (st : Statement)
-    → ((a : TableName) (b : List (List Value)) → st ≡ statement.Insert a b → ⊥)
-    → ((a : TableName) (b : List ℕ) → st ≡ statement.Import a b → ⊥)
-    → ((a : TableName) (b : _) (c : _) → st ≡ statement.Update a b c → ⊥)
-    → ((a : TableName) (b : _) → st ≡ statement.Delete a b → ⊥)
-    → ((a : TableName) (b : _) (c : _) (d : Bool) → st ≡ statement.Select a b c d → ⊥)
-    → statement_view st ≡ in_full used (statement_view st)
-rest_in_full used (statement.CreateVersion name origin operators) i m u d s = refl
-rest_in_full used (statement.DropVersion name) i m u d s = refl
-rest_in_full used (statement.Insert table rows) i m u d s = absurd (i table rows refl)
-rest_in_full used (statement.Import table text) i m u d s = absurd (m table text refl)
-rest_in_full used (statement.Update table assignments filter) i m u d s = absurd (u table assignments filter refl)
-rest_in_full used (statement.Delete table filter) i m u d s = absurd (d table filter refl)
-rest_in_full used (statement.Select table items filter csv) i m u d s = absurd (s table items filter csv refl)
-rest_in_full used (statement.Materialize named in_steps) i m u d s = refl
-rest_in_full used statement.Step i m u d s = refl
-rest_in_full used statement.ShowLayout i m u d s = refl
-rest_in_full used (statement.Use name) i m u d s = refl
-rest_in_full used (statement.Session number) i m u d s = refl
-rest_in_full used (statement.Advise name) i m u d s = refl
-rest_in_full used (statement.Watch name) i m u d s = refl
-rest_in_full used (statement.Unwatch number) i m u d s = refl
-rest_in_full used statement.Begin i m u d s = refl
-rest_in_full used statement.Commit i m u d s = refl
-rest_in_full used statement.Rollback i m u d s = refl
+use Rattle.engine_sessions.specs.Act.{act, counted}
 
 -- statements that the engine carries out
 pub act_counted : (s : Standing) (st : Statement)
@@ -142,14 +108,3 @@ pub full_come : (used : Option (List ℕ)) (x full : StatementView) (old new : L
 full_come used x full old new is come = subst (λ (os : List OpView). Within (texts_of new) (os ++ texts_of old)) (ap operators_in is ∙ full_operators used x) come
 
 -- ---- answers
-
--- an accepted statement
-pub counted_ok : (s : Standing) (csv : Bool) (x : StatementView) (reply : Reply) (laid : Laid) (counts : List TableCount) → act_in_full s.laid x ≡ Ok (reply, laid)
-    → counts ≡ raised_by s.counts (accessed s.laid.database x) → counted s csv x ≡ Ok (answer_of csv reply, record s { laid = laid; counts = counts })
-counted_ok s csv x reply laid counts is made =
-    ap (λ (m : Checked (Reply × Laid)). m then λ answer. Ok (answer_of csv answer.0, record s { laid = answer.1; counts = raised_by s.counts (accessed s.laid.database x) })) is
-    ∙ ap (λ (c : List TableCount). Ok (answer_of csv reply, record s { laid = laid; counts = c })) (sym made)
-
--- a refused one
-pub counted_err : (s : Standing) (csv : Bool) (x : StatementView) (r : Refusal) → act_in_full s.laid x ≡ Err r → counted s csv x ≡ Err r
-counted_err s csv x r is = ap (λ (m : Checked (Reply × Laid)). m then λ answer. Ok (answer_of csv answer.0, record s { laid = answer.1; counts = raised_by s.counts (accessed s.laid.database x) })) is

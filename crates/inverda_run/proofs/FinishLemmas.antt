@@ -15,7 +15,7 @@ use Rattle.generated_run.specs.EngineCoreTexts.{line}
 use Rattle.dump_file.specs.Texts.{AreFromTexts, AreSpelled}
 use Rattle.dump_file.specs.Stands.{IsDumpOf}
 use Rattle.inverda_run.specs.Starts.{IsDumpText, Told, dump_of}
-use Rattle.inverda_run.specs.Calls.{DumpsTo, EndStays, Finishes, IsLongDump, PutsLast, WritesBut, WritesTo}
+use Rattle.inverda_run.specs.Calls.{DumpsTo, EndStays, Finishes, IsLongDump, PutsLast, WritesBut}
 use Rattle.inverda_run.specs.declared.end.End.{End}
 use Rattle.inverda_run.specs.declared.end.End.TheVariants as end
 
@@ -36,11 +36,6 @@ module _ (to : Laid) (file : Option (Option (List ℕ))) (held held' : Option (L
   pub long_dumped : IsLongDump to → filed' ≡ filed → (e : End) → PutsLast end.LongDump (line (codes "too long")) held held' put put' e → DumpsTo to file held held' put put' filed filed' e
   long_dumped long same e (inl p) = subst (DumpsTo to file held held' put put' filed filed') (sym p.0) (long, p.1, p.2, same)
   long_dumped long same e (inr p) = subst (DumpsTo to file held held' put put' filed filed') (sym p.0) (p.1, inl (long, p.2, same))
-
-  -- it couldn't be written
-  pub unwritten_dumped : Rose filed filed' → (e : End) → PutsLast end.UnwrittenDump (line (codes "file fault")) held held' put put' e → DumpsTo to file held held' put put' filed filed' e
-  unwritten_dumped rose e (inl p) = subst (DumpsTo to file held held' put put' filed filed') (sym p.0) (rose, p.1, p.2)
-  unwritten_dumped rose e (inr p) = subst (DumpsTo to file held held' put put' filed filed') (sym p.0) (p.1, inr (rose, p.2))
 
   -- the sink failed only where that ends the run
   dump_stays : (e : End) → DumpsTo to file held held' put put' filed filed' e → EndStays put put' e
@@ -75,7 +70,3 @@ writes_but name told told' filed filed' e others wrote file = elim (by_name file
   | inl same ↦ inr (same, wrote)
   | inr differs ↦ inl (others file differs)
 ]
-
-pub writes_named : (name : List ℕ) (told told' : Told) (filed filed' : ℕ) (e : End) (file : List ℕ) → WritesBut name told told' filed filed' e file → WritesTo (Some name) told told' filed filed' e file
-writes_named name told told' filed filed' e file (inl same) = inl same
-writes_named name told told' filed filed' e file (inr w) = inr (ap Some (sym w.0), w.1)

@@ -1,7 +1,6 @@
 -- The parts of a run, one after the other.
 use Rattle.std.specs.Prelude.{◌⊎◌, Option, Some, None}
-use Rattle.std.proofs.Common.{◌≡◌, ℕ, List, sym, ap, subst, ◌∙◌, inl, inr}
-use Rattle.outside.specs.Causes.{Rose}
+use Rattle.std.proofs.Common.{◌≡◌, ℕ, List, ap, subst, ◌∙◌}
 use Rattle.generated_run.specs.Standing.{Standing}
 use Rattle.run_words.specs.Words.{Asked, Says}
 use Rattle.run_words.specs.Laws.{SayOneThing}
@@ -10,19 +9,14 @@ use Rattle.generated_run.specs.ScriptRunCalls.{EndStays as ScriptStays}
 use Rattle.generated_run.specs.End.{End as ScriptEnd}
 use Rattle.generated_run.specs.End.TheVariants as script
 use Rattle.inverda_run.specs.Starts.{Told}
-use Rattle.inverda_run.specs.Statuses.{Generates, Starts, StaysBut}
-use Rattle.inverda_run.specs.Calls.{EndStays, Ends, EndsGenerated, Finishes, PutsLast, WritesTo, ended}
+use Rattle.inverda_run.specs.Statuses.{Generates, Starts}
+use Rattle.inverda_run.specs.Calls.{EndStays, Ends, EndsGenerated, Finishes, ended}
 use Rattle.inverda_run.specs.Laws.{OneStart}
 use Rattle.inverda_run.specs.declared.end.End.{End}
 use Rattle.inverda_run.specs.declared.end.End.TheVariants as end
 use Rattle.inverda_run.proofs.EndLemmas.{finish_ends, generated_ends}
 
 -- ---- the sink
-
--- a last line
-pub last_stays : (due : End) (text : List ℕ) (held held' : Option (List ℕ)) (was is : ℕ) (e : End) → (is ≡ was → EndStays was is due) → PutsLast due text held held' was is e → EndStays was is e
-last_stays due text held held' was is e f (inl p) = subst (EndStays was is) (sym p.0) (f p.2)
-last_stays due text held held' was is e f (inr p) = subst (EndStays was is) (sym p.0) tt
 
 -- a script
 pub script_stays : (was is : ℕ) (e : ScriptEnd) → ScriptStays was is e → EndStays was is (ended e)
@@ -38,16 +32,6 @@ pub stays_from : (old was is : ℕ) (e : End) → was ≡ old → EndStays was i
 stays_from old was is e same h = subst (λ (n : ℕ). EndStays n is e) same h
 
 -- ---- files
-
-pub files_stay : (words : List (List ℕ)) (told told' : Told) (P : Type 0) → ((file : List ℕ) → told' file ≡ told file) → StaysBut words told told' P
-files_stay words told told' P same file = inl (same file)
-
-pub files_finished : (words : List (List ℕ)) (told mid told' : Told) (asked : Asked) (filed was is : ℕ) (e : End) → Says words asked → was ≡ filed → ((file : List ℕ) → mid file ≡ told file)
-    → ((file : List ℕ) → WritesTo asked.dump mid told' was is e file) → StaysBut words told told' ((e ≡ end.Done) ⊎ Rose filed is)
-files_finished words told mid told' asked filed was is e says same stay writes file = elim (writes file) [
-  | inl here ↦ inl (here ∙ stay file)
-  | inr d ↦ inr (record { asked = asked; says = says; dump = d.0 }, subst (λ (n : ℕ). (e ≡ end.Done) ⊎ Rose n is) same d.1)
-]
 
 -- ---- the end
 

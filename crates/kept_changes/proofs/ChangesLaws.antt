@@ -1,8 +1,7 @@
 -- What is under a number, and what no changes do.
-use Rattle.std.proofs.Common.{◌≡◌, ℕ, ◌==◌, List, [], ◌∷◌, Bool, Some, None, inl, inr, refl, sym, ap, ◌∙◌, subst}
+use Rattle.std.proofs.Common.{◌≡◌, ℕ, ◌==◌, List, [], ◌∷◌, Bool, Some, None, inl, inr, refl, sym, ap, ◌∙◌}
 use Rattle.std.proofs.lemmas.Bool.{eq-eqb, ne_eqb, eqb-true}
-use Rattle.version_graph.specs.Sets.{Distinct, In}
-use Rattle.version_graph.proofs.SetLaws.{in_map}
+use Rattle.version_graph.specs.Sets.{In}
 use Rattle.op_law.specs.Tables.{Tables}
 use Rattle.row_changes.specs.Changed.{changed_tables}
 use Rattle.op_law.proofs.OnlyLaws.{by_test}
@@ -10,15 +9,11 @@ use Rattle.version_model.specs.Kept.{value_of}
 use Rattle.version_model.specs.declared.numbered.Numbered.{Numbered}
 use Rattle.version_model.proofs.NumberedLaws.{looked, value_of_first}
 use Rattle.db_state.specs.Fields.{numbers_in}
-use Rattle.kept_changes.specs.Changes.{changes_at}
 
 -- no changes leave the tables
 pub no_changes : (ts : Tables) → changed_tables ts [] ≡ ts
 no_changes [] = refl
 no_changes (t ∷ ts) = refl
-
-pub changes_none : (n : ℕ) → changes_at [] n ≡ []
-changes_none n = refl
 
 module _ {T : Type 0} where
   -- the first item, and those behind it
@@ -32,14 +27,6 @@ module _ {T : Type 0} where
   pub value_unlisted : (items : List (Numbered T)) (n : ℕ) → (In n (numbers_in items) → ⊥) → value_of items n ≡ None
   value_unlisted [] n out = refl
   value_unlisted (x ∷ xs) n out = value_rest x xs n (λ same. out (inl same)) ∙ value_unlisted xs n (λ i. out (inr i))
-
-  -- where the numbers differ, each item stands under its number
-  pub value_listed : (items : List (Numbered T)) (x : Numbered T) → Distinct (numbers_in items) → In x items → value_of items x.number ≡ Some x.value
-  value_listed [] x distinct i = absurd i
-  value_listed (y ∷ ys) x distinct (inl same) = value_first y ys x.number (ap (λ (i : Numbered T). i.number) same) ∙ sym (ap (λ (i : Numbered T). Some i.value) same)
-  value_listed (y ∷ ys) x distinct (inr i) =
-      value_rest y ys x.number (λ same. let here : In y.number (numbers_in ys) = subst (λ (n : ℕ). In n (numbers_in ys)) same (in_map (λ (i : Numbered T). i.number) x ys i) in distinct.0 here)
-      ∙ value_listed ys x distinct.1 i
 
   -- something stands under a number that is listed
   pub value_missing : (items : List (Numbered T)) (n : ℕ) → In n (numbers_in items) → value_of items n ≡ None → ⊥

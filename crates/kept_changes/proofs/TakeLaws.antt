@@ -31,7 +31,3 @@ module _ {X : Type 0} where
   pub take_whole : (xs : List X) → take (length xs) xs ≡ xs
   take_whole [] = refl
   take_whole (x ∷ xs) = ap (λ (l : List X). x ∷ l) (take_whole xs)
-
-  pub drop_whole : (xs : List X) → drop (length xs) xs ≡ []
-  drop_whole [] = refl
-  drop_whole (x ∷ xs) = drop_whole xs

@@ -6,7 +6,7 @@ use Rattle.version_graph.specs.Sets.{In}
 use Rattle.version_graph.specs.Forest.{Link}
 use Rattle.version_graph.proofs.SetLaws.{in_append, in_left, in_right}
 use Rattle.version_graph.proofs.WalkLaws.{IsForest, link_numbers, link_targets, sources_older, targets_apart}
-use Rattle.layout_rules.specs.Layouts.{IsMade, Lives}
+use Rattle.layout_rules.specs.Layouts.{IsMade}
 
 neither : (n k : ℕ) (ks : List ℕ) → (n ≡ k → ⊥) → (In n ks → ⊥) → In n (k ∷ ks) → ⊥
 neither n k ks h o (inl e) = h e
@@ -33,12 +33,6 @@ module _ {O : Type 0} where
   target_listed [] e t i j = absurd i
   target_listed (x ∷ es) e t (inl h) j = in_left t x.targets (link_targets es) (subst (λ (y : Link O). In t y.targets) h j)
   target_listed (x ∷ es) e t (inr i) j = in_right t x.targets (link_targets es) (target_listed es e t i j)
-
-  -- each listed number is a link's, and each listed target is made by one
-  pub number_link : (es : List (Link O)) (n : ℕ) → In n (link_numbers es) → Lives es n
-  number_link [] n i = absurd i
-  number_link (x ∷ es) n (inl h) = (x, inl refl, h)
-  number_link (x ∷ es) n (inr i) = let m = number_link es n i in (m.0, inr m.1, m.2)
 
   pub target_link : (es : List (Link O)) (t : ℕ) → In t (link_targets es) → (e : Link O) × In e es × In t e.targets
   target_link [] t i = absurd i

@@ -25,11 +25,6 @@ kept_is place width None (None ∷ (d ∷ ds)) wide within beside = absurd (fals
 kept_is place width None (Some kept ∷ ds) wide within beside = absurd (false≢true beside)
 kept_is place width None [] wide within beside = absurd (false≢true beside)
 
--- the column of a row stands beside the row without it
-column_beside : (place : ℕ) (t : Option (List Value)) → is_beside (without_column place t) (column_alone place t ∷ []) ≡ true
-column_beside place None = refl
-column_beside place (Some row) = refl
-
 -- a row as wide as the source takes the column
 wide_adds : (place : ℕ) (e : Term ℕ) (width : ℕ) (c : Option (List Value)) → CellWide width c → place ≤ width → fits_row e width ≡ true → MayAdd place e c
 wide_adds place e width None wide within reads = tt
@@ -67,10 +62,3 @@ module _ (place : ℕ) (e : Term ℕ) where
           aux_is = kept_is place _ (first_cell near) aux (one_cell _ hs near (source_wide place e hs ht fits) near_of).wide fits.within beside ∙ ap (λ (cs : Cells). column_alone place (first_cell cs) ∷ []) (sym made);
         },
   )
-
-  -- and nothing else belongs to a target
-  pub admits_none_beside : (near aux : Cells) → is_beside (first_cell near) aux ≡ false → AdmitsRows (add_column place e) near aux None
-  admits_none_beside near aux fails hs ht far belongs =
-      let near_is : first_cell near ≡ without_column place (first_cell far) = belongs.pair.related in
-      let aux_is : aux ≡ column_alone place (first_cell far) ∷ [] = belongs.aux_is in
-      false≢true (sym fails ∙ ap (λ (c : Option (List Value)). is_beside c aux) near_is ∙ ap (is_beside (without_column place (first_cell far))) aux_is ∙ column_beside place (first_cell far))

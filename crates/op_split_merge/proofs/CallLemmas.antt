@@ -69,12 +69,6 @@ module _ (width : ℕ) (first : Term ℕ) (second : Option (Term ℕ)) where
   pub near_wide : (near : Cells) → NearRows (split width first second) near → CellWide width (nth_cell 0 near)
   near_wide near some = (source_of width first second some.hs some.ht near some.fits some.near_of).wide
 
-  pub near_tests : (near : Cells) → NearRows (split width first second) near → TestsWithin width first second
-  near_tests near some = tests_within some.hs some.ht some.fits
-
-  pub back_tests : (near : Cells) → NearRows (flip_row (split width first second)) near → TestsWithin width first second
-  back_tests near some = tests_within some.ht some.hs some.fits
-
   -- targets that belong are admitted
   pub admits_target : (near far aux : Cells) → far ≡ split_read_target first second near aux → TargetBelongs width first second near aux far → AdmitsRows (split width first second) near aux (Some far)
   admits_target near far aux made belongs = (

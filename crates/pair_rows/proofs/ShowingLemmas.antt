@@ -69,14 +69,6 @@ numbered_more n xs i h =
     let long : length (take i xs) ≡ i = length-take-le i xs (omega (arith, h)) in
     ap (numbered n) (take_more xs i (0, 0) h) ∙ numbered_append n (take i xs) (x ∷ []) ∙ ap (λ (k : ℕ). numbered n (take i xs) ++ (n + k, x.0, x.1) ∷ []) long
 
--- an entry behind rising ones has a new identifier
-none_pair_under : (n : ℕ) (es : Pairs) (p : ℕ) → RiseFrom n es → p < n → pair_of es p ≡ None
-none_pair_under n [] p rise h = refl
-none_pair_under n (e ∷ es) p rise h =
-    let low = rise.0 in
-    let other = ne_eqb e.0 p (λ q. absurd (omega (arith, q, low, h))) in
-    rw other (none_pair_under (e.0 + 1) es p rise.1 (omega (arith, low, h)))
-
 -- an entry behind rising ones is above them
 behind_all : (n : ℕ) (es : Pairs) (e : ℕ × ℕ × ℕ) (fs : Pairs) → RiseFrom n (es ++ e ∷ fs) → (n ≤ e.0) × (pair_of es e.0 ≡ None)
 behind_all n [] e fs rise = (rise.0, refl)

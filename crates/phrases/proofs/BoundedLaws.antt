@@ -1,7 +1,7 @@
 -- A level whose items are of another kind, where few parentheses open: so that as many parentheses as may open can nest, and no more.
 use Rattle.std.proofs.Common.{◌≡◌, ◌++◌, ℕ, zero, suc, ◌+◌, ◌≤◌, List, ap, ◌∙◌, subst, inl, inr, arith}
 use Rattle.std.specs.Prelude.{Option, Some}
-use Rattle.phrases.specs.Chains.{opens, Joined, Chain, Pair}
+use Rattle.phrases.specs.Chains.{opens, Joined, Chain}
 use Rattle.phrases.specs.Levels.{Prefixed, Prefix, Minuses, Unary, Grouped}
 use Rattle.phrases.proofs.ChainsLaws.{opens-append}
 
@@ -24,10 +24,6 @@ module _ {Tok E : Type 0} (weight : Tok → ℕ) (n : ℕ) (I J : List Tok → E
         item = f h.left h.first h.item (omega arith);
         rest = joined_bounded join op h.further h.first h.right e h.rest (omega arith);
       }
-
-  pub pair_bounded : {Op : Type 0} (join : Op → E → E → E) (op : Tok → Option Op) (ts : List Tok) (e : E) → Pair join op I ts e → opens weight ts ≤ n → Pair join op J ts e
-  unfolding chain_bounded
-  pair_bounded join op ts e h few = record { chain = chain_bounded join op ts e h.chain few; most = h.most }
 
   prefixed_bounded : {X : Type 0} (make : E → E) (op : Tok → Option X) (k : ℕ) (ts : List Tok) (e : E) → Prefixed make op I k ts e → opens weight ts ≤ n → Prefixed make op J k ts e
   prefixed_bounded make op zero ts e h few = f ts e h few

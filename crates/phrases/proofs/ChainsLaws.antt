@@ -5,7 +5,7 @@ use Rattle.std.proofs.lemmas.Bool.{or_parts}
 use Rattle.phrases.specs.Reading.{and_then, starts, is, is_some, none, or}
 use Rattle.phrases.specs.Phrases.{Nothing, Seq, Either, OneOf}
 use Rattle.phrases.specs.Reads.{Reads}
-use Rattle.phrases.specs.Chains.{Part, Item, Within, opens, Joined, Chain, Pair, joined, chain, pair}
+use Rattle.phrases.specs.Chains.{Part, Item, Within, opens, Joined, Chain, joined, chain}
 use Rattle.phrases.proofs.ReadersLaws.{then-reads, done-reads, unless-reads, either-reads, one-reads, respell, starts_left, starts_right, starts_none}
 
 pub opens-append : {Tok : Type 0} (weight : Tok → ℕ) (us vs : List Tok) → opens weight (us ++ vs) ≡ opens weight us + opens weight vs
@@ -199,10 +199,4 @@ module _ {Tok Op E : Type 0} (join : Op → E → E → E) (cost : E → ℕ) (w
       (λ front y s. let t = parts_to (λ m. m) ops parens front y s in (t.0, t.2, t.3))
       (λ front y w. let more : cost w.0.first + w.0.further ≤ cost y.0 = chain_cost front y.0 w.0 in let all : y.1 + cost y.0 ≡ ops = w.1 in
       parts_from (λ m. m) ops parens front y w.0 (omega arith) w.1 w.2)
-      (λ t h. h)
-
-  pub pair-reads : (ops parens : ℕ) → Reads goes (Within cost weight (Pair join op I) ops parens) (pair join op item ops parens)
-  pair-reads ops parens = respell goes goes _ _ _ (parts-reads (λ m. 1) ops parens)
-      (λ front y s. let t = parts_to (λ m. 1) ops parens front y s in (record { chain = t.0; most = t.1 }, t.2, t.3))
-      (λ front y w. parts_from (λ m. 1) ops parens front y w.0.chain w.0.most w.1 w.2)
       (λ t h. h)

@@ -17,10 +17,6 @@ module _ {Tok A : Type 0} (c g : Tok → Bool) (S T : List Tok → A → Type 0)
   same_test : (front ts us vs : List Tok) → ts ≡ front ++ vs → next us ≡ next vs → starts g (front ++ us) ≡ starts g ts
   same_test front ts us vs w n = ap (test g) (next_same front us vs n ∙ sym (ap next w))
 
-  head : (front us vs : List Tok) → 0 < length front → starts g (front ++ us) ≡ starts g (front ++ vs)
-  head [] us vs h = absurd (omega arith)
-  head (t ∷ front) us vs h = refl
-
   alone : (front us : List Tok) → 0 < length front → starts g front ≡ starts g (front ++ us)
   alone [] us h = absurd (omega arith)
   alone (t ∷ front) us h = refl

@@ -1,8 +1,8 @@
 -- Phrases that end a statement: where they end may hang on whether the input has ended, and on more than one token.
-use Rattle.std.proofs.Common.{◌≡◌, ◌≢◌, ◌++◌, ◌∷◌, [], ℕ, zero, suc, ◌+◌, ◌<◌, List, Bool, true, false, Ok, Err, refl, ap, append_assoc, append-nil, ◌∙◌, sym, subst, cond, inl, inr, arith, length, length-append}
+use Rattle.std.proofs.Common.{◌≡◌, ◌≢◌, ◌++◌, ◌∷◌, [], ℕ, zero, suc, ◌+◌, ◌<◌, List, Bool, true, false, Ok, Err, refl, ap, append_assoc, append-nil, ◌∙◌, sym, subst, cond, arith, length, length-append}
 use Rattle.std.specs.Prelude.{Option, Some, not}
-use Rattle.phrases.specs.Reading.{Read, ◌>>=◌, and_then, next, test, starts, one_at, done, either, none, many_at}
-use Rattle.phrases.specs.Phrases.{Nothing, Seq, Either, OneOf, Many, Begins}
+use Rattle.phrases.specs.Reading.{Read, ◌>>=◌, and_then, next, starts, one_at, done, none, many_at}
+use Rattle.phrases.specs.Phrases.{Nothing, Seq, OneOf, Many, Begins}
 use Rattle.phrases.specs.Reads.{Reads, ReadsLast, LastTakes, LastStops}
 use Rattle.phrases.proofs.ReadersLaws.{bind_ok, bind_err, at_first, at_second, same_answer, next_same, Chosen, yes, no, chosen, starts_none, one-reads}
 
@@ -87,55 +87,12 @@ closed-then open' S T p f rp rf = then-last open' none S T p f rp rf (λ a right
 
 -- ---- one or the other, by the first token
 
-module _ {Tok A : Type 0} (open' : A → Bool → List Tok → Bool) (g : Tok → Bool) (S T : List Tok → A → Type 0) (p q : Bool → List Tok → Read Tok A)
-    (rp : ReadsLast open' S p) (rq : ReadsLast open' T q)
-    (begins : (front us : List Tok) (a : A) → S front a → starts g (front ++ us) ≡ true)
-    (lacks : (front us : List Tok) (a : A) → T front a → starts g (front ++ us) ≡ false) where
-  left_way : (ended : Bool) (us : List Tok) → starts g us ≡ true → either g (p ended) (q ended) us ≡ p ended us
-  left_way ended us h = ap (λ (b : Bool). cond b (p ended us) (q ended us)) h
-
-  right_way : (ended : Bool) (us : List Tok) → starts g us ≡ false → either g (p ended) (q ended) us ≡ q ended us
-  right_way ended us h = ap (λ (b : Bool). cond b (p ended us) (q ended us)) h
-
-  same_test : (front ts us vs : List Tok) → ts ≡ front ++ vs → next us ≡ next vs → starts g (front ++ us) ≡ starts g ts
-  same_test front ts us vs w n = ap (test g) (next_same front us vs n ∙ sym (ap next w))
-
-  pub either-last : ReadsLast open' (Either S T) (λ ended. either g (p ended) (q ended))
-  either-last = record {
-    takes = λ ended ts rest a h. elim (chosen (starts g ts) (p ended ts) (q ended ts) (Ok (a, rest)) h) [
-      | yes b k ↦ (let t = rp.takes ended ts rest a k in record { front = t.front; whole = t.whole; spelled = inl t.spelled; over = t.over })
-      | no b k ↦ (let t = rq.takes ended ts rest a k in record { front = t.front; whole = t.whole; spelled = inr t.spelled; over = t.over })
-    ];
-    stops = λ ended ts e h. elim (chosen (starts g ts) (p ended ts) (q ended ts) (Err e) h) [
-      | yes b k ↦ (let t = rp.stops ended ts e k in record {
-        front = t.front;
-        whole = t.whole;
-        begins = record { more = t.begins.more; value = t.begins.value; spelled = inl t.begins.spelled };
-        first = λ ended us some n. left_way ended (t.front ++ us) (same_test t.front ts us e t.whole n ∙ b) ∙ t.first ended us some n;
-      })
-      | no b k ↦ (let t = rq.stops ended ts e k in record {
-        front = t.front;
-        whole = t.whole;
-        begins = record { more = t.begins.more; value = t.begins.value; spelled = inr t.begins.spelled };
-        first = λ ended us some n. right_way ended (t.front ++ us) (same_test t.front ts us e t.whole n ∙ b) ∙ t.first ended us some n;
-      })
-    ];
-    reads = λ ended front us a s o. elim s [
-      | inl s ↦ left_way ended (front ++ us) (begins front us a s) ∙ rp.reads ended front us a s o
-      | inr s ↦ right_way ended (front ++ us) (lacks front us a s) ∙ rq.reads ended front us a s o
-    ];
-    some = record { more = rp.some.more; value = rp.some.value; spelled = inl rp.some.spelled };
-  }
-
 -- ---- a value made of what was read last
 
 module _ {Tok A B : Type 0} (open' : A → Bool → List Tok → Bool) (open2 : B → Bool → List Tok → Bool) (S : List Tok → A → Type 0) (p : Bool → List Tok → Read Tok A)
     (make : A → B) (r : ReadsLast open' S p) (same : (a : A) (ended : Bool) (us : List Tok) → open2 (make a) ended us ≡ open' a ended us) where
   abbrev Made : List Tok → B → Type 0
   Made = Seq S (λ a. Nothing (make a))
-
-  makes : (ended : Bool) (ts : List Tok) → and_then (p ended) (λ a. done (make a)) ts ≡ (p ended ts >>= λ x. Ok (make x.0, x.1))
-  makes ended ts = refl
 
   make_err : (q : Read Tok A) (e : List Tok) → (q >>= λ x. done (make x.0) x.1) ≡ Err e → q ≡ Err e
   make_err (Ok x) e h = cc

@@ -2,7 +2,6 @@ pub mod ReadersLaws
 pub mod LastsLaws
 mod Manys
 mod Elses
-mod Exact
 pub mod ChainsLaws
 pub mod FrontsLaws
 pub mod StepsLaws

@@ -84,12 +84,3 @@ module _ {Tok X E : Type 0} (make : E → E) (cost : E → ℕ) (weight : Tok �
       (λ front y h. elim h [ inl f ↦ ops_to ops parens front y f | inr f ↦ (record { count = 0; spelled = f.0 }, f.1, f.2) ])
       (ops_from ops parens)
       (λ t h. h)
-
-  -- how a prefixed phrase begins
-  pub prefix_first : (g : Tok → Bool) (b : Bool) → ((t : Tok) (x : X) → op t ≡ Some x → g t ≡ b) → ((ts us : List Tok) (e : E) → C ts e → starts g (ts ++ us) ≡ b)
-      → (ts us : List Tok) (e : E) → Prefix make op C ts e → starts g (ts ++ us) ≡ b
-  prefix_first g b at_op at_item ts us e h = by h.count h.spelled
-    where
-      by : (k : ℕ) → Prefixed make op C k ts e → starts g (ts ++ us) ≡ b
-      by zero n = at_item ts us e n
-      by (suc k) n = ap (λ (l : List Tok). starts g (l ++ us)) n.5 ∙ at_op n.0 n.1 n.4

@@ -1,7 +1,7 @@
 -- The turns of a loop that reads a chain or a list, one by one.
 use Rattle.std.proofs.Common.{◌≡◌, ◌≢◌, ◌++◌, ◌∷◌, [], ℕ, zero, suc, ◌-◌, List, Bool, true, false, Ok, Err, refl, ap, append_assoc, append-nil, ◌∙◌, sym, cond, sub-one}
 use Rattle.std.specs.Prelude.{Option, Some, None}
-use Rattle.phrases.specs.Reading.{Read, ◌>>=◌, and_then, starts, taken, one_at, done, is, is_some, either, many_at, rest_at, behind_at, separated_at, with_front}
+use Rattle.phrases.specs.Reading.{Read, ◌>>=◌, and_then, starts, taken, one_at, done, is, is_some, either, many_at, behind_at, with_front}
 use Rattle.phrases.specs.Chains.{Part, Item, joined}
 
 taken_some : {Tok A : Type 0} (o : Option A) (t : Tok) (ts : List Tok) (x : A × List Tok) → taken o t ts ≡ Ok x → is_some o ≡ true
@@ -111,22 +111,6 @@ module _ {Tok X A : Type 0} (f : Tok → Option X) (p : List Tok → Read Tok A)
   rest_stops k n front ts us e x s h i =
       many_stops (λ _. starts (is f)) (behind_at f p) true k n front ts e s (one_starts f ts (x, us) h) (behind_is f p ts us x h ∙ i)
 
--- a value behind those of a list
-consed_front : {Tok A : Type 0} (a : A) (r : Read Tok (List A)) → (r >>= λ x. Ok (a ∷ x.0, x.1)) ≡ with_front (a ∷ []) r
-consed_front a (Ok x) = refl
-consed_front a (Err e) = refl
-
--- an item, and then those behind it
-pub separated_goes : {Tok X A : Type 0} (f : Tok → Option X) (p : List Tok → Read Tok A) (ts us : List Tok) (a : A) → p ts ≡ Ok (a, us)
-    → separated_at f p ts ≡ with_front (a ∷ []) (rest_at (is f) (behind_at f p) us)
-separated_goes f p ts us a h = ap (λ (r : Read _ _). r >>= λ x. rest_at (is f) (behind_at f p) x.1 >>= λ y. Ok (x.0 ∷ y.0, y.1)) h ∙ consed_front a (rest_at (is f) (behind_at f p) us)
-
-pub separated_stops : {Tok X A : Type 0} (f : Tok → Option X) (p : List Tok → Read Tok A) (ts e : List Tok) → p ts ≡ Err e → separated_at f p ts ≡ Err e
-separated_stops f p ts e h = ap (λ (r : Read _ _). r >>= λ x. rest_at (is f) (behind_at f p) x.1 >>= λ y. Ok (x.0 ∷ y.0, y.1)) h
-
 -- a choice by the next token
 pub either_left : {Tok A : Type 0} (g : Tok → Bool) (p q : List Tok → Read Tok A) (ts : List Tok) → starts g ts ≡ true → either g p q ts ≡ p ts
 either_left g p q ts h = ap (λ (b : Bool). cond b (p ts) (q ts)) h
-
-pub either_right : {Tok A : Type 0} (g : Tok → Bool) (p q : List Tok → Read Tok A) (ts : List Tok) → starts g ts ≡ false → either g p q ts ≡ q ts
-either_right g p q ts h = ap (λ (b : Bool). cond b (p ts) (q ts)) h

@@ -152,9 +152,6 @@ module _ (s t : Standing) (said : Said) (alike : Alike s t said) where
     use_text (Some w) = refl
     use_text None = refl
 
-    set_s : Option ℕ
-    set_s = set_named s.laid.database.graph.versions name
-
     same_set : set_named s.laid.database.graph.versions name ≡ set_named t.laid.database.graph.versions name
     same_set = ap (λ (l : Laid). set_named l.database.graph.versions name) alike.laid
 

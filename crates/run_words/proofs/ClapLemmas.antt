@@ -46,9 +46,6 @@ rule name = record {
   is_free = true;
 }
 
-rules_are : rules ≡ rule (codes "load") ∷ rule (codes "dump") ∷ rule (codes "max-ids") ∷ rule (codes "generate") ∷ []
-rules_are = refl
-
 pub by_id : (name : Text) → IsOption name → arg_by_id rules name ≡ Some (rule name)
 by_id name (inl is) = rw is refl
 by_id name (inr (inl is)) = rw is refl

@@ -4,7 +4,7 @@ use Rattle.std.specs.Prelude.{nat_le, codes}
 use Rattle.std.proofs.lemmas.List.{append_cancel_right, take_all}
 use Rattle.std.proofs.lemmas.Bool.{le-leb}
 use Rattle.std.specs.Io.KnownBytes.{Appends, Consumes}
-use Rattle.std.proofs.KnownBytes.{Appends-nil, Appends-trans}
+use Rattle.std.proofs.KnownBytes.{Appends-trans}
 use Rattle.outside.specs.Causes.{Rose}
 use Rattle.outside.specs.Reading.{ReadsAll}
 use Rattle.outside.specs.declared.all.ReadAll.{ReadAll}
@@ -93,10 +93,6 @@ module _ (from to : Standing) where
       line_begins bytes ended stopped held mid held' s h (puts_none mid held' (last_line bytes stopped (outcome_of s)) p)
   ends_script bytes ended stopped held mid held' was between is s ran.Unwritten h stays p =
       (subst (λ (n : ℕ). Rose n is) stays p.0, line_begins bytes ended stopped held mid held' s h p.1)
-
-  -- nothing is put at the end of a script
-  pub puts_nothing : (s : Stop) (held held' : Option (List ℕ)) (was is : ℕ) → held' ≡ held → PutsLine s [] held held' was is (ran.Stops s)
-  puts_nothing s held held' was is same = (refl, subst (λ (h : Option (List ℕ)). Appends held h []) (sym same) (Appends-nil held))
 
   -- ---- what was read
 
@@ -261,14 +257,6 @@ module _ (from to : Standing) where
     | inl long ↦ inl (had_comes left o Long p.bytes p.ended p.before had (counts_told left left' was is had.bytes p.bytes p.ended had.told safe p.taken) long)
     | inr open' ↦ inr (had_comes left o Open p.bytes false p.before had (above_counts left left' had.bytes open'.1 p.bytes false had.told open'.2 open'.3 open'.4 refl) open'.0)
   ]
-
-  -- nothing was put before the source was read
-  pub begun_none : (left held held' : Option (List ℕ)) → held' ≡ held → Begun from left held held'
-  begun_none None held held' same = tt
-  begun_none (Some told) held held' same = λ text w. puts_none held held' text same
-
-  pub cut_none : (left left' : Option (List ℕ)) (was is : ℕ) (held held' : Option (List ℕ)) → is ≡ was → held' ≡ held → CutShort from left left' was is held held'
-  cut_none left left' was is held held' stays same = inl (stays, begun_none left held held' same)
 
   -- ---- a run that is done
 

@@ -102,18 +102,6 @@ pub record Had (left : Option (List ℕ)) (outcome : Outcome) : Type 0 where
   pub told : left ≡ Some bytes
   pub comes : Comes (take limit bytes) (nat_le (length bytes) limit) statements outcome
 
--- a script within the limits
-abbrev pub HadScript : Option (List ℕ) → Type 0
-HadScript left = Had left Over
-
--- bytes with a first fault
-abbrev pub HadFault : Option (List ℕ) → Type 0
-HadFault left = (at : ℕ) × Had left (Fault at)
-
--- bytes with a statement that is too long, or more than the limit and without a fault in those within it
-abbrev pub HadMore : Option (List ℕ) → Type 0
-HadMore left = Had left Long ⊎ Had left Open
-
 -- ---- fronts
 
 -- the sink was given a front of these bytes

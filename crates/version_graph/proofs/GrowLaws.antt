@@ -1,19 +1,18 @@
 -- New edges under the next numbers.
-use Rattle.std.proofs.Common.{◌≡◌, ℕ, suc, ◌+◌, ◌<◌, ◌≤◌, List, [], ◌∷◌, ◌++◌, refl, sym, ap, ◌∙◌, subst, length, take, drop, get_or, arith, inl, inr}
-use Rattle.std.specs.Prelude.{◌==◌, Option, Some, None}
+use Rattle.std.proofs.Common.{◌≡◌, ℕ, suc, ◌+◌, ◌<◌, ◌≤◌, List, [], ◌∷◌, ◌++◌, refl, sym, ap, ◌∙◌, subst, length, take, get_or, arith, inl, inr}
+use Rattle.std.specs.Prelude.{◌==◌}
 use Rattle.std.proofs.lemmas.Bool.{eq-eqb, cond-true}
-use Rattle.std.proofs.lemmas.List.{drop_more, take_more, map-append, reverse-append, take_at, take-take, length-take}
+use Rattle.std.proofs.lemmas.List.{take_more, map-append, reverse-append, take_at, take-take, length-take}
 use mathlib.Core.List.{reverse}
 use Rattle.version_graph.specs.Sets.{In, Each}
 use Rattle.version_graph.specs.Tables.{TableVersion, table_numbers, headings_of, headings_after, FitInOrder}
 use Rattle.version_graph.specs.Edges.{Follows, numbers, working, set_after, made, made_by_edge, Rises}
-use Rattle.version_graph.specs.Evolve.{numbers_after, placed_next, grown, targets_in, limit_at, limit_passed, later, refused_limit}
+use Rattle.version_graph.specs.Evolve.{numbers_after, placed_next, grown, targets_in}
 use Rattle.version_graph.specs.Kept.{AreRight, placed_in, edges_of}
 use Rattle.version_graph.specs.Calls.{CanGrow, AddsNode}
 use Rattle.version_graph.specs.declared.node.Node.{Node}
 use Rattle.version_graph.specs.declared.parts.Edge.{Edge}
 use Rattle.version_graph.specs.declared.parts.Placed.{Placed}
-use Rattle.par_base.specs.declared.refusal.Refusal.{Refusal}
 use Rattle.version_graph.proofs.SetLaws.{each_append, each_more, each_at}
 use Rattle.version_graph.proofs.TableLaws.{numbers_made, headings_next, rises_above}
 
@@ -43,27 +42,6 @@ top_after last (x ∷ xs) =
     (omega arith, each_more (λ t. t ≤ last + 1 + length xs) (λ t. t ≤ last + suc (length xs)) (λ t h. omega arith) (numbers_after (last + 1) xs) (top_after (last + 1) xs))
 
 -- ---- limits
-
-limit_one : (now rest : Option ℕ) (r : Refusal) → refused_limit now ≡ Some r → refused_limit (later now rest) ≡ Some r
-limit_one None rest r e = cc
-limit_one (Some n) rest r e = e
-
-later_one : (now rest : Option ℕ) → now ≡ None → later now rest ≡ rest
-later_one None rest e = refl
-later_one (Some n) rest e = cc
-
-module _ {O : Type 0} (edges : List (Edge O)) (i : ℕ) (e : Edge O) (within : i < length edges) (is : e ≡ get_or edges i e) (live operator table : ℕ) where
-  here : drop i edges ≡ e ∷ drop (i + 1) edges
-  here = drop_more edges i e within ∙ ap (λ (x : Edge O). x ∷ drop (i + 1) edges) (sym is)
-
-  pub limit_here : (r : Refusal) → refused_limit (limit_at live operator table (length e.targets)) ≡ Some r → refused_limit (limit_passed live operator table (drop i edges)) ≡ Some r
-  limit_here r found = ap (λ (l : List (Edge O)). refused_limit (limit_passed live operator table l)) here ∙ limit_one (limit_at live operator table (length e.targets)) (limit_passed (live + 1) (operator + 1) (table + length e.targets) (drop (i + 1) edges)) r found
-
-  pub limit_next : limit_at live operator table (length e.targets) ≡ None → limit_passed (live + 1) (operator + 1) (table + length e.targets) (drop (i + 1) edges) ≡ limit_passed live operator table (drop i edges)
-  limit_next none = sym (ap (λ (l : List (Edge O)). limit_passed live operator table l) here ∙ later_one (limit_at live operator table (length e.targets)) (limit_passed (live + 1) (operator + 1) (table + length e.targets) (drop (i + 1) edges)) none)
-
-  pub targets_next : targets_in (drop i edges) ≡ length e.targets + targets_in (drop (i + 1) edges)
-  targets_next = ap (λ (l : List (Edge O)). targets_in l) here
 
 -- ---- one edge more
 

@@ -55,9 +55,6 @@ only_found {X} test xs v i e only =
     let p = found_passes test xs s.0 s.1 in
     s.1 ∙ ap (λ (u : X). Some u) (only s.0 p.0 p.1)
 
-number_is : TableVersion → ℕ
-number_is v = v.number
-
 -- the table of a known number
 pub heading_known : {O : Type 0} (es : List (Placed O)) → AreEdges es → (v : TableVersion) → In v (made es) → heading_of es v.number ≡ Some v.heading
 heading_known es edges v i =
@@ -118,9 +115,6 @@ passing_numbers set names dn dh =
 -- ---- by the headings that numbers have
 
 module _ {O : Type 0} (es : List (Placed O)) where
-  abbrev Known : TableVersion → Type 0
-  Known v = heading_of es v.number ≡ Some v.heading
-
   pub known_set : AreEdges es → (w : ℕ) → Each (λ v. heading_of es v.number ≡ Some v.heading) (working es w)
   known_set edges w = each_of (λ (v : TableVersion). heading_of es v.number ≡ Some v.heading) (working es w) (λ v i. heading_known es edges v (working_made es w v i))
 

@@ -1,9 +1,9 @@
 -- What lives, and what stays of the values under numbers.
 use Rattle.std.specs.Prelude.{is_some, ◌||◌}
 use Rattle.std.specs.List.{find, list_any}
-use Rattle.std.proofs.Common.{Bor, ◌≡◌, if◌then◌else◌, ℕ, ◌==◌, List, [], ◌∷◌, Bool, true, false, cond, Option, Some, None, option_map, filter, refl, sym, ap, ◌∙◌, subst}
+use Rattle.std.proofs.Common.{Bor, ◌≡◌, if◌then◌else◌, ℕ, ◌==◌, List, [], ◌∷◌, Bool, true, false, cond, Option, Some, None, option_map, filter, refl, sym, ap, ◌∙◌}
 use Rattle.std.proofs.lemmas.Bool.{eqb-true, cond-true, cond-false}
-use Rattle.std.specs.Option.{option_copied, option_map_or, IsSome}
+use Rattle.std.specs.Option.{option_copied, option_map_or}
 use Rattle.version_graph.specs.Tables.{TableVersion, table_numbers}
 use Rattle.version_graph.specs.Edges.{edge_of, heading_of, is_in, made, numbers}
 use Rattle.version_graph.specs.declared.parts.Placed.{Placed}
@@ -65,10 +65,6 @@ module _ {T : Type 0} (test : ℕ → Bool) where
       nothing false = refl
   value_passes (x ∷ xs) n =
       pass_one x xs n (test x.number) (n == x.number) refl refl (value_passes xs n) ∙ ap (λ (o : Option T). if test n then o else None) (sym (value_of_first x xs n))
-
-  -- the value of a number that passes
-  pub still_there : (items : List (Numbered T)) (n : ℕ) → test n ≡ true → IsSome (value_of items n) → IsSome (value_of (passing_items items) n)
-  still_there items n pass h = subst (λ (o : Option T). IsSome o) (sym (value_passes items n ∙ cond-true (test n) (value_of items n) None pass)) h
 
   read_if : {R : Type 0} (read : T → R) (none : R) (o : Option T) (b : Bool) → option_map_or read (cond b o None) none ≡ cond b (option_map_or read o none) none
   read_if read none o true = refl

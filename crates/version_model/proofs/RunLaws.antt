@@ -12,7 +12,6 @@ use Rattle.op_law.specs.Meaning.{Meaning, PairState}
 use Rattle.op_law.specs.Premises.{IsPair, MayMap, SomeMap, pair_after}
 use Rattle.op_law.specs.Laws.{Laws, HalfLaws, IsBelowNext}
 use Rattle.op_law.proofs.SoundLaws.{rows_more, tables_more, pairs_more}
-use Rattle.version_graph.proofs.SetLaws.{each_both}
 use Rattle.version_model.specs.Put.{put}
 use Rattle.version_model.specs.States.{State, IsWell}
 use Rattle.version_model.specs.Steps.{directed, pair_in, IsRelated, mapped, after, run}
@@ -106,20 +105,6 @@ module _ {O : Type 0} (meaning : O → Meaning) (old : State) where
   -- one crossing more
   pub run_more : (ps : List (Crossing O)) (i : ℕ) (d : Crossing O) (now : State) → i < length ps → run meaning old now (take (i + 1) ps) ≡ after meaning old (run meaning old now (take i ps)) (get_or ps i d)
   run_more ps i d now within = ap (λ (l : List (Crossing O)). run meaning old now l) (take_more ps i d within) ∙ run_append (take i ps) (get_or ps i d ∷ []) now
-
-  old_after : (now : State) (q p : Crossing O) → Leaves q p → IsOld old now p → IsOld old (after meaning old now q) p
-  old_after now q p l o =
-      let to = mapped meaning old now q in
-      record {
-        far = put_apart now.tables q.far to.far p.far (λ n i j. l.far n j i) ∙ o.far;
-        memory = put_else now.memory q.number to.memory p.number (λ same. l.memory (sym same)) ∙ o.memory;
-      }
-
-  -- where the crossings are in order, each finds its far side and its memory as they were
-  pub run_finds_old : (ps qs : List (Crossing O)) (p : Crossing O) (now : State) → Ordered (ps ++ p ∷ qs) → Each (IsOld old now) (ps ++ p ∷ qs) → IsOld old (run meaning old now ps) p
-  run_finds_old [] qs p now o h = h.0
-  run_finds_old (q ∷ ps) qs p now o h =
-      run_finds_old ps qs p (after meaning old now q) o.3 (each_both (Leaves q) (IsOld old now) (IsOld old (after meaning old now q)) (old_after now q) (ps ++ p ∷ qs) o.2 h.1)
 
 -- ---- operators that keep the laws
 

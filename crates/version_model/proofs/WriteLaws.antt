@@ -1,14 +1,14 @@
 -- A write leaves a sound state.
 use Rattle.std.proofs.Common.{◌+◌, ◌<◌, take, drop, get_or, ◌≡◌, ℕ, ◌≤◌, List, [], ◌∷◌, ◌++◌, Bool, true, false, inl, inr, refl, sym, ap, ◌∙◌, subst, map, length, arith}
 use Rattle.std.specs.Prelude.{◌==◌}
-use Rattle.std.proofs.lemmas.List.{take-append-drop, take_all}
+use Rattle.std.proofs.lemmas.List.{take-append-drop}
 use Rattle.std.proofs.lemmas.Bool.{eq-eqb, eqb-true}
 use Rattle.row_store.specs.Rows.{Rows, RiseFrom}
 use Rattle.version_graph.specs.Sets.{In, Apart, Distinct, Each}
 use Rattle.version_graph.specs.Tables.{TableVersion, table_numbers}
 use Rattle.version_graph.specs.Edges.{AreEdges, numbers, made, working}
 use Rattle.version_graph.specs.Forest.{Link, link, Crossing, crossing, forest, tree, walk}
-use Rattle.version_graph.specs.Laws.{Leaves, Ordered}
+use Rattle.version_graph.specs.Laws.{Leaves}
 use Rattle.version_graph.specs.declared.parts.Placed.{Placed}
 use Rattle.op_law.specs.Tables.{RowsWide}
 use Rattle.op_law.specs.Sound.{RowsSound}
@@ -27,7 +27,7 @@ use Rattle.version_model.specs.Steps.{after, pair_in, IsRelated, run}
 use Rattle.version_model.specs.Writes.{write, written, MayWrite}
 use Rattle.version_model.specs.Laws.{StaysAt, WriteIsOrdinary}
 use Rattle.version_model.proofs.PutLaws.{put_apart, put_holds, put_one, put_else}
-use Rattle.version_model.proofs.RunLaws.{IsOld, MayCross, IsReady, run_finds_old, run_leaves, run_may_cross, run_memory, run_more, run_related, run_rises, run_rises_on, parted, run_table, run_well}
+use Rattle.version_model.proofs.RunLaws.{MayCross, IsReady, run_leaves, run_may_cross, run_memory, run_related, run_rises, run_rises_on, parted, run_table, run_well}
 use Rattle.version_model.proofs.CrossingLaws.{GoesOver, IsWithin, numbers_linked, walk_each, walk_goes_over, walk_within}
 use Rattle.version_model.proofs.TreeLaws.{MadeIn, one_tree, sources_in_tree, tables_in_tree, targets_in_tree, trees_together}
 
@@ -107,23 +107,10 @@ module _ {O : Type 0} (meaning : O → Meaning) (es : List (Placed O)) (s : Stat
           run_may_cross meaning laws (headings es) s sound.well ps qs p (written s t rows next) written_well may.more
           (subst (λ (l : List (Crossing O)). Each (IsReady meaning (headings es) s) l) is (walk_is_ready w))
 
-      -- and p finds its far side and its memory as they were
-      pub write_finds_old : (ps qs : List (Crossing O)) (p : Crossing O) → walk (forest es) w ≡ ps ++ p ∷ qs → IsOld s (run meaning s (written s t rows next) ps) p
-      write_finds_old ps qs p is =
-          run_finds_old meaning s ps qs p (written s t rows next) (subst (λ (l : List (Crossing O)). Ordered l) is (walk_in_order es edges w))
-          (subst (λ (l : List (Crossing O)). Each (IsOld s (written s t rows next)) l) is
-          (each_more (λ (q : Crossing O). Apart q.far (table_numbers (working es w))) (IsOld s (written s t rows next)) (λ q apart. record { far = written_else q.far (λ i. apart t i may.held); memory = refl }) (walk (forest es) w) (walk_leaves_set es edges w)))
-
       -- ---- the same by places
 
       pub write_at : (i : ℕ) (d : Crossing O) → i < length (walk (forest es) w) → MayCross meaning (headings es) s (write_so_far meaning es s w t rows next i) (get_or (walk (forest es) w) i d)
       write_at i d within = write_may_cross (take i (walk (forest es) w)) (drop (i + 1) (walk (forest es) w)) (get_or (walk (forest es) w) i d) (parted (walk (forest es) w) i d within)
-
-      pub write_more : (i : ℕ) (d : Crossing O) → i < length (walk (forest es) w) → write_so_far meaning es s w t rows next (i + 1) ≡ after meaning s (write_so_far meaning es s w t rows next i) (get_or (walk (forest es) w) i d)
-      write_more i d within = run_more meaning s (walk (forest es) w) i d (written s t rows next) within
-
-      pub write_over : (i : ℕ) → length (walk (forest es) w) ≤ i → write_so_far meaning es s w t rows next i ≡ end
-      write_over i all = ap (λ (l : List (Crossing O)). run meaning s (written s t rows next) l) (take_all i (walk (forest es) w) all)
 
       -- the next identifier on the way isn't above that at the end
       pub write_rises : (i : ℕ) → (write_so_far meaning es s w t rows next i).next ≤ end.next

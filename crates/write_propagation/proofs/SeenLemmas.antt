@@ -1,5 +1,5 @@
 -- The write of what is seen of a tree may be made, and what follows where it was made.
-use Rattle.std.proofs.Common.{◌≡◌, ℕ, ◌*◌, ◌≤◌, length, Bool, List, [], ◌∷◌, true, false, map, Ok, Err, refl, sym, ap, ◌∙◌, subst, arith}
+use Rattle.std.proofs.Common.{◌≡◌, ℕ, ◌*◌, ◌≤◌, length, List, [], ◌∷◌, true, false, map, Ok, Err, refl, sym, ap, ◌∙◌, subst, arith}
 use Rattle.std.specs.Prelude.{◌==◌, ◌+◌, if◌then◌else◌}
 use Rattle.std.proofs.lemmas.Bool.{cond-true, eq-eqb}
 use Rattle.std.proofs.lemmas.List.{length-map}
@@ -130,8 +130,6 @@ module _ {O : Type 0} (meaning : O → Meaning) (laws : (o : O) → Laws (meanin
   seen_sound (Of ids) sees = local_sound meaning laws es s good.sound tree of_tree (passes (Of ids)) sees.1
 
   module _ (sight : Sight) (sees : MaySee meaning es tree.operators sight) (named : AllPass (passes sight) w.changes) where
-    abbrev test : ℕ → Bool
-    test = passes sight
 
     abbrev small : State
     small = part (passes sight) tree s

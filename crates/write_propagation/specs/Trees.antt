@@ -37,11 +37,3 @@ part test tree s = record {
   memory = λ n. if is_in n tree.operators then s.memory n else [];
   next = s.next;
 }
-
--- all rows of one tree
-abbrev pub cut : Tree → State → State
-cut tree s = record {
-  tables = λ t. if is_in t tree.tables then s.tables t else [];
-  memory = λ n. if is_in n tree.operators then s.memory n else [];
-  next = s.next;
-}

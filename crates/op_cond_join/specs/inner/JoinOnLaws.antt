@@ -1,5 +1,5 @@
 -- The laws of JOIN ON a condition, both ways.
-use Rattle.std.proofs.Common.{◌≡◌, ℕ, ◌+◌, ◌≤◌, ◌⊎◌, List, [], ◌∷◌, length, refl, ap, sym, ◌∙◌, count_by, Bool, not, ◌||◌, arith}
+use Rattle.std.proofs.Common.{◌≡◌, ℕ, ◌+◌, ◌≤◌, ◌⊎◌, List, [], ◌∷◌, length, refl, ap, sym, ◌∙◌, count_by, not, ◌||◌, arith}
 use Rattle.std.proofs.lemmas.Bool.{false≢true}
 use mathlib.Core.Logic.{inl, inr}
 use Rattle.row_store.specs.Rows.{Rows}
@@ -166,9 +166,6 @@ module _ (j : Joining) where
 
     found : AreFound j first second pairs new
     found = found_stays j m pairs end.first end.second pairs new (all_stand first_of pairs) (all_stand second_of pairs) found_at_end
-
-    first_stays : ℕ → Bool
-    first_stays id = not (stands first_of m id) || stands first_of pairs id
 
     pub backward_kept : IsPair (flip (join_on j)) ht hs (record { source = near; target = first ∷ second ∷ []; memory = pairs })
     backward_kept = record {

@@ -8,7 +8,7 @@ use Rattle.foreign_keys.specs.KeyParts.{FkParts, FkWell}
 use Rattle.foreign_keys.specs.References.{goal_of, at_goal}
 use Rattle.foreign_keys.specs.DrawnIds.{numbered, place}
 use Rattle.foreign_keys.specs.inner.ReferenceLemmas.{goal_below}
-use Rattle.foreign_keys.specs.inner.DrawnLemmas.{Distinct, numbered_at, distinct, has_needed, low_none}
+use Rattle.foreign_keys.specs.inner.DrawnLemmas.{numbered_at, has_needed, low_none}
 use Rattle.op_fk_join.specs.Join.{joined_row, stays_at, key_kept, first_with, draws_join, needs_join, join_drawn, ref_join, left_in, join_first_in, join_first, join_second}
 use Rattle.foreign_keys.specs.Shared.{Ready}
 use Rattle.par_base.specs.SameRows.{same_row}
@@ -50,10 +50,6 @@ module _ (k : FkParts) (w a b z : ℕ) (well : FkWell k w a b z) (s t near : Row
   -- the values that are drawn for
   abbrev dd : List (List Value)
   dd = join_drawn k s t near
-
-  -- each is drawn for once
-  dis : Distinct dd
-  dis = distinct k (needs_join k s t) [] near tt
 
   -- old T has no row from the next identifier on
   high_none : (q : ℕ) → n ≤ q → row_of t q ≡ None

@@ -57,12 +57,6 @@ module _ (r : RowMeaning) (h : RowHalf r) where
       let n = none_at ts ids id out in
       (n.0 ∙ ap nones (tables_long hs ts well ∙ e), n.1)
 
-  far_ids : Tables → PairState → List ℕ
-  far_ids near old = ids_over near (ids_over old.source (ids_over old.target []))
-
-  far_cells : Tables → PairState → ℕ → Cells
-  far_cells near old id = r.forward (cells_at near id) (cells_at old.source id) (cells_at old.target id)
-
   pub far_well : (hs ht : List Heading) (near : Tables) (old : PairState) → IsPair (rowwise r) hs ht old → AreTablesOf hs near → (id : ℕ) → AreCellsOf ht (r.forward (cells_at near id) (cells_at old.source id) (cells_at old.target id))
   far_well hs ht near old pair well id = h.wide hs ht _ _ _ (pair_at hs ht old pair id) (cells_well hs near id well)
 

@@ -46,10 +46,6 @@ module _ (r : RowMeaning) (h : RowHalf r) where
         (refl, λ id. let a = empty_at hs id ∙ ap nones long.0 in let b = empty_at ht id ∙ ap nones long.1 in rw (a, b) h.empty);
   }
 
--- the operator with its sides exchanged is the same at each identifier
-pub flips : (r : RowMeaning) → rowwise (flip_row r) ≡ flip (rowwise r)
-flips r = refl
-
 -- the laws at one identifier give those of tables
 pub rowwise_laws : (r : RowMeaning) → RowLaws r → Laws (rowwise r)
 rowwise_laws r laws = (half r laws.0, half (flip_row r) laws.1)

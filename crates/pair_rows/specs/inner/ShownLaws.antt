@@ -128,10 +128,6 @@ module _ (j : Joining) where
       let parts = and_parts (is_some (row_at j ns nt a b)) _ h in
       cells_there (row_of ns a) (row_of nt b) parts.0
 
-  -- whether a pair is shown
-  abbrev shows : Rows → Rows → Pairs → Rows → Rows → ℕ → ℕ → Bool
-  shows s t m ns nt a b = is_shown j s t m ns nt a b
-
   -- the rows of kept pairs are there
   filter_there : (s t : Rows) (m : Pairs) (ns nt : Rows) (es : Pairs) → AreThere ns nt (filter (λ e. is_shown j s t m ns nt e.1 e.2) es)
   filter_there s t m ns nt [] = tt
