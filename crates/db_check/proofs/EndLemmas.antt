@@ -21,13 +21,13 @@ use Rattle.op_law.specs.Meaning.{Meaning}
 use Rattle.layout_rules.specs.Layouts.{IsStored}
 use Rattle.std.proofs.lemmas.Bool.{and_from, and_parts}
 use Rattle.layout_rules.proofs.CloseLaws.{numbers_rise}
-use Rattle.version_model.specs.Kept.{pairs_at, rows_at}
+use Rattle.version_model.specs.Kept.{pairs_at, rows_at, numbers_in}
 use Rattle.version_model.specs.Sound.{IsSound}
 use Rattle.version_model.specs.States.{State, headings}
 use Rattle.version_model.specs.Steps.{IsRelated}
 use Rattle.version_model.specs.declared.numbered.Numbered.{Numbered}
 use Rattle.storage_law.proofs.CanonicalLaws.{either_way}
-use Rattle.db_state.specs.Fields.{IsDatabase, numbers_in, state_for, storage_in}
+use Rattle.db_state.specs.Fields.{IsDatabase, state_for, storage_in}
 use Rattle.storage_law.specs.Storage.{Stands}
 use Rattle.db_state.specs.declared.parts.Parts.{Parts}
 use Rattle.db_state.proofs.FieldLaws.{IsShaped, Store, is_database, none_at, state_is}

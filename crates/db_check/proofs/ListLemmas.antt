@@ -7,10 +7,9 @@ use Rattle.std.proofs.lemmas.Bool.{and_from, and_parts, cases_eq, eq-eqb, ne_eqb
 use Rattle.version_graph.specs.Sets.{In}
 use Rattle.version_graph.specs.Edges.{Rises}
 use Rattle.version_graph.proofs.TableLaws.{rises_above}
-use Rattle.version_model.specs.Kept.{value_of}
+use Rattle.version_model.specs.Kept.{value_of, numbers_in}
 use Rattle.version_model.specs.declared.numbered.Numbered.{Numbered}
 use Rattle.version_model.proofs.NumberedLaws.{looked, value_of_first}
-use Rattle.db_state.specs.Fields.{numbers_in}
 use Rattle.db_check.specs.inner.Tests.{Tells}
 
 -- one item more of a list

@@ -12,13 +12,13 @@ use Rattle.op_law.specs.Laws.{Laws}
 use Rattle.op_law.specs.Meaning.{Meaning}
 use Rattle.op_law.specs.Premises.{SomeStored}
 use Rattle.op_law.specs.declared.side.Aux.{Aux}
-use Rattle.version_model.specs.Kept.{pairs_at, value_of}
+use Rattle.version_model.specs.Kept.{pairs_at, value_of, auxes_at}
 use Rattle.version_model.specs.States.{State, headings}
 use Rattle.version_model.specs.Steps.{directed}
 use Rattle.version_model.proofs.PutLaws.{map_same}
 use Rattle.storage_law.specs.Storage.{aux_of, stored_way}
 use Rattle.storage_law.proofs.ReadLaws.{IsRead, far_right, read_at}
-use Rattle.db_state.specs.Fields.{IsDatabase, auxes_at, state_for, storage_in}
+use Rattle.db_state.specs.Fields.{IsDatabase, state_for, storage_in}
 use Rattle.db_state.specs.declared.parts.Parts.{Parts}
 
 module _ {O : Type 0} (meaning : O → Meaning) (laws : (o : O) → Laws (meaning o)) (p : Parts O) (is : IsDatabase meaning p) where

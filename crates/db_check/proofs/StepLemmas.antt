@@ -21,7 +21,7 @@ use Rattle.op_law.specs.Meaning.{Meaning}
 use Rattle.op_law.specs.Premises.{Belongs, SomeNear}
 use Rattle.op_law.specs.declared.side.Aux.{Aux}
 use Rattle.layout_rules.proofs.LinkLaws.{number_listed}
-use Rattle.version_model.specs.Kept.{HasSides, pairs_at, value_of}
+use Rattle.version_model.specs.Kept.{HasSides, pairs_at, value_of, auxes_at, numbers_in}
 use Rattle.version_model.specs.Put.{put}
 use Rattle.version_model.specs.States.{State, headings}
 use Rattle.version_model.specs.Steps.{directed}
@@ -29,7 +29,7 @@ use Rattle.version_model.proofs.CrossingLaws.{numbers_linked}
 use Rattle.version_model.proofs.RunLaws.{way_laws}
 use Rattle.storage_law.specs.Storage.{stored_way}
 use Rattle.storage_law.proofs.ReadLaws.{IsRead, read_at}
-use Rattle.db_state.specs.Fields.{IsDatabase, auxes_at, numbers_in, state_for, storage_in}
+use Rattle.db_state.specs.Fields.{IsDatabase, state_for, storage_in}
 use Rattle.db_state.specs.declared.parts.Parts.{Parts}
 use Rattle.db_state.proofs.FoundLaws.{few_on, some_at}
 use Rattle.db_check.specs.inner.Calls.{AreWell, IsNone, IsOver, MayRead}

@@ -9,12 +9,12 @@ use Rattle.version_graph.specs.Finished.{IsFinished}
 use Rattle.version_graph.specs.Forest.{Link, forest}
 use Rattle.op_law.specs.Meaning.{Meaning}
 use Rattle.layout_rules.specs.Layouts.{IsStored, IsValid}
-use Rattle.version_model.specs.Kept.{HasSides}
+use Rattle.version_model.specs.Kept.{HasSides, numbers_in}
 use Rattle.version_model.specs.Sound.{IsSound}
 use Rattle.version_model.specs.States.{State, headings}
 use Rattle.storage_law.specs.Reading.{ReadsSources}
 use Rattle.storage_law.specs.Storage.{Stands}
-use Rattle.db_state.specs.Fields.{IsDatabase, numbers_in, storage_in}
+use Rattle.db_state.specs.Fields.{IsDatabase, storage_in}
 use Rattle.db_state.specs.declared.parts.Parts.{Parts}
 use Rattle.db_check.specs.declared.checking.NotValid.{NotValid}
 

@@ -36,7 +36,7 @@ use Rattle.layout_rules.proofs.ChangeLaws.{evolved_valid, link_number}
 use Rattle.version_model.specs.States.{State, headings}
 use Rattle.version_model.specs.Steps.{IsRelated, pair_in, directed}
 use Rattle.version_model.specs.Laws.{EvolutionKeeps}
-use Rattle.version_model.specs.Kept.{Database, HasSides, pairs_at, rows_at}
+use Rattle.version_model.specs.Kept.{Database, HasSides, pairs_at, rows_at, auxes_at, numbers_in}
 use Rattle.version_model.specs.Databases.{Evolves, MayEvolveTo, RefusesEvolution, counter_of, evolved_state, start_in}
 use Rattle.version_model.specs.Making.{MayMake, newer, refusal_for, with_links}
 use Rattle.version_model.specs.declared.numbered.Numbered.{Numbered}
@@ -46,7 +46,7 @@ use Rattle.version_model.proofs.GrownLaws.{grown_by_links, grown_links}
 use Rattle.storage_law.specs.Storage.{StandsOver, aux_of, stored_way}
 use Rattle.storage_law.proofs.LinkLaws.{same_test}
 use Rattle.db_state.specs.Calls.{IsRelatedAt}
-use Rattle.db_state.specs.Fields.{IsDatabase, auxes_at, database_for, numbers_in, state_for, storage_in}
+use Rattle.db_state.specs.Fields.{IsDatabase, database_for, state_for, storage_in}
 use Rattle.db_state.specs.declared.parts.Parts.{Parts}
 use Rattle.db_state.proofs.FieldLaws.{IsShaped, Store, is_database}
 use Rattle.db_evolution.specs.Calls.{Fills, Installs, IsFilled, MayFill, filled_state, sources_state}

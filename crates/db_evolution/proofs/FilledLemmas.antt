@@ -15,13 +15,12 @@ use Rattle.op_law.specs.Calls.{first_refused, tables_of}
 use Rattle.op_law.specs.declared.side.Aux.{Aux}
 use Rattle.layout_rules.specs.declared.layout.Layout.{Layout}
 use Rattle.version_model.specs.States.{State}
-use Rattle.version_model.specs.Kept.{latest_of, newer_pairs, newer_rows, pairs_at, pairs_now, rows_at, rows_now}
+use Rattle.version_model.specs.Kept.{latest_of, newer_pairs, newer_rows, pairs_at, pairs_now, rows_at, rows_now, numbers_in}
 use Rattle.version_model.specs.Making.{Has, WasMade, newer, with_links}
 use Rattle.version_model.specs.declared.numbered.Numbered.{Numbered}
 use Rattle.version_model.specs.declared.progress.Made.{Made}
 use Rattle.storage_law.specs.Storage.{aux_of, stored_way}
 use Rattle.db_state.specs.Calls.{AreAuxesOf}
-use Rattle.db_state.specs.Fields.{numbers_in}
 use Rattle.db_state.specs.declared.parts.Parts.{Parts}
 use Rattle.db_evolution.specs.Calls.{HasPlaces, IsFilled, filled_state, sources_state}
 use Rattle.db_evolution.specs.News.{AddsEdges, IsLaidOver, newer_edges}

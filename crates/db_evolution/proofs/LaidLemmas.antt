@@ -6,13 +6,12 @@ use mathlib.Core.List.{reverse}
 use Rattle.version_graph.specs.Sets.{In, Distinct}
 use Rattle.version_graph.proofs.SetLaws.{in_append, in_map, origin}
 use Rattle.version_graph.proofs.WalkStepLaws.{in_reverse}
-use Rattle.version_model.specs.Kept.{latest_of, renewed, value_of}
+use Rattle.version_model.specs.Kept.{latest_of, renewed, value_of, numbers_in}
 use Rattle.version_model.specs.Making.{Has}
 use Rattle.version_model.specs.declared.numbered.Numbered.{Numbered}
 use Rattle.version_model.proofs.AscendingLaws.{reverse_first}
 use Rattle.version_model.proofs.MakingLaws.{value_over}
 use Rattle.version_model.proofs.NumberedLaws.{either, looked, value_of_first}
-use Rattle.db_state.specs.Fields.{numbers_in}
 use Rattle.db_state.proofs.FieldLaws.{none_at}
 use Rattle.db_evolution.specs.News.{IsLaidOver}
 

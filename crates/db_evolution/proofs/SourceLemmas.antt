@@ -22,12 +22,11 @@ use Rattle.version_graph.proofs.TakenLaws.{found_passes, heading_known}
 use Rattle.layout_rules.proofs.ChangeLaws.{filter_in}
 use Rattle.layout_rules.proofs.LookupLaws.{any_true}
 use Rattle.version_model.specs.States.{State}
-use Rattle.version_model.specs.Kept.{rows_at}
+use Rattle.version_model.specs.Kept.{rows_at, numbers_in}
 use Rattle.version_model.specs.declared.numbered.Numbered.{Numbered}
 use Rattle.version_model.proofs.EvolveLaws.{before_grown}
 use Rattle.version_model.proofs.GrownLaws.{grown_links}
 use Rattle.version_model.proofs.HeadingLaws.{made_more, numbers_within}
-use Rattle.db_state.specs.Fields.{numbers_in}
 use Rattle.db_state.proofs.FieldLaws.{none_at}
 use Rattle.db_evolution.specs.Sources.{AreRead, AreSources, first_tables, is_named, is_source}
 use Rattle.db_evolution.proofs.AgreeLemmas.{TakesAmong}

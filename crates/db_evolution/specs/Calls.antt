@@ -10,12 +10,11 @@ use Rattle.version_graph.specs.Forest.{Link, forest}
 use Rattle.op_law.specs.Meaning.{Meaning}
 use Rattle.op_law.specs.Calls.{IsSpent, first_refused}
 use Rattle.version_model.specs.States.{State}
-use Rattle.version_model.specs.Kept.{pairs_at, rows_at}
+use Rattle.version_model.specs.Kept.{pairs_at, rows_at, auxes_at, numbers_in}
 use Rattle.version_model.specs.Making.{MayMake, newer, with_links}
 use Rattle.version_model.specs.declared.numbered.Numbered.{Numbered}
 use Rattle.storage_law.specs.Storage.{aux_of, stored_way}
 use Rattle.db_state.specs.Calls.{IsRelatedAt}
-use Rattle.db_state.specs.Fields.{auxes_at, numbers_in}
 use Rattle.db_state.specs.declared.parts.Parts.{Parts}
 use Rattle.db_evolution.specs.News.{IsLaidOver, created_in, creates_in, newer_edges}
 use Rattle.db_evolution.specs.declared.contents.Contents.{Contents}

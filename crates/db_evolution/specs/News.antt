@@ -4,9 +4,8 @@ use mathlib.Core.List.{reverse}
 use Rattle.version_graph.specs.Edges.{numbers}
 use Rattle.version_graph.specs.declared.parts.Placed.{Placed}
 use Rattle.layout_rules.specs.Changes.{is_empty}
-use Rattle.version_model.specs.Kept.{latest_of, renewed, value_of}
+use Rattle.version_model.specs.Kept.{latest_of, renewed, value_of, numbers_in}
 use Rattle.version_model.specs.declared.numbered.Numbered.{Numbered}
-use Rattle.db_state.specs.Fields.{numbers_in}
 use Rattle.db_evolution.specs.declared.fresh.Fresh.{Fresh}
 
 -- the edges from a place on

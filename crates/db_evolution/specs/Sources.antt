@@ -11,7 +11,7 @@ use Rattle.version_graph.specs.declared.parts.Heading.{Heading}
 use Rattle.version_graph.specs.declared.parts.Placed.{Placed}
 use Rattle.version_model.specs.States.{State}
 use Rattle.version_model.specs.declared.numbered.Numbered.{Numbered}
-use Rattle.db_state.specs.Fields.{numbers_in}
+use Rattle.version_model.specs.Kept.{numbers_in}
 
 -- whether some edge names a table with this heading as a source
 abbrev pub is_named : {O : Type 0} → List (Edge O) → Heading → Bool

@@ -2,7 +2,7 @@
 ghost use Rattle.std.specs.Prelude.{◌≡◌, ◌++◌, [], option_to_list, IfOk, OnOk};
 ghost use Rattle.std.specs.Option.{option_copied};
 ghost use Rattle.version_graph.specs.Edges.{IsGraph};
-ghost use Rattle.db_state.specs.Fields.{numbers_in};
+ghost use Rattle.version_model.specs.Kept.{numbers_in};
 ghost use Rattle.db_evolution.specs.News.{newer_edges, AddsEdges, IsLaidOver};
 
 use id_memory::PairMemory;

@@ -22,7 +22,7 @@ use Rattle.op_law.specs.Meaning.{Meaning}
 use Rattle.op_law.specs.Premises.{SomeStored}
 use Rattle.op_law.specs.declared.side.Aux.{Aux}
 use Rattle.layout_rules.proofs.LinkLaws.{number_listed}
-use Rattle.version_model.specs.Kept.{HasSides, pairs_at, rows_now, value_of}
+use Rattle.version_model.specs.Kept.{HasSides, pairs_at, rows_now, value_of, auxes_at, numbers_in}
 use Rattle.version_model.specs.Put.{put}
 use Rattle.version_model.specs.States.{State, headings}
 use Rattle.version_model.specs.Steps.{directed}
@@ -31,7 +31,7 @@ use Rattle.version_model.proofs.CrossingLaws.{numbers_linked}
 use Rattle.version_model.proofs.PutLaws.{map_same}
 use Rattle.storage_law.specs.Storage.{Storage, aux_of, stored_way}
 use Rattle.storage_law.proofs.ReadLaws.{IsRead, far_right, put_in, read_at, still_right}
-use Rattle.db_state.specs.Fields.{IsDatabase, auxes_at, numbers_in, state_for, storage_in}
+use Rattle.db_state.specs.Fields.{IsDatabase, state_for, storage_in}
 use Rattle.db_state.specs.Parts.{passes, seen_of}
 use Rattle.db_state.specs.inner.Passes.{SeesOver, Settles}
 use Rattle.db_state.specs.declared.sight.Sight.{Sight}

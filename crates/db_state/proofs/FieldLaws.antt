@@ -18,7 +18,7 @@ use Rattle.op_law.specs.Laws.{Laws}
 use Rattle.op_law.specs.Meaning.{Meaning}
 use Rattle.layout_rules.specs.Layouts.{IsStored, IsValid}
 use Rattle.layout_rules.proofs.ChangeLaws.{number_lives}
-use Rattle.version_model.specs.Kept.{HasSides, pairs_at, rows_at, value_of}
+use Rattle.version_model.specs.Kept.{HasSides, pairs_at, rows_at, value_of, auxes_at, numbers_in}
 use Rattle.version_model.specs.Sound.{IsSound}
 use Rattle.version_model.specs.States.{State, headings}
 use Rattle.version_model.specs.Steps.{IsRelated}
@@ -30,7 +30,7 @@ use Rattle.storage_law.specs.Reading.{ReadsSources, read_all}
 use Rattle.storage_law.proofs.CanonicalLaws.{either_way}
 use Rattle.storage_law.proofs.LinkLaws.{not_in_false}
 use Rattle.storage_law.proofs.ReadLaws.{read_back}
-use Rattle.db_state.specs.Fields.{IsDatabase, auxes_at, numbers_in, state_for, storage_in}
+use Rattle.db_state.specs.Fields.{IsDatabase, state_for, storage_in}
 use Rattle.db_state.specs.declared.parts.Parts.{Parts}
 
 -- nothing stands under a number that isn't listed

@@ -1,32 +1,19 @@
 -- What a database keeps, and the state for which it stands.
-use Rattle.std.specs.Prelude.{◌≡◌, ◌↔◌, ℕ, List, [], map, if◌then◌else◌}
-use Rattle.std.specs.Option.{option_map_or}
+use Rattle.std.specs.Prelude.{◌≡◌, ◌↔◌, ℕ, List, [], if◌then◌else◌}
 use mathlib.Core.List.{reverse}
 use Rattle.version_graph.specs.Sets.{In, Each}
 use Rattle.version_graph.specs.Tables.{table_numbers}
 use Rattle.version_graph.specs.Edges.{IsGraph, Rises, is_in, made, numbers}
 use Rattle.version_graph.specs.Finished.{IsFinished}
 use Rattle.version_graph.specs.Forest.{forest}
-use Rattle.op_law.specs.Tables.{Tables}
-use Rattle.op_law.specs.Calls.{tables_of}
 use Rattle.op_law.specs.Meaning.{Meaning}
-use Rattle.op_law.specs.declared.side.Aux.{Aux}
 use Rattle.layout_rules.specs.Layouts.{IsStored, IsValid}
-use Rattle.version_model.specs.Kept.{Database, HasSides, pairs_at, rows_at, value_of}
+use Rattle.version_model.specs.Kept.{Database, HasSides, auxes_at, numbers_in, pairs_at, rows_at}
 use Rattle.version_model.specs.Sound.{IsSound}
 use Rattle.version_model.specs.States.{State}
-use Rattle.version_model.specs.declared.numbered.Numbered.{Numbered}
 use Rattle.storage_law.specs.Storage.{Stands, Storage}
 use Rattle.storage_law.specs.Reading.{ReadsSources, read_all}
 use Rattle.db_state.specs.declared.parts.Parts.{Parts}
-
--- the numbers under which values stand
-abbrev pub numbers_in : {T : Type 0} → List (Numbered T) → List ℕ
-numbers_in {T} items = map (λ (i : Numbered T). i.number) items
-
--- the auxiliary tables of an operator: none where none are kept
-abbrev pub auxes_at : List (Numbered Aux) → ℕ → Tables
-auxes_at auxes n = option_map_or tables_of (value_of auxes n) []
 
 -- what the fields store
 abbrev pub storage_in : {O : Type 0} → Parts O → Storage

@@ -27,12 +27,12 @@ use Rattle.op_any.specs.Operators.{AnyView, any_laws, any_meaning}
 use Rattle.layout_rules.proofs.ChangeLaws.{number_lives}
 use Rattle.version_graph.proofs.WalkLaws.{Of, all_of, is_forest}
 use Rattle.version_model.proofs.CrossingLaws.{is_within}
-use Rattle.version_model.specs.Kept.{pairs_at}
+use Rattle.version_model.specs.Kept.{pairs_at, auxes_at, numbers_in}
 use Rattle.version_model.specs.States.{State, headings}
 use Rattle.version_model.specs.Steps.{IsRelated, directed}
 use Rattle.version_model.specs.declared.numbered.Numbered.{Numbered}
 use Rattle.storage_law.specs.Storage.{StandsOver, stored_way}
-use Rattle.db_state.specs.Fields.{IsDatabase, auxes_at, numbers_in, state_for, storage_in}
+use Rattle.db_state.specs.Fields.{IsDatabase, state_for, storage_in}
 use Rattle.db_state.specs.declared.parts.Parts.{Parts}
 use Rattle.dump_graph.specs.Told.{operator_line, version_line}
 use Rattle.dump_values.specs.Laws.{AllFit, AuxFits, DumpFits, IdFits, IntFits, MemoryFits, NumberFits, OperatorFits, RowFits, StoredFits, TableFits, ValueFits, VersionFits}

@@ -15,7 +15,7 @@ use Rattle.version_graph.proofs.TakenLaws.{map_map}
 use Rattle.op_law.specs.declared.side.Aux.{Aux}
 use Rattle.op_any.specs.Operators.{AnyView}
 use Rattle.version_model.specs.declared.numbered.Numbered.{Numbered}
-use Rattle.db_state.specs.Fields.{numbers_in}
+use Rattle.version_model.specs.Kept.{numbers_in}
 use Rattle.db_state.specs.declared.parts.Parts.{Parts}
 use Rattle.dump_values.specs.Dumps.{Kept}
 use Rattle.dump_graph.specs.declared.refused.DumpRefused.{DumpRefused}

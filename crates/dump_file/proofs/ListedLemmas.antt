@@ -11,10 +11,9 @@ use Rattle.version_graph.specs.declared.parts.Placed.{Placed}
 use Rattle.version_graph.proofs.SetLaws.{in_map, origin}
 use Rattle.version_graph.proofs.TableLaws.{distinct_append}
 use Rattle.version_graph.proofs.WalkStepLaws.{in_reverse}
-use Rattle.version_model.specs.Kept.{value_of}
+use Rattle.version_model.specs.Kept.{value_of, numbers_in}
 use Rattle.version_model.specs.declared.numbered.Numbered.{Numbered}
 use Rattle.version_model.proofs.AscendingLaws.{reverse_first}
-use Rattle.db_state.specs.Fields.{numbers_in}
 use Rattle.dump_values.specs.Laws.{AllFit}
 
 pub fit_map : {A B : Type 0} (P : B → Type 0) (f : A → B) (xs : List A) → ((x : A) → In x xs → P (f x)) → AllFit P (map f xs)

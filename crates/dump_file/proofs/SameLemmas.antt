@@ -18,11 +18,11 @@ use Rattle.op_law.specs.Calls.{tables_of}
 use Rattle.op_any.specs.Operators.{AnyView, any_meaning}
 use Rattle.storage_law.specs.Reading.{read_all}
 use Rattle.storage_law.specs.Storage.{Stands, Storage}
-use Rattle.version_model.specs.Kept.{HasSides, pairs_at, rows_at, value_of}
+use Rattle.version_model.specs.Kept.{HasSides, pairs_at, rows_at, value_of, auxes_at, numbers_in}
 use Rattle.version_model.specs.Sound.{IsSound}
 use Rattle.version_model.specs.States.{State}
 use Rattle.version_model.specs.declared.numbered.Numbered.{Numbered}
-use Rattle.db_state.specs.Fields.{IsDatabase, auxes_at, numbers_in, state_for, storage_in}
+use Rattle.db_state.specs.Fields.{IsDatabase, state_for, storage_in}
 use Rattle.db_state.specs.declared.parts.Parts.{Parts}
 use Rattle.dump_file.specs.inner.Loading.{IsSame}
 

@@ -20,11 +20,11 @@ use Rattle.op_law.specs.declared.side.Aux.{Aux}
 use Rattle.op_any.specs.Operators.{AnyView, any_meaning}
 use Rattle.layout_rules.specs.Lookups.{is_stored, tables_up}
 use Rattle.layout_rules.proofs.PassLaws.{reverse_next, stored_listed, stored_rise}
-use Rattle.version_model.specs.Kept.{Database, pairs_at}
+use Rattle.version_model.specs.Kept.{Database, pairs_at, auxes_at, numbers_in}
 use Rattle.version_model.specs.States.{State, headings}
 use Rattle.version_model.specs.declared.numbered.Numbered.{Numbered}
 use Rattle.storage_law.specs.Storage.{StandsOver, aux_of, stored_way}
-use Rattle.db_state.specs.Fields.{IsDatabase, auxes_at, database_for, numbers_in, state_for, storage_in}
+use Rattle.db_state.specs.Fields.{IsDatabase, database_for, state_for, storage_in}
 use Rattle.db_state.specs.declared.parts.Parts.{Parts}
 use Rattle.dump_graph.specs.Told.{graph_told}
 use Rattle.dump_file.specs.Laws.{DumpsTellTheState}

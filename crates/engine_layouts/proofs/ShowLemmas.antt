@@ -22,11 +22,11 @@ use Rattle.engine_state.specs.Operators.{AnyView, any_meaning}
 use Rattle.layout_rules.specs.Layouts.{IsStored}
 use Rattle.layout_rules.specs.Lookups.{is_stored, tables_up}
 use Rattle.layout_rules.proofs.PassLaws.{reverse_next, stored_listed, stored_rise, take_next, target_up, up_made}
-use Rattle.version_model.specs.Kept.{value_of}
+use Rattle.version_model.specs.Kept.{value_of, auxes_at, numbers_in}
 use Rattle.version_model.specs.States.{headings}
 use Rattle.version_model.specs.declared.numbered.Numbered.{Numbered}
 use Rattle.storage_law.specs.Storage.{StandsOver, aux_of, stored_way}
-use Rattle.db_state.specs.Fields.{IsDatabase, auxes_at, database_for, numbers_in, state_for, storage_in}
+use Rattle.db_state.specs.Fields.{IsDatabase, database_for, state_for, storage_in}
 use Rattle.db_state.specs.declared.parts.Parts.{Parts}
 use Rattle.engine_state.specs.declared.reply.Reply.TheVariants.{Layout}
 use Rattle.engine_state.specs.declared.reply.StoredOperator.{StoredOperator}

@@ -4,7 +4,7 @@ ghost use Rattle.std.specs.Option.{option_copied, IsSome};
 ghost use mathlib.Core.List.{reverse};
 ghost use Rattle.version_graph.specs.Edges.{heading_of};
 ghost use Rattle.op_law.specs.Tables.{contents};
-ghost use Rattle.db_state.specs.Fields.{auxes_at};
+ghost use Rattle.version_model.specs.Kept.{auxes_at};
 ghost use Rattle.engine_layouts.specs.Laid.{laid_of};
 ghost use Rattle.engine_layouts.specs.inner.Calls.{shown_edge, shown_item, HasHeadings};
 ghost use Rattle.engine_layouts.specs.Shown.{name_at, row_count as row_count_lem, shown_operators, shown_tables};

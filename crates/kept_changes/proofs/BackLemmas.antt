@@ -10,9 +10,8 @@ use Rattle.op_law.specs.declared.side.Aux.{Aux}
 use Rattle.row_changes.specs.declared.change.SideChanges.{SideChanges}
 use Rattle.row_changes.specs.Changed.{AreChangesOf, TableChanges}
 use Rattle.op_law.proofs.OnlyLaws.{by_test}
-use Rattle.version_model.specs.Kept.{rows_at}
+use Rattle.version_model.specs.Kept.{rows_at, auxes_at, numbers_in}
 use Rattle.version_model.specs.declared.numbered.Numbered.{Numbered}
-use Rattle.db_state.specs.Fields.{auxes_at, numbers_in}
 use Rattle.kept_changes.specs.Room.{room_at, rooms_at, spares}
 use Rattle.kept_changes.specs.Undo.{AuxesLeadBack, LeadsBack, LeadsBackAt, SideLeadsBack, SideLeadsBackAt, TablesLeadBack}
 use Rattle.kept_changes.specs.inner.Calls.{OtherSidesStay, OthersStay}

@@ -5,10 +5,9 @@ use Rattle.version_graph.specs.Sets.{In}
 use Rattle.op_law.specs.Tables.{Tables}
 use Rattle.row_changes.specs.Changed.{changed_tables}
 use Rattle.op_law.proofs.OnlyLaws.{by_test}
-use Rattle.version_model.specs.Kept.{value_of}
+use Rattle.version_model.specs.Kept.{value_of, numbers_in}
 use Rattle.version_model.specs.declared.numbered.Numbered.{Numbered}
 use Rattle.version_model.proofs.NumberedLaws.{looked, value_of_first}
-use Rattle.db_state.specs.Fields.{numbers_in}
 
 -- no changes leave the tables
 pub no_changes : (ts : Tables) → changed_tables ts [] ≡ ts

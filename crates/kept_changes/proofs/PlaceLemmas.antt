@@ -5,10 +5,9 @@ use Rattle.std.proofs.Common.{◌≡◌, if◌then◌else◌, ℕ, ◌==◌, Lis
 use Rattle.std.proofs.lemmas.Bool.{eq-eqb, eqb-true}
 use Rattle.version_graph.specs.Sets.{In}
 use Rattle.op_law.proofs.OnlyLaws.{by_test}
-use Rattle.version_model.specs.Kept.{value_of}
+use Rattle.version_model.specs.Kept.{value_of, numbers_in}
 use Rattle.version_model.specs.declared.numbered.Numbered.{Numbered}
 use Rattle.version_model.proofs.NumberedLaws.{numbers_set, replaced, unplaced, value_here}
-use Rattle.db_state.specs.Fields.{numbers_in}
 use Rattle.kept_changes.proofs.ChangesLaws.{value_missing}
 
 module _ {T : Type 0} where

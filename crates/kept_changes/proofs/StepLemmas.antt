@@ -4,10 +4,9 @@ use Rattle.std.proofs.Common.{◌≡◌, if◌then◌else◌, ℕ, ◌==◌, Lis
 use Rattle.std.proofs.lemmas.Bool.{eqb-true, ne_eqb}
 use Rattle.version_graph.specs.Sets.{Distinct, Each, In}
 use Rattle.op_law.proofs.OnlyLaws.{by_test}
-use Rattle.version_model.specs.Kept.{value_of}
+use Rattle.version_model.specs.Kept.{value_of, numbers_in}
 use Rattle.version_model.specs.declared.numbered.Numbered.{Numbered}
 use Rattle.version_model.proofs.NumberedLaws.{looked, value_of_first}
-use Rattle.db_state.specs.Fields.{numbers_in}
 use Rattle.kept_changes.proofs.ChangesLaws.{value_unlisted}
 
 pub none_left : {A : Type 0} (xs : List A) → length xs ≡ 0 → xs ≡ []

@@ -8,9 +8,8 @@ use Rattle.version_graph.specs.Sets.{Distinct, Each, In}
 use Rattle.op_law.specs.declared.side.Aux.{Aux}
 use Rattle.row_changes.specs.declared.change.SideChanges.{SideChanges}
 use Rattle.row_changes.specs.Changed.{TableChanges, AreChangesOf}
-use Rattle.version_model.specs.Kept.{rows_at, value_of}
+use Rattle.version_model.specs.Kept.{rows_at, value_of, auxes_at, numbers_in}
 use Rattle.version_model.specs.declared.numbered.Numbered.{Numbered}
-use Rattle.db_state.specs.Fields.{auxes_at, numbers_in}
 
 -- the changes under a number: none where there are none
 abbrev pub changes_at : List (Numbered (List Change)) → ℕ → List Change

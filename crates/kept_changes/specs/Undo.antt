@@ -9,9 +9,8 @@ use Rattle.op_law.specs.Tables.{Tables}
 use Rattle.op_law.specs.declared.side.Aux.{Aux}
 use Rattle.row_changes.specs.declared.change.SideChanges.{SideChanges}
 use Rattle.row_changes.specs.Changed.{TableChanges}
-use Rattle.version_model.specs.Kept.{rows_at}
+use Rattle.version_model.specs.Kept.{rows_at, auxes_at, numbers_in}
 use Rattle.version_model.specs.declared.numbered.Numbered.{Numbered}
-use Rattle.db_state.specs.Fields.{auxes_at, numbers_in}
 use Rattle.kept_changes.specs.Room.{room_at, rooms_at}
 
 -- `back` is what changes left that made `now` of `before`, and there is room for the rows by which the table grows

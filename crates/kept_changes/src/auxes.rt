@@ -2,7 +2,7 @@
 ghost use Rattle.std.specs.Prelude.{◌≡◌, ℕ, ◌==◌, false, if◌then◌else◌};
 ghost use Rattle.op_law.specs.Tables.{Tables};
 ghost use Rattle.row_changes.specs.Changed.{changed_tables};
-ghost use Rattle.db_state.specs.Fields.{auxes_at, numbers_in};
+ghost use Rattle.version_model.specs.Kept.{auxes_at, numbers_in};
 ghost use Rattle.kept_changes.specs.Changes.{sides_at, IsSideAt, AreSidesAt};
 ghost use Rattle.kept_changes.specs.Room.{rooms_at, IsSideFitAt, SidesFitAt};
 ghost use Rattle.kept_changes.specs.Undo.{SideLeadsBack, SideLeadsBackAt, AuxesLeadBack};

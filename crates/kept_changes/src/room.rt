@@ -1,8 +1,7 @@
 //! Room for changes in kept tables and auxiliary tables.
 ghost use Rattle.std.specs.Prelude.{◌≡◌, ◌≤◌, ℕ, OnOk};
 ghost use Rattle.version_graph.specs.Sets.{In};
-ghost use Rattle.version_model.specs.Kept.{rows_at};
-ghost use Rattle.db_state.specs.Fields.{auxes_at, numbers_in};
+ghost use Rattle.version_model.specs.Kept.{rows_at, auxes_at, numbers_in};
 ghost use Rattle.kept_changes.specs.Changes.{AreOldAt, AreSidesAt, IsSideAt};
 ghost use Rattle.kept_changes.specs.Room.{room_at, rooms_at, FitAt, SidesFitAt, IsSideFitAt};
 ghost use Rattle.kept_changes.specs.inner.Calls.{AreAtLeast};

@@ -3,8 +3,7 @@ ghost use Rattle.std.specs.Prelude.{◌≡◌, ℕ, ◌==◌, false, if◌then�
 ghost use Rattle.row_store.specs.Rows.{Rows};
 ghost use Rattle.row_changes.specs.Changed.{changed};
 ghost use Rattle.version_graph.specs.Sets.{In};
-ghost use Rattle.version_model.specs.Kept.{rows_at};
-ghost use Rattle.db_state.specs.Fields.{numbers_in};
+ghost use Rattle.version_model.specs.Kept.{rows_at, numbers_in};
 ghost use Rattle.kept_changes.specs.Changes.{changes_at, IsOldAt, AreOldAt};
 ghost use Rattle.kept_changes.specs.Room.{room_at, IsFitAt, FitAt};
 ghost use Rattle.kept_changes.specs.Undo.{LeadsBack, LeadsBackAt, TablesLeadBack};

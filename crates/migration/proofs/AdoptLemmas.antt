@@ -2,9 +2,8 @@
 use Rattle.std.proofs.Common.{◌≡◌, ℕ, List, refl, ap, ◌∙◌, subst}
 use Rattle.row_store.specs.States.{TableState}
 use Rattle.op_law.specs.declared.side.Aux.{Aux}
-use Rattle.version_model.specs.Kept.{latest_of, renewed, value_of}
+use Rattle.version_model.specs.Kept.{latest_of, renewed, value_of, numbers_in}
 use Rattle.version_model.specs.declared.numbered.Numbered.{Numbered}
-use Rattle.db_state.specs.Fields.{numbers_in}
 use Rattle.db_state.specs.declared.parts.Parts.{Parts}
 use Rattle.migration.specs.Moved.{Adopts}
 use Rattle.migration.specs.declared.moved.Moved.{Moved}

@@ -26,7 +26,7 @@ use Rattle.layout_rules.proofs.LinkLaws.{target_listed}
 use Rattle.layout_rules.proofs.PassLaws.{rises_filter}
 use Rattle.version_model.specs.Databases.{dropped_database}
 use Rattle.version_model.specs.Dropping.{staying_state}
-use Rattle.version_model.specs.Kept.{HasSides, pairs_at, rows_at}
+use Rattle.version_model.specs.Kept.{HasSides, pairs_at, rows_at, auxes_at, numbers_in}
 use Rattle.version_model.specs.Sound.{IsSound}
 use Rattle.version_model.specs.States.{State}
 use Rattle.version_model.specs.declared.numbered.Numbered.{Numbered}
@@ -36,7 +36,7 @@ use Rattle.version_model.proofs.LiveLaws.{read_passes}
 use Rattle.storage_law.specs.Changes.{GoFromSources, staying_storage}
 use Rattle.storage_law.specs.Storage.{Stands, Storage}
 use Rattle.storage_law.proofs.DropLaws.{drop_stands, stored_before, stored_now}
-use Rattle.db_state.specs.Fields.{IsDatabase, auxes_at, database_for, numbers_in, state_for, storage_in}
+use Rattle.db_state.specs.Fields.{IsDatabase, database_for, state_for, storage_in}
 use Rattle.db_state.specs.declared.parts.Parts.{Parts}
 use Rattle.db_state.proofs.FieldLaws.{state_is}
 use Rattle.migration.proofs.SideLemmas.{up_in, up_lives}

@@ -20,7 +20,7 @@ use Rattle.layout_rules.specs.declared.layout.Layout.{Layout}
 use Rattle.layout_rules.specs.Layouts.{IsStored, IsValid}
 use Rattle.layout_rules.proofs.ChangeLaws.{link_number}
 use Rattle.layout_rules.proofs.LinkLaws.{source_made, target_listed}
-use Rattle.version_model.specs.Kept.{HasSides, latest_of, pairs_at, renewed, rows_at, rows_now, value_of}
+use Rattle.version_model.specs.Kept.{HasSides, latest_of, pairs_at, renewed, rows_at, rows_now, value_of, auxes_at, numbers_in}
 use Rattle.version_model.specs.States.{State, headings}
 use Rattle.version_model.specs.Steps.{IsRelated, pair_in, directed}
 use Rattle.version_model.specs.declared.numbered.Numbered.{Numbered}
@@ -30,7 +30,7 @@ use Rattle.version_model.proofs.PutLaws.{map_same}
 use Rattle.storage_law.specs.Storage.{StandsOver, aux_of, stored_way}
 use Rattle.db_state.specs.Calls.{AreAuxesOf, IsRelatedAt}
 use Rattle.db_state.specs.Covered.{Covers}
-use Rattle.db_state.specs.Fields.{IsDatabase, auxes_at, database_for, numbers_in, state_for, storage_in}
+use Rattle.db_state.specs.Fields.{IsDatabase, database_for, state_for, storage_in}
 use Rattle.db_state.specs.declared.parts.Parts.{Parts}
 use Rattle.db_state.proofs.FieldLaws.{IsShaped, Store, is_database, none_at}
 use Rattle.migration.specs.Moved.{Adopts, Leads}

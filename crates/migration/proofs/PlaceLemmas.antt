@@ -10,7 +10,7 @@ use Rattle.version_graph.specs.declared.parts.Placed.{Placed}
 use Rattle.version_graph.proofs.SetLaws.{each_append}
 use Rattle.layout_rules.specs.Layouts.{IsStored}
 use Rattle.version_model.specs.declared.numbered.Numbered.{Numbered}
-use Rattle.db_state.specs.Fields.{numbers_in}
+use Rattle.version_model.specs.Kept.{numbers_in}
 use Rattle.migration.specs.Places.{AddsPlace, ArePlaces, AreStoredPlaces, IsPlace}
 
 -- no table yet

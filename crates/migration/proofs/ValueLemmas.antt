@@ -9,11 +9,10 @@ use Rattle.version_graph.specs.Edges.{Rises}
 use Rattle.version_graph.proofs.SetLaws.{in_map, origin}
 use Rattle.version_graph.proofs.TableLaws.{rises_above}
 use Rattle.version_graph.proofs.WalkStepLaws.{in_reverse}
-use Rattle.version_model.specs.Kept.{latest_of, value_of}
+use Rattle.version_model.specs.Kept.{latest_of, value_of, numbers_in}
 use Rattle.version_model.specs.declared.numbered.Numbered.{Numbered}
 use Rattle.version_model.proofs.HeadingLaws.{in_or_not}
 use Rattle.version_model.proofs.NumberedLaws.{looked, value_of_first}
-use Rattle.db_state.specs.Fields.{numbers_in}
 use Rattle.db_state.proofs.FieldLaws.{none_at}
 
 module _ {T : Type 0} where

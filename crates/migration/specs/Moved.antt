@@ -1,8 +1,8 @@
 -- What a move makes of the fields of a database.
 use Rattle.std.specs.Prelude.{◌≡◌, ℕ}
 use Rattle.op_law.specs.Meaning.{Meaning}
-use Rattle.version_model.specs.Kept.{latest_of, renewed, value_of}
-use Rattle.db_state.specs.Fields.{IsDatabase, database_for, numbers_in}
+use Rattle.version_model.specs.Kept.{latest_of, renewed, value_of, numbers_in}
+use Rattle.db_state.specs.Fields.{IsDatabase, database_for}
 use Rattle.db_state.specs.declared.parts.Parts.{Parts}
 use Rattle.migration.specs.declared.moved.Moved.{Moved}
 

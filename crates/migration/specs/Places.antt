@@ -7,9 +7,8 @@ use Rattle.version_graph.specs.Edges.{Rises}
 use Rattle.version_graph.specs.Forest.{forest}
 use Rattle.version_graph.specs.declared.parts.Placed.{Placed}
 use Rattle.layout_rules.specs.Layouts.{IsStored}
-use Rattle.version_model.specs.Kept.{rows_now, value_of}
+use Rattle.version_model.specs.Kept.{rows_now, value_of, numbers_in}
 use Rattle.version_model.specs.declared.numbered.Numbered.{Numbered}
-use Rattle.db_state.specs.Fields.{numbers_in}
 
 -- a table that is kept gets an empty place, and another one its rows
 abbrev pub place_rows : Option TableState → Rows → Rows

@@ -1,5 +1,5 @@
 -- A database, and values that are kept under the numbers of tables and operators.
-use Rattle.std.specs.Prelude.{ℕ, ◌≤◌, ◌==◌, List, [], length, Option, Some, None, option_map}
+use Rattle.std.specs.Prelude.{ℕ, ◌≤◌, ◌==◌, List, [], length, map, Option, Some, None, option_map}
 use Rattle.std.specs.List.{find}
 use mathlib.Core.List.{reverse}
 use Rattle.std.specs.Option.{option_map_or}
@@ -7,6 +7,9 @@ use Rattle.row_store.specs.Rows.{Rows}
 use Rattle.row_store.specs.States.{TableState}
 use Rattle.id_memory.specs.Pairs.{Pairs}
 use Rattle.id_memory.specs.States.{MemoryState}
+use Rattle.op_law.specs.Calls.{tables_of}
+use Rattle.op_law.specs.Tables.{Tables}
+use Rattle.op_law.specs.declared.side.Aux.{Aux}
 use Rattle.version_graph.specs.Edges.{Drawn}
 use Rattle.version_graph.specs.Forest.{Link}
 use Rattle.version_model.specs.States.{State}
@@ -26,6 +29,10 @@ value_of {T} items n = option_map (λ (i : Numbered T). i.value) (find (λ (i : 
 abbrev pub latest_of : {T : Type 0} → List (Numbered T) → ℕ → Option T
 latest_of items n = value_of (reverse items) n
 
+-- the numbers under which values stand
+abbrev pub numbers_in : {T : Type 0} → List (Numbered T) → List ℕ
+numbers_in {T} items = map (λ (i : Numbered T). i.number) items
+
 -- the rows of a table: none where it isn't kept
 abbrev pub rows_at : List (Numbered TableState) → ℕ → Rows
 rows_at tables t = option_map_or (λ (table : TableState). table.rows) (value_of tables t) []
@@ -33,6 +40,10 @@ rows_at tables t = option_map_or (λ (table : TableState). table.rows) (value_of
 -- the entries of a memory: none where it isn't kept
 abbrev pub pairs_at : List (Numbered MemoryState) → ℕ → Pairs
 pairs_at memories n = option_map_or (λ (memory : MemoryState). memory.entries) (value_of memories n) []
+
+-- the auxiliary tables of an operator: none where none are kept
+abbrev pub auxes_at : List (Numbered Aux) → ℕ → Tables
+auxes_at auxes n = option_map_or tables_of (value_of auxes n) []
 
 -- a value with a newer one over it, where both are there; nothing is put where there is none
 abbrev pub renewed : {T : Type 0} → Option T → Option T → Option T

@@ -16,10 +16,10 @@ use Rattle.version_graph.proofs.TableLaws.{distinct_append}
 use Rattle.version_graph.proofs.WalkStepLaws.{in_reverse}
 use Rattle.row_changes.specs.declared.change.SideChanges.{SideChanges}
 use Rattle.row_changes.specs.Changed.{changed, changed_tables}
-use Rattle.version_model.specs.Kept.{latest_of, renewed, rows_at, value_of}
+use Rattle.version_model.specs.Kept.{latest_of, renewed, rows_at, value_of, auxes_at, numbers_in}
 use Rattle.version_model.specs.declared.numbered.Numbered.{Numbered}
 use Rattle.version_model.proofs.AscendingLaws.{reverse_first}
-use Rattle.db_state.specs.Fields.{IsDatabase, auxes_at, numbers_in}
+use Rattle.db_state.specs.Fields.{IsDatabase}
 use Rattle.db_state.specs.declared.parts.Parts.{Parts}
 use Rattle.kept_changes.specs.Changes.{changes_at, sides_at}
 use Rattle.kept_changes.specs.Undo.{AuxesLeadBack, TablesLeadBack}

@@ -4,10 +4,9 @@ use Rattle.std.proofs.Common.{◌≡◌, if◌then◌else◌, ℕ, ◌==◌, Lis
 use Rattle.std.proofs.lemmas.Bool.{eq-eqb, eqb-true}
 use Rattle.version_graph.specs.Sets.{Distinct, In}
 use Rattle.op_law.proofs.OnlyLaws.{by_test}
-use Rattle.version_model.specs.Kept.{renewed, value_of}
+use Rattle.version_model.specs.Kept.{renewed, value_of, numbers_in}
 use Rattle.version_model.specs.declared.numbered.Numbered.{Numbered}
 use Rattle.version_model.proofs.NumberedLaws.{replaced, value_here}
-use Rattle.db_state.specs.Fields.{numbers_in}
 use Rattle.kept_changes.proofs.ChangesLaws.{value_first, value_rest, value_unlisted}
 
 module _ {T : Type 0} where

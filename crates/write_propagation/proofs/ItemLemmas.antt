@@ -20,12 +20,11 @@ use Rattle.op_law.specs.Local.{only}
 use Rattle.op_law.specs.declared.side.Aux.{Aux}
 use Rattle.row_changes.specs.Differences.{AreDifferences, IsDifference}
 use Rattle.row_changes.specs.declared.change.SideChanges.{SideChanges}
-use Rattle.version_model.specs.Kept.{latest_of, renewed, rows_at, rows_now, value_of}
+use Rattle.version_model.specs.Kept.{latest_of, renewed, rows_at, rows_now, value_of, auxes_at, numbers_in}
 use Rattle.version_model.specs.declared.numbered.Numbered.{Numbered}
 use Rattle.version_model.proofs.AscendingLaws.{reverse_first}
 use Rattle.version_model.proofs.LiveLaws.{value_passes}
 use Rattle.version_model.proofs.NumberedLaws.{looked, value_of_first}
-use Rattle.db_state.specs.Fields.{auxes_at, numbers_in}
 use Rattle.db_state.proofs.FieldLaws.{none_at}
 
 -- what was turned twice is as it was

@@ -26,13 +26,13 @@ use Rattle.row_store.specs.States.{TableState}
 use Rattle.op_law.specs.declared.side.Aux.{Aux}
 use Rattle.write_propagation.specs.Calls.{KeepsAuxes, KeepsRows}
 use Rattle.row_changes.specs.Changed.{AreChangesOf, changed, changed_tables}
-use Rattle.version_model.specs.Kept.{Database, pairs_at, rows_at}
+use Rattle.version_model.specs.Kept.{Database, pairs_at, rows_at, auxes_at, numbers_in}
 use Rattle.version_model.specs.Sound.{IsSound}
 use Rattle.version_model.specs.States.{State, headings}
 use Rattle.version_model.specs.Writes.{write}
 use Rattle.version_model.specs.declared.numbered.Numbered.{Numbered}
 use Rattle.storage_law.specs.Storage.{StandsOver, aux_of, stored_way}
-use Rattle.db_state.specs.Fields.{IsDatabase, auxes_at, database_for, numbers_in, state_for, storage_in}
+use Rattle.db_state.specs.Fields.{IsDatabase, database_for, state_for, storage_in}
 use Rattle.db_state.specs.declared.parts.Parts.{Parts}
 use Rattle.db_state.proofs.FieldLaws.{IsShaped, Store, is_database}
 use Rattle.kept_changes.specs.Changes.{IsOldAt, IsSideAt, changes_at, sides_at}

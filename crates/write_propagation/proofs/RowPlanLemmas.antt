@@ -30,7 +30,7 @@ use Rattle.row_changes.specs.Touched.{AllPass}
 use Rattle.row_changes.specs.declared.change.SideChanges.{SideChanges}
 use Rattle.row_changes.proofs.ChangedLaws.{other_changed}
 use Rattle.row_changes.proofs.DifferenceLaws.{difference_of_part, differences_of_part, differences_fit, differences_make}
-use Rattle.version_model.specs.Kept.{rows_at}
+use Rattle.version_model.specs.Kept.{rows_at, auxes_at, numbers_in}
 use Rattle.version_model.specs.Sound.{IsSound}
 use Rattle.version_model.specs.States.{State, headings}
 use Rattle.version_model.specs.Steps.{IsRelated, directed, pair_in}
@@ -47,7 +47,7 @@ use Rattle.version_graph.specs.Edges.{is_in}
 use Rattle.storage_law.proofs.CanonicalLaws.{either_way}
 use Rattle.storage_law.specs.Storage.{StandsOver, aux_of, stored_way}
 use Rattle.db_state.specs.Calls.{AreAuxesOf}
-use Rattle.db_state.specs.Fields.{IsDatabase, auxes_at, numbers_in, state_for, storage_in}
+use Rattle.db_state.specs.Fields.{IsDatabase, state_for, storage_in}
 use Rattle.db_state.specs.Parts.{AreLocalAt}
 use Rattle.db_state.specs.declared.parts.Parts.{Parts}
 use Rattle.kept_changes.specs.Changes.{changes_at, sides_at, IsOldAt, IsSideAt}

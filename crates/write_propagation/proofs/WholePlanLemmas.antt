@@ -22,7 +22,7 @@ use Rattle.op_law.specs.declared.side.Aux.{Aux}
 use Rattle.layout_rules.specs.Layouts.{IsStored}
 use Rattle.layout_rules.specs.declared.layout.Layout.{Layout}
 use Rattle.layout_rules.proofs.ChangeLaws.{filter_in, link_number}
-use Rattle.version_model.specs.Kept.{latest_of, newer_pairs, pairs_at, renewed, rows_at, rows_now, value_of}
+use Rattle.version_model.specs.Kept.{latest_of, newer_pairs, pairs_at, renewed, rows_at, rows_now, value_of, auxes_at, numbers_in}
 use Rattle.version_model.specs.States.{State, headings}
 use Rattle.version_model.specs.Steps.{pair_in, directed}
 use Rattle.version_model.specs.Writes.{write}
@@ -32,7 +32,7 @@ use Rattle.version_model.proofs.HeadingLaws.{in_or_not}
 use Rattle.version_model.proofs.WriteLaws.{write_is_ordinary}
 use Rattle.storage_law.specs.Storage.{StandsOver, aux_of, stored_way}
 use Rattle.storage_law.proofs.LinkLaws.{not_in_false}
-use Rattle.db_state.specs.Fields.{IsDatabase, auxes_at, database_for, numbers_in, state_for, storage_in}
+use Rattle.db_state.specs.Fields.{IsDatabase, database_for, state_for, storage_in}
 use Rattle.db_state.specs.Parts.{passes, seen_of}
 use Rattle.db_state.specs.declared.parts.Parts.{Parts}
 use Rattle.db_state.specs.declared.sight.Sight.TheVariants.{All}

@@ -13,9 +13,9 @@ use Rattle.op_law.specs.Local.{only}
 use Rattle.op_law.specs.declared.side.Aux.{Aux}
 use Rattle.row_changes.specs.Differences.{AreDifferences, IsDifference}
 use Rattle.row_changes.specs.declared.change.SideChanges.{SideChanges}
-use Rattle.version_model.specs.Kept.{pairs_at, rows_at, rows_now}
+use Rattle.version_model.specs.Kept.{pairs_at, rows_at, rows_now, auxes_at, numbers_in}
 use Rattle.version_model.specs.declared.numbered.Numbered.{Numbered}
-use Rattle.db_state.specs.Fields.{auxes_at, numbers_in, state_for}
+use Rattle.db_state.specs.Fields.{state_for}
 use Rattle.db_state.specs.Parts.{passes}
 use Rattle.db_state.specs.declared.sight.Sight.{Sight}
 use Rattle.db_state.specs.declared.parts.Parts.{Parts}

@@ -7,9 +7,9 @@ use Rattle.row_store.specs.Rows.{Rows}
 use Rattle.op_law.specs.Meaning.{Meaning}
 use Rattle.op_law.specs.Calls.{IsSpent, first_refused}
 use Rattle.row_changes.specs.Changed.{changed, changed_tables}
-use Rattle.version_model.specs.Kept.{latest_of, renewed, rows_at, value_of}
+use Rattle.version_model.specs.Kept.{latest_of, renewed, rows_at, value_of, auxes_at, numbers_in}
 use Rattle.version_model.specs.Writes.{write}
-use Rattle.db_state.specs.Fields.{IsDatabase, auxes_at, database_for, numbers_in, state_for}
+use Rattle.db_state.specs.Fields.{IsDatabase, database_for, state_for}
 use Rattle.db_state.specs.declared.parts.Parts.{Parts}
 use Rattle.kept_changes.specs.Changes.{changes_at, sides_at}
 use Rattle.write_propagation.specs.declared.plans.Plan.{Plan}

@@ -2,8 +2,7 @@
 ghost use Rattle.std.specs.Prelude.{◌≡◌, filter, IfOk};
 ghost use Rattle.version_graph.specs.Edges.{is_in};
 ghost use Rattle.version_graph.specs.Forest.{forest};
-ghost use Rattle.version_model.specs.Kept.{rows_now, pairs_at};
-ghost use Rattle.db_state.specs.Fields.{numbers_in};
+ghost use Rattle.version_model.specs.Kept.{rows_now, pairs_at, numbers_in};
 ghost use Rattle.db_state.specs.Parts.{listed_in, seen_of, Ascends, MaySee, SeenWithin};
 ghost use Rattle.write_propagation.specs.Trees.{IsWhole};
 ghost use Rattle.write_propagation.specs.Calls.{beside, told_pairs, told_rows, CopiesTree};

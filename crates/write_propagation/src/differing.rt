@@ -3,8 +3,7 @@ ghost use Rattle.std.specs.Prelude.{◌≡◌, length, IfOk};
 ghost use Rattle.op_law.specs.Calls.{tables_of};
 ghost use Rattle.op_law.specs.Local.{only};
 ghost use Rattle.row_changes.specs.Differences.{AreDifferences, IsDifference};
-ghost use Rattle.version_model.specs.Kept.{rows_at, rows_now};
-ghost use Rattle.db_state.specs.Fields.{auxes_at};
+ghost use Rattle.version_model.specs.Kept.{rows_at, rows_now, auxes_at};
 ghost use Rattle.db_state.specs.Parts.{passes, Ascends};
 ghost use Rattle.write_propagation.specs.Calls.{AreAuxChanges, AreTableChanges, AreAsMany};
 

@@ -1,7 +1,6 @@
 //! Newer values in the place of older ones, which are handed back.
 ghost use Rattle.std.specs.Prelude.{◌≡◌, ◌==◌, ℕ, Some, None, if◌then◌else◌};
-ghost use Rattle.version_model.specs.Kept.{value_of, latest_of, renewed};
-ghost use Rattle.db_state.specs.Fields.{numbers_in};
+ghost use Rattle.version_model.specs.Kept.{value_of, latest_of, renewed, numbers_in};
 
 use par_base::List;
 use std::mem;

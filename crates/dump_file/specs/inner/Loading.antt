@@ -15,7 +15,7 @@ use Rattle.version_graph.specs.declared.parts.Placed.{Placed}
 use Rattle.op_law.specs.declared.side.Aux.{Aux}
 use Rattle.op_any.specs.Operators.{AnyView}
 use Rattle.version_model.specs.declared.numbered.Numbered.{Numbered}
-use Rattle.db_state.specs.Fields.{numbers_in}
+use Rattle.version_model.specs.Kept.{numbers_in}
 use Rattle.db_state.specs.declared.parts.Parts.{Parts}
 use Rattle.dump_values.specs.Dumps.{Dump, Kept, dump_of, dump_seen}
 use Rattle.dump_values.specs.declared.dumps.DumpLines.{DumpLines}

@@ -8,7 +8,7 @@ use Rattle.version_graph.specs.declared.parts.Placed.{Placed}
 use Rattle.op_law.specs.declared.side.Aux.{Aux}
 use Rattle.engine_state.specs.Operators.{AnyView}
 use Rattle.version_model.specs.declared.numbered.Numbered.{Numbered}
-use Rattle.db_state.specs.Fields.{auxes_at}
+use Rattle.version_model.specs.Kept.{auxes_at}
 use Rattle.engine_state.specs.declared.reply.StoredOperator.{StoredOperator}
 use Rattle.engine_state.specs.declared.reply.StoredTable.{StoredTable}
 use Rattle.engine_layouts.specs.Shown.{kind_word, name_at, row_count}

@@ -4,9 +4,8 @@ use Rattle.row_store.specs.States.{TableState}
 use Rattle.row_store.specs.Changes.{AreOld}
 use Rattle.op_law.specs.declared.side.Aux.{Aux}
 use Rattle.row_changes.specs.Changed.{TableChanges}
-use Rattle.version_model.specs.Kept.{rows_at}
+use Rattle.version_model.specs.Kept.{rows_at, auxes_at}
 use Rattle.version_model.specs.declared.numbered.Numbered.{Numbered}
-use Rattle.db_state.specs.Fields.{auxes_at}
 use Rattle.kept_changes.specs.Room.{room_at, rooms_at}
 
 -- changes to the first tables, each with its old rows and with room for them

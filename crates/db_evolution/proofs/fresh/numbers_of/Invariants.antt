@@ -1,5 +1,5 @@
 use Rattle.std.proofs.Common.{◌≡◌, take}
-use Rattle.db_state.specs.Fields.{numbers_in}
+use Rattle.version_model.specs.Kept.{numbers_in}
 use Rattle.db_evolution.proofs.fresh.numbers_of.Given as goal
 
 abbrev pub invariant-loop-item : goal.invariant-loop-item

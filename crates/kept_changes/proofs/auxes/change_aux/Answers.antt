@@ -5,7 +5,7 @@ use Rattle.op_law.specs.Tables.{Tables}
 use Rattle.op_law.specs.declared.side.Aux.{Aux}
 use Rattle.row_changes.specs.Changed.{AreChangesOf, changed_tables}
 use Rattle.version_model.specs.declared.numbered.Numbered.{Numbered}
-use Rattle.db_state.specs.Fields.{auxes_at}
+use Rattle.version_model.specs.Kept.{auxes_at}
 use Rattle.kept_changes.specs.Room.{HaveRoom, rooms_at, spares}
 use Rattle.kept_changes.specs.Undo.{SideLeadsBack}
 use Rattle.kept_changes.proofs.PlaceLemmas.{put_here, put_made, put_numbers, put_other, read_here, unplaced_seen}

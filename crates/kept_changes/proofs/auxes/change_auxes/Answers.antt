@@ -5,7 +5,7 @@ use Rattle.op_law.specs.declared.side.Aux.{Aux}
 use Rattle.row_changes.specs.declared.change.SideChanges.{SideChanges}
 use Rattle.row_changes.specs.Changed.{AreChangesOf, changed_tables}
 use Rattle.version_model.specs.declared.numbered.Numbered.{Numbered}
-use Rattle.db_state.specs.Fields.{auxes_at, numbers_in}
+use Rattle.version_model.specs.Kept.{auxes_at, numbers_in}
 use Rattle.kept_changes.specs.Changes.{sides_at, AreSidesAt, IsSideAt}
 use Rattle.kept_changes.specs.Room.{HaveRoom, IsSideFitAt, SidesFitAt}
 use Rattle.kept_changes.specs.Undo.{AuxesLeadBack}

@@ -1,7 +1,7 @@
 use Rattle.std.proofs.Common.{◌≡◌, ℕ, ◌≤◌, length, take, drop}
 use Rattle.row_changes.specs.Changed.{changed_tables}
 use Rattle.version_graph.specs.Sets.{Distinct}
-use Rattle.db_state.specs.Fields.{auxes_at, numbers_in}
+use Rattle.version_model.specs.Kept.{auxes_at, numbers_in}
 use Rattle.kept_changes.specs.Changes.{sides_at, AreSidesAt}
 use Rattle.kept_changes.specs.Room.{SidesFitAt}
 use Rattle.kept_changes.specs.Undo.{AuxesLeadBack}

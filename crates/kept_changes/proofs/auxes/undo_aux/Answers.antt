@@ -3,7 +3,7 @@ use Rattle.std.proofs.Common.{◌≡◌, ◌==◌, List, [], refl, ap, sym, ◌�
 use Rattle.op_law.specs.Calls.{tables_of}
 use Rattle.op_law.specs.declared.side.Aux.{Aux}
 use Rattle.version_model.specs.declared.numbered.Numbered.{Numbered}
-use Rattle.db_state.specs.Fields.{auxes_at}
+use Rattle.version_model.specs.Kept.{auxes_at}
 use Rattle.kept_changes.specs.Room.{rooms_at, spares}
 use Rattle.kept_changes.proofs.PlaceLemmas.{put_here, put_numbers, put_other, read_here, unplaced_seen}
 use Rattle.kept_changes.proofs.BackLemmas.{side_none, side_same}

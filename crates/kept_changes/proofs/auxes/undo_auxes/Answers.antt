@@ -2,7 +2,7 @@ use Rattle.std.proofs.Common.{List, [], ◌∷◌, ◌++◌, ap, ◌∙◌, subs
 use Rattle.op_law.specs.declared.side.Aux.{Aux}
 use Rattle.row_changes.specs.declared.change.SideChanges.{SideChanges}
 use Rattle.version_model.specs.declared.numbered.Numbered.{Numbered}
-use Rattle.db_state.specs.Fields.{auxes_at}
+use Rattle.version_model.specs.Kept.{auxes_at}
 use Rattle.kept_changes.specs.Undo.{AuxesLeadBack, AuxesUndoable}
 use Rattle.kept_changes.proofs.StepLemmas.{none_left}
 use Rattle.kept_changes.proofs.BackLemmas.{auxes_lead_less, side_leads_last}

@@ -1,7 +1,7 @@
 use Rattle.std.proofs.Common.{◌≡◌, List, vec_len}
 use Rattle.op_law.specs.declared.side.Aux.{Aux}
 use Rattle.version_model.specs.declared.numbered.Numbered.{Numbered}
-use Rattle.db_state.specs.Fields.{numbers_in}
+use Rattle.version_model.specs.Kept.{numbers_in}
 use Rattle.kept_changes.specs.Undo.{AuxesLeadBack, AuxesUndoable}
 use Rattle.kept_changes.proofs.auxes.undo_auxes.Given as goal
 

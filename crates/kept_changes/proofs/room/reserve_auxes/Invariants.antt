@@ -1,5 +1,5 @@
 use Rattle.std.proofs.Common.{◌≡◌, ℕ, take}
-use Rattle.db_state.specs.Fields.{auxes_at, numbers_in}
+use Rattle.version_model.specs.Kept.{auxes_at, numbers_in}
 use Rattle.kept_changes.specs.Room.{SidesFitAt}
 use Rattle.kept_changes.proofs.room.reserve_auxes.Given as goal
 

@@ -1,6 +1,5 @@
 use Rattle.std.proofs.Common.{◌≡◌, ℕ, take}
-use Rattle.version_model.specs.Kept.{rows_at}
-use Rattle.db_state.specs.Fields.{numbers_in}
+use Rattle.version_model.specs.Kept.{rows_at, numbers_in}
 use Rattle.kept_changes.specs.Room.{FitAt}
 use Rattle.kept_changes.proofs.room.reserve_tables.Given as goal
 

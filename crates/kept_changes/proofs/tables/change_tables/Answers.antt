@@ -4,9 +4,8 @@ use Rattle.row_store.specs.Rows.{Rows}
 use Rattle.row_store.specs.Changes.{AreOld}
 use Rattle.version_graph.specs.Sets.{Distinct, In}
 use Rattle.row_changes.specs.Changed.{changed}
-use Rattle.version_model.specs.Kept.{rows_at}
+use Rattle.version_model.specs.Kept.{rows_at, numbers_in}
 use Rattle.version_model.specs.declared.numbered.Numbered.{Numbered}
-use Rattle.db_state.specs.Fields.{numbers_in}
 use Rattle.kept_changes.specs.Changes.{changes_at, AreOldAt, IsOldAt}
 use Rattle.kept_changes.specs.Room.{FitAt, IsFitAt}
 use Rattle.kept_changes.specs.Undo.{TablesLeadBack}

@@ -1,8 +1,7 @@
 use Rattle.std.proofs.Common.{◌≡◌, ℕ, ◌≤◌, length, take, drop}
 use Rattle.row_changes.specs.Changed.{changed}
 use Rattle.version_graph.specs.Sets.{Distinct}
-use Rattle.version_model.specs.Kept.{rows_at}
-use Rattle.db_state.specs.Fields.{numbers_in}
+use Rattle.version_model.specs.Kept.{rows_at, numbers_in}
 use Rattle.kept_changes.specs.Changes.{changes_at, AreOldAt}
 use Rattle.kept_changes.specs.Room.{FitAt}
 use Rattle.kept_changes.specs.Undo.{TablesLeadBack}

@@ -1,7 +1,7 @@
 use Rattle.std.proofs.Common.{◌≡◌, List, vec_len}
 use Rattle.row_store.specs.States.{TableState}
 use Rattle.version_model.specs.declared.numbered.Numbered.{Numbered}
-use Rattle.db_state.specs.Fields.{numbers_in}
+use Rattle.version_model.specs.Kept.{numbers_in}
 use Rattle.kept_changes.specs.Undo.{TablesLeadBack, TablesUndoable}
 use Rattle.kept_changes.proofs.tables.undo_tables.Given as goal
 

@@ -1,6 +1,6 @@
 use Rattle.std.proofs.Common.{◌≡◌, filter, take}
 use Rattle.version_graph.specs.Edges.{is_in}
-use Rattle.db_state.specs.Fields.{numbers_in}
+use Rattle.version_model.specs.Kept.{numbers_in}
 use Rattle.write_propagation.proofs.copies.kept_of.Given as goal
 
 abbrev pub invariant-loop-item : goal.invariant-loop-item

@@ -1,7 +1,6 @@
 use Rattle.std.proofs.Common.{◌≡◌, ℕ, ◌≤◌, length, take, drop}
 use mathlib.Core.List.{reverse}
-use Rattle.version_model.specs.Kept.{value_of, latest_of, renewed}
-use Rattle.db_state.specs.Fields.{numbers_in}
+use Rattle.version_model.specs.Kept.{value_of, latest_of, renewed, numbers_in}
 use Rattle.write_propagation.proofs.exchange.exchange_all.Given as goal
 
 abbrev pub invariant-loop-at : goal.invariant-loop-at

@@ -1,9 +1,8 @@
 use Rattle.std.specs.List.{position}
 use Rattle.std.proofs.Common.{if◌then◌else◌, ◌==◌, List, Some, None, slice_set, ap, sym, ◌∙◌}
-use Rattle.version_model.specs.Kept.{renewed, value_of}
+use Rattle.version_model.specs.Kept.{renewed, value_of, numbers_in}
 use Rattle.version_model.specs.declared.numbered.Numbered.{Numbered}
 use Rattle.version_model.proofs.NumberedLaws.{numbers_set, renewed_there, renewed_nowhere}
-use Rattle.db_state.specs.Fields.{numbers_in}
 use Rattle.write_propagation.proofs.ExchangeLemmas.{older_there}
 use Rattle.write_propagation.proofs.exchange.exchange_one.Goals as goal
 

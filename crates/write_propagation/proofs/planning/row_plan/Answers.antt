@@ -4,7 +4,7 @@ use Rattle.op_law.specs.declared.side.Aux.{Aux}
 use Rattle.row_store.specs.States.{TableState}
 use Rattle.version_graph.specs.Edges.{is_in}
 use Rattle.version_model.specs.declared.numbered.Numbered.{Numbered}
-use Rattle.db_state.specs.Fields.{numbers_in}
+use Rattle.version_model.specs.Kept.{numbers_in}
 use Rattle.db_state.specs.Parts.{passes}
 use Rattle.db_state.proofs.BoundLaws.{auxes_seen}
 use Rattle.write_propagation.specs.Making.{made_over}
