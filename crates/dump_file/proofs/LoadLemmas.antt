@@ -9,7 +9,7 @@ use Rattle.version_graph.specs.Edges.{Drawn, IsGraph, numbers}
 use Rattle.version_graph.specs.Finished.{IsFinished}
 use Rattle.version_graph.specs.Forest.{Link, forest}
 use Rattle.version_graph.proofs.SetLaws.{each_more}
-use Rattle.op_any.specs.Operators.{AnyView, Built, CreateTable, DropTable, Rename, AddColumn, AddTracked, DropColumn, Split, Merge, DecomposeSingle, DecomposePk, OuterJoinPk, JoinPk, DecomposeFk, OuterJoinFk, JoinFk, JoinOn, DecomposeOn, any_meaning, meaning_of}
+use Rattle.op_any.specs.Operators.{AnyView, Built, CreateTable, DropTable, Rename, AddColumn, AddTracked, DropColumn, Split, Merge, DecomposeSingle, DecomposePk, OuterJoinPk, JoinPk, DecomposeFk, OuterJoinFk, JoinFk, JoinOn, DecomposeOn, OuterJoinOn, any_meaning, meaning_of}
 use Rattle.version_model.specs.Kept.{HasSides}
 use Rattle.version_model.specs.States.{headings}
 use Rattle.db_state.specs.Fields.{IsDatabase}
@@ -52,6 +52,7 @@ built_reads (OuterJoinFk first second place) = refl
 built_reads (JoinFk first second place) = refl
 built_reads (JoinOn first second c) = refl
 built_reads (DecomposeOn first second c) = refl
+built_reads (OuterJoinOn first second c) = refl
 
 -- the operators of such fields are built for their tables
 pub is_built : (dump : Dump) (p : Parts AnyView) → AreFields dump p → IsBuilt any_meaning p

@@ -18,7 +18,7 @@ use Rattle.version_graph.specs.declared.parts.Heading.{Heading}
 use Rattle.version_graph.specs.declared.parts.Placed.{Placed}
 use Rattle.op_law.specs.Tables.{Tables}
 use Rattle.expr_lang.specs.Terms.{Term}
-use Rattle.op_any.specs.Operators.{AnyView, Built, CreateTable, DropTable, Rename, AddColumn, AddTracked, DropColumn, Split, Merge, DecomposeSingle, DecomposePk, OuterJoinPk, JoinPk, DecomposeFk, OuterJoinFk, JoinFk, JoinOn, DecomposeOn, meaning_of}
+use Rattle.op_any.specs.Operators.{AnyView, Built, CreateTable, DropTable, Rename, AddColumn, AddTracked, DropColumn, Split, Merge, DecomposeSingle, DecomposePk, OuterJoinPk, JoinPk, DecomposeFk, OuterJoinFk, JoinFk, JoinOn, DecomposeOn, OuterJoinOn, meaning_of}
 use Rattle.op_any.specs.NameChecks.{heading_named, is_passing, repeated, known_table, other_table, new_table, known_column, known_places, known_columns, well_divided, new_columns, same_columns, few_columns, known_ids}
 use Rattle.op_any.specs.Build.{adding_column, built, column_adder, creating_table, dropping_column, dropping_table, merging_tables, planned_edge, renaming_column, renaming_table, splitting_in_one, splitting_in_two, splitting_table, with_text}
 use Rattle.op_any.specs.BuildJoins.{columns_of_both, decomposing_in_one, decomposing_table, divided, joining_tables, meeting, on_fk, on_pk, parting}
@@ -31,6 +31,7 @@ use Rattle.dump_file.specs.Told.{is_on_condition, remembers}
 abbrev pub keeps_pairs : Built → Bool
 keeps_pairs (JoinOn first second c) = true
 keeps_pairs (DecomposeOn first second c) = true
+keeps_pairs (OuterJoinOn first second c) = true
 keeps_pairs _ = false
 
 -- one that doesn't has no memory
@@ -52,6 +53,7 @@ no_pairs (OuterJoinFk first second place) is s t m related = related.0
 no_pairs (JoinFk first second place) is s t m related = related.0
 no_pairs (JoinOn first second c) is s t m related = absurd (false≢true (sym is))
 no_pairs (DecomposeOn first second c) is s t m related = absurd (false≢true (sym is))
+no_pairs (OuterJoinOn first second c) is s t m related = absurd (false≢true (sym is))
 
 -- what a memory always is: identifiers rise, and each pair stands once
 abbrev pub IsMemory : Pairs → Type 0
@@ -78,6 +80,7 @@ are_pairs (OuterJoinFk first second place) s t m related = none_remembered m rel
 are_pairs (JoinFk first second place) s t m related = none_remembered m related.0
 are_pairs (JoinOn first second c) s t m related = (related.rises, related.one)
 are_pairs (DecomposeOn first second c) s t m related = (related.rises, related.one)
+are_pairs (OuterJoinOn first second c) s t m related = (related.joined.rises, related.joined.one)
 
 -- ---- a text on no condition builds an operator that remembers no pairs
 

@@ -1,6 +1,5 @@
 -- One event: the reply or refusal of a statement, and the next state.
 use Rattle.std.specs.Prelude.{◌≡◌, ℕ, ◌==◌, ◌&&◌, Bool, true, false, not, List, length, Ok, Err, if◌then◌else◌}
-use Rattle.std.specs.List.{list_all}
 use Rattle.par_base.specs.declared.refusal.Refusal.TheVariants.{NotBuilt}
 use Rattle.statements.specs.Views.{OpView, StatementView, CreateVersion, DropVersion, Insert, Update, Delete, Select, Materialize, ShowLayout}
 use Rattle.version_graph.specs.Sets.{In}
@@ -8,7 +7,6 @@ use Rattle.version_graph.specs.Tables.{table_numbers}
 use Rattle.version_graph.specs.Edges.{working}
 use Rattle.layout_rules.specs.Changes.{layout_after}
 use Rattle.par_base.specs.Checked.{Checked, ◌then◌}
-use Rattle.op_any.specs.Build.{is_built as is_built_operator}
 use Rattle.engine_state.specs.AnyDatabase.{AnyDatabase}
 use Rattle.engine_state.specs.declared.reply.Reply.{Reply}
 use Rattle.engine_state.specs.declared.reply.Reply.TheVariants.{Done, Moved, Layout}
@@ -17,13 +15,9 @@ use Rattle.engine_versions.specs.Evolve.{created, dropped_version}
 use Rattle.engine_layouts.specs.Laid.{Laid, materialized}
 use Rattle.engine_layouts.specs.Shown.{shown_operators, shown_tables}
 
--- the operators of a new version, of which a script has at least one, are all built
-abbrev pub are_built : List OpView → Bool
-are_built operators = not (length operators == 0) && list_all is_built_operator operators
-
--- the statements that are carried out
+-- the statements that are carried out: a new version of a script has at least one operator
 abbrev pub is_built : StatementView → Bool
-is_built (CreateVersion name from operators) = are_built operators
+is_built (CreateVersion name from operators) = not (length operators == 0)
 is_built (DropVersion name) = true
 is_built (Insert t rows) = true
 is_built (Update t assignments filter) = true

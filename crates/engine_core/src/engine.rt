@@ -1,5 +1,5 @@
 //! The engine: one event after the other.
-ghost use Rattle.std.specs.Prelude.{◌≡◌, ◌≤◌, true, Ok, OnErr, OnOk, IfOk, length, map};
+ghost use Rattle.std.specs.Prelude.{◌≡◌, ◌==◌, ◌≤◌, not, true, Ok, OnErr, OnOk, IfOk, length, map};
 ghost use Rattle.std.specs.List.{All};
 ghost use Rattle.expr_lang.specs.Operations.{text_limit};
 ghost use Rattle.statements.specs.Views.{op_view, statement_view};
@@ -18,7 +18,7 @@ ghost use Rattle.engine_statements.specs.Statements.{Planned, wrote};
 ghost use Rattle.engine_statements.specs.Calls.{planned_view, TakesWrite};
 ghost use Rattle.engine_versions.specs.Evolve.{created};
 ghost use Rattle.engine_layouts.specs.Laid.{materialized};
-ghost use Rattle.engine_core.specs.Act.{act, acted, acted_data, are_built, is_built as is_built_statement, planned_write, IsOrdinary};
+ghost use Rattle.engine_core.specs.Act.{act, acted, acted_data, is_built as is_built_statement, planned_write, IsOrdinary};
 ghost use Rattle.engine_core.specs.Bounds.{InsertTakes, PlansInsert};
 ghost use Rattle.engine_core.specs.Kept.{data_of, empty_state, state_of, Answers, Follows};
 ghost use Rattle.engine_core.specs.Spoken.{TextsCome};
@@ -260,7 +260,7 @@ impl Engine {
     ) -> Result<Reply, Fault<Refusal>>
         requires texts { All (OpTexts (λ bytes. length bytes ≤ text_limit))
             (map op_view operators.now) }
-        requires built { are_built (map op_view operators.now) ≡ true }
+        requires some { not (length (map op_view operators.now) == 0) ≡ true }
         ensures answers { Answers ((created (data_of self.old) name.now from.now
             (map op_view operators.now))
             then λ next. Ok (Reply.Done, next)) result (data_of self.new) }

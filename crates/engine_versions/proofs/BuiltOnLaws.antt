@@ -126,8 +126,8 @@ module _ (n m : ℕ) (less : n ≤ m) where
         then_too (divided parts.source s u) _ _ (λ v.
         both_too (known_ids n condition) (known_ids m condition) _ _ (ids_too condition) (λ w x h. h))))
 
-    joining_too : (first second target : List ℕ) (condition : Tree) → GivesToo (joining_on set n first second target condition) (joining_on set m first second target condition)
-    joining_too first second target condition =
+    joining_too : (outer : Bool) (first second target : List ℕ) (condition : Tree) → GivesToo (joining_on set n outer first second target condition) (joining_on set m outer first second target condition)
+    joining_too outer first second target condition =
         then_too (meeting set first second target) _ _ (λ t.
         then_too (known_columns (resolved (t.first.columns ++ t.second.columns) condition)) _ _ (λ c.
         then_too (columns_of_both target t.first.columns t.second.columns) _ _ (λ columns.
@@ -148,8 +148,7 @@ module _ (n m : ℕ) (less : n ≤ m) where
         decomposing_too table (record { name = first; columns = first_columns }) (record { name = second; columns = second_columns }) condition
     planned_too («text».Join outer first second target «text».Primary) = λ x h. h
     planned_too («text».Join outer first second target («text».Foreign key)) = λ x h. h
-    planned_too («text».Join false first second target («text».Condition condition)) = joining_too first second target condition
-    planned_too («text».Join true first second target («text».Condition condition)) = λ x h. h
+    planned_too («text».Join outer first second target («text».Condition condition)) = joining_too outer first second target condition
     planned_too («text».Split table first None) = splitting_one_too table first
     planned_too («text».Split table first (Some second)) = splitting_two_too table first second
     planned_too («text».Merge first second target) = merging_too first second target

@@ -204,8 +204,7 @@ module _ (set : List Heading) (next : ℕ) where
       decomposing_on_suits set next table (record { name = first; columns = first_columns }) (record { name = second; columns = second_columns }) condition
   planned_suits («text».Join outer first second target «text».Primary) = joining_on_pk_suits set next outer first second target
   planned_suits («text».Join outer first second target («text».Foreign key)) = joining_on_fk_suits set next outer first second target key
-  planned_suits («text».Join false first second target («text».Condition condition)) = joining_on_suits set next first second target condition
-  planned_suits («text».Join true first second target («text».Condition condition)) = tt
+  planned_suits («text».Join outer first second target («text».Condition condition)) = joining_on_suits set next outer first second target condition
   planned_suits («text».Split table first second) = splitting_suits set next table first second
   planned_suits («text».Merge first second target) = merging_suits set next first second target
 

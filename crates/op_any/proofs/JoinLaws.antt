@@ -10,6 +10,8 @@ use Rattle.expr_lang.specs.Resolved.{place_of, resolved}
 use Rattle.statements.specs.Views.{Tree, OpView}
 use Rattle.statements.specs.Views as «text»
 use Rattle.version_graph.specs.Sets.{Each, Distinct}
+use Rattle.expr_lang.specs.Terms.{Term}
+use Rattle.op_law.specs.Tables.{Heading as SeenHeading}
 use Rattle.version_graph.specs.Tables.{IsHeading, row_name}
 use Rattle.version_graph.specs.declared.parts.Heading.{Heading}
 use Rattle.row_parts.specs.Places.{names_at}
@@ -180,6 +182,20 @@ on_fk_local : (outer : Bool) (first rest second place : ℕ) → (meaning_of (on
 on_fk_local false first rest second place = refl
 on_fk_local true first rest second place = refl
 
+on_condition_fits : (outer : Bool) (first second : ℕ) (c : Term ℕ) (sources targets : List SeenHeading)
+    → (meaning_of (on_condition false first second c)).Fits sources targets → (meaning_of (on_condition outer first second c)).Fits sources targets
+on_condition_fits false first second c sources targets fits = fits
+on_condition_fits true first second c sources targets fits = fits
+
+on_condition_closed : (outer : Bool) (first second : ℕ) (c : Term ℕ) (next : ℕ)
+    → (meaning_of (on_condition false first second c)).Closed next → (meaning_of (on_condition outer first second c)).Closed next
+on_condition_closed false first second c next closed = closed
+on_condition_closed true first second c next closed = closed
+
+on_condition_local : (outer : Bool) (first second : ℕ) (c : Term ℕ) → (meaning_of (on_condition outer first second c)).is_local ≡ false
+on_condition_local false first second c = refl
+on_condition_local true first second c = refl
+
 -- ---- the joins
 
 module _ (set : List Heading) (next : ℕ) where
@@ -206,8 +222,8 @@ module _ (set : List Heading) (next : ℕ) where
       (on_fk_fits outer t.first t.second place within target columns has.are)
       (λ _. on_fk_closed outer (length t.first.columns) (length rest) (length t.second.columns) place next))))
 
-  pub joining_on_suits : (first second target : List ℕ) (condition : Tree) → IfOk (joining_on set next first second target condition) (Suits set next («text».Join false first second target («text».Condition condition)))
-  joining_on_suits first second target condition =
+  pub joining_on_suits : (outer : Bool) (first second target : List ℕ) (condition : Tree) → IfOk (joining_on set next outer first second target condition) (Suits set next («text».Join outer first second target («text».Condition condition)))
+  joining_on_suits outer first second target condition =
       if_then _ (meeting set first second target) _ (λ t are.
       if_then _ (known_columns (resolved (t.first.columns ++ t.second.columns) condition)) _ (λ c reads.
       if_then _ (columns_of_both target t.first.columns t.second.columns) _ (λ columns both.
@@ -218,12 +234,12 @@ module _ (set : List Heading) (next : ℕ) where
       let long = length-range 0 (length t.first.columns) in
       let other_long = length-range (length t.first.columns) (length t.second.columns) in
       let wide = ap (λ (l : List (List ℕ)). length l) (sym has.are) ∙ parts.divides.wide in
-      join_suits set first second target t are next («text».Join false first second target («text».Condition condition)) (on_condition (length t.first.columns) (length t.second.columns) c) columns refl refl
+      join_suits set first second target t are next («text».Join outer first second target («text».Condition condition)) (on_condition outer (length t.first.columns) (length t.second.columns) c) columns refl (on_condition_local outer (length t.first.columns) (length t.second.columns) c)
       (λ tables. record { once = has.once (first_is set first second target t are tables).once; few = has.few })
-      (record {
+      (on_condition_fits outer (length t.first.columns) (length t.second.columns) c _ _ (record {
         source = rw (long, other_long) refl;
         target = ap (λ (n : ℕ). n ∷ []) parts.divides.wide;
         places = parts.divides.divided;
         reads = subst (λ (n : ℕ). fits_row c n ≡ true) wide (reads_columns c (t.first.columns ++ t.second.columns) condition read);
-      })
-      (λ fits. is_closed next c (t.first.columns ++ t.second.columns) condition read (ids_known next _ u ids) fits.0)))))
+      }))
+      (λ fits. on_condition_closed outer (length t.first.columns) (length t.second.columns) c next (is_closed next c (t.first.columns ++ t.second.columns) condition read (ids_known next _ u ids) fits.0))))))

@@ -8,9 +8,6 @@ mod SplitMergeLaws
 mod DecomposeLaws
 mod JoinLaws
 pub mod BuiltLaws
-mod Decides
-mod JoinForms
-mod BuiltForms
 mod Stops
 mod RefusedJoins
 mod RefusedForms

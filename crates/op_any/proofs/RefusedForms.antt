@@ -16,7 +16,7 @@ use Rattle.version_graph.specs.declared.parts.Heading.{Heading}
 use Rattle.version_graph.specs.declared.parts.Edge.{Edge}
 use Rattle.op_kinds.specs.Operators.{Built}
 use Rattle.op_any.specs.NameChecks.{heading_named, is_passing, left_out, repeated, known_table, other_table, new_table, known_column, known_columns, new_columns, same_columns, few_columns}
-use Rattle.op_any.specs.Build.{creating_table, dropping_table, renaming_table, renaming_column, adding_column, dropping_column, splitting_in_one, splitting_in_two, splitting_table, merging_tables, planned_edge, with_text, is_built}
+use Rattle.op_any.specs.Build.{creating_table, dropping_table, renaming_table, renaming_column, adding_column, dropping_column, splitting_in_one, splitting_in_two, splitting_table, merging_tables, planned_edge, with_text}
 use Rattle.op_any.specs.Refusals.{refusal_in, without, unknown_table, same_table, existing_table, unknown_column, misplaced_column, differing, existing_column, wide_table, unknown_id, first_of, checks, FirstFailedRefuses, IsCause, EachRefusalHasItsCause}
 use Rattle.op_any.proofs.TableListsLaws.{found_stands}
 use Rattle.op_any.proofs.Suits.{table_is, column_is}
@@ -123,18 +123,18 @@ module _ (set : List Heading) (next : ℕ) where
       then_or (same_columns h k) _ _ _ (same_stop h k r.table s.table first.named second.named) (λ w same.
       two_ids next (first_unknown_id next r.condition) (first_unknown_id next s.condition) _))))))))))
 
-  planned : (text : OpView) → is_built text ≡ true → refusal_in (planned_edge set next text) ≡ first_of (checks set next text)
-  planned («text».CreateTable table columns) is = creating table columns
-  planned («text».DropTable table) is = dropping table
-  planned («text».RenameTable table new) is = renaming table new
-  planned («text».RenameColumn column table new) is = renaming_one column table new
-  planned («text».AddColumn column value table tracked) is = adding column value table tracked
-  planned («text».DropColumn column table value) is = dropping_one column table value
-  planned («text».DecomposeSingle table target columns) is = decomposing_single set next table target columns
-  planned («text».Decompose table first first_columns second second_columns key) is = decomposing set next table first first_columns second second_columns key
-  planned («text».Join outer first second target key) is = joining set next outer first second target key is
-  planned («text».Split table first second) is = splitting table first second
-  planned («text».Merge first second target) is = merging first second target
+  planned : (text : OpView) → refusal_in (planned_edge set next text) ≡ first_of (checks set next text)
+  planned («text».CreateTable table columns) = creating table columns
+  planned («text».DropTable table) = dropping table
+  planned («text».RenameTable table new) = renaming table new
+  planned («text».RenameColumn column table new) = renaming_one column table new
+  planned («text».AddColumn column value table tracked) = adding column value table tracked
+  planned («text».DropColumn column table value) = dropping_one column table value
+  planned («text».DecomposeSingle table target columns) = decomposing_single set next table target columns
+  planned («text».Decompose table first first_columns second second_columns key) = decomposing set next table first first_columns second second_columns key
+  planned («text».Join outer first second target key) = joining set next outer first second target key
+  planned («text».Split table first second) = splitting table first second
+  planned («text».Merge first second target) = merging first second target
 
 -- an edge keeps its text once nothing refuses it
 kept : (text : OpView) (c : Checked (Edge Built)) → refusal_in (c then λ e. Ok (with_text text e)) ≡ refusal_in c
@@ -142,7 +142,7 @@ kept text (Ok e) = refl
 kept text (Err r) = refl
 
 pub first_failed : FirstFailedRefuses
-first_failed set next text is = kept text (planned_edge set next text) ∙ planned set next text is
+first_failed set next text = kept text (planned_edge set next text) ∙ planned set next text
 
 -- ---- causes
 
@@ -157,9 +157,9 @@ found_so F None r P e h = absurd (cc)
 found_so F (Some x) r P e h = let same : F x ≡ r = cc in subst P same (h x refl)
 
 pub caused : EachRefusalHasItsCause
-caused set next text r is e =
+caused set next text r e =
     let P = IsCause set next text in
-    one_of _ _ r (sym (first_failed set next text is) ∙ ap refusal_in e) (λ a. found_so (λ name. UnknownTable name) (unknown_table set text) r P a (λ x it. it)) (λ b.
+    one_of _ _ r (sym (first_failed set next text) ∙ ap refusal_in e) (λ a. found_so (λ name. UnknownTable name) (unknown_table set text) r P a (λ x it. it)) (λ b.
     one_of _ _ r b (λ a. found_so (λ name. SameTable name) (same_table text) r P a (λ x it. it)) (λ c.
     one_of _ _ r c (λ a. found_so (λ name. TableExists name) (existing_table set text) r P a (λ x it. it)) (λ d.
     one_of _ _ r d (λ a. found_so (λ name. UnknownColumn name) (unknown_column set text) r P a (λ x it. it)) (λ f.

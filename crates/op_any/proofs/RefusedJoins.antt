@@ -16,7 +16,6 @@ use Rattle.version_graph.specs.Tables.{column_limit, row_name, heading_names, he
 use Rattle.version_graph.specs.declared.parts.Heading.{Heading}
 use Rattle.op_any.specs.NameChecks.{heading_named, is_passing, left_out, repeated, misdivided, known_table, other_table, new_table, known_column, known_places, known_columns, well_divided, new_columns, few_columns}
 use Rattle.op_any.specs.BuildJoins.{Parting, parting, divided, decomposing_in_one, decomposing_table, Sources, meeting, columns_of_both, joining_tables}
-use Rattle.op_any.specs.Build.{is_built_join}
 use Rattle.op_any.specs.Refusals.{refusal_in, heading, columns_named, too_wide, first_of, checks}
 use Rattle.op_any.proofs.Suits.{table_is, column_is}
 use Rattle.op_any.proofs.Stops.{then_or, inner_or, leads, both_out, columns_at, table_stop, tables_stop, other_stop, target_stop, second_stop, both_exist, expression_stop, column_stop, places_stop, division_stop, once_stop, few_stop, one_id}
@@ -113,20 +112,19 @@ module _ (set : List Heading) where
       inner_or (new_columns first second) _ g _ _ (once_stop _) (λ u once.
       inner_or (few_columns target (first ++ second)) _ g _ _ (few_stop target (first ++ second)) (λ v few. later))
 
-  pub joining : (next : ℕ) (outer : Bool) (first second target : List ℕ) (key : KeyView) → is_built_join outer key ≡ true
+  pub joining : (next : ℕ) (outer : Bool) (first second target : List ℕ) (key : KeyView)
       → refusal_in (joining_tables set next outer first second target key) ≡ first_of (checks set next («text».Join outer first second target key))
   unfolding joining_tables
-  joining next outer first second target «text».Primary is =
+  joining next outer first second target «text».Primary =
       meeting_then first second target _ _ (λ h k found also.
       rw (found, also) (both_then target h.columns k.columns _ _ refl))
-  joining next outer first second target («text».Foreign key) is =
+  joining next outer first second target («text».Foreign key) =
       meeting_then first second target _ _ (λ h k found also.
       rw (found, also) (
       then_or (known_column key (place_of h.columns key)) _ _ _ (column_stop h.columns key) (λ place there.
       rw (column_is key _ place there) (both_then target (remove h.columns place) k.columns _ _ refl))))
-  joining next false first second target («text».Condition condition) is =
+  joining next outer first second target («text».Condition condition) =
       meeting_then first second target _ _ (λ h k found also.
       rw (found, also) (
       then_or (known_columns (resolved (h.columns ++ k.columns) condition)) _ _ _ (expression_stop (h.columns ++ k.columns) condition) (λ c read.
       both_then target h.columns k.columns _ _ (one_id next (first_unknown_id next condition) _))))
-  joining next true first second target («text».Condition condition) is = absurd (false≢true is)

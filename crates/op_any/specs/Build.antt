@@ -114,17 +114,6 @@ merging_tables set next r s target =
 
 -- ---- any operator
 
--- OUTER JOIN ON a condition isn't built yet
-abbrev pub is_built_join : Bool → KeyView → Bool
-is_built_join outer Primary = true
-is_built_join outer (Foreign column) = true
-is_built_join outer (Condition condition) = not outer
-
--- whether this form of operator is built: all others are
-abbrev pub is_built : OpView → Bool
-is_built («text».Join outer first second target key) = is_built_join outer key
-is_built _ = true
-
 -- an operator between the tables of a working set and new ones, while `next` is the next identifier
 abbrev pub planned_edge : List Heading → ℕ → OpView → Checked (Edge Built)
 planned_edge set next («text».CreateTable table columns) = creating_table set table columns

@@ -2,13 +2,12 @@
 use Rattle.std.specs.Prelude.{ℕ, zero, suc, ◌+◌, Bool, true, false, ◌||◌, List, [], ◌∷◌, ◌++◌, length, Ok, Err}
 use Rattle.std.specs.List.{remove}
 use Rattle.std.specs.Str.{bytes_eq}
-use Rattle.par_base.specs.declared.refusal.Refusal.TheVariants.{NotBuilt}
 use Rattle.expr_lang.specs.Terms.{Term}
 use Rattle.expr_lang.specs.Resolved.{place_of, resolved}
 use Rattle.statements.specs.Views.{Tree, KeyView, Primary, Foreign, Condition}
 use Rattle.version_graph.specs.declared.parts.Heading.{Heading}
 use Rattle.version_graph.specs.declared.parts.Edge.{Edge}
-use Rattle.op_kinds.specs.Operators.{Built, DecomposeSingle, DecomposePk, DecomposeFk, DecomposeOn, JoinPk, OuterJoinPk, JoinFk, OuterJoinFk, JoinOn}
+use Rattle.op_kinds.specs.Operators.{Built, DecomposeSingle, DecomposePk, DecomposeFk, DecomposeOn, JoinPk, OuterJoinPk, JoinFk, OuterJoinFk, JoinOn, OuterJoinOn}
 use Rattle.par_base.specs.Checked.{Checked, ◌then◌}
 use Rattle.op_any.specs.Edges.{one_to_one, one_to_both, two_to_one}
 use Rattle.op_any.specs.NameChecks.{heading_named, is_passing, repeated, misdivided, known_table, other_table, new_table, known_column, known_places, known_columns, well_divided, new_columns, few_columns, known_ids}
@@ -138,26 +137,22 @@ joining_on_fk set outer first second target key =
     first second target columns)
 
 -- with so many columns of the first source, and of the second
-abbrev pub on_condition : ℕ → ℕ → Term ℕ → Built
-on_condition first second c = JoinOn (places_from 0 first) (places_from first second) c
+abbrev pub on_condition : Bool → ℕ → ℕ → Term ℕ → Built
+on_condition false first second c = JoinOn (places_from 0 first) (places_from first second) c
+on_condition true first second c = OuterJoinOn (places_from 0 first) (places_from first second) c
 
--- JOIN TABLE s, u INTO r ON c: c is over s's columns and then u's, which r has
-abbrev pub joining_on : List Heading → ℕ → List ℕ → List ℕ → List ℕ → Tree → Checked (Edge Built)
-joining_on set next first second target condition =
+-- JOIN TABLE s, u INTO r ON c, and OUTER JOIN: c is over s's columns and then u's, which r has
+abbrev pub joining_on : List Heading → ℕ → Bool → List ℕ → List ℕ → List ℕ → Tree → Checked (Edge Built)
+joining_on set next outer first second target condition =
     meeting set first second target then λ t.
     known_columns (resolved (t.first.columns ++ t.second.columns) condition) then λ c.
     columns_of_both target t.first.columns t.second.columns then λ columns.
     known_ids next condition then λ _.
-    Ok (two_to_one (on_condition (length t.first.columns) (length t.second.columns) c) first second target columns)
-
--- OUTER JOIN ON a condition isn't built yet
-abbrev pub joining_on_condition : List Heading → ℕ → Bool → List ℕ → List ℕ → List ℕ → Tree → Checked (Edge Built)
-joining_on_condition set next false first second target condition = joining_on set next first second target condition
-joining_on_condition set next true first second target condition = Err NotBuilt
+    Ok (two_to_one (on_condition outer (length t.first.columns) (length t.second.columns) c) first second target columns)
 
 -- JOIN and OUTER JOIN
 unfoldable pub joining_tables : List Heading → ℕ → Bool → List ℕ → List ℕ → List ℕ → KeyView → Checked (Edge Built)
 joining_tables set next outer first second target Primary = joining_on_pk set outer first second target
 joining_tables set next outer first second target (Foreign key) = joining_on_fk set outer first second target key
 joining_tables set next outer first second target (Condition condition) =
-    joining_on_condition set next outer first second target condition
+    joining_on set next outer first second target condition

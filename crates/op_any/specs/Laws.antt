@@ -1,6 +1,5 @@
 -- What is true of every edge that is built on the working set of a graph.
 use Rattle.std.specs.Prelude.{◌≡◌, ◌↔◌, ◌⊎◌, ℕ, ◌≤◌, Bool, true, false, List, [], ◌∷◌, ◌++◌, length, map, option_to_list, MatchOption, Ok, Err}
-use Rattle.par_base.specs.declared.refusal.Refusal.TheVariants.{NotBuilt}
 use Rattle.statements.specs.Views.{KeyView, Primary, Foreign, Condition, OpView, CreateTable, Decompose, Join}
 use Rattle.version_graph.specs.Sets.{In, Distinct, Within, Each}
 use Rattle.version_graph.specs.Tables.{TableVersion, headings_of, taken, IsHeading, FitsSet}
@@ -9,7 +8,7 @@ use Rattle.version_graph.specs.declared.parts.Edge.{Edge}
 use Rattle.op_law.specs.Tables.{Heading}
 use Rattle.op_kinds.specs.Operators.{AnyView, any_meaning}
 use Rattle.op_any.specs.NameChecks.{heading_named, repeated, misdivided}
-use Rattle.op_any.specs.Build.{built, is_built}
+use Rattle.op_any.specs.Build.{built}
 use Rattle.op_any.specs.Texts.{TextsFit}
 
 -- a table's heading, as operators see it
@@ -106,12 +105,6 @@ abbrev pub FirstMisdividedIsRefused : Type 0
 FirstMisdividedIsRefused =
     (columns names : List (List ℕ))
     → MatchOption (misdivided columns names) (Distinct names × Within columns names) (IsFirstMisdivided columns names)
-
--- an operator isn't built yet exactly where its form is none of those that are
-abbrev pub NotBuiltIsTheForm : Type 0
-NotBuiltIsTheForm =
-    (set : List TableHeading) (next : ℕ) (text : OpView)
-    → (built set next text ≡ Err NotBuilt) ↔ (is_built text ≡ false)
 
 -- the operator keeps the text
 abbrev pub BuiltKeepsItsText : Type 0

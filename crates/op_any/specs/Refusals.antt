@@ -16,7 +16,7 @@ use Rattle.version_graph.specs.declared.parts.Heading.{Heading}
 use Rattle.version_graph.specs.declared.parts.Edge.{Edge}
 use Rattle.op_kinds.specs.Operators.{AnyView}
 use Rattle.op_any.specs.NameChecks.{heading_named, left_out, misdivided, repeated}
-use Rattle.op_any.specs.Build.{built, is_built}
+use Rattle.op_any.specs.Build.{built}
 use Rattle.op_any.specs.Laws.{IsFirstLeftOut}
 
 -- ---- the tables of an operator
@@ -206,8 +206,7 @@ refusal_in (Err r) = Some r
 -- the first check that an operator fails refuses it, and one that fails none is built
 abbrev pub FirstFailedRefuses : Type 0
 FirstFailedRefuses =
-    (set : List Heading) (next : ℕ) (text : OpView) → is_built text ≡ true
-    → refusal_in (built set next text) ≡ first_of (checks set next text)
+    (set : List Heading) (next : ℕ) (text : OpView) → refusal_in (built set next text) ≡ first_of (checks set next text)
 
 -- what a refusal says of the text
 abbrev pub IsCause : List Heading → ℕ → OpView → Refusal → Type 0
@@ -225,7 +224,7 @@ IsCause set next text _ = ⊥
 -- each refusal has its cause, and there are no others
 abbrev pub EachRefusalHasItsCause : Type 0
 EachRefusalHasItsCause =
-    (set : List Heading) (next : ℕ) (text : OpView) (r : Refusal) → is_built text ≡ true → built set next text ≡ Err r → IsCause set next text r
+    (set : List Heading) (next : ℕ) (text : OpView) (r : Refusal) → built set next text ≡ Err r → IsCause set next text r
 
 -- of some names the first that isn't there is refused, and none exactly where all are there
 abbrev pub FirstMissingIsRefused : Type 0

@@ -1,38 +1,19 @@
 //! Building operators from their texts.
 ghost use Rattle.std.specs.Prelude.{◌≡◌};
-ghost use Rattle.statements.specs.Views.{key_view, op_view};
+ghost use Rattle.statements.specs.Views.{op_view};
 ghost use Rattle.par_base.specs.Checked.{Gives};
 ghost use Rattle.op_kinds.specs.Views.{built_view};
 ghost use Rattle.op_any.specs.Edges.{edge_view};
-ghost use Rattle.op_any.specs.Build.{IsOf, built, is_built as is_built_form, is_built_join as is_built_join_form, with_text as text_beside};
+ghost use Rattle.op_any.specs.Build.{IsOf, built, with_text as text_beside};
 
 use crate::any_op::AnyOp;
 use crate::plan::plan;
 use op_kinds::BuiltOp;
 use par_base::{Fault, Refusal};
-use statements::{KeyText, OpText, copy_text};
+use statements::{OpText, copy_text};
 use std::alloc::Global;
 use std::mem;
 use version_graph::{Edge, Heading};
-
-fn is_built_join(outer: bool, key: &KeyText) -> bool
-    ensures { result ≡ is_built_join_form outer (key_view key.now) }
-{
-    match key {
-        KeyText::Primary | KeyText::Foreign(_) => true,
-        KeyText::Condition(_) => !outer,
-    }
-}
-
-/// Whether operators of this form are built.
-pub fn is_built(text: &OpText) -> bool
-    ensures { result ≡ is_built_form (op_view text.now) }
-{
-    match text {
-        OpText::Join { outer, key, .. } => is_built_join(*outer, key),
-        _ => true,
-    }
-}
 
 // The edge of what was built of this text.
 fn with_text(edge: Edge<BuiltOp>, text: OpText) -> Edge<AnyOp>

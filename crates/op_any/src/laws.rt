@@ -1,5 +1,5 @@
 //! Laws of built operators. The functions do nothing: their contracts are the laws.
-ghost use Rattle.op_any.specs.Laws.{BuiltEdgesFit, BuiltForItsTables, BuiltIsClosed, BuiltHasFewTables, OnlyCreateTableIsWithoutSource, BuiltIsLocalByForm, BuiltKeepsItsText, NotBuiltIsTheForm, HeadingsOfTaken, FirstRepeatedIsRefused, FirstMisdividedIsRefused};
+ghost use Rattle.op_any.specs.Laws.{BuiltEdgesFit, BuiltForItsTables, BuiltIsClosed, BuiltHasFewTables, OnlyCreateTableIsWithoutSource, BuiltIsLocalByForm, BuiltKeepsItsText, HeadingsOfTaken, FirstRepeatedIsRefused, FirstMisdividedIsRefused};
 ghost use Rattle.op_any.specs.Refusals.{BuiltHasItsTables, EachRefusalHasItsCause, FirstFailedRefuses, FirstMissingIsRefused};
 
 /// An edge that was built on the working set of a graph fits it, and its operator is built for its
@@ -22,12 +22,6 @@ pub fn built_edges_keep_their_form()
     ensures sources { OnlyCreateTableIsWithoutSource }
     ensures text { BuiltKeepsItsText }
     ensures local { BuiltIsLocalByForm }
-{}
-
-/// Which forms are built: all but one. An operator of one of these may be refused, but never as not
-/// built.
-pub fn other_forms_are_not_built()
-    ensures { NotBuiltIsTheForm }
 {}
 
 /// Which column is refused because a target would have it twice.

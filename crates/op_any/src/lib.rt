@@ -5,8 +5,7 @@
 //! an edge which is built fits the working set, and its operator its tables; and that every `AnyOp`
 //! keeps the text that built it on some working set (`IsOf`), and keeps the laws. `specs/Refusals.antt`
 //! says in words of the text in which one order all operators are checked, and which tables with which
-//! columns a built edge has. The one form for which `is_built` is false, OUTER JOIN on a condition, is
-//! refused as not built yet. It knows nothing of versions, of limits on operators, or of stored tables.
+//! columns a built edge has.It knows nothing of versions, of limits on operators, or of stored tables.
 //!
 //! Lemmas that crates above may use stand in proofs/: `TableListsLaws`, `SoundTextsLaws` and
 //! `BuiltLaws`.
@@ -24,10 +23,10 @@ mod plan_joins;
 mod plan_two;
 
 pub use any_op::AnyOp;
-pub use build::{build_op, is_built};
+pub use build::build_op;
 pub use checks::{find_place, resolve_value};
 pub use laws::{
     built_edges_fit, built_edges_have_their_tables, built_edges_keep_their_form,
     built_operators_are_closed, first_failed_check_refuses, first_misdivided_column_is_refused,
-    first_missing_name_is_refused, first_repeated_column_is_refused, other_forms_are_not_built,
+    first_missing_name_is_refused, first_repeated_column_is_refused,
 };

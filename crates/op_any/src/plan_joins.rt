@@ -17,7 +17,7 @@ use crate::checks::{
 use crate::edges::{edge_of, from_two_to_one, two_names};
 use expr_lang::{Expr, ExprText};
 use op_key_join::{DecomposePk, JoinPk};
-use op_kinds::{BuiltOp, DecomposeFk, JoinFk, JoinOn};
+use op_kinds::{BuiltOp, DecomposeFk, JoinFk, JoinOn, OuterOn};
 use op_law::Flip;
 use op_rows::{FlipRow, Rowwise};
 use par_base::{Fault, List, Memory, Name, Refusal, copy_names};
@@ -189,16 +189,26 @@ fn join_on_fk(
 
 fn condition_operator(
     alloc: Global,
+    outer: bool,
     first: &[Name],
     second: &[Name],
     condition: Expr,
 ) -> Result<BuiltOp, Memory>
     ensures { IfOk result (λ made. built_view made
-        ≡ on_condition (length first.now) (length second.now) (expr_term condition)) }
+        ≡ on_condition outer (length first.now) (length second.now) (expr_term condition)) }
 {
+    let near = places_after(alloc, &[], first)?;
+    let far = places_after(alloc, first, second)?;
+    if outer {
+        return Ok(BuiltOp::OuterJoinOn(OuterOn {
+            first: near,
+            second: far,
+            condition,
+        }));
+    }
     Ok(BuiltOp::JoinOn(JoinOn {
-        first: places_after(alloc, &[], first)?,
-        second: places_after(alloc, first, second)?,
+        first: near,
+        second: far,
         condition,
     }))
 }
@@ -220,11 +230,12 @@ fn join_on(
     alloc: Global,
     set: &[Heading],
     next: u64,
+    outer: bool,
     names: &JoinNames,
     condition: &ExprText,
 ) -> Result<Edge<BuiltOp>, Fault<Refusal>>
     ensures { Gives edge_view result
-        (joining_on set.now next names.now.first.now names.now.second.now names.now.target.now
+        (joining_on set.now next outer names.now.first.now names.now.second.now names.now.target.now
         (text_term condition.now)) }
 {
     let sources = find_sources(alloc, set, names)?;
@@ -234,7 +245,7 @@ fn join_on(
     let columns = find_columns(alloc, names.target, first, second)?;
     check_ids(condition, next)?;
     let tables = from_two_to_one(alloc, names.first, names.second, names.target, columns)?;
-    Ok(edge_of(condition_operator(alloc, first, second, expr)?, tables))
+    Ok(edge_of(condition_operator(alloc, outer, first, second, expr)?, tables))
 }
 
 /// The edge of a JOIN or an OUTER JOIN, or the first of its checks that refuses it.
@@ -254,7 +265,6 @@ pub(crate) fn join(
     match key {
         KeyText::Primary => join_on_pk(alloc, set, outer, names),
         KeyText::Foreign(key) => join_on_fk(alloc, set, outer, names, key),
-        KeyText::Condition(_) if outer => Err(Fault::Refused(Refusal::NotBuilt)),
-        KeyText::Condition(condition) => join_on(alloc, set, next, names, condition),
+        KeyText::Condition(condition) => join_on(alloc, set, next, outer, names, condition),
     }
 }

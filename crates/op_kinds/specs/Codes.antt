@@ -193,6 +193,7 @@ BuiltParts =
     ⊎ ℕ × (ℕ × ℕ)
     ⊎ List ℕ × (List ℕ × Term ℕ)
     ⊎ List ℕ × (List ℕ × Term ℕ)
+    ⊎ List ℕ × (List ℕ × Term ℕ)
 
 abbrev built_parts : Built → BuiltParts
 built_parts «any».CreateTable = inl tt
@@ -211,7 +212,8 @@ built_parts («any».DecomposeFk a b c) = inr (inr (inr (inr (inr (inr (inr (inr
 built_parts («any».OuterJoinFk a b c) = inr (inr (inr (inr (inr (inr (inr (inr (inr (inr (inr (inr (inr (inl (a, (b, c)))))))))))))))
 built_parts («any».JoinFk a b c) = inr (inr (inr (inr (inr (inr (inr (inr (inr (inr (inr (inr (inr (inr (inl (a, (b, c))))))))))))))))
 built_parts («any».JoinOn a b c) = inr (inr (inr (inr (inr (inr (inr (inr (inr (inr (inr (inr (inr (inr (inr (inl (a, (b, c)))))))))))))))))
-built_parts («any».DecomposeOn a b c) = inr (inr (inr (inr (inr (inr (inr (inr (inr (inr (inr (inr (inr (inr (inr (inr (a, (b, c)))))))))))))))))
+built_parts («any».DecomposeOn a b c) = inr (inr (inr (inr (inr (inr (inr (inr (inr (inr (inr (inr (inr (inr (inr (inr (inl (a, (b, c))))))))))))))))))
+built_parts («any».OuterJoinOn a b c) = inr (inr (inr (inr (inr (inr (inr (inr (inr (inr (inr (inr (inr (inr (inr (inr (inr (a, (b, c))))))))))))))))))
 
 abbrev built_from : BuiltParts → Built
 built_from (inl u) = «any».CreateTable
@@ -230,7 +232,8 @@ built_from (inr (inr (inr (inr (inr (inr (inr (inr (inr (inr (inr (inr (inl p)))
 built_from (inr (inr (inr (inr (inr (inr (inr (inr (inr (inr (inr (inr (inr (inl p)))))))))))))) = «any».OuterJoinFk p.0 p.1.0 p.1.1
 built_from (inr (inr (inr (inr (inr (inr (inr (inr (inr (inr (inr (inr (inr (inr (inl p))))))))))))))) = «any».JoinFk p.0 p.1.0 p.1.1
 built_from (inr (inr (inr (inr (inr (inr (inr (inr (inr (inr (inr (inr (inr (inr (inr (inl p)))))))))))))))) = «any».JoinOn p.0 p.1.0 p.1.1
-built_from (inr (inr (inr (inr (inr (inr (inr (inr (inr (inr (inr (inr (inr (inr (inr (inr p)))))))))))))))) = «any».DecomposeOn p.0 p.1.0 p.1.1
+built_from (inr (inr (inr (inr (inr (inr (inr (inr (inr (inr (inr (inr (inr (inr (inr (inr (inl p))))))))))))))))) = «any».DecomposeOn p.0 p.1.0 p.1.1
+built_from (inr (inr (inr (inr (inr (inr (inr (inr (inr (inr (inr (inr (inr (inr (inr (inr (inr p))))))))))))))))) = «any».OuterJoinOn p.0 p.1.0 p.1.1
 
 pub built_back : (x : Built) → built_from (built_parts x) ≡ x
 built_back «any».CreateTable = refl
@@ -250,6 +253,7 @@ built_back («any».OuterJoinFk a b c) = refl
 built_back («any».JoinFk a b c) = refl
 built_back («any».JoinOn a b c) = refl
 built_back («any».DecomposeOn a b c) = refl
+built_back («any».OuterJoinOn a b c) = refl
 
 abbrev coded_place : Coded (Term ℕ)
 coded_place = coded_term coded_ℕ
@@ -274,7 +278,8 @@ coded_built = code_by BuiltParts
     (coded⊎ (coded× coded_places (coded× coded_places coded_ℕ))
     (coded⊎ (coded× coded_places (coded× coded_places coded_ℕ))
     (coded⊎ (coded× coded_ℕ (coded× coded_ℕ coded_ℕ))
-    (coded⊎ (coded× coded_places (coded× coded_places coded_place)) (coded× coded_places (coded× coded_places coded_place))))))))))))))))))
+    (coded⊎ (coded× coded_places (coded× coded_places coded_place))
+    (coded⊎ (coded× coded_places (coded× coded_places coded_place)) (coded× coded_places (coded× coded_places coded_place)))))))))))))))))))
     built_parts built_from built_back
 
 abbrev pub coded_any : Coded AnyView

@@ -4,7 +4,7 @@ use Rattle.expr_lang.specs.Terms.{expr_term}
 use Rattle.op_kinds.specs.Operators as «any»
 use Rattle.op_kinds.specs.Operators.{Built}
 use Rattle.op_kinds.specs.declared.built_op.BuiltOp.{BuiltOp}
-use Rattle.op_kinds.specs.declared.built_op.BuiltOp.TheVariants.{CreateTable, DropTable, Rename, AddColumn, AddTracked, DropColumn, Split, Merge, DecomposeSingle, DecomposePk, OuterJoinPk, JoinPk, DecomposeFk, OuterJoinFk, JoinFk, JoinOn, DecomposeOn}
+use Rattle.op_kinds.specs.declared.built_op.BuiltOp.TheVariants.{CreateTable, DropTable, Rename, AddColumn, AddTracked, DropColumn, Split, Merge, DecomposeSingle, DecomposePk, OuterJoinPk, JoinPk, DecomposeFk, OuterJoinFk, JoinFk, JoinOn, DecomposeOn, OuterJoinOn}
 
 -- a built operator, without where its expression lies in memory
 abbrev pub built_view : BuiltOp → Built
@@ -26,3 +26,4 @@ built_view (OuterJoinFk it) = «any».OuterJoinFk it.inner.first it.inner.second
 built_view (JoinFk it) = «any».JoinFk it.first it.second it.place
 built_view (JoinOn it) = «any».JoinOn it.first it.second (expr_term it.condition)
 built_view (DecomposeOn it) = «any».DecomposeOn it.inner.first it.inner.second (expr_term it.inner.condition)
+built_view (OuterJoinOn it) = «any».OuterJoinOn it.first it.second (expr_term it.condition)

@@ -39,6 +39,7 @@ impl Operator for BuiltOp {
             BuiltOp::JoinFk(it) => it.forward(alloc, near, old, ids, steps),
             BuiltOp::JoinOn(it) => it.forward(alloc, near, old, ids, steps),
             BuiltOp::DecomposeOn(it) => it.forward(alloc, near, old, ids, steps),
+            BuiltOp::OuterJoinOn(it) => it.forward(alloc, near, old, ids, steps),
         }
     }
 
@@ -68,6 +69,7 @@ impl Operator for BuiltOp {
             BuiltOp::JoinFk(it) => it.backward(alloc, near, old, ids, steps),
             BuiltOp::JoinOn(it) => it.backward(alloc, near, old, ids, steps),
             BuiltOp::DecomposeOn(it) => it.backward(alloc, near, old, ids, steps),
+            BuiltOp::OuterJoinOn(it) => it.backward(alloc, near, old, ids, steps),
         }
     }
 
@@ -97,6 +99,7 @@ impl Operator for BuiltOp {
             BuiltOp::JoinFk(it) => it.read_target(alloc, source, aux, memory, steps),
             BuiltOp::JoinOn(it) => it.read_target(alloc, source, aux, memory, steps),
             BuiltOp::DecomposeOn(it) => it.read_target(alloc, source, aux, memory, steps),
+            BuiltOp::OuterJoinOn(it) => it.read_target(alloc, source, aux, memory, steps),
         }
     }
 
@@ -126,6 +129,7 @@ impl Operator for BuiltOp {
             BuiltOp::JoinFk(it) => it.read_source(alloc, target, aux, memory, steps),
             BuiltOp::JoinOn(it) => it.read_source(alloc, target, aux, memory, steps),
             BuiltOp::DecomposeOn(it) => it.read_source(alloc, target, aux, memory, steps),
+            BuiltOp::OuterJoinOn(it) => it.read_source(alloc, target, aux, memory, steps),
         }
     }
 
@@ -153,6 +157,7 @@ impl Operator for BuiltOp {
             BuiltOp::JoinFk(it) => it.aux_at_source(alloc, pair, steps),
             BuiltOp::JoinOn(it) => it.aux_at_source(alloc, pair, steps),
             BuiltOp::DecomposeOn(it) => it.aux_at_source(alloc, pair, steps),
+            BuiltOp::OuterJoinOn(it) => it.aux_at_source(alloc, pair, steps),
         }
     }
 
@@ -180,6 +185,7 @@ impl Operator for BuiltOp {
             BuiltOp::JoinFk(it) => it.aux_at_target(alloc, pair, steps),
             BuiltOp::JoinOn(it) => it.aux_at_target(alloc, pair, steps),
             BuiltOp::DecomposeOn(it) => it.aux_at_target(alloc, pair, steps),
+            BuiltOp::OuterJoinOn(it) => it.aux_at_target(alloc, pair, steps),
         }
     }
 
@@ -209,6 +215,7 @@ impl Operator for BuiltOp {
             BuiltOp::JoinFk(it) => it.admit_target(alloc, source, aux, memory, steps),
             BuiltOp::JoinOn(it) => it.admit_target(alloc, source, aux, memory, steps),
             BuiltOp::DecomposeOn(it) => it.admit_target(alloc, source, aux, memory, steps),
+            BuiltOp::OuterJoinOn(it) => it.admit_target(alloc, source, aux, memory, steps),
         }
     }
 
@@ -238,6 +245,7 @@ impl Operator for BuiltOp {
             BuiltOp::JoinFk(it) => it.admit_source(alloc, target, aux, memory, steps),
             BuiltOp::JoinOn(it) => it.admit_source(alloc, target, aux, memory, steps),
             BuiltOp::DecomposeOn(it) => it.admit_source(alloc, target, aux, memory, steps),
+            BuiltOp::OuterJoinOn(it) => it.admit_source(alloc, target, aux, memory, steps),
         }
     }
 
@@ -260,6 +268,7 @@ impl Operator for BuiltOp {
             BuiltOp::JoinFk(it) => it.is_local(),
             BuiltOp::JoinOn(it) => it.is_local(),
             BuiltOp::DecomposeOn(it) => it.is_local(),
+            BuiltOp::OuterJoinOn(it) => it.is_local(),
         }
     }
 

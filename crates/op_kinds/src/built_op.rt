@@ -5,6 +5,7 @@ use op_fk_decompose::DecomposeFk;
 use op_fk_join::JoinFk;
 use op_key_join::{DecomposePk, DecomposeSingle, JoinPk};
 use op_law::Flip;
+use op_outer_cond::OuterOn;
 use op_rows::{FlipRow, Rowwise};
 use op_split_merge::Split;
 
@@ -34,4 +35,5 @@ pub enum BuiltOp {
     JoinOn(JoinOn),
     /// The flip of joining the targets into the source.
     DecomposeOn(Flip<JoinOn>),
+    OuterJoinOn(OuterOn),
 }

@@ -12,3 +12,4 @@ pub use built_op::BuiltOp;
 pub use op_cond_join::JoinOn;
 pub use op_fk_decompose::DecomposeFk;
 pub use op_fk_join::JoinFk;
+pub use op_outer_cond::OuterOn;

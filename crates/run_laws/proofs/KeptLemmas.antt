@@ -1,5 +1,5 @@
 -- Each statement leaves a state as a database may have it.
-use Rattle.std.specs.Prelude.{Option, Some, None, Ok, Err, get_or, if◌then◌else◌}
+use Rattle.std.specs.Prelude.{◌==◌, not, Option, Some, None, Ok, Err, get_or, if◌then◌else◌}
 use Rattle.std.specs.List.{All}
 use Rattle.std.proofs.Common.{◌≡◌, ◌≤◌, ◌<◌, ◌+◌, ℕ, List, [], ◌∷◌, length, Bool, true, false, inl, inr, refl, sym, ap, subst, ◌∙◌, arith}
 use Rattle.std.proofs.lemmas.List.{map-append}
@@ -44,7 +44,7 @@ use Rattle.engine_versions.proofs.ChainLaws.{both_give, ok_is}
 use Rattle.engine_versions.proofs.KeptTextLaws.{dropped_is}
 use Rattle.engine_layouts.specs.Laid.{Laid, materialized, moved_count}
 use Rattle.engine_layouts.specs.Shown.{shown_operators, shown_tables}
-use Rattle.engine_core.specs.Act.{act as act_in_full, acted, acted_data, are_built, is_built, with_data}
+use Rattle.engine_core.specs.Act.{act as act_in_full, acted, acted_data, is_built, with_data}
 use Rattle.engine_core.proofs.TextLaws.{assignments_fit, operators_fit, rows_fit}
 use Rattle.engine_sessions.specs.Act.{act, advice_on}
 use Rattle.engine_sessions.specs.Accesses.{accessed}
@@ -137,7 +137,7 @@ kept_wrote d p answer kept may h =
 kept_selected : (d : AnyDatabase) (answer : Reply × AnyDatabase) → IsKept d → d ≡ left answer → IsKept (left answer)
 kept_selected d answer kept same = subst IsKept same kept
 
-some_built : (operators : List OpView) → are_built operators ≡ true → 0 < length operators
+some_built : (operators : List OpView) → not (length operators == 0) ≡ true → 0 < length operators
 some_built [] e = absurd (let no : ⊥ = cc in no)
 some_built (o ∷ operators) e = omega arith
 

@@ -1,0 +1,96 @@
+-- Passes over the rows of a new source.
+use Rattle.std.proofs.Common.{◌≡◌, ℕ, zero, suc, ◌+◌, ◌<◌, ◌≤◌, List, [], ◌∷◌, ◌++◌, length, filter, drop, take, slice_index_or, Bool, true, false, ◌||◌, Option, Some, None, refl, ap, sym, ◌∙◌, subst, append_assoc, append-nil, arith}
+use Rattle.std.proofs.lemmas.List.{take_more}
+use Rattle.par_base.specs.declared.value.Value.{Value}
+use Rattle.row_store.specs.Rows.{Rows, AreBelow, row_of}
+use Rattle.id_memory.specs.Pairs.{Pairs, RiseFrom as PairsRise}
+use Rattle.op_rows.specs.Cells.{with_row}
+use Rattle.row_parts.specs.Places.{row_of_both as joined_row}
+use Rattle.row_parts.specs.RowCells.{Cell, by_test}
+use Rattle.pair_rows.specs.Shown.{Joining, join_cells, row_at, joined, pairs_with, all_pairs}
+use Rattle.pair_rows.specs.inner.JoinedRows.{joined_long}
+use Rattle.pair_rows.specs.inner.Lookups.{filter_append, with_append as cells_append, with_below}
+use Rattle.pair_rows.proofs.ShowingLemmas.{split_at}
+use Rattle.outer_law.specs.Entries.{some_row}
+
+-- a joined row is as wide as both parts
+pub row_wide : (j : Joining) (s t : Rows) (a b : ℕ) (row : List Value) → Some row ≡ row_at j s t a b → length row ≡ length j.first + length j.second
+row_wide j s t a b row e = cell_wide (row_of s a) (row_of t b) e
+  where
+    cell_wide : (c d : Option (List Value)) → Some row ≡ join_cells j c d → length row ≡ length j.first + length j.second
+    cell_wide (Some x) (Some y) e = let same : row ≡ joined_row j.first j.second x y = cc in ap length same ∙ joined_long j.first j.second x y
+    cell_wide (Some x) None e = absurd (cc)
+    cell_wide None d e = absurd (cc)
+
+-- some row of two lists
+some_append : (test : ℕ → Bool) (xs ys : Rows) → some_row test (xs ++ ys) ≡ (some_row test xs || some_row test ys)
+some_append test [] ys = refl
+some_append test (x ∷ xs) ys = by_test (test x.0) (λ q. rw q refl) (λ q. rw q (some_append test xs ys))
+
+-- one row more that fails
+pub some_more : (test : ℕ → Bool) (rows : Rows) (i : ℕ) (row : ℕ × List Value) → i < length rows → row ≡ slice_index_or rows i row → some_row test (take i rows) ≡ false → test row.0 ≡ false → some_row test (take (i + 1) rows) ≡ false
+some_more test rows i row h at none fails =
+    let split : take (i + 1) rows ≡ take i rows ++ row ∷ [] = take_more rows i row h ∙ ap (λ (r : ℕ × List Value). take i rows ++ r ∷ []) (sym at) in
+    ap (some_row test) split ∙ some_append test (take i rows) (row ∷ []) ∙ rw (none, fails) refl
+
+-- a row that passes is some
+pub some_here : (test : ℕ → Bool) (rows : Rows) (i : ℕ) (d : ℕ × List Value) → i < length rows → test (slice_index_or rows i d).0 ≡ true → some_row test rows ≡ true
+some_here test [] i d h passes = absurd (omega arith)
+some_here test (r ∷ rs) zero d h passes = rw passes refl
+some_here test (r ∷ rs) (suc i) d h passes = by_test (test r.0) (λ q. rw q refl) (λ q. rw q (some_here test rs i d (omega arith) passes))
+
+-- all pairs of two lists of rows
+with_append : (a : ℕ) (xs ys : Rows) → pairs_with a (xs ++ ys) ≡ pairs_with a xs ++ pairs_with a ys
+with_append a [] ys = refl
+with_append a (x ∷ xs) ys = ap (λ (zs : List (ℕ × ℕ)). (a, x.0) ∷ zs) (with_append a xs ys)
+
+-- one pair more
+pub with_more : (test : ℕ × ℕ → Bool) (before : List (ℕ × ℕ)) (a : ℕ) (front : ℕ × List Value) (rows : Rows) (i : ℕ) (row : ℕ × List Value) (made new : List (ℕ × ℕ)) → i < length rows → row ≡ slice_index_or rows i row
+    → made ≡ before ++ filter test (pairs_with a (front ∷ take i rows)) → new ≡ made ++ filter test ((a, row.0) ∷ []) → new ≡ before ++ filter test (pairs_with a (front ∷ take (i + 1) rows))
+with_more test before a front rows i row made new h at is pushed =
+    let last = filter test ((a, row.0) ∷ []) in
+    let split : take (i + 1) rows ≡ take i rows ++ row ∷ [] = take_more rows i row h ∙ ap (λ (r : ℕ × List Value). take i rows ++ r ∷ []) (sym at) in
+    let more : filter test (pairs_with a (front ∷ take (i + 1) rows)) ≡ filter test (pairs_with a (front ∷ take i rows)) ++ last =
+    ap (λ (all : Rows). filter test (pairs_with a (front ∷ all))) split ∙ ap (filter test) (with_append a (front ∷ take i rows) (row ∷ [])) ∙ filter_append test (pairs_with a (front ∷ take i rows)) ((a, row.0) ∷ []) in
+    pushed ∙ ap (λ (xs : List (ℕ × ℕ)). xs ++ last) is ∙ append_assoc before (filter test (pairs_with a (front ∷ take i rows))) last ∙ ap (λ (xs : List (ℕ × ℕ)). before ++ xs) (sym more)
+
+-- all pairs of one first row more
+all_append : (xs ys t : Rows) → all_pairs (xs ++ ys) t ≡ all_pairs xs t ++ all_pairs ys t
+all_append [] ys t = refl
+all_append (x ∷ xs) ys t = ap (λ (zs : List (ℕ × ℕ)). pairs_with x.0 t ++ zs) (all_append xs ys t) ∙ sym (append_assoc (pairs_with x.0 t) (all_pairs xs t) (all_pairs ys t))
+
+pub all_more : (test : ℕ × ℕ → Bool) (front : ℕ × List Value) (rows t : Rows) (i : ℕ) (row : ℕ × List Value) (made new : List (ℕ × ℕ)) → i < length rows → row ≡ slice_index_or rows i row
+    → made ≡ filter test (all_pairs (front ∷ take i rows) t) → new ≡ made ++ filter test (pairs_with row.0 t)
+    → new ≡ filter test (all_pairs (front ∷ take (i + 1) rows) t)
+all_more test front rows t i row made new h at is made_new =
+    let split : take (i + 1) rows ≡ take i rows ++ row ∷ [] = take_more rows i row h ∙ ap (λ (r : ℕ × List Value). take i rows ++ r ∷ []) (sym at) in
+    let more : filter test (all_pairs (front ∷ take (i + 1) rows) t) ≡ filter test (all_pairs (front ∷ take i rows) t) ++ filter test (pairs_with row.0 t) =
+    ap (λ (rs : Rows). filter test (all_pairs (front ∷ rs) t)) split
+    ∙ ap (filter test) (all_append (front ∷ take i rows) (row ∷ []) t ∙ ap (λ (xs : List (ℕ × ℕ)). all_pairs (front ∷ take i rows) t ++ xs) (append-nil (pairs_with row.0 t)))
+    ∙ filter_append test (all_pairs (front ∷ take i rows) t) (pairs_with row.0 t) in
+    made_new ∙ ap (λ (xs : List (ℕ × ℕ)). xs ++ filter test (pairs_with row.0 t)) is ∙ sym more
+
+-- joined rows of two lists of entries
+joined_append : (j : Joining) (s t : Rows) (es fs : Pairs) → joined j s t (es ++ fs) ≡ joined j s t es ++ joined j s t fs
+joined_append j s t [] fs = refl
+joined_append j s t (e ∷ es) fs = ap (with_row e.0 (row_at j s t e.1 e.2)) (joined_append j s t es fs) ∙ cells_append e.0 (row_at j s t e.1 e.2) (joined j s t es) (joined j s t fs)
+
+-- one entry more
+pub joined_next : (j : Joining) (s t : Rows) (es : Pairs) (i : ℕ) (made new : Rows) (cell : Cell) → i < length es → made ≡ joined j s t (take i es) → cell ≡ row_at j s t (slice_index_or es i (0, 0, 0)).1 (slice_index_or es i (0, 0, 0)).2
+    → new ≡ made ++ with_row (slice_index_or es i (0, 0, 0)).0 cell [] → new ≡ joined j s t (take (i + 1) es)
+joined_next j s t es i made new cell h is at made_new =
+    let e = slice_index_or es i (0, 0, 0) in
+    let more : joined j s t (take (i + 1) es) ≡ joined j s t (take i es) ++ with_row e.0 (row_at j s t e.1 e.2) [] = ap (joined j s t) (take_more es i (0, 0, 0) h) ∙ joined_append j s t (take i es) (e ∷ []) in
+    made_new ∙ ap (λ (c : Cell). made ++ with_row e.0 c []) at ∙ ap (λ (rows : Rows). rows ++ with_row e.0 (row_at j s t e.1 e.2) []) is ∙ sym more
+
+-- joined rows are below the next entry
+below_all : (j : Joining) (s t : Rows) (n : ℕ) (es : Pairs) (e : ℕ × ℕ × ℕ) (fs : Pairs) → PairsRise n (es ++ e ∷ fs) → (n ≤ e.0) × AreBelow (joined j s t es) e.0
+below_all j s t n [] e fs rise = (rise.0, tt)
+below_all j s t n (x ∷ xs) e fs rise =
+    let rest = below_all j s t (x.0 + 1) xs e fs rise.1 in
+    let low = rise.0 in
+    let high = rest.0 in
+    (omega (arith, low, high), with_below x.0 e.0 (row_at j s t x.1 x.2) (joined j s t xs) (omega (arith, high)) rest.1)
+
+pub below_next : (j : Joining) (s t : Rows) (es : Pairs) (i : ℕ) → i < length es → PairsRise 0 es → AreBelow (joined j s t (take i es)) (slice_index_or es i (0, 0, 0)).0
+below_next j s t es i h rise = (below_all j s t 0 (take i es) (slice_index_or es i (0, 0, 0)) (drop (i + 1) es) (subst (λ (all : Pairs). PairsRise 0 all) (split_at es i h) rise)).1

@@ -1,0 +1,21 @@
+use Rattle.std.proofs.Common.{ℕ, length, filter, take, ap, sym, ◌∙◌}
+use Rattle.row_store.specs.inner.RowsLeft.{comes, passed}
+use Rattle.row_parts.specs.Places.{nulls}
+use Rattle.pair_rows.specs.Shown.{all_pairs}
+use Rattle.outer_law.specs.Entries.{with_absent}
+use Rattle.op_outer_cond.specs.inner.Calls.{is_new_in}
+use Rattle.op_outer_cond.proofs.EntryLemmas.{all_more}
+use Rattle.op_outer_cond.proofs.entries.new_entries.Goals as goal
+
+pub loop-row-preserved : goal.loop-row-preserved
+loop-row-preserved g c =
+    let it = c.args.it.now in
+    let rows = it.new_s.now.rows in
+    let first = it.join.now.first.now in
+    let behind = with_absent it.join.now.second.now it.new_t.now.rows in
+    let come = comes rows c.loop-row.row-iterator c.in-Some.row.now c.next.new.self c.loop-row.invariant.left c.in-Some.ensures.steps in
+    record {
+      left = come.rest;
+      made = all_more (is_new_in it) (0, nulls (length first)) rows behind (passed rows c.loop-row.row-iterator) c.in-Some.row.now c.loop-row.made c.add_with-in-loop-row.new.made come.within come.is c.loop-row.invariant.made c.in_ok-add_with-2.ensures
+          ∙ ap (λ (n : ℕ). filter (is_new_in it) (all_pairs (with_absent first (take n rows)) behind)) (sym come.next);
+    }

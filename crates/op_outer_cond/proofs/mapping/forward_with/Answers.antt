@@ -1,0 +1,18 @@
+use Rattle.std.proofs.Common.{◌∙◌, ap}
+use Rattle.id_memory.specs.States.{CounterState}
+use Rattle.op_law.specs.Calls.{seen}
+use Rattle.op_outer_cond.specs.inner.Calls.{joining_of}
+use Rattle.op_outer_cond.proofs.MappingLemmas.{forward_entries}
+use Rattle.op_outer_cond.proofs.mapping.forward_with.Goals as goal
+
+pub memory_of-requires-clause-rise : goal.memory_of-requires-clause-rise
+memory_of-requires-clause-rise g c =
+    (forward_entries (joining_of c.args.join.now) c.args.near.now (seen c.args.old.now) c.args.ids.now.next c.copy-drawn.result.next _ _ _ _ c.as_slice.result.now c.requires
+    (ap (λ (counter : CounterState). counter.next) c.copy-drawn.ensures) c.table_in.ensures c.table_in-2.ensures c.table_in-3.ensures c.table_in-4.ensures
+    (c.as_slice.ensures ∙ c.in_ok-made.ensures.1)).rises
+
+pub memory_of-requires-clause-one : goal.memory_of-requires-clause-one
+memory_of-requires-clause-one g c =
+    (forward_entries (joining_of c.args.join.now) c.args.near.now (seen c.args.old.now) c.args.ids.now.next c.copy-drawn.result.next _ _ _ _ c.as_slice.result.now c.requires
+    (ap (λ (counter : CounterState). counter.next) c.copy-drawn.ensures) c.table_in.ensures c.table_in-2.ensures c.table_in-3.ensures c.table_in-4.ensures
+    (c.as_slice.ensures ∙ c.in_ok-made.ensures.1)).one

@@ -1,0 +1,2 @@
+pub mod Outerings
+pub mod inner

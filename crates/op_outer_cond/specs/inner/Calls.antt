@@ -1,0 +1,48 @@
+-- What the inner calls answer.
+use Rattle.std.specs.Prelude.{◌≡◌, ℕ, ◌+◌, List, length, Bool, true, ◌&&◌, not}
+use Rattle.expr_lang.specs.Terms.{expr_term}
+use Rattle.expr_lang.specs.Val.{fits_row}
+use Rattle.row_store.specs.Rows.{row_of}
+use Rattle.id_memory.specs.Pairs.{Pairs}
+use Rattle.pair_rows.specs.Shown.{Joining, has, is_shown}
+use Rattle.op_outer_cond.specs.declared.places.Outer.{Outer}
+use Rattle.op_outer_cond.specs.declared.entries.Showing.{Showing}
+use Rattle.outer_law.specs.Entries.{is_entry, entries, new_entries}
+
+-- what the laws see
+abbrev pub joining_of : Outer → Joining
+joining_of join = record { first = join.first.now; second = join.second.now; condition = expr_term join.condition.now }
+
+-- the condition reads only columns that a joined row has
+abbrev pub Reads : Outer → Type 0
+Reads join = fits_row (expr_term join.condition.now) (length join.first.now + length join.second.now) ≡ true
+
+abbrev pub joining_in : Showing → Joining
+joining_in it = joining_of it.join.now
+
+abbrev pub ReadsIn : Showing → Type 0
+ReadsIn it = Reads it.join.now
+
+-- whether a pair of new rows is a full entry
+abbrev pub is_full_in : Showing → ℕ → ℕ → Bool
+is_full_in it a b = is_shown (joining_in it) it.s.now.rows it.t.now.rows it.memory.now.entries it.new_s.now.rows it.new_t.now.rows a b
+
+-- whether a pair is an entry
+abbrev pub is_entry_in : Showing → ℕ → ℕ → Bool
+is_entry_in it a b = is_entry (joining_in it) it.s.now.rows it.t.now.rows it.memory.now.entries it.new_s.now.rows it.new_t.now.rows a b
+
+-- whether it is one and was none
+abbrev pub is_new_in : Showing → ℕ × ℕ → Bool
+is_new_in it x = is_entry_in it x.0 x.1 && not (has it.memory.now.entries x.0 x.1)
+
+-- the new entries' pairs
+abbrev pub new_in : Showing → List (ℕ × ℕ)
+new_in it = new_entries (joining_in it) it.s.now.rows it.t.now.rows it.memory.now.entries it.new_s.now.rows it.new_t.now.rows
+
+-- the entries of the new memory
+abbrev pub entries_in : Showing → ℕ → Pairs
+entries_in it n = entries (joining_in it) it.s.now.rows it.t.now.rows it.memory.now.entries it.new_s.now.rows it.new_t.now.rows n
+
+-- both new rows of a pair are as they were
+abbrev pub IsPairStill : Showing → ℕ → ℕ → Type 0
+IsPairStill it a b = (row_of it.s.now.rows a ≡ row_of it.new_s.now.rows a) × (row_of it.t.now.rows b ≡ row_of it.new_t.now.rows b)

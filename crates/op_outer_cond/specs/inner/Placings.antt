@@ -1,0 +1,97 @@
+-- What is said of the entries that rows get while they are placed.
+use Rattle.std.specs.Prelude.{◌≡◌, ℕ, List, Option}
+use Rattle.par_base.specs.declared.value.Value.{Value}
+use Rattle.row_store.specs.Rows.{Rows, AreBelow}
+use Rattle.id_memory.specs.Pairs.{Pairs}
+use Rattle.row_parts.specs.Places.{pick as part}
+use Rattle.row_parts.specs.RowCells.{Cell}
+use Rattle.pair_rows.specs.declared.unchanged.OldTarget.{OldTarget}
+use Rattle.pair_rows.specs.Given.{Got, least, or_id, kept_in}
+use Rattle.pair_rows.specs.inner.Knowing.{FindsLeast, KnowsPairs}
+use Rattle.outer_law.specs.Placed.{own_half, Part, Parts, parts_of, Placing, Placed, place_changed, place_row, placed, ending, full}
+use Rattle.op_outer_cond.specs.declared.half_rows.HalfRows.{HalfRows}
+use Rattle.op_outer_cond.specs.declared.parts.Part.{Part as HeldPart}
+use Rattle.op_outer_cond.specs.declared.parts.Parts.{Parts as HeldParts}
+use Rattle.op_outer_cond.specs.declared.places.Outer.{Outer}
+use Rattle.op_outer_cond.specs.declared.placing.Placing.{Placing as State}
+use Rattle.op_outer_cond.specs.inner.Calls.{joining_of}
+
+-- the parts of a row, as the definitions see them
+abbrev pub part_in : HeldPart → Part
+part_in it = record { own = it.own; values = it.values }
+
+abbrev pub parts_in : HeldParts → Parts
+parts_in it = record { first = part_in it.first; second = part_in it.second }
+
+-- a part of a row of the new target, from the old row and the old half
+abbrev pub part_from : List ℕ → Cell → Option ℕ → List Value → Part
+part_from places old id row = record { own = own_half places old id row; values = part places row }
+
+-- the parts of a row of the new target
+abbrev pub parts_at : Outer → OldTarget → ℕ × List Value → Parts
+parts_at join old x = parts_of (joining_of join) old.rows.now.rows old.memory.now.entries x
+
+-- the own row, or else the least shared one with the values of the part
+abbrev pub shared_choice : HeldPart → Rows → Option ℕ
+shared_choice it shared = or_id it.own (least shared it.values)
+
+-- what is there while rows are placed
+abbrev pub placing_of : State → ℕ → Placing
+placing_of it next = record {
+  first = it.first.all.rows;
+  second = it.second.all.rows;
+  first_shared = it.first.shared.table.rows;
+  second_shared = it.second.shared.table.rows;
+  taken = it.taken.entries;
+  next = next;
+}
+
+-- the rows are below the next identifier, and each look-up tells what a search would find
+pub record AreReady (rows : HalfRows) (next : ℕ) : Type 0 where
+  pub all : AreBelow rows.all.rows next
+  pub shared : AreBelow rows.shared.table.rows next
+  pub finds : FindsLeast rows.shared
+
+-- each look-up of both tables and of the entries that are taken tells what a search would find
+pub record Knows (it : State) : Type 0 where
+  pub first : FindsLeast it.first.shared
+  pub second : FindsLeast it.second.shared
+  pub taken : KnowsPairs it.taken
+
+-- the rows of both tables are ready, and so are the entries that are taken
+pub record IsReady (it : State) (next : ℕ) : Type 0 where
+  pub first : AreReady it.first next
+  pub second : AreReady it.second next
+  pub taken : KnowsPairs it.taken
+
+-- the identifier and the rows are those that were found or drawn
+pub record IsGot (to : Got) (shared : Rows) (id : ℕ) (rows : HalfRows) : Type 0 where
+  pub number : id ≡ to.id
+  pub all : rows.all.rows ≡ to.rows
+  pub may_share : rows.shared.table.rows ≡ shared
+  pub ready : AreReady rows to.next
+
+-- the entry and what is there after it
+pub record IsGiven (to : Placed) (pair : ℕ × ℕ) (it : State) : Type 0 where
+  pub both : pair ≡ (to.first, to.second)
+  pub after : placing_of it to.after.next ≡ to.after
+  pub ready : IsReady it to.after.next
+
+-- the kept entries with both halves
+abbrev pub full_kept_in : OldTarget → Rows → Pairs
+full_kept_in old near = full (kept_in old.rows.now.rows old.memory.now.entries near)
+
+-- the entry of a row that isn't as it was
+abbrev pub changed_in : Outer → OldTarget → Placing → ℕ × List Value → Placed
+changed_in join old d x = place_changed old.memory.now.entries (parts_at join old x) d x.0
+
+-- the entry of a row
+abbrev pub row_in : Outer → OldTarget → Placing → ℕ × List Value → Placed
+row_in join old d x = place_row (joining_of join) old.rows.now.rows old.memory.now.entries d x
+
+-- the entries of rows, and what is there at the end
+abbrev pub placed_in : Outer → OldTarget → Placing → Rows → Pairs
+placed_in join old d near = placed (joining_of join) old.rows.now.rows old.memory.now.entries d near
+
+abbrev pub ending_in : Outer → OldTarget → Placing → Rows → Placing
+ending_in join old d near = ending (joining_of join) old.rows.now.rows old.memory.now.entries d near

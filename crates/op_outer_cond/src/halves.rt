@@ -1,0 +1,38 @@
+//! One half of an entry or the other.
+ghost use Rattle.std.specs.Prelude.{◌≡◌};
+ghost use Rattle.pair_rows.specs.Halves.{pick_of};
+ghost use Rattle.outer_law.specs.Entries.{with_half};
+ghost use Rattle.op_outer_cond.specs.inner.Admitted.{other_of};
+
+use id_memory::PairMemory;
+use pair_rows::Half;
+
+/// The half that is meant.
+pub(crate) fn half_in(half: Half, entry: &(u64, u64, u64)) -> u64
+    ensures { result ≡ pick_of half entry.now }
+{
+    match half {
+        Half::First => entry.1,
+        Half::Second => entry.2,
+    }
+}
+
+/// The other one.
+pub(crate) fn other_in(half: Half, entry: &(u64, u64, u64)) -> u64
+    ensures { result ≡ other_of half entry.now }
+{
+    match half {
+        Half::First => entry.2,
+        Half::Second => entry.1,
+    }
+}
+
+/// How many entries have this half.
+pub(crate) fn entries_with(half: Half, memory: &PairMemory, id: u64) -> usize
+    ensures { result ≡ with_half (pick_of half) id memory.now.entries }
+{
+    match half {
+        Half::First => memory.pairs_of_first(id),
+        Half::Second => memory.pairs_of_second(id),
+    }
+}
