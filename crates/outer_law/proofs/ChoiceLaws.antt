@@ -1,6 +1,6 @@
 -- What an own half is, and where a row that is found or drawn stands.
 use Rattle.std.specs.Option.{option_map}
-use Rattle.std.proofs.Common.{◌≡◌, ℕ, ◌+◌, ◌<◌, ◌≤◌, ◌==◌, List, [], ◌∷◌, ◌++◌, length, count_by, Bool, true, false, not, ◌||◌, Option, Some, None, is_some, refl, ap, sym, ◌∙◌, subst, arith}
+use Rattle.std.proofs.Common.{◌≡◌, ℕ, ◌<◌, ◌≤◌, ◌==◌, List, [], ◌∷◌, ◌++◌, length, count_by, Bool, true, false, not, ◌||◌, Option, Some, None, is_some, refl, ap, sym, ◌∙◌, subst, arith}
 use Rattle.std.proofs.lemmas.Bool.{and_parts, false≢true, eqb-true}
 use Rattle.par_base.specs.declared.value.Value.{Value}
 use Rattle.par_base.specs.declared.value.Value.TheVariants.{Null, Int, Text, Reference}
@@ -12,7 +12,6 @@ use Rattle.op_law.specs.Sound.{PairsSound}
 use Rattle.row_parts.specs.Places.{pick as part, nulls}
 use Rattle.row_parts.specs.RowCells.{Cell, by_test}
 use Rattle.row_parts.specs.inner.PlaceLemmas.{length-pick}
-use Rattle.pair_rows.specs.Shown.{has}
 use Rattle.pair_rows.specs.Given.{got, own, or_id}
 use Rattle.outer_law.specs.Entries.{with_absent, with_half}
 use Rattle.outer_law.specs.Placed.{is_null, half_there, is_present, own_alone}

@@ -1,6 +1,6 @@
 -- The entry that each row of a new outer join gets.
 use Rattle.std.specs.Option.{option_map}
-use Rattle.std.proofs.Common.{◌≡◌, ℕ, ◌+◌, ◌<◌, ◌≤◌, ◌==◌, ◌⊎◌, List, [], length, count_by, if◌then◌else◌, Bool, true, false, Option, Some, None, IsSome, refl, ap, sym, ◌∙◌, subst, arith}
+use Rattle.std.proofs.Common.{◌≡◌, ℕ, ◌+◌, ◌<◌, ◌≤◌, ◌==◌, ◌⊎◌, List, length, count_by, if◌then◌else◌, Bool, true, false, Option, Some, None, IsSome, refl, ap, sym, ◌∙◌, subst, arith}
 use Rattle.std.proofs.lemmas.Bool.{and_parts}
 use mathlib.Core.Logic.{inl, inr}
 use Rattle.par_base.specs.declared.value.Value.{Value}
@@ -22,7 +22,7 @@ use Rattle.pair_rows.specs.inner.PairLemmas.{has_not}
 use Rattle.pair_rows.specs.inner.TakenPairs.{unchanged_pair, unchanged_row}
 use Rattle.pair_rows.specs.inner.FoundPairs.{old_pair}
 use Rattle.outer_law.specs.Entries.{with_absent, with_half, IsOuter}
-use Rattle.outer_law.specs.Placed.{half_there, is_present, Placing, Placed, parts_of, first_own, second_own, first_both, first_got, second_both, second_got, last_got, first_more, second_more, place_both, own_alone, first_alone, second_alone, place_first, place_second, place_halves, place_by, place_row, placed}
+use Rattle.outer_law.specs.Placed.{half_there, is_present, Placing, Placed, parts_of, first_own, second_own, first_both, first_got, second_both, second_got, last_got, first_more, second_more, place_both, own_alone, first_alone, second_alone, place_first, place_second, place_halves, place_by, place_row}
 use Rattle.outer_law.proofs.AbsentLaws.{absent_other, absent_wide}
 use Rattle.outer_law.proofs.CountingLaws.{has_some, count_less}
 use Rattle.outer_law.proofs.HalfLaws.{Own, HalfReady, Took, MayTake, took_got, took_twice, took_weaker, took_alone}
