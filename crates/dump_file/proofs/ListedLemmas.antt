@@ -16,6 +16,12 @@ use Rattle.version_model.specs.declared.numbered.Numbered.{Numbered}
 use Rattle.version_model.proofs.AscendingLaws.{reverse_first}
 use Rattle.dump_values.specs.Laws.{AllFit}
 
+-- ---- each item fits
+
+pub fit_of : {A : Type 0} (P : A → Type 0) (xs : List A) → ((x : A) → In x xs → P x) → AllFit P xs
+fit_of P [] each = tt
+fit_of P (x ∷ xs) each = (each x (inl refl), fit_of P xs (λ y i. each y (inr i)))
+
 pub fit_map : {A B : Type 0} (P : B → Type 0) (f : A → B) (xs : List A) → ((x : A) → In x xs → P (f x)) → AllFit P (map f xs)
 fit_map P f xs each = fit_of P (map f xs) (λ y i. let o = origin f y xs i in subst P (sym o.2) (each o.0 o.1))
 

@@ -1,5 +1,5 @@
 -- What an evolution of a database gives is what the model says of a new version.
-use Rattle.std.proofs.Common.{◌≡◌, ℕ, ◌<◌, ◌≤◌, List, [], ◌∷◌, length, Bool, Option, Some, None, Result, Ok, Err, sym, ap, subst, ◌∙◌, arith}
+use Rattle.std.proofs.Common.{◌≡◌, ℕ, ◌<◌, ◌≤◌, List, [], ◌∷◌, length, Bool, Option, Some, None, Result, Ok, Err, refl, sym, ap, subst, ◌∙◌, arith}
 use Rattle.std.specs.Prelude.{if◌then◌else◌, unwrap_or}
 use Rattle.std.proofs.lemmas.Bool.{le-ltb, lt-ltb}
 use Rattle.par_base.specs.declared.fault.Fault.{Fault}
@@ -25,10 +25,27 @@ use Rattle.version_model.specs.Evolving.{AreBuilt, grown_state}
 use Rattle.version_model.proofs.EvolveLaws.{MayGrow, evolution_keeps}
 use Rattle.version_model.specs.Databases.{counter_of, evolved_state, start_in, Evolves, MayEvolveTo, RefusesEvolution}
 use Rattle.engine_state.specs.AnyDatabase.{AnyDatabase}
-use Rattle.engine_state.specs.SharedChecks.{enough_ids}
+use Rattle.engine_state.specs.SharedChecks.{known_version, enough_ids}
 use Rattle.engine_versions.specs.Evolve.{counts_of, created, edges_on, start_at, state_after, unused}
 use Rattle.engine_versions.specs.Plans.{IsPlanned, OnEach, PlansEdges}
 use Rattle.engine_versions.proofs.ChainLaws.{then_fails, then_is}
+use Rattle.engine_versions.proofs.EdgeLemmas.{few_tables, fit_in_order, limits_kept, numbers_fit, some_edges}
+use Rattle.engine_versions.proofs.BuiltLemmas.{are_built}
+
+known_is : (name : List ℕ) (o : Option ℕ) (set : ℕ) → known_version name o ≡ Ok set → o ≡ Some set
+known_is name None set e = absurd (cc)
+known_is name (Some n) set e = let same : n ≡ set = cc in ap (λ (m : ℕ). Some m) same
+
+starts : (versions : List (List ℕ × ℕ)) (from : Option (List ℕ)) (set : ℕ) → start_at versions from ≡ Ok set → start_of versions from ≡ Some set
+starts versions None set e = let same : 0 ≡ set = cc in ap (λ (m : ℕ). Some m) same
+starts versions (Some name) set e = known_is name (set_named versions name) set e
+
+is_free : (name : List ℕ) (o : Option ℕ) → unused name o ≡ Ok tt → o ≡ None
+is_free name None e = refl
+is_free name (Some n) e = absurd (cc)
+
+some_one : (m n : ℕ) → Some m ≡ Some n → m ≡ n
+some_one m n e = cc
 
 -- all checks but the last one have passed, while `next` is the next identifier
 pub record Passes (g : Drawn AnyView) (next : ℕ) (name : List ℕ) (from : Option (List ℕ)) (texts : List OpView) (set : ℕ) (edges : List (Edge AnyView)) : Type 0 where

@@ -1,11 +1,12 @@
 -- The laws of mapping from a new target.
 use Rattle.std.proofs.Common.{◌≡◌, ℕ, ◌+◌, ◌<◌, ◌≤◌, ◌==◌, ◌⊎◌, List, [], ◌∷◌, length, count_by, Bool, true, false, not, ◌&&◌, Option, Some, None, IsSome, refl, ap, sym, ◌∙◌, subst, arith}
-use Rattle.std.proofs.lemmas.Bool.{false≢true}
+use Rattle.std.proofs.lemmas.Bool.{false≢true, eqb-true}
 use mathlib.Core.Logic.{inl, inr}
 use Rattle.par_base.specs.declared.value.Value.{Value}
 use Rattle.par_base.specs.inner.SameLaws.{row_same}
 use Rattle.row_store.specs.Rows.{Rows, RiseFrom, AreBelow, row_of}
 use Rattle.row_store.proofs.UndoLaws.{ext}
+use Rattle.row_store.specs.inner.FoundRows.{rise_more}
 use Rattle.id_memory.specs.Pairs.{Pairs, pair_of, has_pair}
 use Rattle.op_law.specs.Tables.{Tables, Heading, RowsWide}
 use Rattle.op_law.specs.Sound.{RowsSound, PairsSound, HasRow}
@@ -13,6 +14,7 @@ use Rattle.op_law.proofs.SoundTermLaws.{term_more}
 use Rattle.op_law.specs.Meaning.{PairState, flip, exchanged}
 use Rattle.op_law.specs.Premises.{IsPair, MayMap}
 use Rattle.op_law.specs.Laws.{HalfLaws, Laws, InPair}
+use Rattle.op_law.proofs.SoundLaws.{below_sound}
 use Rattle.op_rows.specs.Cells.{with_row}
 use Rattle.row_parts.specs.Places.{pick as part, ArePartition}
 use Rattle.row_parts.specs.RowCells.{Cell, by_test, by_option}
@@ -23,8 +25,7 @@ use Rattle.pair_rows.specs.Sides.{table_at, JoinFits}
 use Rattle.pair_rows.specs.Shown.{Joining, AreThere, row_at}
 use Rattle.pair_rows.specs.Given.{unchanged, kept_in}
 use Rattle.pair_rows.specs.Getting.{under}
-use Rattle.pair_rows.specs.inner.Numbers.{same_number}
-use Rattle.pair_rows.specs.inner.Lookups.{below_sound, filter_found, filter_lost, filter_has, filter_rise, filter_wide, filter_sound, rise_more}
+use Rattle.pair_rows.specs.inner.Lookups.{filter_found, filter_lost, filter_has, filter_rise, filter_wide, filter_sound}
 use Rattle.pair_rows.specs.inner.KeptLaws.{ArePaired, side_is_read}
 use Rattle.pair_rows.specs.inner.ShownLaws.{row_for, joined_found, there_cells}
 use Rattle.pair_rows.specs.inner.FoundPairs.{AreFound, found_there, found_joined, found_rises, AllStand, all_stand, AllPaired, all_paired, PartsFound, parts_found}
@@ -63,7 +64,7 @@ found_stands j all a b (e ∷ es) (x ∷ xs) one other found = (
 half_below : (places : List ℕ) (rows : Rows) (next id : ℕ) (row : List Value) → 1 ≤ next → AreBelow rows next → row_of (with_absent places rows) id ≡ Some row → id < next
 half_below places rows next id row low below at =
     by_test (0 == id)
-    (λ q. let same = same_number 0 id q in omega (arith, same, low))
+    (λ q. let same = eqb-true 0 id q in omega (arith, same, low))
     (λ q. let later : row_of rows id ≡ Some row = rw q at at in under rows next id row below later)
 
 -- so the entries are sound

@@ -1,7 +1,7 @@
 -- What an own half is, and where a row that is found or drawn stands.
 use Rattle.std.specs.Option.{option_map}
-use Rattle.std.proofs.Common.{◌≡◌, ℕ, ◌+◌, ◌<◌, ◌≤◌, ◌==◌, List, [], ◌∷◌, ◌++◌, length, count_by, Bool, true, false, not, ◌||◌, Option, Some, None, is_some, refl, ap, sym, ◌∙◌, subst, arith}
-use Rattle.std.proofs.lemmas.Bool.{and_parts, false≢true}
+use Rattle.std.proofs.Common.{◌≡◌, ℕ, ◌<◌, ◌≤◌, ◌==◌, List, [], ◌∷◌, ◌++◌, length, count_by, Bool, true, false, not, ◌||◌, Option, Some, None, is_some, refl, ap, sym, ◌∙◌, subst, arith}
+use Rattle.std.proofs.lemmas.Bool.{and_parts, false≢true, eqb-true}
 use Rattle.par_base.specs.declared.value.Value.{Value}
 use Rattle.par_base.specs.declared.value.Value.TheVariants.{Null, Int, Text, Reference}
 use Rattle.par_base.specs.SameRows.{same_row}
@@ -12,9 +12,7 @@ use Rattle.op_law.specs.Sound.{PairsSound}
 use Rattle.row_parts.specs.Places.{pick as part, nulls}
 use Rattle.row_parts.specs.RowCells.{Cell, by_test}
 use Rattle.row_parts.specs.inner.PlaceLemmas.{length-pick}
-use Rattle.pair_rows.specs.Shown.{has}
 use Rattle.pair_rows.specs.Given.{got, own, or_id}
-use Rattle.pair_rows.specs.inner.Numbers.{same_number}
 use Rattle.outer_law.specs.Entries.{with_absent, with_half}
 use Rattle.outer_law.specs.Placed.{is_null, half_there, is_present, own_alone}
 use Rattle.outer_law.proofs.StillLaws.{above_zero}
@@ -53,7 +51,7 @@ one_more taken e one none a b =
     (λ q.
     let both = and_parts (e.1 == a) (e.2 == b) q in
     let zero_count : count_by (has_pair a b) taken ≡ 0 =
-    sym (ap (λ (i : ℕ). count_by (has_pair i e.2) taken) (same_number e.1 a both.0) ∙ ap (λ (i : ℕ). count_by (has_pair a i) taken) (same_number e.2 b both.1)) ∙ none in
+    sym (ap (λ (i : ℕ). count_by (has_pair i e.2) taken) (eqb-true e.1 a both.0) ∙ ap (λ (i : ℕ). count_by (has_pair a i) taken) (eqb-true e.2 b both.1)) ∙ none in
     let c = count_more (has_pair a b) taken e q in
     omega (arith, c, zero_count))
     (λ q. let c = count_same (has_pair a b) taken e q in omega (arith, c, before))
@@ -85,7 +83,7 @@ alone_gives pick m (Some id) k e =
     (λ q.
     let some : ◌≡◌ {A = Option ℕ} (Some id) (Some k) = rw q at e in
     let is : id ≡ k = cc in
-    (some, subst (λ (i : ℕ). with_half pick i m ≡ 1) is (same_number (with_half pick id m) 1 q)))
+    (some, subst (λ (i : ℕ). with_half pick i m ≡ 1) is (eqb-true (with_half pick id m) 1 q)))
     (λ q. let none : ◌≡◌ {A = Option ℕ} None (Some k) = rw q at e in absurd (cc))
 
 -- a half that is found or drawn alone is in no entry

@@ -1,10 +1,10 @@
 -- Counting entries.
 use Rattle.std.proofs.Common.{◌≡◌, ℕ, ◌+◌, ◌≤◌, ◌==◌, [], ◌∷◌, ◌++◌, filter, count_by, Bool, true, false, refl, ap, sym, ◌∙◌, arith}
-use Rattle.std.proofs.lemmas.Bool.{and_parts}
+use Rattle.std.proofs.lemmas.Bool.{and_parts, eqb-true}
 use Rattle.id_memory.specs.Pairs.{Pairs, has_pair}
 use Rattle.row_parts.specs.RowCells.{by_test}
 use Rattle.pair_rows.specs.Shown.{has}
-use Rattle.pair_rows.specs.inner.Numbers.{same_number, count_cons}
+use Rattle.pair_rows.specs.inner.Numbers.{count_cons}
 use Rattle.pair_rows.specs.inner.PairLemmas.{count_yes, count_no}
 
 -- each entry passes
@@ -59,7 +59,7 @@ count_kept is a b (e ∷ es) h =
     by_test (has_pair a b e)
     (λ q.
     let both = and_parts (e.1 == a) (e.2 == b) q in
-    let passes : is e.1 e.2 ≡ true = ap (λ (i : ℕ). is i e.2) (same_number e.1 a both.0) ∙ ap (λ (i : ℕ). is a i) (same_number e.2 b both.1) ∙ h in
+    let passes : is e.1 e.2 ≡ true = ap (λ (i : ℕ). is i e.2) (eqb-true e.1 a both.0) ∙ ap (λ (i : ℕ). is a i) (eqb-true e.2 b both.1) ∙ h in
     rw passes (count_yes (has_pair a b) e (filter (λ e. is e.1 e.2) es) q ∙ ap (λ (k : ℕ). 1 + k) rest ∙ sym (count_yes (has_pair a b) e es q)))
     (λ q.
     by_test (is e.1 e.2)

@@ -1,13 +1,12 @@
 -- The entries of a new source, each by its halves.
 use Rattle.std.proofs.Common.{◌≡◌, ℕ, ◌<◌, ◌≤◌, ◌==◌, List, count_by, Bool, true, false, not, ◌&&◌, IsSome, is_some, refl, ap, sym, ◌∙◌, subst, arith}
-use Rattle.std.proofs.lemmas.Bool.{and_parts, and_from, false≢true}
+use Rattle.std.proofs.lemmas.Bool.{and_parts, and_from, false≢true, eqb-true}
 use Rattle.row_store.specs.Rows.{Rows, RiseFrom, row_of}
 use Rattle.id_memory.specs.Pairs.{Pairs, IsOneToOne, has_pair}
 use Rattle.op_law.specs.Sound.{RowsSound}
 use Rattle.row_parts.specs.RowCells.{by_test}
 use Rattle.pair_rows.specs.Halves.{first_of, second_of}
 use Rattle.pair_rows.specs.Shown.{Joining, is_shown, all_pairs}
-use Rattle.pair_rows.specs.inner.Numbers.{same_number}
 use Rattle.pair_rows.specs.inner.Lookups.{below_some}
 use Rattle.pair_rows.specs.inner.PairLemmas.{often, once_all}
 use Rattle.pair_rows.specs.inner.ShownLaws.{shown_there}
@@ -64,7 +63,7 @@ module _ (j : Joining) (s t : Rows) (m : Pairs) (ns nt : Rows) where
       let below = below_some n nt b other both.0 in
       let low = below.0 in
       let high = below.1 in
-      let same = same_number a 0 q in
+      let same = eqb-true a 0 q in
       (omega (arith, low, high, same), high)))
       (λ q.
       by_test (b == 0)
@@ -74,7 +73,7 @@ module _ (j : Joining) (s t : Rows) (m : Pairs) (ns nt : Rows) where
       let below = below_some n ns a sound both.0 in
       let low = below.0 in
       let high = below.1 in
-      let same = same_number b 0 p in
+      let same = eqb-true b 0 p in
       (high, omega (arith, low, high, same)))
       (λ p.
       let full : is_shown j s t m ns nt a b ≡ true = rw (q, p) at h in
@@ -174,7 +173,7 @@ module _ (j : Joining) (s t : Rows) (m : Pairs) (ns nt : Rows) where
         let once = entries_one n one rise other_rise id 0 in
         let fewer = count_fewer is (λ e. e.1 == id) (has_pair id 0) (entries j s t m ns nt n) (renewed_pass is m halves n)
         (λ e passes p.
-        let same = same_number e.1 id p in
+        let same = eqb-true e.1 id p in
         and_from (e.1 == id) (e.2 == 0) p (first_lone id e.2 q (ap (λ (i : ℕ). is i e.2) (sym same) ∙ passes))) in
         omega (arith, once, fewer))
         (λ q.
@@ -183,7 +182,7 @@ module _ (j : Joining) (s t : Rows) (m : Pairs) (ns nt : Rows) where
         by_test (e.1 == id && e.2 == 0)
         (λ p.
         let both = and_parts (e.1 == id) (e.2 == 0) p in
-        let same : is e.1 e.2 ≡ is id 0 = ap (λ (i : ℕ). is i e.2) (same_number e.1 id both.0) ∙ ap (λ (i : ℕ). is id i) (same_number e.2 0 both.1) in
+        let same : is e.1 e.2 ≡ is id 0 = ap (λ (i : ℕ). is i e.2) (eqb-true e.1 id both.0) ∙ ap (λ (i : ℕ). is id i) (eqb-true e.2 0 both.1) in
         absurd (false≢true (sym q ∙ sym same ∙ passes)))
         (λ p. p)) in
         absurd (omega (arith, none, some)));
@@ -206,7 +205,7 @@ module _ (j : Joining) (s t : Rows) (m : Pairs) (ns nt : Rows) where
         let once = entries_one n one rise other_rise 0 id in
         let fewer = count_fewer is (λ e. e.2 == id) (has_pair 0 id) (entries j s t m ns nt n) (renewed_pass is m halves n)
         (λ e passes p.
-        let same = same_number e.2 id p in
+        let same = eqb-true e.2 id p in
         and_from (e.1 == 0) (e.2 == id) (second_lone e.1 id q (ap (λ (i : ℕ). is e.1 i) (sym same) ∙ passes)) p) in
         omega (arith, once, fewer))
         (λ q.
@@ -215,7 +214,7 @@ module _ (j : Joining) (s t : Rows) (m : Pairs) (ns nt : Rows) where
         by_test (e.2 == id && e.1 == 0)
         (λ p.
         let both = and_parts (e.2 == id) (e.1 == 0) p in
-        let same : is e.1 e.2 ≡ is 0 id = ap (λ (i : ℕ). is i e.2) (same_number e.1 0 both.1) ∙ ap (λ (i : ℕ). is 0 i) (same_number e.2 id both.0) in
+        let same : is e.1 e.2 ≡ is 0 id = ap (λ (i : ℕ). is i e.2) (eqb-true e.1 0 both.1) ∙ ap (λ (i : ℕ). is 0 i) (eqb-true e.2 id both.0) in
         absurd (false≢true (sym q ∙ sym same ∙ passes)))
         (λ p. p)) in
         absurd (omega (arith, none, some)));

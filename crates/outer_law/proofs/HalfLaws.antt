@@ -6,12 +6,13 @@ use Rattle.par_base.specs.declared.value.Value.{Value}
 use Rattle.par_base.specs.SameRows.{same_row}
 use Rattle.par_base.specs.inner.SameLaws.{row_equal}
 use Rattle.row_store.specs.Rows.{Rows, RiseFrom, AreBelow, row_of}
+use Rattle.row_store.specs.inner.FoundRows.{rises_push, below_push, below_more}
 use Rattle.id_memory.specs.Pairs.{Pairs, pair_of}
 use Rattle.op_law.specs.Tables.{RowsWide}
 use Rattle.op_law.specs.Sound.{ValuesSound, RowsSound}
 use Rattle.op_law.proofs.SoundLaws.{rows_more, values_more}
 use Rattle.row_parts.specs.RowCells.{by_test, by_option}
-use Rattle.pair_rows.specs.inner.Lookups.{found_before, found_behind, behind_or, rises_behind, below_behind, below_weaker, wide_behind, sound_behind}
+use Rattle.pair_rows.specs.inner.Lookups.{found_before, found_behind, behind_or, wide_behind, sound_behind}
 use Rattle.pair_rows.specs.inner.PairLemmas.{count_yes, count_no, count_append}
 use Rattle.pair_rows.specs.Given.{least, Got, got, or_id}
 use Rattle.outer_law.specs.Entries.{with_half, with_half_alone}
@@ -105,8 +106,8 @@ module _ (pick other : ℕ × ℕ × ℕ → ℕ) where
     low = low;
     high = omega arith;
     rises = omega (arith, within);
-    rise = rises_behind 1 rows next x low rise below;
-    below = below_behind rows next x below;
+    rise = rises_push 1 rows next x low rise below;
+    below = below_push rows next x below;
     found = found_behind rows next x below;
     keeps = λ i row at. found_before rows ((next, x) ∷ []) i row at;
     drawn = λ i some. elim (behind_or rows i next x some) [ inl old ↦ inl old | inr new ↦ inr (omega (arith, new, within)) ];
@@ -174,7 +175,7 @@ module _ (pick other : ℕ × ℕ × ℕ → ℕ) where
       → Took pick other x rows shared taken IsOld next (got (if is_taken then None else Some (got choice rows x next).id) (got choice rows x next).rows x later)
       (got (if is_taken then None else Some (got choice rows x next).id) (got choice shared x next).rows x later).rows
   took_twice (Some id) true x rows shared taken IsOld next later rise below low h shares none may was =
-      took_drawn x rows shared taken IsOld next later rise (below_weaker rows next later h below) (omega (arith, low, h)) h shares (none later (omega (arith, low, h)) h)
+      took_drawn x rows shared taken IsOld next later rise (below_more rows next later h below) (omega (arith, low, h)) h shares (none later (omega (arith, low, h)) h)
   took_twice (Some id) false x rows shared taken IsOld next later rise below low h shares none may was =
       let it = may id refl in
       let high = it.high in
@@ -184,7 +185,7 @@ module _ (pick other : ℕ × ℕ × ℕ → ℕ) where
         high = omega (arith, high, h);
         rises = h;
         rise = rise;
-        below = below_weaker rows next later h below;
+        below = below_more rows next later h below;
         found = it.found;
         keeps = λ i row at. at;
         drawn = λ i some. inl some;
@@ -206,7 +207,7 @@ module _ (pick other : ℕ × ℕ × ℕ → ℕ) where
         high = omega (arith, h);
         rises = omega (arith, h);
         rise = base.rise;
-        below = below_weaker (rows ++ (next, x) ∷ []) (next + 1) later h base.below;
+        below = below_more (rows ++ (next, x) ∷ []) (next + 1) later h base.below;
         found = base.found;
         keeps = base.keeps;
         drawn = base.drawn;

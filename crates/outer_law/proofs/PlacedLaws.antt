@@ -1,10 +1,11 @@
 -- The entry that each row of a new outer join gets.
 use Rattle.std.specs.Option.{option_map}
-use Rattle.std.proofs.Common.{◌≡◌, ℕ, ◌+◌, ◌<◌, ◌≤◌, ◌==◌, ◌⊎◌, List, [], length, count_by, if◌then◌else◌, Bool, true, false, Option, Some, None, IsSome, refl, ap, sym, ◌∙◌, subst, arith}
+use Rattle.std.proofs.Common.{◌≡◌, ℕ, ◌+◌, ◌<◌, ◌≤◌, ◌==◌, ◌⊎◌, List, length, count_by, if◌then◌else◌, Bool, true, false, Option, Some, None, IsSome, refl, ap, sym, ◌∙◌, subst, arith}
 use Rattle.std.proofs.lemmas.Bool.{and_parts}
 use mathlib.Core.Logic.{inl, inr}
 use Rattle.par_base.specs.declared.value.Value.{Value}
 use Rattle.row_store.specs.Rows.{Rows, row_of}
+use Rattle.row_store.specs.inner.FoundRows.{below_more}
 use Rattle.id_memory.specs.Pairs.{Pairs, IsOneToOne, pair_of, has_pair}
 use Rattle.op_law.specs.Tables.{RowsWide}
 use Rattle.op_law.specs.Sound.{IsBelow, ValuesSound, RowsSound, PairsSound}
@@ -17,12 +18,11 @@ use Rattle.pair_rows.specs.Shown.{Joining, has}
 use Rattle.pair_rows.specs.Given.{least, unchanged, got, own}
 use Rattle.pair_rows.specs.Getting.{under}
 use Rattle.pair_rows.proofs.GivenLaws.{got_rises}
-use Rattle.pair_rows.specs.inner.Lookups.{below_weaker}
 use Rattle.pair_rows.specs.inner.PairLemmas.{has_not}
 use Rattle.pair_rows.specs.inner.TakenPairs.{unchanged_pair, unchanged_row}
 use Rattle.pair_rows.specs.inner.FoundPairs.{old_pair}
 use Rattle.outer_law.specs.Entries.{with_absent, with_half, IsOuter}
-use Rattle.outer_law.specs.Placed.{half_there, is_present, Placing, Placed, parts_of, first_own, second_own, first_both, first_got, second_both, second_got, last_got, first_more, second_more, place_both, own_alone, first_alone, second_alone, place_first, place_second, place_halves, place_by, place_row, placed}
+use Rattle.outer_law.specs.Placed.{half_there, is_present, Placing, Placed, parts_of, first_own, second_own, first_both, first_got, second_both, second_got, last_got, first_more, second_more, place_both, own_alone, first_alone, second_alone, place_first, place_second, place_halves, place_by, place_row}
 use Rattle.outer_law.proofs.AbsentLaws.{absent_other, absent_wide}
 use Rattle.outer_law.proofs.CountingLaws.{has_some, count_less}
 use Rattle.outer_law.proofs.HalfLaws.{Own, HalfReady, Took, MayTake, took_got, took_twice, took_weaker, took_alone}
@@ -161,7 +161,7 @@ module _ (j : Joining) (parts : ArePartition j.first j.second) (s t r : Rows) (m
       let rises = got_rises (first_both (parts_of j r m x) d) d.first (part j.first x.1) d.next in
       let next = (first_got (parts_of j r m x) d).next in
       took_got second_of first_of (second_both (parts_of j r m x) d) (part j.second x.1) d.second d.second_shared d.taken (Own second_of m x.0) next ready.second.rise
-      (below_weaker d.second d.next next rises ready.second.below) (omega (arith, pos, rises)) ready.second.found (ready.second.under next (omega (arith, pos, rises)) rises)
+      (below_more d.second d.next next rises ready.second.below) (omega (arith, pos, rises)) ready.second.found (ready.second.under next (omega (arith, pos, rises)) rises)
       (λ id e. both_second n k d x next id ready comes rises e)
 
   -- the first row

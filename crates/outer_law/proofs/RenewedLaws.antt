@@ -1,13 +1,12 @@
 -- Entries that stay where they pass a test, and pairs that are new and pass it.
 use Rattle.std.proofs.Common.{◌≡◌, ℕ, suc, ◌+◌, ◌<◌, ◌≤◌, ◌==◌, ◌⊎◌, List, [], ◌∷◌, ◌++◌, length, filter, count_by, Bool, true, false, ◌&&◌, not, IsSome, refl, ap, sym, ◌∙◌, subst, arith}
-use Rattle.std.proofs.lemmas.Bool.{and_parts}
+use Rattle.std.proofs.lemmas.Bool.{and_parts, eqb-true, eq-eqb}
 use mathlib.Core.Logic.{inl, inr}
 use Rattle.row_store.specs.Rows.{Rows, row_of}
 use Rattle.id_memory.specs.Pairs.{Pairs, RiseFrom as PairsRise, IsOneToOne, pair_of, has_pair}
 use Rattle.op_law.specs.Sound.{PairsSound}
 use Rattle.op_law.proofs.SoundLaws.{pairs_more}
 use Rattle.row_parts.specs.RowCells.{by_test}
-use Rattle.pair_rows.specs.inner.Numbers.{same_number, is_own}
 use Rattle.pair_rows.specs.inner.PairLemmas.{often, often_numbered, often_filter, often_append, never, count_filter, count_append, has_not, filter_rises, numbered_rises, append_rises, filter_pairs_sound, append_pairs_sound, append_pair, filter_pair, numbered_pair}
 use Rattle.pair_rows.specs.Shown.{AreThere, has, pairs_with, all_pairs, numbered}
 use Rattle.outer_law.proofs.CountingLaws.{AllPass, filter_pass, append_pass, count_kept, has_some}
@@ -31,7 +30,7 @@ numbered_halves n k (x ∷ xs) h below =
 with_one : (a b : ℕ) (t : Rows) → IsSome (row_of t b) → 1 ≤ often a b (pairs_with a t)
 with_one a b [] some = absurd (cc)
 with_one a b (r ∷ rs) some =
-    let own = is_own a in
+    let own = eq-eqb a a refl in
     by_test (r.0 == b)
     (λ q. rw (own, q) (omega arith))
     (λ q. let later : IsSome (row_of rs b) = rw q at some in rw (own, q) (with_one a b rs later))
@@ -43,7 +42,7 @@ all_one a b (r ∷ rs) t some other =
     let both = often_append a b (pairs_with r.0 t) (all_pairs rs t) in
     by_test (r.0 == a)
     (λ q.
-    let same = same_number r.0 a q in
+    let same = eqb-true r.0 a q in
     let here : 1 ≤ often a b (pairs_with r.0 t) = subst (λ (i : ℕ). 1 ≤ often a b (pairs_with i t)) (sym same) (with_one a b t other) in
     omega (arith, both, here))
     (λ q. let later : IsSome (row_of rs a) = rw q at some in let rest = all_one a b rs t later other in omega (arith, both, rest))
@@ -56,7 +55,7 @@ often_kept test a b (x ∷ xs) h =
     by_test (x.0 == a && x.1 == b)
     (λ q.
     let both = and_parts (x.0 == a) (x.1 == b) q in
-    let passes : test x ≡ true = ap (λ (i : ℕ). test (i, x.1)) (same_number x.0 a both.0) ∙ ap (λ (i : ℕ). test (a, i)) (same_number x.1 b both.1) ∙ h in
+    let passes : test x ≡ true = ap (λ (i : ℕ). test (i, x.1)) (eqb-true x.0 a both.0) ∙ ap (λ (i : ℕ). test (a, i)) (eqb-true x.1 b both.1) ∙ h in
     rw (passes, q) (ap (λ (k : ℕ). 1 + k) rest))
     (λ q. by_test (test x) (λ p. rw (p, q) rest) (λ p. rw (p, q) rest))
 
@@ -94,7 +93,7 @@ module _ (is : ℕ → ℕ → Bool) (m : Pairs) (xs : List (ℕ × ℕ)) where
       by_test (x.0 == a && x.1 == b)
       (λ e.
       let same = and_parts (x.0 == a) (x.1 == b) e in
-      let there : has m x.0 x.1 ≡ true = ap (λ (i : ℕ). has m i x.1) (same_number x.0 a same.0) ∙ ap (λ (i : ℕ). has m a i) (same_number x.1 b same.1) ∙ old in
+      let there : has m x.0 x.1 ≡ true = ap (λ (i : ℕ). has m i x.1) (eqb-true x.0 a same.0) ∙ ap (λ (i : ℕ). has m a i) (eqb-true x.1 b same.1) ∙ old in
       let parts = and_parts (is x.0 x.1) (not (has m x.0 x.1)) new in
       let no : not true ≡ true = subst (λ (b : Bool). not b ≡ true) there parts.1 in
       absurd (cc))

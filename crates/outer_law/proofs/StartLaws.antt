@@ -1,9 +1,10 @@
 -- What holds before the rows of a new outer join are placed.
 use Rattle.std.proofs.Common.{◌≡◌, ℕ, ◌<◌, ◌≤◌, ◌==◌, List, [], ◌∷◌, count_by, Bool, true, false, not, ◌&&◌, Some, IsSome, refl, ap, sym, ◌∙◌, arith}
-use Rattle.std.proofs.lemmas.Bool.{and_parts, and_from, false≢true}
+use Rattle.std.proofs.lemmas.Bool.{and_parts, and_from, false≢true, eqb-true, eq-eqb, ne_eqb}
 use Rattle.par_base.specs.declared.value.Value.{Value}
 use Rattle.row_store.specs.Rows.{Rows, RiseFrom, AreBelow, row_of}
 use Rattle.row_store.proofs.UndoLaws.{ext}
+use Rattle.row_store.specs.inner.FoundRows.{rise_more}
 use Rattle.id_memory.specs.Pairs.{Pairs, RiseFrom as PairsRise, has_pair}
 use Rattle.op_law.specs.Sound.{PairsSound}
 use Rattle.row_parts.specs.RowCells.{by_test, by_option}
@@ -11,8 +12,8 @@ use Rattle.pair_rows.specs.Halves.{first_of, second_of}
 use Rattle.pair_rows.specs.Stays.{stands}
 use Rattle.pair_rows.specs.Given.{least}
 use Rattle.pair_rows.specs.Getting.{least_found}
-use Rattle.pair_rows.specs.inner.Numbers.{same_number, is_own, count_cons}
-use Rattle.pair_rows.specs.inner.Lookups.{apart, filter_found, filter_lost, filter_rise, rise_more}
+use Rattle.pair_rows.specs.inner.Numbers.{count_cons}
+use Rattle.pair_rows.specs.inner.Lookups.{filter_found, filter_lost, filter_rise}
 use Rattle.pair_rows.specs.inner.PairLemmas.{count_yes, count_no}
 use Rattle.pair_rows.specs.inner.FoundPairs.{AllPaired}
 use Rattle.outer_law.specs.Entries.{with_half, with_half_alone, AreHalves}
@@ -72,8 +73,8 @@ module _ (pick other : ℕ × ℕ × ℕ → ℕ) (picks : ArePicks pick other) 
   counted_with (e ∷ es) id low h =
       by_test (pick e == id)
       (λ q.
-      let same = same_number (pick e) id q in
-      let away : (pick e == 0) ≡ false = apart (pick e) 0 (λ u. absurd (omega (arith, u, same, low))) in
+      let same = eqb-true (pick e) id q in
+      let away : (pick e == 0) ≡ false = ne_eqb (pick e) 0 (λ u. absurd (omega (arith, u, same, low))) in
       rw (away, q) refl)
       (λ q.
       let less = count_no (λ e. pick e == id) e es q in
@@ -113,7 +114,7 @@ module _ (pick other : ℕ × ℕ × ℕ → ℕ) (picks : ArePicks pick other) 
       (λ u.
       let parts = and_parts (pick e == id) (not (e.1 == 0) && not (e.2 == 0)) u in
       let there = (picks.both e parts.1).0 in
-      let gone : (pick e == 0) ≡ true = sym (ap (λ (i : ℕ). pick e == i) (same_number id 0 q)) ∙ parts.0 in
+      let gone : (pick e == 0) ≡ true = sym (ap (λ (i : ℕ). pick e == i) (eqb-true id 0 q)) ∙ parts.0 in
       absurd (false≢true (sym there ∙ gone)))
       (λ u. u)) in
       absurd (omega (arith, some, zero_count)))
@@ -124,12 +125,12 @@ module _ (pick other : ℕ × ℕ × ℕ → ℕ) (picks : ArePicks pick other) 
   sound_none n [] id sound h = refl
   sound_none n (e ∷ es) id sound h =
       let low = picks.below n e (sound.0.1, sound.0.2) in
-      let no : (pick e == id) ≡ false = apart (pick e) id (λ q. absurd (omega (arith, q, low, h))) in
+      let no : (pick e == id) ≡ false = ne_eqb (pick e) id (λ q. absurd (omega (arith, q, low, h))) in
       count_no (λ e. pick e == id) e es no ∙ sound_none n es id sound.1 h
 
   -- no number is not 0
   zero_by : (n : ℕ) → (1 ≤ n → ⊥) → n ≡ 0
-  zero_by n h = by_test (n == 0) (λ q. same_number n 0 q) (λ q. absurd (h (above_zero n q)))
+  zero_by n h = by_test (n == 0) (λ q. eqb-true n 0 q) (λ q. absurd (h (above_zero n q)))
 
   -- one half before rows are placed
   pub start_half : (s : Rows) (m kept : Pairs) (n : ℕ) → AreHalves pick other s m → AreBelow s n → count_by (has_pair 0 0) m ≡ 0 → PairsSound n m → PairsRise 0 m → PairsRise 0 kept → AllPaired m kept → HalfReady pick other s s (standing pick (full kept) s) m kept kept n 0
@@ -180,7 +181,7 @@ module _ (pick other : ℕ × ℕ × ℕ → ℕ) (picks : ArePicks pick other) 
             let b = sound_none n m id sound within in
             omega (arith, a, b);
         free = λ p id to absent own one.
-            let yes : (pick (p, own.one, own.other) == id) ≡ true = let self = is_own id in ap (λ (i : ℕ). i == id) own.half ∙ self in
+            let yes : (pick (p, own.one, own.other) == id) ≡ true = let self = eq-eqb id id refl in ap (λ (i : ℕ). i == id) own.half ∙ self in
             let fewer = sub_count_but (λ e. pick e == id) m kept p own.one own.other rise kept_rise paired absent own.at yes in (
               zero_by (with_half_alone pick other id kept) (λ some.
                   let a = sub (λ e. pick e == id && other e == 0) in

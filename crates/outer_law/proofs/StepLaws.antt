@@ -1,12 +1,12 @@
 -- One half of the entries while rows are placed: one entry more.
 use Rattle.std.proofs.Common.{◌≡◌, ℕ, ◌+◌, ◌<◌, ◌≤◌, ◌==◌, ◌⊎◌, List, [], ◌∷◌, ◌++◌, true, false, ◌&&◌, refl, ap, sym, ◌∙◌, subst, arith}
 use mathlib.Core.Logic.{inl, inr}
+use Rattle.std.proofs.lemmas.Bool.{eqb-true, eq-eqb, ne_eqb}
 use Rattle.par_base.specs.declared.value.Value.{Value}
 use Rattle.row_store.specs.Rows.{Rows}
+use Rattle.row_store.specs.inner.FoundRows.{below_more}
 use Rattle.id_memory.specs.Pairs.{Pairs}
 use Rattle.row_parts.specs.RowCells.{by_test}
-use Rattle.pair_rows.specs.inner.Numbers.{same_number, is_own}
-use Rattle.pair_rows.specs.inner.Lookups.{apart, below_weaker}
 use Rattle.pair_rows.specs.Given.{Got}
 use Rattle.outer_law.specs.Entries.{with_half, with_half_alone}
 use Rattle.outer_law.proofs.StillLaws.{above_zero}
@@ -20,22 +20,22 @@ module _ (pick other : ℕ × ℕ × ℕ → ℕ) where
     two_own p q id h one two =
         let a = one.half in
         let b = two.half in
-        let own = is_own id in
+        let own = eq-eqb id id refl in
         two_counted (λ e. pick e == id) m p q one.one one.other two.one two.other h one.at two.at (ap (λ (i : ℕ). i == id) a ∙ own) (ap (λ (i : ℕ). i == id) b ∙ own)
 
     -- the half of a later row is another one, where it is in one old entry only
     other_half : (taken : Pairs) (next p q id got_id : ℕ) → p < q → Own pick m q id → id < next → with_half pick id m ≡ 1 → with_half pick id taken ≡ 0
         → (Own pick m p got_id ⊎ ((1 ≤ with_half pick got_id taken) ⊎ (next ≤ got_id))) → (got_id == id) ≡ false
     other_half taken next p q id got_id h own high once none (inl was) =
-        apart got_id id (λ e.
+        ne_eqb got_id id (λ e.
         let same : Own pick m p id = subst (λ (i : ℕ). Own pick m p i) e was in
         let two = two_own p q id h same own in
         absurd (omega (arith, once, two)))
     other_half taken next p q id got_id h own high once none (inr (inl some)) =
-        apart got_id id (λ e.
+        ne_eqb got_id id (λ e.
         let here : 1 ≤ with_half pick id taken = subst (λ (i : ℕ). 1 ≤ with_half pick i taken) e some in
         absurd (omega (arith, here, none)))
-    other_half taken next p q id got_id h own high once none (inr (inr new)) = apart got_id id (λ e. absurd (omega (arith, e, new, high)))
+    other_half taken next p q id got_id h own high once none (inr (inr new)) = ne_eqb got_id id (λ e. absurd (omega (arith, e, new, high)))
 
     -- an entry with both halves
     pub full_step : (rows shared : Rows) (taken : Pairs) (next k later : ℕ) (x : List Value) (g : Got) (more : Rows) (e : ℕ × ℕ × ℕ) → HalfReady pick other old rows shared m kept taken next k → ((p id : ℕ) → Own pick m p id → id < next) → 1 ≤ next
@@ -44,7 +44,7 @@ module _ (pick other : ℕ × ℕ × ℕ → ℕ) where
         let low = took.low in
         let high = took.high in
         let rises = took.rises in
-        let test_other : (other e == 0) ≡ false = apart (other e) 0 (λ q. absurd (omega (arith, q, full))) in
+        let test_other : (other e == 0) ≡ false = ne_eqb (other e) 0 (λ q. absurd (omega (arith, q, full))) in
         let same_alone : (id : ℕ) → with_half_alone pick other id (taken ++ e ∷ []) ≡ with_half_alone pick other id taken =
         λ id. count_same (λ e. pick e == id && other e == 0) taken e (by_test (pick e == id) (λ q. rw (q, test_other) refl) (λ q. rw q refl)) in
         let at_least : (id : ℕ) → with_half pick id taken ≤ with_half pick id (taken ++ e ∷ []) =
@@ -53,7 +53,7 @@ module _ (pick other : ℕ × ℕ × ℕ → ℕ) where
         (λ q. let c = count_same (λ e. pick e == id) taken e q in omega (arith, c)) in
         record {
           rise = took.rise;
-          below = below_weaker g.rows g.next later h took.below;
+          below = below_more g.rows g.next later h took.below;
           keeps = λ id row at. took.keeps id row (ready.keeps id row at);
           found = took.shares;
           common = λ y id at.
@@ -68,7 +68,7 @@ module _ (pick other : ℕ × ℕ × ℕ → ℕ) where
                 | inr new ↦
                     let a = same_alone id in
                     let b : with_half_alone pick other id taken ≡ 0 = subst (λ (i : ℕ). with_half_alone pick other i taken ≡ 0) (sym new) took.common in
-                    let own = is_own id in
+                    let own = eq-eqb id id refl in
                     let yes : (pick e == id) ≡ true = ap (λ (i : ℕ). i == id) (is ∙ sym new) ∙ own in
                     let c = count_more (λ e. pick e == id) taken e yes in
                     (omega (arith, low, new), a ∙ b, omega (arith, c))
@@ -78,7 +78,7 @@ module _ (pick other : ℕ × ℕ × ℕ → ℕ) where
               let a = same_alone id in
               by_test (pick e == id)
               (λ q.
-              let same = sym is ∙ same_number (pick e) id q in
+              let same = sym is ∙ eqb-true (pick e) id q in
               let zero_count : with_half_alone pick other id taken ≡ 0 = subst (λ (i : ℕ). with_half_alone pick other i taken ≡ 0) same took.common in
               absurd (omega (arith, a, some, zero_count)))
               (λ q.
@@ -86,7 +86,7 @@ module _ (pick other : ℕ × ℕ × ℕ → ℕ) where
               let before = ready.alone id (omega (arith, a, some)) in
               omega (arith, c, before));
           under = λ id one within.
-              let no : (pick e == id) ≡ false = apart (pick e) id (λ q. absurd (omega (arith, q, is, high, h, within))) in
+              let no : (pick e == id) ≡ false = ne_eqb (pick e) id (λ q. absurd (omega (arith, q, is, high, h, within))) in
               count_same (λ e. pick e == id) taken e no ∙ ready.under id one (omega (arith, rises, h, within));
           free = λ p id to absent own one.
               let before = ready.free p id (omega (arith, to, above)) absent own one in (
@@ -107,7 +107,7 @@ module _ (pick other : ℕ × ℕ × ℕ → ℕ) where
         let high = took.high in
         let rises = took.rises in
         let not_there : (id : ℕ) → 1 ≤ with_half pick id taken → (pick e == id) ≡ false =
-        λ id some. apart (pick e) id (λ q.
+        λ id some. ne_eqb (pick e) id (λ q.
         let here : 1 ≤ with_half pick g.id taken = subst (λ (i : ℕ). 1 ≤ with_half pick i taken) (sym q ∙ is) some in
         absurd (omega (arith, here, unused))) in
         let same_half : (id : ℕ) → (pick e == id) ≡ false → with_half pick id (taken ++ e ∷ []) ≡ with_half pick id taken = λ id q. count_same (λ e. pick e == id) taken e q in
@@ -125,13 +125,13 @@ module _ (pick other : ℕ × ℕ × ℕ → ℕ) where
               let b = before.2 in
               (before.0, same_alone id no ∙ before.1, omega (arith, a, b));
           none =
-              let no : (pick e == 0) ≡ false = apart (pick e) 0 (λ q. absurd (omega (arith, q, is, low))) in
+              let no : (pick e == 0) ≡ false = ne_eqb (pick e) 0 (λ q. absurd (omega (arith, q, is, low))) in
               same_alone 0 no ∙ ready.none;
           alone = λ id some.
               by_test (pick e == id)
               (λ q.
               let c = count_more (λ e. pick e == id) taken e q in
-              let same = sym is ∙ same_number (pick e) id q in
+              let same = sym is ∙ eqb-true (pick e) id q in
               let zero_count : with_half pick id taken ≡ 0 = subst (λ (i : ℕ). with_half pick i taken ≡ 0) same unused in
               omega (arith, c, zero_count))
               (λ q.
@@ -140,20 +140,20 @@ module _ (pick other : ℕ × ℕ × ℕ → ℕ) where
               let before = ready.alone id (omega (arith, a, some)) in
               omega (arith, c, before));
           under = λ id one within.
-              let no : (pick e == id) ≡ false = apart (pick e) id (λ q. absurd (omega (arith, q, is, high, within))) in
+              let no : (pick e == id) ≡ false = ne_eqb (pick e) id (λ q. absurd (omega (arith, q, is, high, within))) in
               same_half id no ∙ ready.under id one (omega (arith, rises, within));
           free = λ p id to absent own one.
               let before = ready.free p id (omega (arith, to, above)) absent own one in
               let under = olds p id own in
               let away : (g.id == id) ≡ false =
               elim took.origin [
-                | inl was ↦ apart g.id id (λ q.
+                | inl was ↦ ne_eqb g.id id (λ q.
                     let same : Own pick m e.0 id = subst (λ (i : ℕ). Own pick m e.0 i) q was.0 in
                     let once : with_half pick id m ≡ 1 = subst (λ (i : ℕ). with_half pick i m ≡ 1) q was.1 in
                     let two = two_own e.0 p id (omega (arith, to)) same own in
                     absurd (omega (arith, once, two)))
                 | inr (inl some) ↦ absurd (omega (arith, some, unused))
-                | inr (inr new) ↦ apart g.id id (λ q. absurd (omega (arith, q, new, under)))
+                | inr (inr new) ↦ ne_eqb g.id id (λ q. absurd (omega (arith, q, new, under)))
               ] in
               let no : (pick e == id) ≡ false = ap (λ (i : ℕ). i == id) is ∙ away in
               (same_alone id no ∙ before.0, λ once. same_half id no ∙ before.1 once);
@@ -162,14 +162,14 @@ module _ (pick other : ℕ × ℕ × ℕ → ℕ) where
     -- an entry in which this half is absent
     pub absent_step : (rows shared : Rows) (taken : Pairs) (next k later : ℕ) (e : ℕ × ℕ × ℕ) → HalfReady pick other old rows shared m kept taken next k → 1 ≤ next → next ≤ later → k ≤ e.0 → pick e ≡ 0 → 1 ≤ other e → HalfReady pick other old rows shared m kept (taken ++ e ∷ []) later (e.0 + 1)
     absent_step rows shared taken next k later e ready pos h above is full =
-        let test_other : (other e == 0) ≡ false = apart (other e) 0 (λ q. absurd (omega (arith, q, full))) in
+        let test_other : (other e == 0) ≡ false = ne_eqb (other e) 0 (λ q. absurd (omega (arith, q, full))) in
         let same_alone : (id : ℕ) → with_half_alone pick other id (taken ++ e ∷ []) ≡ with_half_alone pick other id taken =
         λ id. count_same (λ e. pick e == id && other e == 0) taken e (by_test (pick e == id) (λ q. rw (q, test_other) refl) (λ q. rw q refl)) in
         let same_half : (id : ℕ) → 1 ≤ id → with_half pick id (taken ++ e ∷ []) ≡ with_half pick id taken =
-        λ id one. count_same (λ e. pick e == id) taken e (apart (pick e) id (λ q. absurd (omega (arith, q, is, one)))) in
+        λ id one. count_same (λ e. pick e == id) taken e (ne_eqb (pick e) id (λ q. absurd (omega (arith, q, is, one)))) in
         record {
           rise = ready.rise;
-          below = below_weaker rows next later h ready.below;
+          below = below_more rows next later h ready.below;
           keeps = ready.keeps;
           found = ready.found;
           common = λ y id at.
@@ -183,7 +183,7 @@ module _ (pick other : ℕ × ℕ × ℕ → ℕ) where
               by_test (id == 0)
               (λ q.
               let zero_count = ready.none in
-              let gone : with_half_alone pick other id taken ≡ 0 = subst (λ (i : ℕ). with_half_alone pick other i taken ≡ 0) (sym (same_number id 0 q)) zero_count in
+              let gone : with_half_alone pick other id taken ≡ 0 = subst (λ (i : ℕ). with_half_alone pick other i taken ≡ 0) (sym (eqb-true id 0 q)) zero_count in
               absurd (omega (arith, a, some, gone)))
               (λ q.
               let one = above_zero id q in

@@ -1,12 +1,10 @@
 -- An old source keeps its entries.
 use Rattle.std.proofs.Common.{◌≡◌, ℕ, zero, suc, ◌≤◌, ◌==◌, List, [], ◌∷◌, ◌++◌, filter, count_by, Bool, true, false, not, ◌&&◌, ◌||◌, IsSome, is_some, append-nil, refl, ap, sym, ◌∙◌, subst, arith}
-use Rattle.std.proofs.lemmas.Bool.{and_parts, and_from, false≢true}
+use Rattle.std.proofs.lemmas.Bool.{and_parts, and_from, false≢true, eqb-true, ne_eqb}
 use Rattle.row_store.specs.Rows.{Rows, row_of}
 use Rattle.id_memory.specs.Pairs.{Pairs, has_pair}
 use Rattle.row_parts.specs.RowCells.{Cell, by_test}
 use Rattle.pair_rows.specs.Shown.{Joining, AreThere, row_at, matches, is_shown, has, all_pairs, numbered}
-use Rattle.pair_rows.specs.inner.Numbers.{same_number}
-use Rattle.pair_rows.specs.inner.Lookups.{apart}
 use Rattle.pair_rows.specs.inner.PairLemmas.{AllIn, all_in, count_no}
 use Rattle.pair_rows.specs.inner.ShownLaws.{there_cells, still_none}
 use Rattle.outer_law.specs.Entries.{with_absent, IsOuter, some_row, is_entry, entries, new_entries}
@@ -62,8 +60,8 @@ module _ (j : Joining) (s t r : Rows) (m : Pairs) (old : IsOuter j s t r m) wher
       (λ e p. (and_parts (e.1 == a) (e.2 == 0) p).0)
       (λ e p. (and_parts (e.1 == a) (e.2 == b) p).0)
       (λ e p.
-      let zero_half = same_number e.2 0 (and_parts (e.1 == a) (e.2 == 0) p).1 in
-      let away : (e.2 == b) ≡ false = apart e.2 b (λ u. let high = above_zero b q in absurd (omega (arith, zero_half, u, high))) in
+      let zero_half = eqb-true e.2 0 (and_parts (e.1 == a) (e.2 == 0) p).1 in
+      let away : (e.2 == b) ≡ false = ne_eqb e.2 b (λ u. let high = above_zero b q in absurd (omega (arith, zero_half, u, high))) in
       and_right (e.1 == a) (e.2 == b) away) in
       let alone = old.first.alone a one in
       absurd (omega (arith, one, other, two, alone)))
@@ -86,8 +84,8 @@ module _ (j : Joining) (s t r : Rows) (m : Pairs) (old : IsOuter j s t r m) wher
       (λ e p. (and_parts (e.1 == 0) (e.2 == b) p).1)
       (λ e p. (and_parts (e.1 == a) (e.2 == b) p).1)
       (λ e p.
-      let zero_half = same_number e.1 0 (and_parts (e.1 == 0) (e.2 == b) p).0 in
-      let away : (e.1 == a) ≡ false = apart e.1 a (λ u. let high = above_zero a q in absurd (omega (arith, zero_half, u, high))) in
+      let zero_half = eqb-true e.1 0 (and_parts (e.1 == 0) (e.2 == b) p).0 in
+      let away : (e.1 == a) ≡ false = ne_eqb e.1 a (λ u. let high = above_zero a q in absurd (omega (arith, zero_half, u, high))) in
       and_left (e.1 == a) (e.2 == b) away) in
       let alone = old.second.alone b (omega (arith, one, lone_too)) in
       absurd (omega (arith, one, other, two, alone)))
@@ -110,12 +108,12 @@ module _ (j : Joining) (s t r : Rows) (m : Pairs) (old : IsOuter j s t r m) wher
       (λ q.
       by_test (b == 0)
       (λ p.
-      let none : has m 0 0 ≡ true = sym (ap (λ (i : ℕ). has m i b) (same_number a 0 q) ∙ ap (λ (i : ℕ). has m 0 i) (same_number b 0 p)) ∙ h in
+      let none : has m 0 0 ≡ true = sym (ap (λ (i : ℕ). has m i b) (eqb-true a 0 q) ∙ ap (λ (i : ℕ). has m 0 i) (eqb-true b 0 p)) ∙ h in
       let some = has_some m 0 0 none in
       let zero_count = old.none in
       absurd (omega (arith, some, zero_count)))
       (λ p.
-      let lone : has m 0 b ≡ true = sym (ap (λ (i : ℕ). has m i b) (same_number a 0 q)) ∙ h in
+      let lone : has m 0 b ≡ true = sym (ap (λ (i : ℕ). has m i b) (eqb-true a 0 q)) ∙ h in
       let there = second_behind b p other in
       let no_full = none_full (λ a. is_shown j s t m s t a b) s
       (λ i some passes.
@@ -128,7 +126,7 @@ module _ (j : Joining) (s t r : Rows) (m : Pairs) (old : IsOuter j s t r m) wher
       (λ q.
       by_test (b == 0)
       (λ p.
-      let lone : has m a 0 ≡ true = sym (ap (λ (i : ℕ). has m a i) (same_number b 0 p)) ∙ h in
+      let lone : has m a 0 ≡ true = sym (ap (λ (i : ℕ). has m a i) (eqb-true b 0 p)) ∙ h in
       let there = first_behind a q one in
       let no_full = none_full (λ b. is_shown j s t m s t a b) t
       (λ i some passes.
@@ -156,11 +154,11 @@ module _ (j : Joining) (s t r : Rows) (m : Pairs) (old : IsOuter j s t r m) wher
       let some = old.second.each b there in
       some_entry (λ e. e.2 == b) m m (with_absent j.first s) (with_absent j.second t) ((is a b && not (has m a b)) ≡ false) (all_in m) old.joined.there some
       (λ e u was one other.
-      let same = same_number e.2 b u in
+      let same = eqb-true e.2 b u in
       let was_b : has m e.1 b ≡ true = sym (ap (λ (i : ℕ). has m e.1 i) same) ∙ was in
       by_test (e.1 == 0)
       (λ v.
-      let lone : has m a b ≡ true = ap (λ (i : ℕ). has m i b) (same_number a 0 q ∙ sym (same_number e.1 0 v)) ∙ was_b in
+      let lone : has m a b ≡ true = ap (λ (i : ℕ). has m i b) (eqb-true a 0 q ∙ sym (eqb-true e.1 0 v)) ∙ was_b in
       and_not (is a b) (has m a b) lone)
       (λ v.
       let here = first_behind e.1 v one in
@@ -176,11 +174,11 @@ module _ (j : Joining) (s t r : Rows) (m : Pairs) (old : IsOuter j s t r m) wher
       let some = old.first.each a there in
       some_entry (λ e. e.1 == a) m m (with_absent j.first s) (with_absent j.second t) ((is a b && not (has m a b)) ≡ false) (all_in m) old.joined.there some
       (λ e u was one other.
-      let same = same_number e.1 a u in
+      let same = eqb-true e.1 a u in
       let was_a : has m a e.2 ≡ true = sym (ap (λ (i : ℕ). has m i e.2) same) ∙ was in
       by_test (e.2 == 0)
       (λ v.
-      let lone : has m a b ≡ true = ap (λ (i : ℕ). has m a i) (same_number b 0 p ∙ sym (same_number e.2 0 v)) ∙ was_a in
+      let lone : has m a b ≡ true = ap (λ (i : ℕ). has m a i) (eqb-true b 0 p ∙ sym (eqb-true e.2 0 v)) ∙ was_a in
       and_not (is a b) (has m a b) lone)
       (λ v.
       let here = second_behind e.2 v other in

@@ -1,12 +1,11 @@
 -- Entries of a memory that are kept: no test counts more of them, and one fewer where an entry isn't kept.
 use Rattle.std.proofs.Common.{◌≡◌, ℕ, ◌+◌, ◌<◌, ◌≤◌, ◌==◌, List, [], ◌∷◌, count_by, Bool, true, cond, ◌&&◌, not, Option, Some, None, refl, ap, sym, ◌∙◌, subst, arith}
-use Rattle.std.proofs.lemmas.Bool.{and_parts, and_from}
+use Rattle.std.proofs.lemmas.Bool.{and_parts, and_from, eqb-true, eq-eqb, ne_eqb}
 use Rattle.par_base.specs.declared.value.Value.{Value}
 use Rattle.row_store.specs.Rows.{Rows, RiseFrom, row_of}
 use Rattle.id_memory.specs.Pairs.{Pairs, RiseFrom as PairsRise, pair_of}
 use Rattle.row_parts.specs.RowCells.{by_test}
-use Rattle.pair_rows.specs.inner.Numbers.{same_number, is_own, count_cons}
-use Rattle.pair_rows.specs.inner.Lookups.{apart}
+use Rattle.pair_rows.specs.inner.Numbers.{count_cons}
 use Rattle.pair_rows.specs.inner.PairLemmas.{count_yes, count_no, pairs_rise_more}
 use Rattle.pair_rows.specs.inner.TakenPairs.{unchanged_pair}
 use Rattle.pair_rows.specs.inner.FoundPairs.{AllPaired}
@@ -18,7 +17,7 @@ pub none_pair : (k : ℕ) (es : Pairs) (p : ℕ) → PairsRise k es → p < k �
 none_pair k [] p rise h = refl
 none_pair k (e ∷ es) p rise h =
     let low = rise.0 in
-    let other = apart e.0 p (λ q. absurd (omega (arith, q, low, h))) in
+    let other = ne_eqb e.0 p (λ q. absurd (omega (arith, q, low, h))) in
     rw other (none_pair (e.0 + 1) es p rise.1 (omega (arith, low, h)))
 
 -- entries above an entry are found behind it
@@ -26,7 +25,7 @@ paired_drop : (e : ℕ × ℕ × ℕ) (es fs : Pairs) (k : ℕ) → e.0 < k → 
 paired_drop e es [] k h rise all = tt
 paired_drop e es (f ∷ fs) k h rise all =
     let low = rise.0 in
-    let other = apart e.0 f.0 (λ q. absurd (omega (arith, q, low, h))) in
+    let other = ne_eqb e.0 f.0 (λ q. absurd (omega (arith, q, low, h))) in
     let here : pair_of es f.0 ≡ Some (f.1, f.2) = rw other at all.0 in
     (here, paired_drop e es fs (f.0 + 1) (omega (arith, h, low)) rise.1 all.1)
 
@@ -42,7 +41,7 @@ entry_counted f [] p a b at h = absurd (cc)
 entry_counted f (e ∷ es) p a b at h =
     by_test (e.0 == p)
     (λ q.
-    let same = entry_is e p a b (same_number e.0 p q) (rw q at at) in
+    let same = entry_is e p a b (eqb-true e.0 p q) (rw q at at) in
     let yes = and_from (e.0 == p) (f e) q (ap f same ∙ h) in
     let more = count_yes (λ e. e.0 == p && f e) e es yes in
     omega (arith, more))
@@ -60,7 +59,7 @@ sub_count f k (e ∷ ms) [] rise other all = omega arith
 sub_count f k (e ∷ ms) (g ∷ gs) rise other all =
     by_test (e.0 == g.0)
     (λ q.
-    let id = same_number e.0 g.0 q in
+    let id = eqb-true e.0 g.0 q in
     let same = entry_is e g.0 g.1 g.2 id (rw q at all.0) in
     let rises : PairsRise (e.0 + 1) gs = subst (λ (i : ℕ). PairsRise (i + 1) gs) (sym id) other.1 in
     let rest = sub_count f (e.0 + 1) ms gs rise.1 rises (paired_drop e ms gs (e.0 + 1) (omega arith) rises all.1) in
@@ -81,7 +80,7 @@ sub_count f k (e ∷ ms) (g ∷ gs) rise other all =
     above_of k (e ∷ es) p pair rise at =
         let low = rise.0 in
         by_test (e.0 == p)
-        (λ q. let same = same_number e.0 p q in omega (arith, same, low))
+        (λ q. let same = eqb-true e.0 p q in omega (arith, same, low))
         (λ q. let later : pair_of es p ≡ Some pair = rw q at at in let rest = above_of (e.0 + 1) es p pair rise.1 later in omega (arith, rest, low))
 
 -- entries without an identifier
@@ -125,8 +124,8 @@ two_counted f m p q a b c d h at other one two =
     (λ e u. (and_parts (e.0 == p) (f e) u).1)
     (λ e u. (and_parts (e.0 == q) (f e) u).1)
     (λ e u.
-    let same = same_number e.0 p (and_parts (e.0 == p) (f e) u).0 in
-    let away = apart e.0 q (λ v. absurd (omega (arith, same, v, h))) in
+    let same = eqb-true e.0 p (and_parts (e.0 == p) (f e) u).0 in
+    let away = ne_eqb e.0 q (λ v. absurd (omega (arith, same, v, h))) in
     rw away refl) in
     omega (arith, here, there, both)
 
@@ -158,11 +157,11 @@ module _ (r : Rows) (m : Pairs) where
   kept_more e kept [] k h rise all = tt
   kept_more e kept (x ∷ xs) k h rise all =
       let low = rise.0 in
-      let other = apart e.0 x.0 (λ q. absurd (omega (arith, q, low, h))) in
+      let other = ne_eqb e.0 x.0 (λ q. absurd (omega (arith, q, low, h))) in
       (rw other all.0, kept_more e kept xs (x.0 + 1) (omega (arith, h, low)) rise.1 all.1)
 
   kept_by : (x : ℕ × List Value) (xs : Rows) (o : Option (ℕ × ℕ)) → unchanged (row_of r x.0) (pair_of m x.0) x.1 ≡ o → RiseFrom (x.0 + 1) xs → AreKept (kept_in r m xs) xs → (pair_of (kept_entry x.0 o (kept_in r m xs)) x.0 ≡ o) × AreKept (kept_entry x.0 o (kept_in r m xs)) xs
-  kept_by x xs (Some pair) e rise all = (let own = is_own x.0 in rw own refl, kept_more (x.0, pair.0, pair.1) (kept_in r m xs) xs (x.0 + 1) (omega arith) rise all)
+  kept_by x xs (Some pair) e rise all = (let own = eq-eqb x.0 x.0 refl in rw own refl, kept_more (x.0, pair.0, pair.1) (kept_in r m xs) xs (x.0 + 1) (omega arith) rise all)
   kept_by x xs None e rise all = (none_pair (x.0 + 1) (kept_in r m xs) x.0 (kept_rise (x.0 + 1) xs rise) (omega arith), all)
 
   pub are_kept : (k : ℕ) (xs : Rows) → RiseFrom k xs → AreKept (kept_in r m xs) xs

@@ -11,7 +11,7 @@ use Rattle.version_graph.specs.Tables.{TableVersion}
 use Rattle.version_graph.specs.Edges.{working}
 use Rattle.version_graph.proofs.SetLaws.{in_map}
 use Rattle.csv_io.specs.Tables.{csv_rows}
-use Rattle.ordinary_table.proofs.KeptLaws.{sound_below}
+use Rattle.op_law.proofs.SoundLaws.{below_sound}
 use Rattle.op_any.specs.Operators.{any_laws, any_meaning}
 use Rattle.version_model.proofs.WriteLaws.{write_is_ordinary}
 use Rattle.engine_state.specs.AnyDatabase.{AnyDatabase}
@@ -101,7 +101,7 @@ module _ (inserts : InsertsByIdentifier) (updates : UpdatesByIdentifier) (delete
   inserted_by name rows answer texts h =
       let w = wrote_of s (Insert (full name) rows) answer refl refl h in
       writes_of s name (Insert (full name) rows) (InsertsRows d rows) answer kept w (insert_taken d kept (full name) rows w.plan (rows_fit rows texts) w.is)
-      (inserts d (full name) rows w.plan w.is (sound_below d.state.next (d.state.tables w.plan.found.table.number) (kept.sound.well.rows w.plan.found.table.number)))
+      (inserts d (full name) rows w.plan w.is (below_sound d.state.next (d.state.tables w.plan.found.table.number) (kept.sound.well.rows w.plan.found.table.number)))
 
   updated_by : (name : TableName) (assignments : List AssignmentView) (filter : Option Tree) (answer : Answer × Standing) → TextsWithin text_limit (Update name assignments filter) → counted s false (Update (full name) assignments filter) ≡ Ok answer
       → Writes s name (UpdatesChosen d assignments filter) answer.0 answer.1

@@ -130,7 +130,6 @@ module _ {O : Type 0} (meaning : O → Meaning) (laws : (o : O) → Laws (meanin
   seen_sound (Of ids) sees = local_sound meaning laws es s good.sound tree of_tree (passes (Of ids)) sees.1
 
   module _ (sight : Sight) (sees : MaySee meaning es tree.operators sight) (named : AllPass (passes sight) w.changes) where
-
     abbrev small : State
     small = part (passes sight) tree s
 

@@ -16,6 +16,6 @@ loop-text-preserved c =
     c.loop-text.invariant
     ∙ ap (λ l. (edges_on c.loop-text.set c.loop-text.reached next (map op_view l)) then λ rest. Ok (c.loop-text.edges ++ rest)) here
     ∙ step
-    ∙ ap (λ s. (edges_on s (with_one c.loop-text.reached (target_count (op_view c.text-item.result))) next (map op_view (drop (at + 1) texts))) then λ rest. Ok ((c.loop-text.edges ++ c.in_ok-edge.edge ∷ []) ++ rest)) (sym c.in_ok-set.ensures)
-    ∙ ap (λ r. (edges_on c.in_ok-set.set r next (map op_view (drop (at + 1) texts))) then λ rest. Ok ((c.loop-text.edges ++ c.in_ok-edge.edge ∷ []) ++ rest)) (sym c.in_ok-reached.ensures.more)
-    ∙ ap (λ es. (edges_on c.in_ok-set.set c.in_ok-reached.reached next (map op_view (drop (at + 1) texts))) then λ rest. Ok (es ++ rest)) (sym c.in_ok-push.ensures.ok)
+    ∙ ap (λ s. (edges_on s (with_one c.loop-text.reached (target_count (op_view c.text-item.result))) next (map op_view (drop (at + 1) texts))) then λ rest. Ok ((c.loop-text.edges ++ c.in_ok-edge.edge ∷ []) ++ rest)) (sym c.in-Ok.ensures)
+    ∙ ap (λ r. (edges_on c.in-Ok.after r next (map op_view (drop (at + 1) texts))) then λ rest. Ok ((c.loop-text.edges ++ c.in_ok-edge.edge ∷ []) ++ rest)) (sym c.in_ok-reached.ensures.more)
+    ∙ ap (λ es. (edges_on c.in-Ok.after c.in_ok-reached.reached next (map op_view (drop (at + 1) texts))) then λ rest. Ok (es ++ rest)) (sym c.in_ok-push.ensures.ok)
