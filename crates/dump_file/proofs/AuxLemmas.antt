@@ -33,7 +33,7 @@ use Rattle.op_fk_decompose.specs.Columns.{column_parts, decompose_columns}
 use Rattle.op_fk_decompose.specs.Decompose.{dangling, dangling_at, kept_at, kept_rows, ref_at, refs}
 use Rattle.op_fk_join.specs.Columns.{join_columns, side_parts}
 use Rattle.op_fk_join.specs.Join.{join_refs, key_here, unjoined, unjoined_here, unreferred, unreferred_here}
-use Rattle.op_any.specs.Operators.{Built, CreateTable, DropTable, Rename, AddColumn, AddTracked, DropColumn, Split, Merge, DecomposeSingle, DecomposePk, OuterJoinPk, JoinPk, DecomposeFk, OuterJoinFk, JoinFk, JoinOn, DecomposeOn, OuterJoinOn, joining_by, meaning_of}
+use Rattle.op_any.specs.Operators.{Built, CreateTable, DropTable, Rename, AddColumn, AddTracked, DropColumn, Split, Merge, DecomposeSingle, DecomposePk, OuterJoinPk, JoinPk, DecomposeFk, OuterJoinFk, JoinFk, JoinOn, DecomposeOn, OuterJoinOn, joining_by, meaning_of, outer_by}
 use Rattle.op_cond_join.specs.JoinOn.{join_on}
 use Rattle.outer_law.specs.OuterOn.{outer_on}
 use Rattle.pair_rows.specs.Sides.{table_at}
@@ -277,4 +277,4 @@ aux_sound (OuterJoinFk first second place) = (fk_second first second place, fk_f
 aux_sound (JoinFk first second place) = (join_fk_first first second place, join_fk_second first second place)
 aux_sound (JoinOn first second c) = (on_first (joining_by first second c), on_second (joining_by first second c))
 aux_sound (DecomposeOn first second c) = (on_second (joining_by first second c), on_first (joining_by first second c))
-aux_sound (OuterJoinOn first second c) = (outer_first (joining_by first second c), outer_second (joining_by first second c))
+aux_sound (OuterJoinOn first second c) = (outer_first (outer_by first second c), outer_second (outer_by first second c))

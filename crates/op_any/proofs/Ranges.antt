@@ -9,7 +9,7 @@ use Rattle.std.proofs.Math.Seq.{get_or-append_seam}
 use Rattle.row_parts.specs.RowCells.{by_test}
 use Rattle.row_parts.specs.Places.{has_place, AreOnce, names_at}
 use Rattle.row_parts.specs.Partition.{Divides, divides}
-use Rattle.op_any.specs.BuildJoins.{places_from}
+use Rattle.op_outer_cond.specs.Outerings.{places_from}
 
 has_range : (from count q : ℕ) → has_place (places_from from count) q ≡ true → (from ≤ q) × (q < from + count)
 unfolding places_from

@@ -7,15 +7,11 @@ use Rattle.expr_lang.specs.Resolved.{place_of, resolved}
 use Rattle.statements.specs.Views.{Tree, KeyView, Primary, Foreign, Condition}
 use Rattle.version_graph.specs.declared.parts.Heading.{Heading}
 use Rattle.version_graph.specs.declared.parts.Edge.{Edge}
+use Rattle.op_outer_cond.specs.Outerings.{places_from}
 use Rattle.op_kinds.specs.Operators.{Built, DecomposeSingle, DecomposePk, DecomposeFk, DecomposeOn, JoinPk, OuterJoinPk, JoinFk, OuterJoinFk, JoinOn, OuterJoinOn}
 use Rattle.par_base.specs.Checked.{Checked, ◌then◌}
 use Rattle.op_any.specs.Edges.{one_to_one, one_to_both, two_to_one}
 use Rattle.op_any.specs.NameChecks.{heading_named, is_passing, repeated, misdivided, known_table, other_table, new_table, known_column, known_places, known_columns, well_divided, new_columns, few_columns, known_ids}
-
--- so many places from one on
-unfoldable pub places_from : ℕ → ℕ → List ℕ
-places_from from zero = []
-places_from from (suc count) = from ∷ places_from (from + 1) count
 
 -- ---- DECOMPOSE
 
@@ -139,7 +135,7 @@ joining_on_fk set outer first second target key =
 -- with so many columns of the first source, and of the second
 abbrev pub on_condition : Bool → ℕ → ℕ → Term ℕ → Built
 on_condition false first second c = JoinOn (places_from 0 first) (places_from first second) c
-on_condition true first second c = OuterJoinOn (places_from 0 first) (places_from first second) c
+on_condition true first second c = OuterJoinOn first second c
 
 -- JOIN TABLE s, u INTO r ON c, and OUTER JOIN: c is over s's columns and then u's, which r has
 abbrev pub joining_on : List Heading → ℕ → Bool → List ℕ → List ℕ → List ℕ → Tree → Checked (Edge Built)

@@ -7,7 +7,8 @@ ghost use Rattle.op_kinds.specs.Views.{built_view};
 ghost use Rattle.par_base.specs.Checked.{Gives};
 ghost use Rattle.op_any.specs.NameChecks.{known_columns};
 ghost use Rattle.op_any.specs.Edges.{edge_view};
-ghost use Rattle.op_any.specs.BuildJoins.{places_from, meeting, columns_of_both, on_pk, on_fk, on_condition, joining_on_pk, joining_on_fk, joining_on, joining_tables};
+ghost use Rattle.op_outer_cond.specs.Outerings.{places_from};
+ghost use Rattle.op_any.specs.BuildJoins.{meeting, columns_of_both, on_pk, on_fk, on_condition, joining_on_pk, joining_on_fk, joining_on, joining_tables};
 ghost use Rattle.op_any.specs.inner.Found.{sources_view};
 
 use crate::checks::{
@@ -58,7 +59,7 @@ fn find_sources<'a>(
 }
 
 // So many places from the number of the columns before on.
-#[tactic(auto, unfolding(crate::specs::BuildJoins::places_from))]
+#[tactic(auto, unfolding(op_outer_cond::specs::Outerings::places_from))]
 fn places_after(alloc: Global, before: &[Name], columns: &[Name]) -> Result<List<usize>, Memory>
     ensures { IfOk result (λ places. places ≡ places_from (length before.now)
         (length columns.now)) }
@@ -197,18 +198,16 @@ fn condition_operator(
     ensures { IfOk result (λ made. built_view made
         ≡ on_condition outer (length first.now) (length second.now) (expr_term condition)) }
 {
-    let near = places_after(alloc, &[], first)?;
-    let far = places_after(alloc, first, second)?;
     if outer {
         return Ok(BuiltOp::OuterJoinOn(OuterOn {
-            first: near,
-            second: far,
+            first: first.len(),
+            second: second.len(),
             condition,
         }));
     }
     Ok(BuiltOp::JoinOn(JoinOn {
-        first: near,
-        second: far,
+        first: places_after(alloc, &[], first)?,
+        second: places_after(alloc, first, second)?,
         condition,
     }))
 }

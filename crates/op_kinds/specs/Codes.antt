@@ -193,7 +193,7 @@ BuiltParts =
     ⊎ ℕ × (ℕ × ℕ)
     ⊎ List ℕ × (List ℕ × Term ℕ)
     ⊎ List ℕ × (List ℕ × Term ℕ)
-    ⊎ List ℕ × (List ℕ × Term ℕ)
+    ⊎ ℕ × (ℕ × Term ℕ)
 
 abbrev built_parts : Built → BuiltParts
 built_parts «any».CreateTable = inl tt
@@ -279,7 +279,7 @@ coded_built = code_by BuiltParts
     (coded⊎ (coded× coded_places (coded× coded_places coded_ℕ))
     (coded⊎ (coded× coded_ℕ (coded× coded_ℕ coded_ℕ))
     (coded⊎ (coded× coded_places (coded× coded_places coded_place))
-    (coded⊎ (coded× coded_places (coded× coded_places coded_place)) (coded× coded_places (coded× coded_places coded_place)))))))))))))))))))
+    (coded⊎ (coded× coded_places (coded× coded_places coded_place)) (coded× coded_ℕ (coded× coded_ℕ coded_place)))))))))))))))))))
     built_parts built_from built_back
 
 abbrev pub coded_any : Coded AnyView

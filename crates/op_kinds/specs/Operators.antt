@@ -29,6 +29,7 @@ use Rattle.pair_rows.specs.Shown.{Joining}
 use Rattle.op_cond_join.specs.JoinOn.{join_on}
 use Rattle.op_cond_join.specs.inner.JoinOnLaws.{join_on_laws}
 use Rattle.outer_law.specs.OuterOn.{outer_on}
+use Rattle.op_outer_cond.specs.Outerings.{places_from}
 use Rattle.outer_law.proofs.BackwardLaws.{outer_on_laws}
 
 -- a built operator, with numbers for its columns
@@ -66,12 +67,16 @@ pub data Built : Type 0 where
   JoinOn : List ℕ → List ℕ → Term ℕ → Built
   -- the places in the source of each target's columns, and the condition over the source's
   DecomposeOn : List ℕ → List ℕ → Term ℕ → Built
-  -- the places in the target of each source's columns, and the condition over the target's
-  OuterJoinOn : List ℕ → List ℕ → Term ℕ → Built
+  -- the number of each source's columns, and the condition over the target's
+  OuterJoinOn : ℕ → ℕ → Term ℕ → Built
 
--- a join on a condition, outer or not, by the places of both tables' columns
+-- a join on a condition, by the places of both tables' columns
 abbrev pub joining_by : List ℕ → List ℕ → Term ℕ → Joining
 joining_by first second c = record { first = first; second = second; condition = c }
+
+-- an outer one, by the numbers of both tables' columns
+abbrev pub outer_by : ℕ → ℕ → Term ℕ → Joining
+outer_by first second c = record { first = places_from 0 first; second = places_from first second; condition = c }
 
 -- what it means: its rule for one identifier, at each identifier, or its rule for whole tables
 abbrev pub meaning_of : Built → Meaning
@@ -92,7 +97,7 @@ meaning_of (OuterJoinFk first second place) = flip (decompose_columns first seco
 meaning_of (JoinFk first second place) = join_columns first second place
 meaning_of (JoinOn first second c) = join_on (joining_by first second c)
 meaning_of (DecomposeOn first second c) = flip (join_on (joining_by first second c))
-meaning_of (OuterJoinOn first second c) = outer_on (joining_by first second c)
+meaning_of (OuterJoinOn first second c) = outer_on (outer_by first second c)
 
 -- each keeps the laws, both ways
 pub laws_of : (o : Built) → Laws (meaning_of o)
@@ -116,7 +121,7 @@ laws_of (OuterJoinFk first second place) = flip_laws (decompose_columns first se
 laws_of (JoinFk first second place) = join_keeps first second place
 laws_of (JoinOn first second c) = join_on_laws (joining_by first second c)
 laws_of (DecomposeOn first second c) = flip_laws (join_on (joining_by first second c)) (join_on_laws (joining_by first second c))
-laws_of (OuterJoinOn first second c) = outer_on_laws (joining_by first second c)
+laws_of (OuterJoinOn first second c) = outer_on_laws (outer_by first second c)
 
 -- an operator: the text that it was built from, and what was built
 pub record AnyView : Type 0 where

@@ -1,5 +1,5 @@
 use Rattle.std.proofs.Common.{◌≡◌, length}
-use Rattle.op_any.specs.BuildJoins.{places_from}
+use Rattle.op_outer_cond.specs.Outerings.{places_from}
 use Rattle.op_any.proofs.plan_joins.places_after.Given as goal
 
 abbrev pub invariant-loop-at : goal.invariant-loop-at
