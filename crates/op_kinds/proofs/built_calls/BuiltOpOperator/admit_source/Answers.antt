@@ -29,3 +29,6 @@ returns-in-JoinFk g c = rw c.in-JoinFk.is c.admit_source-in-JoinFk.ensures
 
 pub returns-in-JoinOn : goal.returns-in-JoinOn
 returns-in-JoinOn g c = rw c.in-JoinOn.is c.admit_source-in-JoinOn.ensures
+
+pub returns-in-OuterJoinOn : goal.returns-in-OuterJoinOn
+returns-in-OuterJoinOn g c = rw c.in-OuterJoinOn.is c.admit_source-in-OuterJoinOn.ensures
