@@ -16,6 +16,7 @@ use Rattle.engine_core.specs.Spoken.{TextsCome, operators_in}
 use Rattle.engine_sessions.specs.Standing.{Standing, used_by}
 use Rattle.engine_sessions.specs.InFull.{in_full, wants_csv}
 use Rattle.engine_sessions.specs.Act.{act, counted}
+use Rattle.engine_sessions.proofs.TextLaws.{import_texts}
 
 -- statements that the engine carries out
 pub act_counted : (s : Standing) (st : Statement)
