@@ -11,7 +11,6 @@ import shutil
 import subprocess
 import sys
 import tempfile
-import time
 import unittest
 
 HERE = os.path.dirname(os.path.realpath(__file__))
@@ -20,8 +19,8 @@ EXAMPLES = os.path.join(TOP, "examples")
 INV = os.path.join(HERE, "inv")
 sys.path.insert(0, HERE)
 
-from inv_parts import Trouble, csv_files, lists, manual, replies, schemas, scripts, telling  # noqa: E402
-from inv_parts.commands import annotated  # noqa: E402
+from inv_parts import Trouble, csv_files, lists, manual, program, replies, schemas, scripts, telling  # noqa: E402
+from inv_parts.commands import annotated, way_lines  # noqa: E402
 
 BUILT = os.path.join(TOP, "crates", "inverda", "out", "inverda")
 HAS_PROGRAM = bool(os.environ.get("INVERDA")) or os.path.exists(BUILT)
@@ -330,17 +329,58 @@ class Runs(Calling):
     def test_all_examples_answer_as_they_do(self):
         for path, has_second in examples():
             with self.subTest(path):
-                wanted = read(path + ".replies")
-                status = status_of(path) or (10 if self.is_refused(path, has_second) else 0)
-                list_name = os.path.join(self.folder, os.path.basename(path) + ".json")
-                first = self.inv("run", path + ".bidel", "--on", list_name)
-                out, ended = first[1], first[0]
+                status, out, _ = self.inv("run", path + ".bidel", "--on", "l")
                 if has_second:
-                    second = self.inv("run", path + ".then.bidel", "--on", list_name)
-                    out, ended = out + second[1], second[0] or first[0]
-                self.assertEqual(out, wanted)
-                self.assertEqual(ended, status)
-                self.assertEqual(os.path.exists(list_name), not status_of(path))
+                    ended, more, _ = self.inv("run", path + ".then.bidel", "--on", "l")
+                    status, out = ended or status, out + more
+                self.assertEqual(out, read(path + ".replies"))
+                self.assertEqual(status, status_of(path) or (10 if self.is_refused(path, has_second) else 0))
+                if status_of(path):
+                    self.assertNotIn("l", self.has())
+                    continue
+                self.check_list()
+                os.remove(os.path.join(self.folder, "l"))
+
+    def check_list(self):
+        """Compares what is told of a list with the program's own SHOW LAYOUT and ADVISE, with the data at each version."""
+        schema = schemas.read_schema(os.path.join(self.folder, "l"))
+        status, shown, said = self.inv("show", "l")
+        self.assertEqual((status, said, shown.count(b"version ")), (0, "", len(schema.versions)))
+        tables = {name: schema.tables_of(name) for name, _ in schema.versions}
+        script = "".join(f"MATERIALIZE {at}; SHOW LAYOUT; ADVISE {at};" + "".join(
+            f"SELECT p FROM {name}.{table.name} WHERE 0; ADVISE {at};" for name in tables for table in tables[name])
+                         for at in tables)
+        status, out = program.call(script.encode(), ["--load", os.path.join(self.folder, "l")])
+        answers = iter(split(script.encode(), out))
+        for at in tables:
+            is_moved = next(answers)[0].startswith(b"moved")
+            self.take_layout(schema, next(answers))
+            before = next(answers)
+            for name in tables:
+                for table in tables[name]:
+                    next(answers)
+                    after = next(answers)
+                    cost = self.cost(after, at) - self.cost(before, at)
+                    crossed = set()
+                    self.assertTrue(list(way_lines(schema, table, "", crossed)))
+                    if is_moved and any(line.split()[0] == name.encode() for line in after[:-1]):
+                        self.assertEqual(len(crossed), cost)
+                    before = after
+
+    def take_layout(self, schema, lines):
+        """Puts the layout and the stored tables that the program tells into a schema."""
+        schema.rows = {}
+        for line in lines[:-1]:
+            words = line.decode().split()
+            if words[0] == "table":
+                schema.rows[int(words[1])] = int(words[4])
+                self.assertEqual(schema.tables[int(words[1])].name, words[2])
+            else:
+                schema.operators[int(words[1])].is_stored_on_target = words[3] == "target"
+
+    def cost(self, advice, name):
+        """The cost of a version, of the lines of ADVISE."""
+        return sum(int(line.split()[1]) for line in advice[:-1] if line.split()[0] == name.encode())
 
     def is_refused(self, path, has_second):
         """Whether a statement of an example is refused."""
@@ -360,65 +400,6 @@ class Runs(Calling):
                 self.assertEqual(self.inv("run", "annotated", "--rehearse")[1], read(path + ".replies"))
                 self.assertEqual(re.sub(rb"(?m)^-- .*\n", b"", script).split(),
                                  re.sub(rb"(?m)^-- .*\n", b"", read(path + ".bidel")).split())
-
-    def test_all_lists_are_shown_and_explained(self):
-        for path, has_second in examples():
-            if status_of(path):
-                continue
-            with self.subTest(path):
-                self.inv("run", path + ".bidel", "--on", "l")
-                status, shown, said = self.inv("show", "l")
-                self.assertEqual((status, said), (0, ""))
-                schema = schemas.read_schema(os.path.join(self.folder, "l"))
-                self.assertEqual(shown.count(b"version "), len(schema.versions))
-                self.assertEqual(sum(text.count(b"stored") for text in shown.split(b"\n") if b" rows" in text),
-                                 sum(table.number in schema.rows for name, _ in schema.versions
-                                     for table in schema.tables_of(name)))
-                for name, _ in schema.versions:
-                    for table in schema.tables_of(name):
-                        status, way, said = self.inv("explain", "l", f"{name}.{table.name}")
-                        self.assertEqual((status, said), (0, ""))
-                        self.assertIn(b"what is stored", way)
-                os.remove(os.path.join(self.folder, "l"))
-
-    def test_the_tables_of_a_list_are_those_of_its_layout(self):
-        """The numbers and names of stored tables, against the program's own SHOW LAYOUT."""
-        for path, _ in examples():
-            if status_of(path):
-                continue
-            with self.subTest(path):
-                self.inv("run", path + ".bidel", "--on", "l")
-                schema = schemas.read_schema(os.path.join(self.folder, "l"))
-                layout = self.inv("run", "-", "--on", "l", "--rehearse", script=b"SHOW LAYOUT;")[1].decode()
-                for number, name, rows in re.findall(r"table (\d+) (\S+) rows (\d+)", layout):
-                    self.assertEqual(schema.rows[int(number)], int(rows))
-                    self.assertEqual(schema.tables[int(number)].name, name)
-                os.remove(os.path.join(self.folder, "l"))
-
-    def test_ways_are_as_long_as_advice_says(self):
-        """One access of a table costs as many operators as `explain` tells."""
-        for path, _ in examples():
-            if status_of(path):
-                continue
-            with self.subTest(path):
-                self.inv("run", path + ".bidel", "--on", "l")
-                schema = schemas.read_schema(os.path.join(self.folder, "l"))
-                for name, _ in schema.versions:
-                    self.check_costs(schema, name)
-                os.remove(os.path.join(self.folder, "l"))
-
-    def check_costs(self, schema, name):
-        """Moves the data to a version, and compares the costs of the tables of all versions of its tree."""
-        if self.inv("run", "-", "--on", "l", script=f"MATERIALIZE {name};".encode())[0]:
-            return
-        for other, _ in schema.versions:
-            for table in schema.tables_of(other):
-                script = f"SELECT p FROM {other}.{table.name} WHERE 0; ADVISE {name};".encode()
-                out = self.inv("run", "-", "--on", "l", "--rehearse", script=script)[1].decode().split("\n")
-                way = self.inv("explain", "l", f"{other}.{table.name}")[1].decode().strip().split("\n")[-1]
-                costs = dict(line.split() for line in out[2:-1] if not line.startswith("best "))
-                if other in costs:
-                    self.assertEqual(way.split()[0], costs[name])
 
     def test_a_list_goes_on(self):
         self.put("one", "CREATE SCHEMA VERSION one WITH CREATE TABLE task(author, task);")
@@ -441,9 +422,9 @@ class Runs(Calling):
             fcntl.flock(lock, fcntl.LOCK_EX)
             second = subprocess.Popen([sys.executable, INV, "run", "-", "--on", "l"], cwd=self.folder,
                                       stdin=subprocess.DEVNULL, stderr=subprocess.PIPE)
-            time.sleep(0.5)
+            self.assertIn(b"waiting", second.stderr.readline())
             self.assertIsNone(second.poll())
-        self.assertIn(b"waiting", second.communicate()[1])
+        second.communicate()
         self.assertEqual(second.returncode, 0)
 
     def test_a_file_comes_in_and_goes_out(self):
