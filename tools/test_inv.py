@@ -450,7 +450,8 @@ class Runs(Calling):
         self.assertEqual((status, out), (10, b""))
         self.assertIn("from line 3 on: refused 8 unknown id #99", said)
         self.assertEqual(read(self.folder, "l"), before)
-        self.assertEqual(self.inv("import", "l", "v.u", "f.csv")[0], 10)
+        status, out, said = self.inv("import", "l", "v.u", "f.csv")
+        self.assertEqual((status, out, said), (11, b"", "inv: version v has no table u; it has: t\n"))
         self.assertEqual(self.has(), ["f.csv", "l", "l.lock"])
 
     def test_releases_are_applied_once(self):
@@ -497,6 +498,15 @@ version phone FROM one
   DROP COLUMN prio FROM todo DEFAULT 1;
   todo(author, task): 1 rows
 """)
+
+    def test_the_readme_shows_what_comes(self):
+        readme = read(TOP, "README.md").decode()
+        calls = re.search(r"(?s)```\n(tools/inv run .*?)```", readme)[1].strip().split("\n")
+        for call in calls:
+            words = [os.path.join(TOP, word) if word.startswith("examples/") else word for word in call.split()[1:]]
+            status, out, _ = self.inv(*words)
+            self.assertEqual(status, 0, call)
+        self.assertIn("\n```\n" + out.decode() + "```\n", readme)
 
     def test_ways_are_told_on_either_side(self):
         self.inv("run", "-", "--on", "l", script=self.SCRIPT)

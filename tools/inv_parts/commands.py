@@ -131,9 +131,10 @@ def version_lines(schema, name, answers):
 def columns_of(table, kept):
     """The columns of a table, as the program tells them."""
     run = Run(table, f"SELECT * FROM {table} WHERE 0;".encode(), kept.load_words())
+    if run.told.refusals():
+        schemas.read_schema(kept.path).table(table)
     if run.status or run.told.refusals():
-        run.tell()
-        raise Trouble(f"the columns of {table} can't be told", run.status or REFUSED_STATUS)
+        raise Trouble(f"the columns of {table} can't be told", run.tell())
     return run.told.replies[0][0].decode().split("|")[1:]
 
 
