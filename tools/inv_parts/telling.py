@@ -20,7 +20,7 @@ HINTS = [
     (rb"(order|group|having|limit|like|between|distinct|union|exists)\b", "the language has no such clause"),
     (rb"(int|integer|bigint|text|varchar|char|bool|boolean|date|timestamp|numeric|real|serial)\b",
      "columns have no types"),
-    (rb"\(", "is there a function? The language has none"),
+    (rb"\(", "the language has no functions, and INSERT no list of columns"),
     (rb"(true|false)\b", "write 1 or 0"),
     (rb"(select|insert|update|delete|create|drop|import|materialize|use|session|advise|show)\b",
      "is a ; missing before it? A reserved word, it can't be a name"),
