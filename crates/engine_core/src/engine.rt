@@ -3,7 +3,7 @@ ghost use Rattle.std.specs.Prelude.{◌≡◌, ◌==◌, ◌≤◌, not, true, O
 ghost use Rattle.std.specs.List.{All};
 ghost use Rattle.expr_lang.specs.Operations.{text_limit};
 ghost use Rattle.statements.specs.Views.{op_view, statement_view};
-ghost use Rattle.statements.specs.Texts.{OpTexts, TextsWithin};
+ghost use Rattle.statements.specs.Texts.{IsTextWithin, OpTexts, TextsWithin};
 ghost use Rattle.version_graph.specs.Edges.{IsGraph};
 ghost use Rattle.par_base.specs.Checked.{◌then◌, Gives};
 ghost use Rattle.op_any.specs.BuiltOn.{AreBuiltOn};
@@ -258,7 +258,7 @@ impl Engine {
         operators: &[OpText],
         steps: &mut Steps<L>,
     ) -> Result<Reply, Fault<Refusal>>
-        requires texts { All (OpTexts (λ bytes. length bytes ≤ text_limit))
+        requires texts { All (OpTexts (IsTextWithin text_limit))
             (map op_view operators.now) }
         requires some { not (length (map op_view operators.now) == 0) ≡ true }
         ensures answers { Answers ((created (data_of self.old) name.now from.now

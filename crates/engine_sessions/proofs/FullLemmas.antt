@@ -1,26 +1,22 @@
 -- Statements in full.
-use Rattle.std.specs.Prelude.{Option, get_or, IsUtf8}
-use Rattle.std.specs.List.{All}
-use Rattle.std.proofs.Common.{◌≡◌, ◌≤◌, ℕ, List, ◌++◌, length, refl, ap, subst, ◌∙◌, arith}
-use Rattle.par_base.specs.declared.value.Value.{Value}
-use Rattle.par_base.specs.declared.value.Value.TheVariants.{Null, Int, Text, Reference}
+use Rattle.std.specs.Prelude.{Option}
+use Rattle.std.proofs.Common.{◌≡◌, ◌≤◌, ℕ, List, ◌++◌, refl, ap, subst, ◌∙◌}
 use Rattle.par_base.specs.Checked.{◌then◌}
 use Rattle.expr_lang.specs.Operations.{text_limit}
 use Rattle.statements.specs.declared.statement.Statement.{Statement}
 use Rattle.statements.specs.declared.statement.Statement.TheVariants as statement
-use Rattle.statements.specs.Texts.{IsTextWithin, RowTexts, ValueTexts, TextsWithin}
+use Rattle.statements.specs.Texts.{TextsWithin}
 use Rattle.statements.specs.Views.{statement_view, OpView, StatementView, CreateVersion, DropVersion, Insert, Import, Update, Delete, Select, Materialize, Step, ShowLayout, Use, Session, Advise, Watch, Unwatch, Begin, Commit, Rollback}
 use Rattle.version_graph.specs.Sets.{Within}
 use Rattle.version_graph.specs.declared.parts.Placed.{Placed}
 use Rattle.version_graph.proofs.SetLaws.{in_right}
 use Rattle.op_any.specs.Operators.{AnyView}
 use Rattle.engine_core.specs.KeptTexts.{texts_of}
-use Rattle.csv_io.specs.Tables.{csv_rows}
-use Rattle.csv_io.proofs.TextLaws.{rows_text, rows_within}
 use Rattle.engine_core.specs.Spoken.{TextsCome, operators_in}
 use Rattle.engine_sessions.specs.Standing.{Standing, used_by}
 use Rattle.engine_sessions.specs.InFull.{in_full, wants_csv}
 use Rattle.engine_sessions.specs.Act.{act, counted}
+use Rattle.engine_sessions.proofs.TextLaws.{import_texts}
 
 -- statements that the engine carries out
 pub act_counted : (s : Standing) (st : Statement)
@@ -45,24 +41,12 @@ act_counted s statement.Begin u n a = refl
 act_counted s statement.Commit u n a = refl
 act_counted s statement.Rollback u n a = refl
 
--- ---- texts
-
-shorter_value : (m : ℕ) (v : Value) → m ≤ text_limit → ValueTexts (λ bytes. length bytes ≤ m) v → ValueTexts IsUtf8 v → ValueTexts (IsTextWithin text_limit) v
-shorter_value m Null le is text = tt
-shorter_value m (Int number) le is text = text
-shorter_value m (Text bytes) le is text = (omega (arith, le, is), text)
-shorter_value m (Reference id) le is text = tt
-
-shorter_rows : (m : ℕ) (rows : List (List Value)) → m ≤ text_limit → All (RowTexts (λ bytes. length bytes ≤ m)) rows → All (RowTexts IsUtf8) rows
-    → All (RowTexts (IsTextWithin text_limit)) rows
-shorter_rows m rows le is text = λ k d lt. λ j e within. shorter_value m (get_or (get_or rows k d) j e) le (is k d lt j e within) (text k d lt j e within)
-
 -- a statement in full has no longer texts
 pub full_texts : (used : Option (List ℕ)) (x : StatementView) → TextsWithin text_limit x → TextsWithin text_limit (in_full used x)
 full_texts used (CreateVersion name from operators) is = is
 full_texts used (DropVersion name) is = is
 full_texts used (Insert name rows) is = is
-full_texts used (Import name text) is = shorter_rows (length text) (csv_rows text) is.0 (rows_within text) (rows_text text is.1)
+full_texts used (Import name text) is = import_texts text is
 full_texts used (Update name assignments filter) is = is
 full_texts used (Delete name filter) is = is
 full_texts used (Select name items filter csv) is = is

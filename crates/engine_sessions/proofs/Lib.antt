@@ -1,3 +1,4 @@
+pub mod TextLaws
 mod UseLemmas
 mod AloneLemmas
 mod FullLemmas

@@ -1,17 +1,14 @@
 -- Each statement leaves a state as a database may have it.
-use Rattle.std.specs.Prelude.{◌==◌, not, Option, Some, None, Ok, Err, get_or, if◌then◌else◌}
-use Rattle.std.specs.List.{All}
+use Rattle.std.specs.Prelude.{◌==◌, not, Option, Some, None, Ok, Err, if◌then◌else◌}
 use Rattle.std.proofs.Common.{◌≡◌, ◌≤◌, ◌<◌, ◌+◌, ℕ, List, [], ◌∷◌, length, Bool, true, false, inl, inr, refl, sym, ap, subst, ◌∙◌, arith}
 use Rattle.std.proofs.lemmas.List.{map-append}
 use Rattle.std.specs.Str.{bytes_eq}
-use Rattle.par_base.specs.declared.value.Value.{Value}
-use Rattle.par_base.specs.declared.value.Value.TheVariants.{Null, Int, Text, Reference}
 use Rattle.par_base.specs.declared.limits.Target.{Target}
 use Rattle.par_base.specs.declared.refusal.Refusal.TheVariants.{NotBuilt}
 use Rattle.par_base.specs.Checked.{Checked, ◌then◌}
 use Rattle.expr_lang.specs.Operations.{text_limit}
 use Rattle.statements.specs.Views.{OpView, StatementView, CreateVersion, DropVersion, Insert, Import, Update, Delete, Select, Materialize, Step, ShowLayout, Use, Session, Advise, Watch, Unwatch, Begin, Commit, Rollback}
-use Rattle.statements.specs.Texts.{RowTexts, TextsWithin, ValueTexts}
+use Rattle.statements.specs.Texts.{TextsWithin}
 use Rattle.version_graph.specs.Sets.{Each, In}
 use Rattle.version_graph.specs.Tables.{headings_of, table_numbers}
 use Rattle.version_graph.specs.Edges.{made, numbers, set_named, version_sets, working}
@@ -22,8 +19,7 @@ use Rattle.version_graph.proofs.GrowLaws.{grown_last, grown_stays}
 use Rattle.version_graph.proofs.NodeLaws.{set_listed}
 use Rattle.version_graph.proofs.SetLaws.{each_append, each_at, each_more, each_of, in_map, origin}
 use Rattle.version_graph.proofs.StayLaws.{edges_stay, fewer_numbers, fewer_tables, in_others, number_stays}
-use Rattle.csv_io.specs.Tables.{csv_rows}
-use Rattle.csv_io.proofs.TextLaws.{rows_within}
+use Rattle.engine_sessions.proofs.TextLaws.{import_texts}
 use Rattle.layout_rules.specs.Closed.{closing}
 use Rattle.op_any.specs.Operators.{AnyView, any_laws, any_meaning}
 use Rattle.op_any.specs.Texts.{TextsFit}
@@ -219,16 +215,6 @@ kept_acted l Commit r texts built kept h = kept_beside l Commit r texts built ke
 kept_acted l Rollback r texts built kept h = kept_beside l Rollback r texts built kept h
 
 -- ---- in a session
-
-shorter_value : (m : ℕ) (v : Value) → m ≤ text_limit → ValueTexts (λ bytes. length bytes ≤ m) v → ValueTexts (λ bytes. length bytes ≤ text_limit) v
-shorter_value m Null le is = tt
-shorter_value m (Int number) le is = tt
-shorter_value m (Text bytes) le is = omega (arith, le, is)
-shorter_value m (Reference id) le is = tt
-
--- the rows of a text that isn't too long have no text that is
-pub import_texts : (text : List ℕ) → length text ≤ text_limit → All (RowTexts (λ bytes. length bytes ≤ text_limit)) (csv_rows text)
-import_texts text le = λ k d lt. λ j e within. shorter_value (length text) (get_or (get_or (csv_rows text) k d) j e) le (rows_within text k d lt j e within)
 
 kept_answered : (s : Standing) (csv : Bool) (table : Option ℕ) (m : Checked (Reply × Laid)) → IsKept s.laid.database → ((r : Reply × Laid) → m ≡ Ok r → IsKept (data_in r)) → IsKept (next_state s (answered s csv table m)).laid.database
 kept_answered s csv table (Ok r) kept more = more r refl

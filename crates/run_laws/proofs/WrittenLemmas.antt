@@ -30,7 +30,8 @@ use Rattle.engine_sessions.specs.declared.answer.Answer.{Answer}
 use Rattle.engine_sessions.specs.declared.answer.Answer.TheVariants.{Plain}
 use Rattle.run_laws.specs.Kept.{IsKept}
 use Rattle.run_laws.specs.Written.{IsWrite, Means, Writes, WritesAreOrdinary}
-use Rattle.run_laws.proofs.KeptLemmas.{built_first, import_texts}
+use Rattle.engine_sessions.proofs.TextLaws.{import_texts}
+use Rattle.run_laws.proofs.KeptLemmas.{built_first}
 use Rattle.run_laws.proofs.PlanLemmas.{Takes, delete_taken, insert_taken, update_taken}
 
 -- what an answered write has planned, and what it leaves and answers
