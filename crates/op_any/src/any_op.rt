@@ -16,7 +16,7 @@ use std::marker::Model;
 use std::sync::ledger::Ledger;
 
 /// An operator of any kind, with the text that built it. Only `build_op` makes one.
-#[derive(Debug, Drop)]
+#[derive(Drop)]
 pub struct AnyOp {
     text: OpText,
     operator: BuiltOp,

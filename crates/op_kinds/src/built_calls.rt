@@ -250,26 +250,15 @@ impl Operator for BuiltOp {
     }
 
     fn is_local(&self) -> bool {
-        match self {
-            BuiltOp::CreateTable(it) => it.is_local(),
-            BuiltOp::DropTable(it) => it.is_local(),
-            BuiltOp::Rename(it) => it.is_local(),
-            BuiltOp::AddColumn(it) => it.is_local(),
-            BuiltOp::AddTracked(it) => it.is_local(),
-            BuiltOp::DropColumn(it) => it.is_local(),
-            BuiltOp::Split(it) => it.is_local(),
-            BuiltOp::Merge(it) => it.is_local(),
-            BuiltOp::DecomposeSingle(it) => it.is_local(),
-            BuiltOp::DecomposePk(it) => it.is_local(),
-            BuiltOp::OuterJoinPk(it) => it.is_local(),
-            BuiltOp::JoinPk(it) => it.is_local(),
-            BuiltOp::DecomposeFk(it) => it.is_local(),
-            BuiltOp::OuterJoinFk(it) => it.is_local(),
-            BuiltOp::JoinFk(it) => it.is_local(),
-            BuiltOp::JoinOn(it) => it.is_local(),
-            BuiltOp::DecomposeOn(it) => it.is_local(),
-            BuiltOp::OuterJoinOn(it) => it.is_local(),
-        }
+        !matches!(
+            self,
+            BuiltOp::DecomposeFk(_)
+                | BuiltOp::OuterJoinFk(_)
+                | BuiltOp::JoinFk(_)
+                | BuiltOp::JoinOn(_)
+                | BuiltOp::DecomposeOn(_)
+                | BuiltOp::OuterJoinOn(_)
+        )
     }
 
     ghost laws = { λ it. laws_of (built_view it) };

@@ -10,7 +10,7 @@ use op_rows::{FlipRow, Rowwise};
 use op_split_merge::Split;
 
 /// What was built from an operator's text: one case for each kind of operator.
-#[derive(Debug, Drop)]
+#[derive(Drop)]
 pub enum BuiltOp {
     CreateTable(Rowwise<CreateTable>),
     DropTable(Rowwise<DropTable>),
