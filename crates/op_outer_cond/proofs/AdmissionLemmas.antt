@@ -253,10 +253,10 @@ refuses_source j near aux m r s t target first_is second_is none hs ht far belon
     none (subst (λ (rs : Rows). IsSource j r m rs t) (sym s_is) (subst (λ (rs : Rows). IsSource j r m a rs) (sym t_is) found))
 
 -- the side that is read back, by the test whether it is one of the target
-pub admits_by : (j : Joining) (near aux : Tables) (m : Pairs) (yes : Bool) (far : Tables) (found : Option Tables) → aux ≡ [] → far ≡ side_read first_of j.first (table_at 0 near) (with_it first_of m) [] ∷ side_read second_of j.second (table_at 0 near) (with_it second_of m) [] ∷ []
-    → PairsRise 0 m → IsOneToOne m → (yes ≡ true → IsSource j (table_at 0 near) m (table_at 0 far) (table_at 1 far)) → (IsSource j (table_at 0 near) m (table_at 0 far) (table_at 1 far) → yes ≡ true)
-    → found ≡ (if yes then Some far else None) → Admits (flip (outer_on j)) near aux m found
-admits_by j near aux m yes far found none far_is rise one is back found_is = subst (λ (o : Option Tables). Admits (flip (outer_on j)) near aux m o) (sym found_is) (by_yes yes is back)
+pub admits_by : (j : Joining) (near aux : Tables) (m : Pairs) (known : Bool) (far : Tables) (found : Option Tables) → aux ≡ [] → far ≡ side_read first_of j.first (table_at 0 near) (with_it first_of m) [] ∷ side_read second_of j.second (table_at 0 near) (with_it second_of m) [] ∷ []
+    → PairsRise 0 m → IsOneToOne m → (known ≡ true → IsSource j (table_at 0 near) m (table_at 0 far) (table_at 1 far)) → (IsSource j (table_at 0 near) m (table_at 0 far) (table_at 1 far) → known ≡ true)
+    → found ≡ (if known then Some far else None) → Admits (flip (outer_on j)) near aux m found
+admits_by j near aux m known far found none far_is rise one is back found_is = subst (λ (o : Option Tables). Admits (flip (outer_on j)) near aux m o) (sym found_is) (by_known known is back)
   where
     first_is : table_at 0 far ≡ side_read first_of j.first (table_at 0 near) (with_it first_of m) []
     first_is = ap (table_at 0) far_is
@@ -267,6 +267,6 @@ admits_by j near aux m yes far found none far_is rise one is back found_is = sub
     two_is : far ≡ table_at 0 far ∷ table_at 1 far ∷ []
     two_is = far_is ∙ sym (ap (λ (ts : Tables). table_at 0 ts ∷ table_at 1 ts ∷ []) far_is)
 
-    by_yes : (b : Bool) → (b ≡ true → IsSource j (table_at 0 near) m (table_at 0 far) (table_at 1 far)) → (IsSource j (table_at 0 near) m (table_at 0 far) (table_at 1 far) → b ≡ true) → Admits (flip (outer_on j)) near aux m (if b then Some far else None)
-    by_yes true is back = admits_source j near aux m (table_at 0 near) (table_at 0 far) (table_at 1 far) far refl none two_is rise one first_is second_is (is refl)
-    by_yes false is back = refuses_source j near aux m (table_at 0 near) (table_at 0 far) (table_at 1 far) refl first_is second_is (λ it. false≢true (back it))
+    by_known : (b : Bool) → (b ≡ true → IsSource j (table_at 0 near) m (table_at 0 far) (table_at 1 far)) → (IsSource j (table_at 0 near) m (table_at 0 far) (table_at 1 far) → b ≡ true) → Admits (flip (outer_on j)) near aux m (if b then Some far else None)
+    by_known true is back = admits_source j near aux m (table_at 0 near) (table_at 0 far) (table_at 1 far) far refl none two_is rise one first_is second_is (is refl)
+    by_known false is back = refuses_source j near aux m (table_at 0 near) (table_at 0 far) (table_at 1 far) refl first_is second_is (λ it. false≢true (back it))

@@ -211,8 +211,8 @@ fn is_source_of(
     memory: &PairMemory,
     source: &Side,
 ) -> Result<bool, Memory>
-    ensures rise { PairsRise 0 memory.now.entries }
-    ensures one { IsOneToOne memory.now.entries }
+    ensures rise { IfOk result (λ _. PairsRise 0 memory.now.entries) }
+    ensures one { IfOk result (λ _. IsOneToOne memory.now.entries) }
     ensures answer { IfOk result (λ yes. IsTrue yes ↔ IsSource (joining outer.now)
         (table_at 0 target.now) memory.now.entries (table_at 0 source.now)
         (table_at 1 source.now)) }

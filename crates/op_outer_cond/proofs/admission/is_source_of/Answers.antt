@@ -1,10 +1,18 @@
 use Rattle.std.proofs.Common.{◌↔◌, IsTrue, IfOk, subst}
+use Rattle.std.proofs.lemmas.Result.{IfOk-weaker}
 use Rattle.row_store.specs.Rows.{Rows}
+use Rattle.id_memory.specs.Pairs.{RiseFrom as PairsRise, IsOneToOne}
 use Rattle.pair_rows.specs.Shown.{Joining}
 use Rattle.pair_rows.specs.Sides.{table_at}
 use Rattle.op_outer_cond.specs.inner.Calls.{joining_of}
 use Rattle.op_outer_cond.specs.inner.Admitted.{IsSource}
 use Rattle.op_outer_cond.proofs.admission.is_source_of.Goals as goal
+
+pub returns-clause-rise : goal.returns-clause-rise
+returns-clause-rise c = IfOk-weaker c.is_source.result _ (λ _. PairsRise 0 c.args.memory.now.entries) (λ _ _. c.is_source.ensures.rise) c.is_source.ensures.answer
+
+pub returns-clause-one : goal.returns-clause-one
+returns-clause-one c = IfOk-weaker c.is_source.result _ (λ _. IsOneToOne c.args.memory.now.entries) (λ _ _. c.is_source.ensures.one) c.is_source.ensures.answer
 
 pub returns-clause-answer : goal.returns-clause-answer
 returns-clause-answer c =

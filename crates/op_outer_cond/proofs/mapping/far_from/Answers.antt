@@ -1,8 +1,7 @@
-use Rattle.std.proofs.Common.{◌≡◌, ℕ, ap, refl, sym, subst, ◌∙◌}
+use Rattle.std.proofs.Common.{ℕ, ap, refl, sym, subst, ◌∙◌}
 use Rattle.std.proofs.lemmas.Result.{err_from_is_err_and}
 use Rattle.id_memory.specs.Pairs.{Pairs, RiseFrom, IsOneToOne}
 use Rattle.id_memory.specs.States.{CounterState}
-use Rattle.outer_law.specs.Placed.{Placing}
 use Rattle.op_outer_cond.specs.inner.Calls.{joining_of}
 use Rattle.op_outer_cond.specs.inner.Placings.{placing_of, IsReady, placed_in, ending_in}
 use Rattle.op_outer_cond.specs.inner.Mappings.{mapped_in}
