@@ -244,7 +244,10 @@ fn join_on(
     let columns = find_columns(alloc, names.target, first, second)?;
     check_ids(condition, next)?;
     let tables = from_two_to_one(alloc, names.first, names.second, names.target, columns)?;
-    Ok(edge_of(condition_operator(alloc, outer, first, second, expr)?, tables))
+    Ok(edge_of(
+        condition_operator(alloc, outer, first, second, expr)?,
+        tables,
+    ))
 }
 
 /// The edge of a JOIN or an OUTER JOIN, or the first of its checks that refuses it.

@@ -1,12 +1,13 @@
 -- What admits a side, and what doesn't.
 use Rattle.std.specs.Prelude.{nat_eq}
-use Rattle.std.proofs.Common.{◌≡◌, ℕ, zero, suc, ◌+◌, ◌<◌, ◌≤◌, ◌==◌, List, [], ◌∷◌, ◌++◌, length, take, slice_index_or, filter, count_by, if◌then◌else◌, Bool, true, false, not, ◌||◌, ◌&&◌, Some, None, IsSome, is_some, refl, ap, sym, ◌∙◌, subst, arith}
+use Rattle.std.proofs.Common.{◌≡◌, ℕ, zero, suc, ◌+◌, ◌<◌, ◌≤◌, ◌==◌, List, [], ◌∷◌, ◌++◌, length, take, slice_index_or, filter, count_by, if◌then◌else◌, Bool, true, false, not, ◌||◌, ◌&&◌, Option, Some, None, IsSome, is_some, refl, ap, sym, ◌∙◌, subst, arith}
 use Rattle.std.proofs.lemmas.List.{take_more}
-use Rattle.std.proofs.lemmas.Bool.{and_parts, false≢true}
+use Rattle.std.proofs.lemmas.Bool.{and_parts, false≢true, eqb-true, eq-eqb, ne_eqb}
 use Rattle.std.proofs.lemmas.Bool.Decides.{nat_tests}
 use Rattle.par_base.specs.declared.value.Value.{Value}
 use Rattle.row_store.specs.Rows.{Rows, RiseFrom, row_of}
 use Rattle.row_store.specs.States.{TableState}
+use Rattle.row_store.specs.inner.FoundRows.{none_under, rise_more}
 use Rattle.id_memory.specs.Pairs.{Pairs, RiseFrom as PairsRise, IsOneToOne, has_pair}
 use Rattle.op_law.specs.Tables.{Tables, RowsWide, AreTablesOf, contents}
 use Rattle.op_law.specs.Meaning.{PairState, flip}
@@ -23,8 +24,8 @@ use Rattle.pair_rows.specs.Stays.{stands}
 use Rattle.pair_rows.specs.Kept.{alone, paired, ids_paired, side_read}
 use Rattle.pair_rows.specs.Sides.{JoinFits, table_at}
 use Rattle.pair_rows.specs.Shown.{Joining, AreThere}
-use Rattle.pair_rows.specs.inner.Numbers.{same_number, is_own, count_cons}
-use Rattle.pair_rows.specs.inner.Lookups.{apart, none_under, rise_more, filter_found, filter_lost, filter_rise}
+use Rattle.pair_rows.specs.inner.Numbers.{count_cons}
+use Rattle.pair_rows.specs.inner.Lookups.{filter_found, filter_lost, filter_rise}
 use Rattle.pair_rows.specs.inner.PairLemmas.{count_yes, count_no}
 use Rattle.pair_rows.specs.inner.ShownLaws.{joined_rise, joined_wide}
 use Rattle.pair_rows.specs.inner.TwoSides.{two_tables, two_of, one_of}
@@ -38,8 +39,8 @@ use Rattle.op_outer_cond.specs.inner.Admitted.{other_of, IsOnce, AreOnce, AreIn,
 pub half_is : (places : List ℕ) (rows : Rows) (id : ℕ) → ((id == 0) || is_some (row_of rows id)) ≡ is_some (row_of (with_absent places rows) id)
 half_is places rows id =
     by_test (0 == id)
-    (λ q. let same = same_number 0 id q in let zero_id : (id == 0) ≡ true = ap (λ (i : ℕ). i == 0) (sym same) in rw (q, zero_id) refl)
-    (λ q. let away : (id == 0) ≡ false = apart id 0 (λ u. absurd (false≢true (sym q ∙ ap (λ (i : ℕ). 0 == i) u))) in rw (q, away) refl)
+    (λ q. let same = eqb-true 0 id q in let zero_id : (id == 0) ≡ true = ap (λ (i : ℕ). i == 0) (sym same) in rw (q, zero_id) refl)
+    (λ q. let away : (id == 0) ≡ false = ne_eqb id 0 (λ u. absurd (false≢true (sym q ∙ ap (λ (i : ℕ). 0 == i) u))) in rw (q, away) refl)
 
 -- one entry more whose halves are there
 there_behind : (s t : Rows) (es : Pairs) (e : ℕ × ℕ × ℕ) → AreThere s t es → IsSome (row_of s e.1) → IsSome (row_of t e.2) → AreThere s t (es ++ e ∷ [])
@@ -91,7 +92,7 @@ once_alone pick other m (e ∷ es) id all some =
     by_test (pick e == id && other e == 0)
     (λ q.
     let both = and_parts (pick e == id) (other e == 0) q in
-    subst (λ (i : ℕ). with_half pick i m ≤ 1) (same_number (pick e) id both.0) (all.0 both.1))
+    subst (λ (i : ℕ). with_half pick i m ≤ 1) (eqb-true (pick e) id both.0) (all.0 both.1))
     (λ q. let less = count_no (λ e. pick e == id && other e == 0) e es q in once_alone pick other m es id all.1 (omega (arith, some, less)))
 
 -- and the other way
@@ -99,7 +100,7 @@ alone_from : (pick other : ℕ × ℕ × ℕ → ℕ) (m es : Pairs) → ((id : 
 alone_from pick other m [] alone within = tt
 alone_from pick other m (e ∷ es) alone within = (
   λ lone.
-      let own = is_own (pick e) in
+      let own = eq-eqb (pick e) (pick e) refl in
       let more = count_yes (λ f. pick f == pick e && other f == 0) e es (rw (own, lone) refl) in
       let some = within (pick e) in
       alone (pick e) (omega (arith, more, some)),
@@ -131,7 +132,7 @@ none_left pick other picks rows m none id some =
 pub all_in : (pick other : ℕ × ℕ × ℕ → ℕ) → ArePicks pick other → (rows : Rows) (m : Pairs) → AreIn pick rows m → length (alone pick m rows) ≡ 0
 all_in pick other picks [] m each = refl
 all_in pick other picks (r ∷ rs) m each =
-    let own = is_own r.0 in
+    let own = eq-eqb r.0 r.0 refl in
     let here : IsSome (row_of (r ∷ rs) r.0) = rw own refl in
     let there = counted_stands pick other picks m r.0 (each r.0 here) in
     rw there (all_in pick other picks rs m (λ id some. each id (by_test (r.0 == id) (λ q. rw q refl) (λ q. rw q some))))
@@ -175,11 +176,6 @@ pub no_tables : (tables : List TableState) → length tables ≡ 0 → contents 
 no_tables [] none = refl
 no_tables (t ∷ ts) none = absurd (omega arith)
 
--- some auxiliary tables
-pub some_tables : (tables : List TableState) → contents tables ≡ [] → length tables ≡ 0
-some_tables [] none = refl
-some_tables (t ∷ ts) none = absurd (cc)
-
 -- the target of a source
 pub admits_target : (j : Joining) (near aux : Tables) (m : Pairs) (s t : Rows) (far : Tables) → aux ≡ [] → s ≡ table_at 0 near → t ≡ table_at 1 near → PairsRise 0 m → IsOneToOne m → AreOuter s t m
     → far ≡ shown j (table_at 0 near) (table_at 1 near) m ∷ [] → Admits (outer_on j) near aux m (Some far)
@@ -219,13 +215,6 @@ refuses_target j near aux m s t first second none hs ht far belongs =
     let outer = outer_is j (table_at 0 near) (table_at 1 near) (table_at 0 far) m is in
     none (subst (λ (rs : Rows). AreOuter s rs m) (sym second) (subst (λ (rs : Rows). AreOuter rs (table_at 1 near) m) (sym first) outer))
 
--- none, where there are auxiliary tables
-pub refuses_tables : (j : Joining) (near aux : Tables) (m : Pairs) → (aux ≡ [] → ⊥) → Admits (outer_on j) near aux m None
-refuses_tables j near aux m some hs ht far belongs = some belongs.aux_is
-
-pub refuses_kept : (j : Joining) (near aux : Tables) (m : Pairs) → (aux ≡ [] → ⊥) → Admits (flip (outer_on j)) near aux m None
-refuses_kept j near aux m some hs ht far belongs = some belongs.aux_is
-
 -- the source of a target
 pub admits_source : (j : Joining) (near aux : Tables) (m : Pairs) (r s t : Rows) (far : Tables) → r ≡ table_at 0 near → aux ≡ [] → far ≡ s ∷ t ∷ [] → PairsRise 0 m → IsOneToOne m
     → s ≡ side_read first_of j.first r (with_it first_of m) [] → t ≡ side_read second_of j.second r (with_it second_of m) [] → IsSource j r m s t → Admits (flip (outer_on j)) near aux m (Some far)
@@ -262,3 +251,22 @@ refuses_source j near aux m r s t target first_is second_is none hs ht far belon
     let t_is : t ≡ b = second_is ∙ read.1 in
     let found : IsSource j r m a b = record { outer = outer_is j a b r m here; rows = sym here.joined.rows } in
     none (subst (λ (rs : Rows). IsSource j r m rs t) (sym s_is) (subst (λ (rs : Rows). IsSource j r m a rs) (sym t_is) found))
+
+-- the side that is read back, by the test whether it is one of the target
+pub admits_by : (j : Joining) (near aux : Tables) (m : Pairs) (known : Bool) (far : Tables) (found : Option Tables) → aux ≡ [] → far ≡ side_read first_of j.first (table_at 0 near) (with_it first_of m) [] ∷ side_read second_of j.second (table_at 0 near) (with_it second_of m) [] ∷ []
+    → PairsRise 0 m → IsOneToOne m → (known ≡ true → IsSource j (table_at 0 near) m (table_at 0 far) (table_at 1 far)) → (IsSource j (table_at 0 near) m (table_at 0 far) (table_at 1 far) → known ≡ true)
+    → found ≡ (if known then Some far else None) → Admits (flip (outer_on j)) near aux m found
+admits_by j near aux m known far found none far_is rise one is back found_is = subst (λ (o : Option Tables). Admits (flip (outer_on j)) near aux m o) (sym found_is) (by_known known is back)
+  where
+    first_is : table_at 0 far ≡ side_read first_of j.first (table_at 0 near) (with_it first_of m) []
+    first_is = ap (table_at 0) far_is
+
+    second_is : table_at 1 far ≡ side_read second_of j.second (table_at 0 near) (with_it second_of m) []
+    second_is = ap (table_at 1) far_is
+
+    two_is : far ≡ table_at 0 far ∷ table_at 1 far ∷ []
+    two_is = far_is ∙ sym (ap (λ (ts : Tables). table_at 0 ts ∷ table_at 1 ts ∷ []) far_is)
+
+    by_known : (b : Bool) → (b ≡ true → IsSource j (table_at 0 near) m (table_at 0 far) (table_at 1 far)) → (IsSource j (table_at 0 near) m (table_at 0 far) (table_at 1 far) → b ≡ true) → Admits (flip (outer_on j)) near aux m (if b then Some far else None)
+    by_known true is back = admits_source j near aux m (table_at 0 near) (table_at 0 far) (table_at 1 far) far refl none two_is rise one first_is second_is (is refl)
+    by_known false is back = refuses_source j near aux m (table_at 0 near) (table_at 0 far) (table_at 1 far) refl first_is second_is (λ it. false≢true (back it))

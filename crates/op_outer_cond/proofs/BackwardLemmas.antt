@@ -1,20 +1,24 @@
 -- What the mapping from a new target may suppose, and that its entries are a memory.
-use Rattle.std.proofs.Common.{◌≡◌, ℕ, ◌+◌, ◌≤◌, ◌==◌, [], ◌∷◌, filter, count_by, Bool, not, ◌&&◌, refl, ap, sym, ◌∙◌, subst, arith}
+use Rattle.std.proofs.Common.{◌≡◌, ℕ, ◌+◌, ◌≤◌, ◌==◌, [], ◌∷◌, filter, count_by, Bool, not, ◌&&◌, Err, refl, ap, sym, ◌∙◌, subst, arith}
+use Rattle.par_base.specs.declared.fault.Fault.{Fault}
+use Rattle.par_base.specs.declared.fault.Fault.TheVariants.{Refused, Memory as OutOfMemory}
+use Rattle.par_base.specs.declared.refusal.IdsSpent.{IdsSpent}
 use Rattle.row_store.specs.Rows.{Rows, RiseFrom, AreBelow}
 use Rattle.id_memory.specs.Pairs.{Pairs, RiseFrom as PairsRise, IsOneToOne, has_pair}
 use Rattle.id_memory.specs.States.{CounterState}
-use Rattle.op_law.specs.Calls.{first_refused}
+use Rattle.op_law.specs.Calls.{first_refused, IsMapped}
 use Rattle.op_law.specs.Tables.{Tables}
 use Rattle.op_law.specs.Sound.{RowsSound}
-use Rattle.op_law.specs.Meaning.{PairState, flip, exchanged}
+use Rattle.op_law.specs.Meaning.{Mapped, PairState, flip, exchanged}
 use Rattle.op_law.specs.Premises.{SomeMap}
+use Rattle.op_law.proofs.SoundLaws.{below_sound}
 use Rattle.row_parts.specs.RowCells.{by_test}
 use Rattle.pair_rows.specs.Halves.{first_of, second_of}
 use Rattle.pair_rows.specs.Stays.{stands}
 use Rattle.pair_rows.specs.Shown.{Joining}
 use Rattle.pair_rows.specs.Sides.{table_at, JoinFits}
 use Rattle.pair_rows.specs.Given.{kept_in}
-use Rattle.pair_rows.specs.inner.Lookups.{below_sound, filter_sound}
+use Rattle.pair_rows.specs.inner.Lookups.{filter_sound}
 use Rattle.pair_rows.specs.inner.Numbers.{count_cons}
 use Rattle.pair_rows.specs.inner.PairLemmas.{pairs_rise_more}
 use Rattle.pair_rows.specs.inner.TwoSides.{one_table, table_sound}
@@ -24,7 +28,9 @@ use Rattle.outer_law.specs.OuterOn.{outer_on, outer_backward}
 use Rattle.outer_law.proofs.SubsetLaws.{sub_count, kept_rise, kept_paired}
 use Rattle.outer_law.proofs.BackwardLaws.{backward_half}
 use Rattle.op_outer_cond.specs.inner.Placings.{placing_of, Knows, AreReady, IsReady}
+use Rattle.op_outer_cond.specs.inner.Mappings.{mapped_from}
 use Rattle.op_outer_cond.specs.declared.half_rows.HalfRows.{HalfRows}
+use Rattle.pair_rows.specs.inner.Draws.{WasRefused}
 use Rattle.pair_rows.specs.inner.Knowing.{FindsLeast}
 use Rattle.op_outer_cond.specs.declared.placing.Placing.{Placing as State}
 use Rattle.op_outer_cond.proofs.MappingLemmas.{AreEntries}
@@ -92,14 +98,13 @@ pub start_from : (s t r new : Rows) (m whole : Pairs) (it : State) → it.first.
 start_from s t r new m whole it first second first_shared second_shared kept all n = rw (first, second, first_shared, second_shared, kept, all) refl
 
 -- what is there at the start
-pub start_is : (n k : ℕ) (s t r new : Rows) (m : Pairs) (old : PairState) (near : Tables) (d : Placing) → k ≡ n → s ≡ table_at 0 old.source → t ≡ table_at 1 old.source → r ≡ table_at 0 old.target → new ≡ table_at 0 near → d ≡ beginning s t r m new k
-    → d ≡ beginning (table_at 0 old.source) (table_at 1 old.source) (table_at 0 old.target) m (table_at 0 near) n
-start_is n k s t r new m old near d same first second target rows is =
-    is ∙ ap (λ (all : Rows). beginning all t r m new k) first
-    ∙ ap (λ (all : Rows). beginning (table_at 0 old.source) all r m new k) second
-    ∙ ap (λ (all : Rows). beginning (table_at 0 old.source) (table_at 1 old.source) all m new k) target
-    ∙ ap (λ (all : Rows). beginning (table_at 0 old.source) (table_at 1 old.source) (table_at 0 old.target) m all k) rows
-    ∙ ap (λ (i : ℕ). beginning (table_at 0 old.source) (table_at 1 old.source) (table_at 0 old.target) m (table_at 0 near) i) same
+pub start_is : (old : PairState) (near : Tables) (n : ℕ) (s t r new : Rows) (d : Placing) → s ≡ table_at 0 old.source → t ≡ table_at 1 old.source → r ≡ table_at 0 old.target → new ≡ table_at 0 near → d ≡ beginning s t r old.memory new n
+    → d ≡ beginning (table_at 0 old.source) (table_at 1 old.source) (table_at 0 old.target) old.memory (table_at 0 near) n
+start_is old near n s t r new d first second target rows is =
+    is ∙ ap (λ (all : Rows). beginning all t r old.memory new n) first
+    ∙ ap (λ (all : Rows). beginning (table_at 0 old.source) all r old.memory new n) second
+    ∙ ap (λ (all : Rows). beginning (table_at 0 old.source) (table_at 1 old.source) all old.memory new n) target
+    ∙ ap (λ (all : Rows). beginning (table_at 0 old.source) (table_at 1 old.source) (table_at 0 old.target) old.memory all n) rows
 
 -- the new entries are a memory
 pub backward_entries : (j : Joining) (near : Tables) (old : PairState) (n : ℕ) (d : Placing) (r new : Rows) (es : Pairs) → SomeMap (flip (outer_on j)) near (exchanged old) n
@@ -116,20 +121,15 @@ backward_entries j near old n d r new es some start target rows is =
     subst (λ (ps : Pairs). AreEntries ps) (sym all) (record { rises = related.joined.rises; one = related.joined.one })
 
 -- so the mapping gives what it should
-pub backward_mapped : (j : Joining) (near : Tables) (old : PairState) (counter copy now : CounterState) (d state : Placing) (r new : Rows) (es memory : Pairs) (first second : Rows) (side : Tables)
-    → copy ≡ counter → d ≡ beginning (table_at 0 old.source) (table_at 1 old.source) (table_at 0 old.target) old.memory (table_at 0 near) counter.next → r ≡ table_at 0 old.target → new ≡ table_at 0 near
-    → (ending j r old.memory d new).next ≤ first_refused copy → es ≡ placed j r old.memory d new → state ≡ ending j r old.memory d new → now ≡ record copy { next = (ending j r old.memory d new).next }
+pub placed_mapped : (j : Joining) (r new : Rows) (m : Pairs) (d begun : Placing) (counter copy now : CounterState) (state : Placing) (es memory : Pairs) (first second : Rows) (side : Tables)
+    → copy ≡ counter → begun ≡ d → (ending j r m begun new).next ≤ first_refused copy → es ≡ placed j r m begun new → state ≡ ending j r m begun new → now ≡ record copy { next = (ending j r m begun new).next }
     → memory ≡ es → first ≡ standing first_of memory state.first → second ≡ standing second_of memory state.second → side ≡ first ∷ second ∷ []
-    → ((outer_backward j near old counter.next).next ≤ first_refused counter) × ((side ≡ (outer_backward j near old counter.next).far) × (memory ≡ (outer_backward j near old counter.next).memory)) × (now ≡ record counter { next = (outer_backward j near old counter.next).next })
-backward_mapped j near old counter copy now d state r new es memory first second side same start target rows low is ended raised memory_is first_is second_is side_is =
-    let m = old.memory in
-    let begun = beginning (table_at 0 old.source) (table_at 1 old.source) (table_at 0 old.target) m (table_at 0 near) counter.next in
-    let all = placed j (table_at 0 old.target) m begun (table_at 0 near) in
-    let end = ending j (table_at 0 old.target) m begun (table_at 0 near) in
-    let entries : memory ≡ all =
-    memory_is ∙ is ∙ ap (λ (e : Placing). placed j r m e new) start ∙ ap (λ (rs : Rows). placed j rs m begun new) target ∙ ap (λ (rs : Rows). placed j (table_at 0 old.target) m begun rs) rows in
-    let last : ending j r m d new ≡ end =
-    ap (λ (e : Placing). ending j r m e new) start ∙ ap (λ (rs : Rows). ending j rs m begun new) target ∙ ap (λ (rs : Rows). ending j (table_at 0 old.target) m begun rs) rows in
+    → ((mapped_from j r m d new).next ≤ first_refused counter) × ((side ≡ (mapped_from j r m d new).far) × (memory ≡ (mapped_from j r m d new).memory)) × (now ≡ record counter { next = (mapped_from j r m d new).next })
+placed_mapped j r new m d begun counter copy now state es memory first second side same start low is ended raised memory_is first_is second_is side_is =
+    let all = placed j r m d new in
+    let end = ending j r m d new in
+    let entries : memory ≡ all = memory_is ∙ is ∙ ap (λ (e : Placing). placed j r m e new) start in
+    let last : ending j r m begun new ≡ end = ap (λ (e : Placing). ending j r m e new) start in
     let at_end : state ≡ end = ended ∙ last in (
       subst (λ (c : CounterState). end.next ≤ first_refused c) same (subst (λ (e : Placing). e.next ≤ first_refused copy) last low),
       (
@@ -138,5 +138,22 @@ backward_mapped j near old counter copy now d state r new es memory first second
             ∙ ap (λ (e : Placing). standing first_of all e.first ∷ standing second_of all e.second ∷ []) at_end,
         entries,
       ),
-      raised ∙ ap (λ (c : CounterState). record c { next = (ending j r m d new).next }) same ∙ ap (λ (e : Placing). record counter { next = e.next }) last,
+      raised ∙ ap (λ (c : CounterState). record c { next = (ending j r m begun new).next }) same ∙ ap (λ (e : Placing). record counter { next = e.next }) last,
     )
+
+-- and it is refused where placing the rows is
+pub placed_refused : (to : Mapped) (n : ℕ) (counter copy : CounterState) (fault : Fault IdsSpent) → copy ≡ counter → n ≡ to.next → WasRefused n copy fault → IsMapped to counter counter (Err fault)
+placed_refused to n counter copy (Refused spent) same next was =
+    let here : WasRefused to.next counter (Refused spent) = subst (λ (k : ℕ). WasRefused k counter (Refused spent)) next (subst (λ (c : CounterState). WasRefused n c (Refused spent)) same was) in
+    (here.0, here.1, here.2, refl)
+placed_refused to n counter copy (OutOfMemory memory) same next was = refl
+
+-- from the old pair and the new target
+pub mapped_is : (j : Joining) (near : Tables) (old : PairState) (n : ℕ) (d : Placing) (r new : Rows)
+    → d ≡ beginning (table_at 0 old.source) (table_at 1 old.source) (table_at 0 old.target) old.memory (table_at 0 near) n → r ≡ table_at 0 old.target → new ≡ table_at 0 near
+    → mapped_from j r old.memory d new ≡ outer_backward j near old n
+mapped_is j near old n d r new start target rows =
+    let begun = beginning (table_at 0 old.source) (table_at 1 old.source) (table_at 0 old.target) old.memory (table_at 0 near) n in
+    ap (λ (e : Placing). mapped_from j r old.memory e new) start
+    ∙ ap (λ (rs : Rows). mapped_from j rs old.memory begun new) target
+    ∙ ap (λ (rs : Rows). mapped_from j (table_at 0 old.target) old.memory begun rs) rows

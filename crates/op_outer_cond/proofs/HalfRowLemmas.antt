@@ -2,12 +2,12 @@
 use Rattle.std.proofs.Common.{◌≡◌, ℕ, ◌+◌, ◌≤◌, List, [], ◌∷◌, ◌++◌, if◌then◌else◌, Option, Some, None, refl, ap, sym, ◌∙◌, subst, arith}
 use Rattle.par_base.specs.declared.value.Value.{Value}
 use Rattle.row_store.specs.Rows.{Rows, AreBelow}
+use Rattle.row_store.specs.inner.FoundRows.{below_more}
 use Rattle.id_memory.specs.Pairs.{Pairs}
 use Rattle.id_memory.specs.States.{CounterState}
 use Rattle.pair_rows.specs.Shown.{has}
 use Rattle.pair_rows.specs.Given.{Got, got}
 use Rattle.pair_rows.specs.inner.Knowing.{FindsLeast}
-use Rattle.pair_rows.specs.inner.Lookups.{below_weaker}
 use Rattle.pair_rows.proofs.GivenLaws.{got_rises, got_below}
 use Rattle.outer_law.specs.Placed.{Parts, Placing, first_both, first_got, second_both, place_both, first_alone, second_alone, place_first, place_second}
 use Rattle.op_outer_cond.specs.declared.half_rows.HalfRows.{HalfRows}
@@ -33,15 +33,15 @@ pub alone_ready : (choice : Option ℕ) (rows shared : Rows) (x : List Value) (n
     → AreBelow rows n → AreBelow shared n → AreReady it (got choice rows x n).next
 alone_ready choice rows shared x n it all may finds below shared_below = record {
   all = subst (λ (rs : Rows). AreBelow rs (got choice rows x n).next) (sym all) (got_below choice rows x n below);
-  shared = subst (λ (rs : Rows). AreBelow rs (got choice rows x n).next) (sym may) (below_weaker shared n (got choice rows x n).next (got_rises choice rows x n) shared_below);
+  shared = subst (λ (rs : Rows). AreBelow rs (got choice rows x n).next) (sym may) (below_more shared n (got choice rows x n).next (got_rises choice rows x n) shared_below);
   finds = finds;
 }
 
 -- what is ready stays so while identifiers are drawn
 pub later_ready : (it : HalfRows) (n k : ℕ) → n ≤ k → AreReady it n → AreReady it k
 later_ready it n k h ready = record {
-  all = below_weaker it.all.rows n k h ready.all;
-  shared = below_weaker it.shared.table.rows n k h ready.shared;
+  all = below_more it.all.rows n k h ready.all;
+  shared = below_more it.shared.table.rows n k h ready.shared;
   finds = ready.finds;
 }
 

@@ -1,3 +1,4 @@
 pub mod Calls
 pub mod Placings
 pub mod Admitted
+pub mod Mappings

@@ -1,11 +1,12 @@
 //! Whether a side belongs to a related pair.
-ghost use Rattle.std.specs.Prelude.{ℕ, List, ◌≡◌, ◌↔◌, ◌&&◌, is_some, IsTrue, IfOk};
+ghost use Rattle.std.specs.Prelude.{ℕ, List, ◌≡◌, ◌↔◌, ◌&&◌, if◌then◌else◌, Some, None, is_some, IsTrue, IfOk};
 ghost use Rattle.row_store.specs.Rows.{RiseFrom, row_of};
 ghost use Rattle.id_memory.specs.Pairs.{RiseFrom as PairsRise, IsOneToOne};
 ghost use Rattle.op_law.specs.Meaning.{flip};
 ghost use Rattle.op_law.specs.Premises.{SomeNear};
 ghost use Rattle.op_law.specs.Calls.{tables_of, Admits};
 ghost use Rattle.pair_rows.specs.Halves.{pick_of};
+ghost use Rattle.pair_rows.specs.Sides.{table_at};
 ghost use Rattle.pair_rows.specs.Shown.{AreThere, has};
 ghost use Rattle.outer_law.specs.Entries.{with_absent, AreHalves};
 ghost use Rattle.outer_law.specs.OuterOn.{outer_on};
@@ -16,7 +17,7 @@ ghost use Rattle.op_outer_cond.specs.inner.Admitted.{other_of, IsOnce, AreOnce, 
 use crate::halves::{entries_with, half_in, other_in};
 use crate::outer::OuterOn;
 use crate::places::{Outer, outer_of, places_of};
-use crate::reading::{half_read, read_target, shown};
+use crate::reading::{read_source, read_target, shown};
 use id_memory::PairMemory;
 use op_law::{Aux, Side};
 use pair_rows::{Half, alone, entries_of, table_in};
@@ -202,6 +203,39 @@ fn is_source(
     Ok(rows.is_same(target))
 }
 
+/// The same, by the tables of both sides.
+fn is_source_of(
+    alloc: Global,
+    outer: &OuterOn,
+    target: &Side,
+    memory: &PairMemory,
+    source: &Side,
+) -> Result<bool, Memory>
+    ensures rise { IfOk result (λ _. PairsRise 0 memory.now.entries) }
+    ensures one { IfOk result (λ _. IsOneToOne memory.now.entries) }
+    ensures answer { IfOk result (λ yes. IsTrue yes ↔ IsSource (joining outer.now)
+        (table_at 0 target.now) memory.now.entries (table_at 0 source.now)
+        (table_at 1 source.now)) }
+{
+    let none = Table::new(alloc);
+    let places = places_of(alloc, outer)?;
+    let join = outer_of(outer, &places);
+    let r = table_in(target, 0, &none);
+    let s = table_in(source, 0, &none);
+    let t = table_in(source, 1, &none);
+    is_source(alloc, &join, r, memory, s, t)
+}
+
+/// The side, where it is admitted.
+fn side_if(side: Side, yes: bool) -> Option<Side>
+    ensures { result ≡ (if yes then Some side else None) }
+{
+    if yes {
+        return Some(side);
+    }
+    None
+}
+
 /// The source of the related pair to which a target, auxiliary tables and a memory belong.
 pub(crate) fn admit_source(
     alloc: Global,
@@ -217,15 +251,7 @@ pub(crate) fn admit_source(
     if aux.tables.len() != 0 {
         return Ok(None);
     }
-    let none = Table::new(alloc);
-    let places = places_of(alloc, outer)?;
-    let join = outer_of(outer, &places);
-    let r = table_in(target, 0, &none);
-    let list = entries_of(alloc, memory)?;
-    let s = half_read(alloc, Half::First, join.first, r, list.as_slice())?;
-    let t = half_read(alloc, Half::Second, join.second, r, list.as_slice())?;
-    if !is_source(alloc, &join, r, memory, &s, &t)? {
-        return Ok(None);
-    }
-    Ok(Some(Side::two(alloc, s, t)?))
+    let side = read_source(alloc, outer, target, memory)?;
+    let yes = is_source_of(alloc, outer, target, memory, &side)?;
+    Ok(side_if(side, yes))
 }

@@ -11,7 +11,8 @@ ghost use Rattle.outer_law.specs.OuterOn.{outer_on, outer_forward, outer_backwar
 ghost use Rattle.outer_law.specs.Placed.{full, standing, beginning};
 ghost use Rattle.op_outer_cond.specs.Outerings.{joining};
 ghost use Rattle.op_outer_cond.specs.inner.Calls.{joining_of, ReadsIn, new_in, entries_in};
-ghost use Rattle.op_outer_cond.specs.inner.Placings.{placing_of, Knows, full_kept_in};
+ghost use Rattle.op_outer_cond.specs.inner.Placings.{placing_of, Knows, IsReady, full_kept_in, placed_in};
+ghost use Rattle.op_outer_cond.specs.inner.Mappings.{mapped_in};
 
 use crate::entries::{Showing, kept_entries, new_entries};
 use crate::half_rows::rows_from;
@@ -21,7 +22,7 @@ use crate::placing::{Placing, place};
 use crate::reading::shown;
 use crate::standing::{full, standing};
 use expr_lang::Steps;
-use id_memory::IdCounter;
+use id_memory::{IdCounter, PairMemory};
 use op_law::{Far, Pair, Side};
 use pair_rows::{Half, OldTarget, draw_for, entries_of, kept_in, memory_of, table_in};
 use par_base::{Fault, IdsSpent, List, Memory};
@@ -107,6 +108,16 @@ pub(crate) fn forward<L: Ledger>(
     forward_with(alloc, &join, near, old, ids, steps)
 }
 
+/// The full ones of entries, as a memory.
+fn full_memory(alloc: Global, entries: &[(u64, u64, u64)]) -> Result<PairMemory, Memory>
+    requires rise { RiseFrom 0 (full entries.now) }
+    requires one { IsOneToOne (full entries.now) }
+    ensures { IfOk result (λ made. made.entries ≡ full entries.now) }
+{
+    let shown = full(alloc, entries)?;
+    memory_of(alloc, shown.as_slice())
+}
+
 /// What is there before rows are placed: the kept entries are taken, and rows in full ones may be
 /// shared.
 fn start_of(
@@ -125,8 +136,7 @@ fn start_of(
     ensures knows { IfOk result (λ it. Knows it) }
 {
     let taken = kept_in(alloc, old, new)?;
-    let shown = full(alloc, taken.entries.as_slice())?;
-    let whole = memory_of(alloc, shown.as_slice())?;
+    let whole = full_memory(alloc, taken.entries.as_slice())?;
     let first = rows_from(alloc, Half::First, &whole, s)?;
     let second = rows_from(alloc, Half::Second, &whole, t)?;
     Ok(Placing {
@@ -158,6 +168,30 @@ fn source_of(
     Ok(Far { side, memory })
 }
 
+/// The new source and memory, from what is there before the rows of a new target are placed.
+fn far_from(
+    alloc: Global,
+    join: &Outer<'_>,
+    old: &OldTarget<'_>,
+    near: &Table,
+    it: &mut Placing,
+    ids: &mut IdCounter,
+) -> Result<Far, Fault<IdsSpent>>
+    requires ready { IsReady it.old ids.old.next }
+    requires rise { let d = placing_of it.old ids.old.next in
+        RiseFrom 0 (placed_in join.now old.now d near.now.rows) }
+    requires one { let d = placing_of it.old ids.old.next in
+        IsOneToOne (placed_in join.now old.now d near.now.rows) }
+    ensures { let d = placing_of it.old ids.old.next in
+        IsMapped (mapped_in join.now old.now d near.now.rows) ids.old ids.new result }
+{
+    let mut drawn = ids.copy();
+    let made = place(alloc, join, old, near, it, &mut drawn)?;
+    let far = source_of(alloc, made.as_slice(), &it.first.all, &it.second.all)?;
+    *ids = drawn;
+    Ok(far)
+}
+
 /// The same, where the places are known.
 fn backward_with<'x>(
     alloc: Global,
@@ -180,11 +214,7 @@ fn backward_with<'x>(
     let s = table_in(&old.source, 0, &none);
     let t = table_in(&old.source, 1, &none);
     let mut it = start_of(alloc, &before, new, s, t)?;
-    let mut drawn = ids.copy();
-    let made = place(alloc, join, &before, new, &mut it, &mut drawn)?;
-    let far = source_of(alloc, made.as_slice(), &it.first.all, &it.second.all)?;
-    *ids = drawn;
-    Ok(far)
+    far_from(alloc, join, &before, new, &mut it, ids)
 }
 
 /// The new source and memory, from a new target. It takes look-ups in the number of the rows.

@@ -85,7 +85,7 @@ fn with_it(
 }
 
 /// One table of the source.
-pub(crate) fn half_read(
+fn half_read(
     alloc: Global,
     half: Half,
     places: &[usize],

@@ -35,7 +35,7 @@ known_below next id false false is over none = (omega (arith, eqb-false id 0 is)
 
 value_sound : (next : ℕ) (v : Value) → unknown_value next v ≡ None → ValueFits v → ValueSound next v
 value_sound next Null known fits = tt
-value_sound next (Int number) known fits = tt
+value_sound next (Int number) known fits = fits
 value_sound next (Text bytes) known fits = fits
 value_sound next (Reference id) known fits = known_below next id (id == 0) (nat_le next id) refl refl known
 

@@ -1,4 +1,4 @@
-use Rattle.std.proofs.Common.{◌≡◌, ℕ, Option, ap, ◌∙◌, sym, subst, arith}
+use Rattle.std.proofs.Common.{ℕ, Option, ap, ◌∙◌, sym, subst, arith}
 use Rattle.id_memory.specs.States.{CounterState}
 use Rattle.pair_rows.specs.Given.{got}
 use Rattle.pair_rows.proofs.GivenLaws.{got_rises}

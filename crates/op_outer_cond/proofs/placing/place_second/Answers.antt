@@ -1,4 +1,4 @@
-use Rattle.std.proofs.Common.{◌≡◌, ℕ, ◌≤◌, Option, ap, ◌∙◌, subst}
+use Rattle.std.proofs.Common.{ℕ, ◌≤◌, Option, ap, ◌∙◌, subst}
 use Rattle.op_law.specs.Calls.{first_refused}
 use Rattle.pair_rows.specs.Given.{got}
 use Rattle.pair_rows.proofs.GivenLaws.{got_rises}

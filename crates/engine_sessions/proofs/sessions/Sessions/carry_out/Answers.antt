@@ -8,8 +8,8 @@ use Rattle.engine_sessions.proofs.sessions.Sessions.carry_out.Goals as goal
 pub returns-in_err-statement-clause-texts : goal.returns-in_err-statement-clause-texts
 returns-in_err-statement-clause-texts g c = stay_within (statement_view c.args.statement) c.args.self.now.engine.graph.edges
 
-pub returns-in_err-counts-clause-texts : goal.returns-in_err-counts-clause-texts
-returns-in_err-counts-clause-texts g c = stay_within (statement_view c.args.statement) c.args.self.now.engine.graph.edges
+pub returns-in-Err-clause-texts : goal.returns-in-Err-clause-texts
+returns-in-Err-clause-texts g c = stay_within (statement_view c.args.statement) c.args.self.now.engine.graph.edges
 
 pub event-requires : goal.event-requires
 event-requires g c =
