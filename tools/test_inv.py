@@ -113,6 +113,7 @@ class Schemas(unittest.TestCase):
                 ("DECOMPOSE TABLE t INTO s(a), u(b) ON a = ', x('", 2, ["t"], ["s", "u"]),
                 ("JOIN TABLE s, u INTO r ON PK", 1, ["s", "u"], ["r"]),
                 ("OUTER JOIN TABLE s, u INTO r ON FK f", 1, ["s", "u"], ["r"]),
+                ("OUTER JOIN TABLE s, u INTO r ON a = ' INTO x'", 1, ["s", "u"], ["r"]),
                 ("SPLIT TABLE t INTO r WITH a = ', x WITH'", 1, ["t"], ["r"]),
                 ("SPLIT TABLE t INTO r WITH a = ', x WITH', s WITH (a > 1) AND (b < 2)", 2, ["t"], ["r", "s"]),
                 ("MERGE TABLE r (a = ', x ('), s (a > 1) INTO t", 1, ["r", "s"], ["t"])]:
