@@ -5,7 +5,7 @@
 //! an edge which is built fits the working set, and its operator its tables; and that every `AnyOp`
 //! keeps the text that built it on some working set (`IsOf`), and keeps the laws. `specs/Refusals.antt`
 //! says in words of the text in which one order all operators are checked, and which tables with which
-//! columns a built edge has.It knows nothing of versions, of limits on operators, or of stored tables.
+//! columns a built edge has. It knows nothing of versions, of limits on operators, or of stored tables.
 //!
 //! Lemmas that crates above may use stand in proofs/: `TableListsLaws`, `SoundTextsLaws` and
 //! `BuiltLaws`.
