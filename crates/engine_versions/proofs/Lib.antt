@@ -1,5 +1,4 @@
 pub mod ChainLaws
-mod TargetLemmas
 mod EdgeLemmas
 mod BuiltLemmas
 mod CreateLemmas

@@ -135,14 +135,13 @@ module _ (set : List Heading) (next : ℕ) where
         if_then _ (known_column key (place_of t.first.columns key)) _ (λ place there.
         if_then _ (columns_of_both target (remove t.first.columns place) t.second.columns) _ (λ columns are.
         rw (m.found, m.other_found) (rw (column_is key _ place there) (refl, made (remove t.first.columns place) t.second.columns columns are)))))
-    joining false («text».Condition condition) =
+    joining outer («text».Condition condition) =
         if_then _ (meeting set first second target) _ (λ t is.
         let m = at_ok (AreMet set first second target) (meeting set first second target) t is (met set first second target) in
         if_then _ (known_columns (resolved (t.first.columns ++ t.second.columns) condition)) _ (λ c read.
         if_then _ (columns_of_both target t.first.columns t.second.columns) _ (λ columns are.
         if_then _ (known_ids next condition) _ (λ u ids.
         rw (m.found, m.other_found) (refl, made t.first.columns t.second.columns columns are)))))
-    joining true («text».Condition condition) = tt
 
   planned : (text : OpView) → IfOk (planned_edge set next text) (HasTables set text)
   planned («text».CreateTable table columns) = creating table columns
