@@ -1,4 +1,5 @@
 pub mod ChainLaws
+mod TargetLemmas
 mod EdgeLemmas
 mod BuiltLemmas
 mod CreateLemmas
