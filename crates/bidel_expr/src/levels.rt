@@ -10,7 +10,7 @@ use bidel_lex::TokenKind;
 use expr_lang::BinaryOp;
 
 /// A level of infix operators that associate to the left, the loosest first.
-#[derive(Clone, Copy, Debug, PartialEq, Eq)]
+#[derive(Clone, Copy, PartialEq, Eq)]
 pub enum Level {
     Disjunction,
     Conjunction,

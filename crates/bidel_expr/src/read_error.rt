@@ -7,7 +7,7 @@ use par_base::Memory;
 use std::alloc::{AllocError, AllocFailed};
 
 /// Why a reader stopped: a fault where so many tokens are left, or want of memory.
-#[derive(Clone, Copy, Debug, PartialEq, Eq, Drop)]
+#[derive(Clone, Copy, PartialEq, Eq, Drop)]
 pub enum ReadError {
     /// Memory ran out.
     Memory(Memory),

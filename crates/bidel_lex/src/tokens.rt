@@ -1,7 +1,7 @@
 //! What the lexer answers.
 
 /// The kind of a token. Reserved words and names are both `Word`.
-#[derive(Clone, Copy, Debug, PartialEq, Eq)]
+#[derive(Clone, Copy, PartialEq, Eq)]
 pub enum TokenKind {
     Word,
     Number,
@@ -11,7 +11,7 @@ pub enum TokenKind {
 }
 
 /// A token, which is written in the bytes from `start` up to `end`.
-#[derive(Clone, Copy, Debug, PartialEq, Eq)]
+#[derive(Clone, Copy, PartialEq, Eq)]
 pub struct Token {
     pub kind: TokenKind,
     pub start: usize,
@@ -19,7 +19,7 @@ pub struct Token {
 }
 
 /// What is found from a place of the bytes on.
-#[derive(Clone, Copy, Debug, PartialEq, Eq)]
+#[derive(Clone, Copy, PartialEq, Eq)]
 pub enum Lexed {
     /// The next token.
     Token(Token),

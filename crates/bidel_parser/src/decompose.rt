@@ -11,7 +11,7 @@ use statements::{KeyText, OpText};
 use std::alloc::Global;
 
 /// The second table of a DECOMPOSE.
-#[derive(Debug, Drop)]
+#[derive(Drop)]
 pub struct Second {
     pub table: Name,
     pub columns: List<Name>,

@@ -1,7 +1,7 @@
 //! The words by which statements, operators and keys are told apart.
 
 /// The first words of statements.
-#[derive(Clone, Copy, Debug, PartialEq, Eq)]
+#[derive(Clone, Copy, PartialEq, Eq)]
 pub enum StatementWord {
     Create,
     Drop,
@@ -24,7 +24,7 @@ pub enum StatementWord {
 }
 
 /// The first words of operators.
-#[derive(Clone, Copy, Debug, PartialEq, Eq)]
+#[derive(Clone, Copy, PartialEq, Eq)]
 pub enum OperatorWord {
     Create,
     Drop,
@@ -38,14 +38,14 @@ pub enum OperatorWord {
 }
 
 /// What an operator drops or renames.
-#[derive(Clone, Copy, Debug, PartialEq, Eq)]
+#[derive(Clone, Copy, PartialEq, Eq)]
 pub enum Kind {
     Table,
     Column,
 }
 
 /// The first words of keys that are no conditions.
-#[derive(Clone, Copy, Debug, PartialEq, Eq)]
+#[derive(Clone, Copy, PartialEq, Eq)]
 pub enum KeyWord {
     Pk,
     Primary,

@@ -2,7 +2,7 @@
 use statements::Statement;
 
 /// What stands at the front of some tokens.
-#[derive(Debug, Drop)]
+#[derive(Drop)]
 pub enum Parsed {
     /// A statement, and the number of its tokens.
     Whole { statement: Statement, used: usize },
@@ -13,7 +13,7 @@ pub enum Parsed {
 }
 
 /// A fault against the grammar, at a byte.
-#[derive(Clone, Copy, Debug, PartialEq, Eq, Drop)]
+#[derive(Clone, Copy, PartialEq, Eq, Drop)]
 pub struct Syntax {
     pub at: usize,
 }

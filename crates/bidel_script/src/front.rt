@@ -20,7 +20,7 @@ use std::alloc::Global;
 use std::mem;
 
 /// What stands behind the statements that are known to end.
-#[derive(Clone, Copy, Debug)]
+#[derive(Clone, Copy)]
 pub enum Stop {
     /// Nothing, and nothing comes.
     Over,
@@ -33,7 +33,7 @@ pub enum Stop {
 }
 
 /// What stands at the front of some tokens.
-#[derive(Debug, Drop)]
+#[derive(Drop)]
 pub enum Found {
     /// A statement of so many tokens, which is known to end.
     Whole { statement: Statement, used: usize },

@@ -8,7 +8,7 @@ use par_base::Memory;
 use std::alloc::Global;
 
 /// What is behind the last token of some bytes.
-#[derive(Clone, Copy, Debug)]
+#[derive(Clone, Copy)]
 pub struct Tail {
     /// The end, the byte that continues no token, or that more bytes are wanted.
     pub last: Lexed,
@@ -17,7 +17,7 @@ pub struct Tail {
 }
 
 /// The tokens of some bytes, and what is behind them.
-#[derive(Debug, Drop)]
+#[derive(Drop)]
 pub struct Tokens {
     pub tokens: Vec<Token>,
     pub tail: Tail,

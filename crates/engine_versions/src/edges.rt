@@ -15,7 +15,7 @@ use std::mem;
 use version_graph::{Edge, Graph, Heading, passed_limit};
 
 /// How many operators live, and the last numbers that an operator and a table were given.
-#[derive(Clone, Copy, Debug)]
+#[derive(Clone, Copy)]
 pub struct Counts {
     pub live: usize,
     pub operator: u32,

@@ -2,7 +2,7 @@
 use par_base::{Name, Value};
 
 /// An operator on one operand.
-#[derive(Debug, Clone, Copy, PartialEq, Eq)]
+#[derive(Clone, Copy, PartialEq, Eq)]
 pub enum UnaryOp {
     Negate,
     Not,
@@ -11,7 +11,7 @@ pub enum UnaryOp {
 }
 
 /// An operator between two operands.
-#[derive(Debug, Clone, Copy, PartialEq, Eq)]
+#[derive(Clone, Copy, PartialEq, Eq)]
 pub enum BinaryOp {
     Or,
     And,
@@ -31,7 +31,7 @@ pub enum BinaryOp {
 
 /// An expression as it was written, with the names of columns. Two of them are compared in
 /// contracts by `text_term`.
-#[derive(Debug, Drop)]
+#[derive(Drop)]
 pub enum ExprText {
     Literal(Value),
     Column(Name),
@@ -41,7 +41,7 @@ pub enum ExprText {
 
 /// An expression over the values of a row, each at its place from 0 on. Two of them are compared
 /// in contracts by `expr_term`.
-#[derive(Debug, Drop)]
+#[derive(Drop)]
 pub enum Expr {
     Literal(Value),
     Column(usize),

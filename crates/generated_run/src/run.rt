@@ -27,7 +27,7 @@ use std::marker::Brand;
 use std::sync::ledger::{Blank, Ledger};
 
 /// How many statements were carried out, and how many of them were refused.
-#[derive(Clone, Copy, Debug)]
+#[derive(Clone, Copy)]
 struct Tally {
     statements: u64,
     refused: u64,

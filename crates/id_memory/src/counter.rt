@@ -7,7 +7,7 @@ use std::marker::Model;
 /// The next identifier, and the greatest that may be drawn.
 ///
 /// The next one is from 1 to 2^63, and the limit is at most 2^63 - 1.
-#[derive(Debug, Drop)]
+#[derive(Drop)]
 pub struct IdCounter {
     next: u64,
     limit: u64,

@@ -13,7 +13,7 @@ use std::marker::Model;
 ///
 /// A look-up is a binary search. Where an entry is put in or taken out, all entries behind it move
 /// by one place, so that entries put in ascending order move none.
-#[derive(Debug, Drop)]
+#[derive(Drop)]
 pub struct PairMemory {
     entries: Vec<(u64, u64, u64)>,
     by_first: Vec<(u64, u64, u64)>,

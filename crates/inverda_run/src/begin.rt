@@ -15,7 +15,7 @@ use std::marker::Brand;
 use std::sync::ledger::{Blank, Ledger};
 
 /// Why a run doesn't start.
-#[derive(Clone, Copy, Debug)]
+#[derive(Clone, Copy)]
 pub enum NotBegun {
     /// Memory ran out.
     Memory,

@@ -10,7 +10,7 @@ use std::alloc::Global;
 const PIECE: usize = 4096;
 
 /// The bytes of a file, or why there are none.
-#[derive(Debug, Drop)]
+#[derive(Drop)]
 pub enum FileRead {
     /// All of its bytes.
     Whole(Vec<u8>),

@@ -9,7 +9,7 @@ use par_base::{Row, Value};
 use std::cmp::Ordering;
 
 /// The key of a row, with the row's identifier.
-#[derive(Debug, Drop)]
+#[derive(Drop)]
 pub(crate) struct Keyed {
     pub(crate) key: Row,
     pub(crate) id: u64,

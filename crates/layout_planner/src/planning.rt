@@ -15,14 +15,14 @@ use std::alloc::Global;
 use version_graph::{Graph, Step};
 
 /// How often a table was accessed. Of two counts of one table the first holds.
-#[derive(Clone, Copy, Debug, PartialEq, Eq, Drop)]
+#[derive(Clone, Copy, PartialEq, Eq, Drop)]
 pub struct TableCount {
     pub table: u32,
     pub count: u64,
 }
 
 /// A version, and what the accesses of its tree cost under its layout: no sum passes its type.
-#[derive(Debug, Drop)]
+#[derive(Drop)]
 pub struct VersionCost {
     pub version: Name,
     pub cost: u128,

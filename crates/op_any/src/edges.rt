@@ -54,7 +54,7 @@ pub(crate) fn heading_of(alloc: Global, name: &Name, columns: &[Name]) -> Result
 }
 
 /// The tables of an edge. They are made before its operator is.
-#[derive(Debug, Drop)]
+#[derive(Drop)]
 pub(crate) struct Tables {
     pub sources: List<Name>,
     pub targets: List<Heading>,

@@ -27,7 +27,7 @@ use std::alloc::Global;
 use version_graph::{Edge, Heading};
 
 /// The names of the tables of a join.
-#[derive(Debug, Drop)]
+#[derive(Drop)]
 pub(crate) struct JoinNames<'a> {
     pub first: &'a Name,
     pub second: &'a Name,

@@ -13,7 +13,7 @@ use std::alloc::Global;
 use std::sync::ledger::Ledger;
 
 /// ADD COLUMN: one source, and a target with one column more.
-#[derive(Debug, Drop)]
+#[derive(Drop)]
 pub struct AddColumn {
     /// The new column's place among the target's.
     pub place: usize,

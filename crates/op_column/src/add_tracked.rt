@@ -18,7 +18,7 @@ use std::alloc::Global;
 use std::sync::ledger::Ledger;
 
 /// ADD COLUMN .. TRACKED: one source, and a target with one column more, behind all others.
-#[derive(Debug, Drop)]
+#[derive(Drop)]
 pub struct AddTracked {
     /// The value that the column follows, over the source's columns.
     pub value: Expr,

@@ -9,7 +9,7 @@ use std::alloc::Global;
 use std::sync::ledger::Ledger;
 
 /// CREATE TABLE: one table without a source. It is stored always, so it is never read back.
-#[derive(Clone, Copy, Debug, Drop)]
+#[derive(Clone, Copy, Drop)]
 pub struct CreateTable;
 
 impl RowOperator for CreateTable {

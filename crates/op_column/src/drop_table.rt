@@ -13,7 +13,7 @@ use std::alloc::Global;
 use std::sync::ledger::Ledger;
 
 /// DROP TABLE: one source, and no table on the target side.
-#[derive(Clone, Copy, Debug, Drop)]
+#[derive(Clone, Copy, Drop)]
 pub struct DropTable {
     /// The number of the source's columns.
     pub width: usize,

@@ -8,7 +8,7 @@ use std::alloc::Global;
 
 /// DECOMPOSE ON FK: the places in R of the columns of S and of T, and the place of the foreign key
 /// in S.
-#[derive(Debug, Drop)]
+#[derive(Drop)]
 pub struct DecomposeFk {
     pub first: List<usize>,
     pub second: List<usize>,

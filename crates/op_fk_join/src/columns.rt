@@ -8,7 +8,7 @@ use row_parts::{nulls, value_at, with_value, without_value};
 use std::alloc::Global;
 
 /// JOIN ON FK: the numbers of columns of S and of T, and the place of the foreign key in S.
-#[derive(Debug, Drop)]
+#[derive(Drop)]
 pub struct JoinFk {
     pub first: usize,
     pub second: usize,

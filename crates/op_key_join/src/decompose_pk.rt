@@ -15,7 +15,7 @@ use std::sync::ledger::Ledger;
 
 /// DECOMPOSE ON PK: one source, and two targets that have its columns between them. A call takes
 /// time in the square of the number of columns, of which there are at most 64.
-#[derive(Debug, Drop)]
+#[derive(Drop)]
 pub struct DecomposePk {
     /// The places in the source of the first target's columns.
     pub first: List<usize>,

@@ -14,7 +14,7 @@ use std::sync::ledger::Ledger;
 
 /// DECOMPOSE into one table: the target has some of the source's columns. Each call that meets the
 /// other columns takes time in the square of the number of columns, of which there are at most 64.
-#[derive(Debug, Drop)]
+#[derive(Drop)]
 pub struct DecomposeSingle {
     /// The places in the source of the target's columns.
     pub columns: List<usize>,

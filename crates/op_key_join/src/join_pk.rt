@@ -15,7 +15,7 @@ use std::sync::ledger::Ledger;
 
 /// JOIN ON PK: two sources, and a target that has the columns of the first and then those of the
 /// second.
-#[derive(Clone, Copy, Debug, Drop)]
+#[derive(Clone, Copy, Drop)]
 pub struct JoinPk {
     /// The number of the first source's columns.
     pub first: usize,

@@ -17,7 +17,7 @@ use std::sync::ledger::Ledger;
 ///
 /// Where an operator has one pair, far side, auxiliary tables or memory, a chain has two, first
 /// those of `first` and then those of `second`.
-#[derive(Debug, Drop)]
+#[derive(Drop)]
 pub struct Chain<A, B> {
     pub first: A,
     pub second: B,

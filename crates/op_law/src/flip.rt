@@ -10,7 +10,7 @@ use std::alloc::Global;
 use std::sync::ledger::Ledger;
 
 /// The operator with its sides exchanged. A call that takes a pair copies it.
-#[derive(Debug, Drop)]
+#[derive(Drop)]
 pub struct Flip<O> {
     pub inner: O,
 }

@@ -8,7 +8,7 @@ use par_base::Memory;
 use std::alloc::Global;
 
 /// The two sides of an operator, with its memory.
-#[derive(Debug, Drop)]
+#[derive(Drop)]
 pub struct Pair {
     pub source: Side,
     pub target: Side,
@@ -16,7 +16,7 @@ pub struct Pair {
 }
 
 /// The far side of an operator, with its memory.
-#[derive(Debug, Drop)]
+#[derive(Drop)]
 pub struct Far {
     pub side: Side,
     pub memory: PairMemory,

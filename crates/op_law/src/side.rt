@@ -8,7 +8,7 @@ use std::alloc::Global;
 use std::marker::Model;
 
 /// The tables of one side of an operator, at most two. Contracts see the rows of each.
-#[derive(Debug, Drop)]
+#[derive(Drop)]
 pub struct Side {
     tables: List<Table>,
 }
@@ -87,7 +87,7 @@ impl Side {
 }
 
 /// Auxiliary tables, which keep beside a stored side what it lacks of the other one.
-#[derive(Debug, Drop)]
+#[derive(Drop)]
 pub struct Aux {
     pub tables: List<Table>,
 }

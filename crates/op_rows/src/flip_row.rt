@@ -9,7 +9,7 @@ use std::alloc::Global;
 use std::sync::ledger::Ledger;
 
 /// The operator with its sides exchanged. It copies nothing.
-#[derive(Debug, Drop)]
+#[derive(Drop)]
 pub struct FlipRow<R> {
     pub inner: R,
 }

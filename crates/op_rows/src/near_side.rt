@@ -4,7 +4,7 @@ ghost use Rattle.op_rows.specs.NearSides.{far_of};
 
 /// The side from which an operator is seen: a mapping takes its rows, auxiliary rows stand beside
 /// it. The other side is far.
-#[derive(Clone, Copy, Debug)]
+#[derive(Clone, Copy)]
 pub enum NearSide {
     Source,
     Target,

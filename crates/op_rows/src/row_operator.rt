@@ -14,7 +14,7 @@ use std::sync::ledger::Ledger;
 pub type Cells = List<Option<Row>>;
 
 /// The rows of both sides before a change, at one identifier.
-#[derive(Clone, Copy, Debug)]
+#[derive(Clone, Copy)]
 pub struct OldRows<'a> {
     pub near: &'a Cells,
     pub far: &'a Cells,

@@ -17,7 +17,7 @@ use std::sync::ledger::Ledger;
 
 /// The operator on tables that is `inner` at each identifier. It draws no identifier and keeps no
 /// memory.
-#[derive(Debug, Drop)]
+#[derive(Drop)]
 pub struct Rowwise<R> {
     pub inner: R,
 }

@@ -18,7 +18,7 @@ use std::alloc::Global;
 use std::sync::ledger::Ledger;
 
 /// SPLIT: one source, and one target or two, all with the same columns.
-#[derive(Debug, Drop)]
+#[derive(Drop)]
 pub struct Split {
     /// The number of columns of each table.
     pub width: usize,

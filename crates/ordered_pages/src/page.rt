@@ -14,7 +14,7 @@ pub(crate) const PAGE: usize = 64;
 pub(crate) const HALF: usize = 32;
 
 /// Entries that lie side by side.
-#[derive(Debug, Drop)]
+#[derive(Drop)]
 pub(crate) struct Page<E> {
     entries: Vec<E>,
 }

@@ -21,7 +21,7 @@ use std::marker::Model;
 use std::sync::ledger::Ledger;
 
 /// Entries by ascending keys, in pages, and spare pages for further ones.
-#[derive(Debug, Drop)]
+#[derive(Drop)]
 pub struct Pages<E: Entry> {
     pages: Vec<Page<E>>,
     spare: Vec<Page<E>>,

@@ -19,7 +19,7 @@ use std::alloc::Global;
 use std::sync::ledger::Ledger;
 
 /// A SET of an UPDATE: the column at this place gets the value of the expression.
-#[derive(Debug, Drop)]
+#[derive(Drop)]
 pub struct SetTo {
     pub place: usize,
     pub value: Expr,

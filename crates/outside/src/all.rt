@@ -12,7 +12,7 @@ use std::alloc::Global;
 const PIECE: usize = 4096;
 
 /// The bytes that were taken from a source, and why no more were.
-#[derive(Debug, Drop)]
+#[derive(Drop)]
 pub enum ReadAll {
     /// The end was reached.
     Whole(Vec<u8>),

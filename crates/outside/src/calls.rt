@@ -9,7 +9,7 @@ ghost use Rattle.outside.specs.Causes.{HasCause, HasCauseIf};
 ghost use Rattle.outside.specs.FileTold.{ReadsFile, ToldAs, IsMissing};
 
 /// A call on a source, a sink or files failed, and was counted.
-#[derive(Clone, Copy, Debug, PartialEq, Eq, Drop)]
+#[derive(Clone, Copy, PartialEq, Eq, Drop)]
 pub struct Failed;
 
 /// Where bytes come from.

@@ -3,7 +3,7 @@ ghost use Rattle.std.specs.Prelude.{◌≡◌, ◌+◌, ◌-◌, ◌^◌, ◌==�
 ghost use Rattle.std.specs.List.{list_any};
 
 /// The calls are numbered from 0. The count of faults stops at the greatest `u64`.
-#[derive(Debug, Drop)]
+#[derive(Drop)]
 pub(crate) struct Failures {
     pub(crate) faults: u64,
     calls: u64,

@@ -13,7 +13,7 @@ use std::marker::Model;
 /// Files in memory that was taken beforehand. The calls whose numbers are listed fail, and so do a
 /// read of a file that isn't there and a write that finds no room. Each other read gives at most
 /// `most` bytes.
-#[derive(Debug, Drop)]
+#[derive(Drop)]
 pub struct MemoryFiles {
     files: Vec<NamedFile>,
     most: usize,

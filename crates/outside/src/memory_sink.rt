@@ -9,7 +9,7 @@ use std::marker::Model;
 
 /// The bytes that were put, in memory that was taken beforehand. The calls whose numbers are listed
 /// fail, and so does a call that finds no room. Each other call takes at most `most` bytes.
-#[derive(Debug, Drop)]
+#[derive(Drop)]
 pub struct MemorySink {
     bytes: Vec<u8>,
     most: usize,

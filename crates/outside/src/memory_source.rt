@@ -8,7 +8,7 @@ use std::marker::Model;
 
 /// Bytes in memory. The calls whose numbers are listed fail, and each other call gives at most
 /// `most` bytes.
-#[derive(Debug, Drop)]
+#[derive(Drop)]
 pub struct MemorySource {
     bytes: Vec<u8>,
     at: usize,

@@ -8,7 +8,7 @@ use std::alloc::Global;
 use std::marker::Model;
 
 /// A file in memory, or the room for one.
-#[derive(Debug, Drop)]
+#[derive(Drop)]
 pub(crate) struct NamedFile {
     name: String,
     bytes: Vec<u8>,

@@ -11,7 +11,7 @@ use std::alloc::Global;
 use std::marker::Model;
 
 /// Bytes in memory. Each call gives as many as fit.
-#[derive(Debug, Drop)]
+#[derive(Drop)]
 pub struct SureSource {
     bytes: Vec<u8>,
     at: usize,
@@ -49,7 +49,7 @@ impl Source for SureSource {
 }
 
 /// Takes all bytes and keeps none.
-#[derive(Clone, Copy, Debug, Drop)]
+#[derive(Clone, Copy, Drop)]
 pub struct SureSink;
 
 impl Sink for SureSink {
@@ -64,7 +64,7 @@ impl Sink for SureSink {
 
 /// Files in memory, which a write doesn't change. A name that isn't there reads as an empty file.
 /// What a file holds is told until it is written to.
-#[derive(Debug, Drop)]
+#[derive(Drop)]
 pub struct SureFiles {
     files: Vec<NamedFile>,
 }

@@ -8,7 +8,7 @@ use std::alloc::{AllocError, AllocFailed};
 /// Memory ran out. The error of a call that refuses nothing. Its field is private, and it is made
 /// here alone: from the error of an allocation by `from`, from the error of a crate of the kit by
 /// `meant_by`, and for a count of more things than memory holds by `add_counts`.
-#[derive(Clone, Copy, Debug, PartialEq, Eq, Drop)]
+#[derive(Clone, Copy, PartialEq, Eq, Drop)]
 pub struct Memory {
     passed: (),
 }
@@ -27,7 +27,7 @@ impl Memory {
 }
 
 /// The error of a call that may refuse: a refusal with its cause, or want of memory.
-#[derive(Clone, Copy, Debug, PartialEq, Eq, Drop)]
+#[derive(Clone, Copy, PartialEq, Eq, Drop)]
 pub enum Fault<X> {
     /// The call is refused, for the cause that its contract names.
     Refused(X),

@@ -4,7 +4,7 @@ ghost use Rattle.std.specs.Prelude.{◌≤◌, ◌<◌, ◌^◌};
 use crate::Name;
 
 /// The limits under which a database runs.
-#[derive(Clone, Copy, Debug)]
+#[derive(Clone, Copy)]
 pub struct Limits {
     /// The greatest identifier that may be drawn.
     pub max_id: u64,
@@ -13,7 +13,7 @@ pub struct Limits {
 }
 
 /// A version, or a table of a version.
-#[derive(Debug, Drop)]
+#[derive(Drop)]
 pub struct Target {
     pub version: Name,
     pub table: Option<Name>,

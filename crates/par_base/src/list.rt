@@ -10,7 +10,7 @@ use std::marker::Model;
 /// A growable list. The methods mean what those of `Vec` mean. Contracts see its items and not its
 /// room: what is made in room that is taken at once is made as a `Vec`, whose contracts tell its
 /// capacity, and becomes a list by `from_vec`.
-#[derive(Debug, Drop)]
+#[derive(Drop)]
 pub struct List<T> {
     items: Vec<T>,
 }

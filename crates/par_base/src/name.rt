@@ -77,7 +77,7 @@ const RESERVED: [&str; 54] = [
 
 /// The name of a version, a table or a column: 1 to 64 ASCII letters, digits, `_` or `!`, of which
 /// the first is no digit, in lower case, and no reserved word.
-#[derive(Debug, Drop)]
+#[derive(Drop)]
 pub struct Name {
     text: String,
 }

@@ -4,7 +4,7 @@ ghost use Rattle.std.specs.Prelude.{◌≡◌};
 use crate::{Fault, Name, Text};
 
 /// The next identifier that the model would draw is above the limit.
-#[derive(Clone, Copy, Debug, PartialEq, Eq, Drop)]
+#[derive(Clone, Copy, PartialEq, Eq, Drop)]
 pub struct IdsSpent {
     /// The first identifier above the limit that would be drawn.
     pub needed: u64,
@@ -24,7 +24,7 @@ impl IdsSpent {
 }
 
 /// Why a statement is refused. A refused statement changes nothing.
-#[derive(Debug, Drop)]
+#[derive(Drop)]
 pub enum Refusal {
     /// The form of the statement isn't carried out yet.
     NotBuilt,

@@ -8,7 +8,7 @@ use std::marker::Model;
 use std::rc::Rc;
 
 /// The values of a row, one for each column. They never change, and copies share them.
-#[derive(Debug, Drop)]
+#[derive(Drop)]
 pub struct Row {
     values: Rc<List<Value>>,
 }

@@ -5,7 +5,7 @@ use crate::{Memory, Text};
 use std::alloc::Global;
 
 /// What a column of a row holds. Columns have no types.
-#[derive(Debug, Drop)]
+#[derive(Drop)]
 pub enum Value {
     Null,
     Int(i64),

@@ -3,7 +3,7 @@ use par_base::List;
 use row_store::Changes;
 
 /// The changes of each table of a side, in their order.
-#[derive(Debug, Drop)]
+#[derive(Drop)]
 pub struct SideChanges {
     pub tables: List<Changes>,
 }

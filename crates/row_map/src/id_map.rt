@@ -8,7 +8,7 @@ use std::collections::BTreeMap;
 use std::marker::Model;
 
 /// A map from identifiers to numbers.
-#[derive(Debug, Drop)]
+#[derive(Drop)]
 pub struct IdMap {
     numbers: BTreeMap<u64, u64>,
 }

@@ -8,7 +8,7 @@ use std::collections::BTreeSet;
 use std::marker::Model;
 
 /// A set of identifiers. Contracts see it as their ascending list.
-#[derive(Debug, Drop)]
+#[derive(Drop)]
 pub struct IdSet {
     ids: BTreeSet<u64>,
 }

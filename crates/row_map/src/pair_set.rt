@@ -8,7 +8,7 @@ use std::collections::BTreeSet;
 use std::marker::Model;
 
 /// A set of pairs of identifiers.
-#[derive(Debug, Drop)]
+#[derive(Drop)]
 pub struct PairSet {
     pairs: BTreeSet<(u64, u64)>,
 }

@@ -13,7 +13,7 @@ use std::collections::BTreeMap;
 use std::marker::Model;
 
 /// A map from rows to numbers.
-#[derive(Debug, Drop)]
+#[derive(Drop)]
 pub struct RowMap {
     alloc: Global,
     texts: BTreeMap<String, u64>,

@@ -12,7 +12,7 @@ use std::alloc::Global;
 use std::marker::Model;
 
 /// The change of one identifier's row: what it was, and what it becomes. There is none at `None`.
-#[derive(Debug, Drop)]
+#[derive(Drop)]
 pub struct Change {
     pub id: u64,
     pub old: Option<Row>,
@@ -20,7 +20,7 @@ pub struct Change {
 }
 
 /// Changes by ascending identifier, none of which comes twice.
-#[derive(Debug, Drop)]
+#[derive(Drop)]
 pub struct Changes {
     items: Vec<Change>,
 }

@@ -12,7 +12,7 @@ use std::marker::Model;
 use std::sync::ledger::Ledger;
 
 /// An identifier with its row, as an entry of pages.
-#[derive(Debug, Drop)]
+#[derive(Drop)]
 pub(crate) struct RowEntry {
     pair: (u64, Row),
 }

@@ -17,7 +17,7 @@ use std::marker::Model;
 use std::sync::ledger::Ledger;
 
 /// Rows by ascending identifier, with room for further ones.
-#[derive(Debug, Drop)]
+#[derive(Drop)]
 pub struct Table {
     pages: Pages<RowEntry>,
 }

@@ -11,11 +11,11 @@ use std::alloc::Global;
 
 /// The words aren't options with their values, each at most once, or they ask for a generated
 /// script beside a file to load or a greatest identifier.
-#[derive(Clone, Copy, Debug, PartialEq, Eq, Drop)]
+#[derive(Clone, Copy, PartialEq, Eq, Drop)]
 pub struct BadWords;
 
 /// What the words of a run ask for.
-#[derive(Clone, Copy, Debug, Drop)]
+#[derive(Clone, Copy, Drop)]
 pub struct RunWords<'a> {
     /// The file that is loaded before the script is touched.
     pub load: Option<&'a str>,

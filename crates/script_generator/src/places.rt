@@ -5,7 +5,7 @@ ghost use Rattle.script_generator.specs.Generated.{below, is_fourth, generated_s
 ghost use Rattle.script_generator.specs.inner.Places.{behind_tasks, statement_at};
 
 /// A place in the script.
-#[derive(Clone, Copy, Debug)]
+#[derive(Clone, Copy)]
 pub enum Place {
     /// The first statement.
     First,

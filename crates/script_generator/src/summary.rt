@@ -6,7 +6,7 @@ use par_base::{Memory, Text};
 use std::alloc::Global;
 
 /// What a run over the workload came to.
-#[derive(Clone, Copy, Debug, Drop)]
+#[derive(Clone, Copy, Drop)]
 pub struct Summary {
     /// How many statements were given.
     pub statements: u64,

@@ -8,7 +8,7 @@ use statements::TableName;
 use std::alloc::Global;
 
 /// Each table that a summary counts, by its version and name.
-#[derive(Debug, Drop)]
+#[derive(Drop)]
 pub struct SummedTables {
     /// `tasky.task`.
     pub tasks: TableName,

@@ -1,7 +1,7 @@
 //! How the run of a script ends.
 
 /// Why a run came to its end. Where a line is due at the end, it was put.
-#[derive(Clone, Copy, Debug)]
+#[derive(Clone, Copy)]
 pub enum End {
     /// All statements were carried out and answered.
     Done,

@@ -16,7 +16,7 @@ use std::alloc::Global;
 use std::sync::ledger::Ledger;
 
 /// What became of all tokens.
-#[derive(Clone, Copy, Debug)]
+#[derive(Clone, Copy)]
 pub enum Ran {
     /// Each statement that is known to end was carried out and answered, and this stands behind them.
     Stops(Stop),

@@ -3,21 +3,21 @@ use expr_lang::ExprText;
 use par_base::{List, Name, Row, Target, Text};
 
 /// A table, of a version or of the one in use.
-#[derive(Debug, Drop)]
+#[derive(Drop)]
 pub struct TableName {
     pub version: Option<Name>,
     pub table: Name,
 }
 
 /// A column and what it is set to.
-#[derive(Debug, Drop)]
+#[derive(Drop)]
 pub struct Assignment {
     pub column: Name,
     pub value: ExprText,
 }
 
 /// By what two tables belong together.
-#[derive(Debug, Drop)]
+#[derive(Drop)]
 pub enum KeyText {
     /// Rows of one identifier.
     Primary,
@@ -28,14 +28,14 @@ pub enum KeyText {
 }
 
 /// A table, and the condition of its rows.
-#[derive(Debug, Drop)]
+#[derive(Drop)]
 pub struct Branch {
     pub table: Name,
     pub condition: ExprText,
 }
 
 /// An operator, with its names, lists and expressions in the order of its text.
-#[derive(Debug, Drop)]
+#[derive(Drop)]
 pub enum OpText {
     CreateTable {
         table: Name,
@@ -99,7 +99,7 @@ pub enum OpText {
 }
 
 /// A statement.
-#[derive(Debug, Drop)]
+#[derive(Drop)]
 pub enum Statement {
     CreateVersion {
         name: Name,

@@ -5,7 +5,7 @@ use par_base::{List, Memory, Name, copy_names};
 use std::alloc::Global;
 
 /// The name and the columns of a table.
-#[derive(Debug, Drop)]
+#[derive(Drop)]
 pub struct Heading {
     pub name: Name,
     pub columns: List<Name>,
@@ -25,7 +25,7 @@ impl Heading {
 
 /// An operator between its source tables, by their names in the working set before it, and its
 /// target tables. An edge without source tables is a CREATE TABLE, and no other edge is.
-#[derive(Debug, Drop)]
+#[derive(Drop)]
 pub struct Edge<O> {
     pub operator: O,
     pub sources: List<Name>,
@@ -34,7 +34,7 @@ pub struct Edge<O> {
 
 /// An edge with its numbers. `parent` is the working set before it, and 0 the empty one; the working
 /// set after it has its own number. `tables` are the numbers of its targets.
-#[derive(Debug, Drop)]
+#[derive(Drop)]
 pub struct Placed<O> {
     pub number: u32,
     pub parent: u32,
@@ -43,12 +43,12 @@ pub struct Placed<O> {
 }
 
 /// One step of a walk over the edge of an operator: from its sources to its targets or backward.
-#[derive(Clone, Copy, Debug, PartialEq, Eq, Drop)]
+#[derive(Clone, Copy, PartialEq, Eq, Drop)]
 pub struct Step {
     pub operator: u32,
     pub backward: bool,
 }
 
 /// What was placed makes no graph.
-#[derive(Clone, Copy, Debug, PartialEq, Eq, Drop)]
+#[derive(Clone, Copy, PartialEq, Eq, Drop)]
 pub struct NotGraph;

@@ -8,7 +8,7 @@ ghost use Rattle.version_model.specs.Kept.{value_of as value_of_lem, latest_of a
 use par_base::List;
 
 /// A value under a number.
-#[derive(Debug, Drop)]
+#[derive(Drop)]
 pub struct Numbered<T> {
     pub number: u32,
     pub value: T,
