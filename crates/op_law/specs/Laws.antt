@@ -1,5 +1,5 @@
 -- The laws of an operator, for one direction and both.
-use Rattle.std.specs.Prelude.{◌≡◌, ℕ, ◌≤◌, ◌⊎◌, List, [], true}
+use Rattle.std.specs.Prelude.{◌≡◌, ℕ, ◌≤◌, ◌⊎◌, List, [], length, true}
 use Rattle.op_law.specs.Tables.{Tables, Heading, AllRise, empty_tables}
 use Rattle.op_law.specs.Sound.{TablesSound, PairsSound, HasRow}
 use Rattle.op_law.specs.Meaning.{Meaning, PairState, Mapped, flip}
@@ -35,6 +35,8 @@ pub record HalfLaws (m : Meaning) : Type 0 where
   pub closed_more : (n k : ℕ) → n ≤ k → m.Closed n → m.Closed k
   -- auxiliary tables ascend
   pub aux_rises : (hs ht : List Heading) (p : PairState) → IsPair m hs ht p → AllRise (m.aux_at_source p)
+  -- as many are kept beside one related pair as beside another
+  pub aux_many : (hs ht : List Heading) (p q : PairState) → IsPair m hs ht p → IsPair m hs ht q → length (m.aux_at_source p) ≡ length (m.aux_at_source q)
   -- local: one that says that it treats each identifier by itself does
   pub local : m.is_local ≡ true → HalfLocal m
 

@@ -18,7 +18,7 @@ use Rattle.op_rows.specs.RowMeaning.{RowMeaning, RowHalf, rowwise}
 use Rattle.op_rows.specs.RowCalls.{RowBelongs, AdmitsRows}
 use Rattle.op_rows.specs.inner.RowwiseAt.{none_pair, aux_at, aux_rise}
 use Rattle.op_rows.specs.inner.Passes.{read_at, AdmitsEach}
-use Rattle.op_rows.proofs.PassLemmas.{made_long}
+use Rattle.op_rows.specs.inner.RowwiseLocal.{made_long}
 use Rattle.op_rows.proofs.PremiseLemmas.{belongs_at, contents_long}
 
 -- made tables at an identifier that is listed, and at one that isn't

@@ -104,10 +104,6 @@ pub tables_below : (k : ℕ) (ids : List ℕ) (i d : ℕ) (f : ℕ → Cells) �
 tables_below zero ids i d f rise h = tt
 tables_below (suc k) ids i d f rise h = (table_below 0 ids i d (λ id. first_cell (f id)) rise h, tables_below k ids i d (λ id. other_cells (f id)) rise h)
 
-pub made_long : (k : ℕ) (ids : List ℕ) (f : ℕ → Cells) → length (tables_from k ids f) ≡ k
-made_long zero ids f = refl
-made_long (suc k) ids f = ap suc (made_long k ids (λ id. other_cells (f id)))
-
 -- what holds of the first identifiers and of the next one
 pub has_next : (ids : List ℕ) (i d id : ℕ) (P : ℕ → Type 0) → i < length ids → (has_id (take i ids) id ≡ true → P id) → P (get_or ids i d) → has_id (take (i + 1) ids) id ≡ true → P id
 has_next [] i d id P h before next has = absurd (omega arith)

@@ -10,7 +10,7 @@ use Rattle.op_rows.specs.RowMeaning.{RowMeaning, RowHalf, rowwise}
 use Rattle.op_rows.specs.RowCalls.{SomeRows, MayRows, RowBelongs, StoredRows, NearRows}
 use Rattle.op_rows.specs.inner.Tabulated.{cells_well}
 use Rattle.op_rows.specs.inner.RowwiseAt.{pair_at, aux_at}
-use Rattle.op_rows.proofs.PassLemmas.{made_long}
+use Rattle.op_rows.specs.inner.RowwiseLocal.{made_long}
 
 module _ (r : RowMeaning) (h : RowHalf r) where
   pub may_rows : (near : Tables) (old : PairState) (n : ℕ) → SomeMap (rowwise r) near old n → (id : ℕ) → MayRows r (cells_at near id) (cells_at old.source id) (cells_at old.target id)

@@ -364,6 +364,7 @@ module _ (j : Joining) where
     empty = λ ht hs fits. empty_outer j hs ht;
     closed_more = λ n k h closed. term_more n k h j.condition closed;
     aux_rises = λ ht hs p pair. tt;
+    aux_many = λ hs ht p q one two. refl;
     local = λ local. absurd (false≢true local);
   }
 

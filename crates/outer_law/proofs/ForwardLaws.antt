@@ -154,5 +154,6 @@ module _ (j : Joining) where
     empty = λ hs ht fits. empty_outer hs ht;
     closed_more = λ n k h closed. term_more n k h j.condition closed;
     aux_rises = λ hs ht p pair. tt;
+    aux_many = λ hs ht p q one two. refl;
     local = λ local. absurd (false≢true local);
   }

@@ -96,6 +96,7 @@ module _ (j : Joining) where
     empty = λ hs ht fits. empty_joined hs ht;
     closed_more = λ n k h closed. term_more n k h j.condition closed;
     aux_rises = λ hs ht p pair. tt;
+    aux_many = λ hs ht p q one two. refl;
     local = λ local. absurd (false≢true local);
   }
 
@@ -287,6 +288,7 @@ module _ (j : Joining) where
     empty = λ ht hs fits. empty_joined hs ht;
     closed_more = λ n k h closed. term_more n k h j.condition closed;
     aux_rises = backward_aux_rises;
+    aux_many = λ hs ht p q one two. refl;
     local = λ local. absurd (false≢true local);
   }
 

@@ -120,5 +120,6 @@ module _ (Fits : List Heading → List Heading → Type 0) (k : FkParts) (w a b 
     empty = λ ht hs fits. let f = fit hs ht fits in (refl, λ p. rw (f.source_is, f.target_is) refl);
     closed_more = λ n k h c. tt;
     aux_rises = λ ht hs p pair. tt;
+    aux_many = λ hs ht p q one two. refl;
     local = λ local. absurd (false≢true local);
   }

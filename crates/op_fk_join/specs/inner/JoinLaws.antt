@@ -122,6 +122,7 @@ module _ (Fits : List Heading → List Heading → Type 0) (k : FkParts) (w a b 
     empty = λ hs ht fits. let f = fit hs ht fits in (refl, λ p. rw (f.source_is, f.target_is) refl);
     closed_more = λ n k h c. tt;
     aux_rises = λ hs ht p pair. tt;
+    aux_many = λ hs ht p q one two. refl;
     local = λ local. absurd (false≢true local);
   }
 

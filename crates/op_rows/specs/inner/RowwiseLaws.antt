@@ -9,7 +9,7 @@ use Rattle.op_rows.specs.RowMeaning.{RowMeaning, flip_row, rowwise, RowHalf, Row
 use Rattle.op_rows.specs.inner.CellLemmas.{ext_all, below_ids}
 use Rattle.op_rows.specs.inner.Tabulated.{all_rise_from, well_from, all_below_from, all_rise, cells_well, empty_at}
 use Rattle.op_rows.specs.inner.RowwiseAt.{aux_rise, pair_at, may_at, far_at, far_rise, far_well, drawn_none, recovers}
-use Rattle.op_rows.specs.inner.RowwiseLocal.{half_local}
+use Rattle.op_rows.specs.inner.RowwiseLocal.{half_local, made_long}
 
 module _ (r : RowMeaning) (h : RowHalf r) where
   -- the laws of one direction
@@ -40,6 +40,7 @@ module _ (r : RowMeaning) (h : RowHalf r) where
     readable = h.readable;
     closed_more = h.closed_more;
     aux_rises = aux_rise r h;
+    aux_many = λ hs ht p q one two. made_long r.source_aux _ _ ∙ sym (made_long r.source_aux _ _);
     local = λ local. half_local r h;
     empty = λ hs ht fits.
         let long = h.fits_long hs ht fits in

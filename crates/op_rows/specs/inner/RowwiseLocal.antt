@@ -36,7 +36,7 @@ all_rise_only : (P : ℕ → Bool) (ts : Tables) → AllRise ts → AllRise (onl
 all_rise_only P [] h = tt
 all_rise_only P (t ∷ ts) h = (rise_only P 0 t h.0, all_rise_only P ts h.1)
 
-made_long : (k : ℕ) (ids : List ℕ) (f : ℕ → Cells) → length (tables_from k ids f) ≡ k
+pub made_long : (k : ℕ) (ids : List ℕ) (f : ℕ → Cells) → length (tables_from k ids f) ≡ k
 made_long zero ids f = refl
 made_long (suc k) ids f = ap suc (made_long k ids _)
 
