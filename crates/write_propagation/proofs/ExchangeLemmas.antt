@@ -29,27 +29,3 @@ module _ {T : Type 0} where
       (λ e.
       let now : new ≡ value_of items n = put ∙ ap (λ (b : Bool). if b then Some v else value_of items n) e in
       sym (renewed_none (value_of items n)) ∙ ap (λ (o : Option T). renewed o None) (sym now) ∙ ap (λ (b : Bool). renewed new (if b then Some old else None)) (sym e))
-
-  same_some : (x y : T) → Some x ≡ Some y → x ≡ y
-  same_some x y e = cc
-
-  -- lists with the same numbers, none of which comes twice, and the same values under them are equal
-  pub same_items : (xs ys : List (Numbered T)) → numbers_in xs ≡ numbers_in ys → Distinct (numbers_in xs) → ((n : ℕ) → value_of xs n ≡ value_of ys n) → xs ≡ ys
-  same_items [] [] numbers once values = refl
-  same_items [] (y ∷ ys) numbers once values = absurd (let no : ⊥ = cc in no)
-  same_items (x ∷ xs) [] numbers once values = absurd (let no : ⊥ = cc in no)
-  same_items (x ∷ xs) (y ∷ ys) numbers once values =
-      let number : x.number ≡ y.number = cc in
-      let rest : numbers_in xs ≡ numbers_in ys = cc in
-      let value : x.value ≡ y.value = same_some x.value y.value (sym (value_first x xs x.number refl) ∙ values x.number ∙ value_first y ys x.number number) in
-      let first : x ≡ y = ap (λ (n : ℕ). record { number = n; value = x.value }) number ∙ ap (λ (v : T). record { number = y.number; value = v }) value in
-      let more : xs ≡ ys = same_items xs ys rest once.1
-      (λ n. by_test (n == x.number)
-      (λ e.
-      let here = eqb-true n x.number e in
-      let out : In n (numbers_in xs) → ⊥ = λ i. once.0 (subst (λ (m : ℕ). In m (numbers_in xs)) here i) in
-      value_unlisted xs n out ∙ sym (value_unlisted ys n (λ i. out (subst (λ (l : List ℕ). In n l) (sym rest) i))))
-      (λ e.
-      let other : n ≡ x.number → ⊥ = λ same. (let t = eq-eqb n x.number same in let no : ⊥ = cc in no) in
-      sym (value_rest x xs n other) ∙ values n ∙ value_rest y ys n (λ same. other (same ∙ sym number)))) in
-      ap (λ (i : Numbered T). i ∷ xs) first ∙ ap (λ (l : List (Numbered T)). y ∷ l) more

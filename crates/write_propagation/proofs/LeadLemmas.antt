@@ -1,5 +1,5 @@
 -- Changes that are put into a database lead to the state for which they were made.
-use Rattle.std.proofs.Common.{◌≡◌, ℕ, ◌≤◌, List, [], ◌∷◌, Result, Ok, Err, refl, sym, ap, ◌∙◌, subst}
+use Rattle.std.proofs.Common.{◌≡◌, ℕ, ◌≤◌, List, [], ◌∷◌, Option, Some, None, Result, Ok, Err, refl, sym, ap, ◌∙◌, subst}
 use Rattle.par_base.specs.declared.fault.Fault.{Fault}
 use Rattle.par_base.specs.declared.fault.Fault.TheVariants.{Refused, Memory as OutOfMemory}
 use Rattle.par_base.specs.declared.refusal.IdsSpent.{IdsSpent}
@@ -10,6 +10,7 @@ use Rattle.row_changes.specs.declared.change.SideChanges.{SideChanges}
 use Rattle.std.proofs.lemmas.List.{reverse-reverse}
 use mathlib.Core.List.{reverse}
 use Rattle.row_store.specs.Rows.{Rows}
+use Rattle.id_memory.specs.Pairs.{Pairs}
 use Rattle.id_memory.specs.States.{CounterState, MemoryState}
 use Rattle.version_graph.specs.Sets.{In}
 use Rattle.version_graph.specs.Edges.{Drawn, Rises, numbers}
@@ -22,11 +23,12 @@ use Rattle.op_law.specs.Meaning.{Meaning}
 use Rattle.op_law.specs.Tables.{Tables}
 use Rattle.layout_rules.specs.Layouts.{IsStored}
 use Rattle.layout_rules.specs.declared.layout.Layout.{Layout}
+use Rattle.layout_rules.proofs.ChangeLaws.{link_number}
 use Rattle.row_store.specs.States.{TableState}
 use Rattle.op_law.specs.declared.side.Aux.{Aux}
 use Rattle.write_propagation.specs.Calls.{KeepsAuxes, KeepsRows}
 use Rattle.row_changes.specs.Changed.{AreChangesOf, changed, changed_tables}
-use Rattle.version_model.specs.Kept.{Database, pairs_at, rows_at, auxes_at, numbers_in}
+use Rattle.version_model.specs.Kept.{Database, latest_of, newer_pairs, pairs_at, pairs_now, renewed, rows_at, value_of, auxes_at, numbers_in}
 use Rattle.version_model.specs.Sound.{IsSound}
 use Rattle.version_model.specs.States.{State, headings}
 use Rattle.version_model.specs.Writes.{write}
@@ -36,9 +38,11 @@ use Rattle.db_state.specs.Fields.{IsDatabase, database_for, state_for, storage_i
 use Rattle.db_state.specs.declared.parts.Parts.{Parts}
 use Rattle.db_state.proofs.FieldLaws.{IsShaped, Store, is_database}
 use Rattle.kept_changes.specs.Changes.{IsOldAt, IsSideAt, changes_at, sides_at}
-use Rattle.write_propagation.specs.Plans.{IsSame, PlansBy, PutsRows}
-use Rattle.write_propagation.specs.Room.{ChangesRows}
-use Rattle.write_propagation.specs.declared.plans.RowPlan.{RowPlan}
+use Rattle.write_propagation.specs.Plans.{IsSame, Plans, Puts}
+use Rattle.write_propagation.specs.Room.{HasOld}
+use Rattle.write_propagation.specs.declared.plans.Plan.{Plan}
+use Rattle.write_propagation.proofs.ExchangeLemmas.{renewed_none}
+use Rattle.write_propagation.proofs.ItemLemmas.{reads_newer, reads_older}
 
 -- no changes leave all tables
 pub no_changes : (ts : Tables) → changed_tables ts [] ≡ ts
@@ -48,11 +52,11 @@ no_changes (t ∷ ts) = refl
 turned : (n : ℕ) (ns : List ℕ) → In n (reverse ns) → In n ns
 turned n ns i = subst (λ (l : List ℕ). In n l) (reverse-reverse ns) (in_reverse n (reverse ns) i)
 
--- the changes make of what is stored of the old state what is stored of this one
-pub record IsPlanTo {O : Type 0} (meaning : O → Meaning) (d : Parts O) (end : State) (plan : RowPlan) : Type 0 where
+-- the plan makes of what is stored of the old state what is stored of this one
+pub record IsPlanTo {O : Type 0} (meaning : O → Meaning) (d : Parts O) (end : State) (plan : Plan) : Type 0 where
   pub stored : (t : ℕ) → IsStored (forest d.graph.edges) d.layout.operators t → changed ((state_for meaning d).tables t) (changes_at plan.stored t) ≡ end.tables t
   pub aux : (e : Link O) → In e (forest d.graph.edges) → changed_tables (aux_of meaning (state_for meaning d) (stored_way d.layout.operators e)) (sides_at plan.auxes e.number) ≡ aux_of meaning end (stored_way d.layout.operators e)
-  pub memory : (e : Link O) → In e (forest d.graph.edges) → end.memory e.number ≡ (state_for meaning d).memory e.number
+  pub memory : (e : Link O) → In e (forest d.graph.edges) → pairs_now d.memories plan.memories e.number ≡ end.memory e.number
   pub next : plan.ids.next ≡ end.next
   pub limit : plan.ids.limit ≡ d.ids.limit
 
@@ -63,7 +67,7 @@ module _ {O : Type 0} (meaning : O → Meaning) (laws : (o : O) → Laws (meanin
   abbrev s : State
   s = state_for meaning d
 
-  module _ (end : State) (sound : IsSound meaning d.graph.edges end) (plan : RowPlan) (for : IsPlanTo meaning d end plan) (new : Parts O) (puts : PutsRows d plan new) where
+  module _ (end : State) (sound : IsSound meaning d.graph.edges end) (plan : Plan) (for : IsPlanTo meaning d end plan) (new : Parts O) (puts : Puts d plan new) where
     -- the fields over the old graph and layout
     abbrev over : Parts O
     over = record { graph = d.graph; layout = d.layout; stored = new.stored; aux = new.aux; memories = new.memories; ids = plan.ids }
@@ -77,11 +81,18 @@ module _ {O : Type 0} (meaning : O → Meaning) (laws : (o : O) → Laws (meanin
     stored_aux : (e : Link O) → In e (forest es) → auxes_at new.aux e.number ≡ aux_of meaning end (stored_way d.layout.operators e)
     stored_aux e i = puts.aux e.number ∙ ap (λ (x : Tables). changed_tables x (sides_at plan.auxes e.number)) (stood e i).aux ∙ for.aux e i
 
-    stored_memory : (e : Link O) → In e (forest es) → pairs_at new.memories e.number ≡ end.memory e.number
-    stored_memory e i = ap (λ (l : List (Numbered MemoryState)). pairs_at l e.number) puts.memories ∙ sym (for.memory e i)
+    abbrev entries : MemoryState → Pairs
+    entries x = x.entries
 
-    same_numbers : numbers_in new.memories ≡ numbers_in d.memories
-    same_numbers = ap (λ (l : List (Numbered MemoryState)). numbers_in l) puts.memories
+    -- a memory that came newly, or is as it was
+    stored_memory : (e : Link O) → In e (forest es) → pairs_at new.memories e.number ≡ end.memory e.number
+    stored_memory e i =
+        let n = e.number in
+        let here : In n (numbers_in d.memories) = subst (λ (l : List ℕ). In n l) (sym good.memories) (in_reverse n (numbers es) (link_number es e i)) in
+        (elim (latest_of plan.memories n) as (λ o. latest_of plan.memories n ≡ o → newer_pairs o (pairs_at d.memories n) ≡ end.memory n → pairs_at new.memories n ≡ end.memory n) [
+          | Some y ↦ λ last there. reads_newer entries [] d.memories new.memories plan.memories n (puts.memory n) here y last ∙ there
+          | None ↦ λ last there. reads_older entries [] d.memories new.memories plan.memories n (puts.memory n) last ∙ there
+        ]) refl (for.memory e i)
 
     store : Store meaning over end
     store = record {
@@ -92,7 +103,7 @@ module _ {O : Type 0} (meaning : O → Meaning) (laws : (o : O) → Laws (meanin
       rows = stored_rows;
       auxes = λ n i. turned n (numbers es) (subst (λ (l : List ℕ). In n l) (puts.auxes ∙ good.auxes) i);
       aux = stored_aux;
-      memories = λ n i. turned n (numbers es) (subst (λ (l : List ℕ). In n l) (same_numbers ∙ good.memories) i);
+      memories = λ n i. turned n (numbers es) (subst (λ (l : List ℕ). In n l) (puts.memories ∙ good.memories) i);
       memory = stored_memory;
       next = for.next;
     }
@@ -106,7 +117,7 @@ module _ {O : Type 0} (meaning : O → Meaning) (laws : (o : O) → Laws (meanin
       ascending = good.ascending;
       tables_ascending = subst (λ (l : List ℕ). Rises 0 l) (sym puts.tables) good.tables_ascending;
       auxes = puts.auxes ∙ good.auxes;
-      memories = same_numbers ∙ good.memories;
+      memories = puts.memories ∙ good.memories;
     }
 
     over_is : over ≡ new
@@ -127,8 +138,8 @@ module _ {O : Type 0} (meaning : O → Meaning) (laws : (o : O) → Laws (meanin
 
   -- ---- nothing is put
 
-  abbrev none : RowPlan
-  none = record { stored = []; auxes = []; ids = d.ids }
+  abbrev none : Plan
+  none = record { stored = []; auxes = []; memories = []; ids = d.ids }
 
   still : IsPlanTo meaning d s none
   still = record {
@@ -149,29 +160,31 @@ pub same_self : {O : Type 0} (d : Parts O) → IsSame d d
 same_self d = record {
   graph = refl;
   layout = refl;
-  memories = refl;
   ids = refl;
   tables = refl;
   auxes = refl;
+  memories = refl;
   stored = λ n. refl;
   aux = λ n. sym (no_changes (auxes_at d.aux n));
+  memory = λ n. sym (renewed_none (value_of d.memories n));
 }
 
 -- a plan for the same database is one for the old one
-pub puts_same : {O : Type 0} (d new last : Parts O) (plan : RowPlan) → IsSame d new → PutsRows new plan last → PutsRows d plan last
+pub puts_same : {O : Type 0} (d new last : Parts O) (plan : Plan) → IsSame d new → Puts new plan last → Puts d plan last
 puts_same d new last plan same puts = record {
   graph = puts.graph ∙ same.graph;
   layout = puts.layout ∙ same.layout;
-  memories = puts.memories ∙ same.memories;
   ids = puts.ids;
   tables = puts.tables ∙ same.tables;
   auxes = puts.auxes ∙ same.auxes;
+  memories = puts.memories ∙ same.memories;
   stored = λ n. puts.stored n ∙ ap (λ (x : Rows). changed x (changes_at plan.stored n)) (same.stored n);
   aux = λ n. puts.aux n ∙ ap (λ (x : Tables). changed_tables x (sides_at plan.auxes n)) (same.aux n ∙ no_changes (auxes_at d.aux n));
+  memory = λ n. puts.memory n ∙ ap (λ (o : Option MemoryState). renewed o (latest_of plan.memories n)) (same.memory n ∙ renewed_none (value_of d.memories n));
 }
 
 -- the old rows that a plan names are there in the same database
-pub changes_same : {O : Type 0} (d new : Parts O) (plan : RowPlan) → IsSame d new → ChangesRows d plan → ChangesRows new plan
+pub changes_same : {O : Type 0} (d new : Parts O) (plan : Plan) → IsSame d new → HasOld d plan → HasOld new plan
 changes_same d new plan same old = record {
   stored = (
     old.stored.0,
@@ -199,7 +212,7 @@ module _ {O : Type 0} (meaning : O → Meaning) (laws : (o : O) → Laws (meanin
   write_is = ap (λ (x : Database O). write meaning x.graph.edges x.state w t rows next) data_is
 
   -- WHAT IS PLANNED FOR A DATABASE IS PLANNED FOR THE SAME ONE
-  pub plans_same : (r : Result RowPlan (Fault IdsSpent)) → PlansBy (PutsRows d) meaning d w t rows next r → PlansBy (PutsRows new) meaning new w t rows next r
+  pub plans_same : (r : Result Plan (Fault IdsSpent)) → Plans meaning d w t rows next r → Plans meaning new w t rows next r
   plans_same (Ok plan) h = (
     subst (λ (s : State). s.next ≤ first_refused new.ids) (sym write_is) (subst (λ (c : CounterState). before.next ≤ first_refused c) (sym same.ids) h.0),
     λ last puts.
@@ -217,10 +230,11 @@ room_made {O} d parts stored aux same a b =
     (record {
       graph = refl;
       layout = refl;
-      memories = refl;
       ids = refl;
       tables = a.listed;
       auxes = b.listed;
+      memories = refl;
       stored = a.rows;
       aux = λ n. b.rows n ∙ sym (no_changes (auxes_at parts.aux n));
+      memory = λ n. sym (renewed_none (value_of parts.memories n));
     })

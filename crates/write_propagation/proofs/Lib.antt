@@ -4,9 +4,9 @@ mod PartLemmas
 mod TreeLemmas
 mod CopyLemmas
 mod SeenLemmas
-mod WholePlanLemmas
 mod LeadLemmas
-mod RowPlanLemmas
+mod ShownLemmas
+mod PlanLemmas
 mod ExchangeLemmas
 mod ChangeLemmas
 pub mod PlanLaws

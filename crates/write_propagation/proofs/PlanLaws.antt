@@ -6,7 +6,6 @@ use Rattle.db_state.specs.declared.parts.Parts.{Parts}
 use Rattle.write_propagation.specs.Plans.{Plans, Puts}
 use Rattle.write_propagation.specs.Room.{IsReadyFor, MayCommit}
 use Rattle.write_propagation.specs.declared.plans.Plan.{Plan}
-use Rattle.write_propagation.specs.declared.plans.Plan.TheVariants.{ByRows, Whole}
 
 -- what is planned and ready may be put in
 pub may_commit : {O : Type 0} (meaning : O → Meaning) (d : Parts O) (w t : ℕ) (rows : Rows) (next : ℕ) (plan : Plan) → Plans meaning d w t rows next (Ok plan) → IsReadyFor d plan → MayCommit meaning d plan
@@ -14,5 +13,4 @@ may_commit meaning d w t rows next plan plans ready = record { ready = ready; le
 
 -- it leaves the layout
 pub puts_layout : {O : Type 0} (old new : Parts O) (plan : Plan) → Puts old plan new → new.layout ≡ old.layout
-puts_layout old new (ByRows plan) puts = puts.layout
-puts_layout old new (Whole plan) puts = puts.layout
+puts_layout old new plan puts = puts.layout

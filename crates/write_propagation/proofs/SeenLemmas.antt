@@ -1,5 +1,5 @@
 -- The write of what is seen of a tree may be made, and what follows where it was made.
-use Rattle.std.proofs.Common.{◌≡◌, ℕ, ◌*◌, ◌≤◌, length, List, [], ◌∷◌, true, false, map, Ok, Err, refl, sym, ap, ◌∙◌, subst, arith}
+use Rattle.std.proofs.Common.{◌≡◌, ℕ, ◌*◌, ◌≤◌, length, List, [], ◌∷◌, Bool, true, false, map, Ok, Err, refl, sym, ap, ◌∙◌, subst, arith}
 use Rattle.std.specs.Prelude.{◌==◌, ◌+◌, if◌then◌else◌}
 use Rattle.std.proofs.lemmas.Bool.{cond-true, eq-eqb}
 use Rattle.std.proofs.lemmas.List.{length-map}
@@ -74,6 +74,11 @@ pub named_pass : (cs : List Change) → AllPass (has_id (ids_of cs)) cs
 named_pass [] = tt
 named_pass (c ∷ cs) = (cond-true (c.id == c.id) true (has_id (ids_of cs) c.id) (eq-eqb c.id c.id refl), more_pass c.id (ids_of cs) cs (named_pass cs))
 
+-- what passes one test passes a wider one
+pub pass_wider : (P Q : ℕ → Bool) → ((id : ℕ) → P id ≡ true → Q id ≡ true) → (cs : List Change) → AllPass P cs → AllPass Q cs
+pass_wider P Q wider [] pass = tt
+pass_wider P Q wider (c ∷ cs) pass = (wider c.id pass.0, pass_wider P Q wider cs pass.1)
+
 -- as many identifiers as changes
 pub steps_named : (cs : List Change) (ids : List ℕ) → ids ≡ ids_of cs → (n most s t : ℕ) → most ≤ 16 → t ≤ s + most * (length ids * n) → t ≤ s + 16 * (length cs * n)
 steps_named cs ids is n most s t less within =
@@ -81,11 +86,6 @@ steps_named cs ids is n most s t less within =
     let own = subst (λ (k : ℕ). t ≤ s + most * (k * n)) long within in
     let all = mul-le most (length cs * n) 16 (length cs * n) less (omega arith) in
     omega (arith, own, all)
-
--- all identifiers pass where all rows are seen
-pub all_pass : (cs : List Change) → AllPass (passes All) cs
-all_pass [] = tt
-all_pass (c ∷ cs) = (refl, all_pass cs)
 
 -- a part has no rows but those that are seen
 part_seen : (sight : Sight) (tree : Tree) (s : State) → HasSeen sight (part (passes sight) tree s)

@@ -16,16 +16,13 @@ use Rattle.version_model.specs.Writes.{MayWrite, write}
 use Rattle.version_model.specs.declared.numbered.Numbered.{Numbered}
 use Rattle.db_state.specs.Calls.{AreAuxesOf}
 use Rattle.db_state.specs.Fields.{IsDatabase, state_for}
-use Rattle.db_state.specs.Parts.{seen_of}
 use Rattle.db_state.specs.declared.parts.Parts.{Parts}
-use Rattle.db_state.specs.declared.sight.Sight.TheVariants.{All}
-use Rattle.write_propagation.specs.Calls.{AreAsMany, AreAuxChanges, AreTableChanges, beside, stored_in, told_rows}
+use Rattle.write_propagation.specs.Calls.{AreAsMany, AreAuxChanges, AreTableChanges, stored_in}
 use Rattle.write_propagation.specs.Plans.{rows_written}
 use Rattle.write_propagation.specs.Trees.{IsTree, part}
 use Rattle.write_propagation.specs.declared.making.Making.{Making}
-use Rattle.write_propagation.specs.declared.plans.RowPlan.{RowPlan}
+use Rattle.write_propagation.specs.declared.plans.Plan.{Plan}
 use Rattle.write_propagation.specs.declared.plans.RowWrite.{RowWrite}
-use Rattle.write_propagation.specs.declared.plans.WholePlan.{WholePlan}
 use Rattle.write_propagation.specs.declared.tree.Tree.{Tree}
 
 -- the write of a tree may be planned
@@ -60,21 +57,15 @@ MakesWrite meaning d tree w test (Ok making) = IsMaking meaning d tree w test ma
 MakesWrite meaning d tree w test (Err (Refused spent)) = IsSpent (seen_write meaning d tree w test).next w.ids w.ids spent
 MakesWrite meaning d tree w test (Err (Memory memory)) = ⊤
 
--- a plan from what was made: the stored tables of the tree, and the auxiliary tables and memories of its operators
-pub record IsMadeFor {O : Type 0} (meaning : O → Meaning) (d : Parts O) (tree : Tree) (making : Making) (plan : WholePlan) : Type 0 where
-  pub stored : told_rows plan.stored ≡ beside (seen_of All (rows_now making.copies.tables making.made.tables)) (stored_in d tree)
-  pub auxes : AreAuxesOf meaning d.graph.edges d.layout.operators (made_over making) tree.operators plan.auxes
-  pub memories : plan.memories ≡ filter (λ i. is_in i.number tree.operators) making.made.memories
-  pub ids : plan.ids ≡ making.made.ids
-
 -- as many auxiliary tables are kept of each operator of the tree as were made
 abbrev pub AreAsManyMade : {O : Type 0} → (O → Meaning) → Parts O → Tree → Making → Type 0
 AreAsManyMade meaning d tree making = (newer : List (Numbered Aux)) → AreAuxesOf meaning d.graph.edges d.layout.operators (made_over making) tree.operators newer → AreAsMany d.aux newer
 
--- a plan of changes from what was made: those of the stored tables of the tree, and of the auxiliary tables of its operators
-pub record AreRowsFor {O : Type 0} (meaning : O → Meaning) (d : Parts O) (tree : Tree) (test : ℕ → Bool) (making : Making) (plan : RowPlan) : Type 0 where
+-- the plan of what was made: the changes of the stored tables of the tree and of the auxiliary tables of its operators, and their memories
+pub record IsPlanOf {O : Type 0} (meaning : O → Meaning) (d : Parts O) (tree : Tree) (test : ℕ → Bool) (making : Making) (plan : Plan) : Type 0 where
   pub stored : AreTableChanges making.copies.tables making.made.tables (stored_in d tree) plan.stored
   pub newer : List (Numbered Aux)
   pub made : AreAuxesOf meaning d.graph.edges d.layout.operators (made_over making) tree.operators newer
   pub auxes : AreAuxChanges d.aux test newer plan.auxes
+  pub memories : plan.memories ≡ filter (λ i. is_in i.number tree.operators) making.made.memories
   pub ids : plan.ids ≡ making.made.ids

@@ -13,54 +13,32 @@ use Rattle.db_state.specs.Fields.{IsDatabase, database_for, state_for}
 use Rattle.db_state.specs.declared.parts.Parts.{Parts}
 use Rattle.kept_changes.specs.Changes.{changes_at, sides_at}
 use Rattle.write_propagation.specs.declared.plans.Plan.{Plan}
-use Rattle.write_propagation.specs.declared.plans.Plan.TheVariants.{ByRows, Whole}
-use Rattle.write_propagation.specs.declared.plans.RowPlan.{RowPlan}
 use Rattle.write_propagation.specs.declared.plans.RowWrite.{RowWrite}
-use Rattle.write_propagation.specs.declared.plans.WholePlan.{WholePlan}
 
 -- the rows that the written table is to have
 abbrev pub rows_written : {O : Type 0} → (O → Meaning) → Parts O → RowWrite → Rows
 rows_written meaning d w = changed ((state_for meaning d).tables w.table) w.changes
 
--- each stored and each auxiliary table gets its changes, and nothing else changes but the counter
-pub record PutsRows {O : Type 0} (old : Parts O) (plan : RowPlan) (new : Parts O) : Type 0 where
-  pub graph : new.graph ≡ old.graph
-  pub layout : new.layout ≡ old.layout
-  pub memories : new.memories ≡ old.memories
-  pub ids : new.ids ≡ plan.ids
-  pub tables : numbers_in new.stored ≡ numbers_in old.stored
-  pub auxes : numbers_in new.aux ≡ numbers_in old.aux
-  pub stored : (n : ℕ) → rows_at new.stored n ≡ changed (rows_at old.stored n) (changes_at plan.stored n)
-  pub aux : (n : ℕ) → auxes_at new.aux n ≡ changed_tables (auxes_at old.aux n) (sides_at plan.auxes n)
-
--- newer values stand under the numbers that have values, and nothing else changes but the counter
-pub record PutsWhole {O : Type 0} (old : Parts O) (plan : WholePlan) (new : Parts O) : Type 0 where
+-- each stored and each auxiliary table gets its changes, a newer memory stands in the place of the older one, and nothing else changes but the counter
+pub record Puts {O : Type 0} (old : Parts O) (plan : Plan) (new : Parts O) : Type 0 where
   pub graph : new.graph ≡ old.graph
   pub layout : new.layout ≡ old.layout
   pub ids : new.ids ≡ plan.ids
   pub tables : numbers_in new.stored ≡ numbers_in old.stored
   pub auxes : numbers_in new.aux ≡ numbers_in old.aux
   pub memories : numbers_in new.memories ≡ numbers_in old.memories
-  pub stored : (n : ℕ) → value_of new.stored n ≡ renewed (value_of old.stored n) (latest_of plan.stored n)
-  pub aux : (n : ℕ) → value_of new.aux n ≡ renewed (value_of old.aux n) (latest_of plan.auxes n)
+  pub stored : (n : ℕ) → rows_at new.stored n ≡ changed (rows_at old.stored n) (changes_at plan.stored n)
+  pub aux : (n : ℕ) → auxes_at new.aux n ≡ changed_tables (auxes_at old.aux n) (sides_at plan.auxes n)
   pub memory : (n : ℕ) → value_of new.memories n ≡ renewed (value_of old.memories n) (latest_of plan.memories n)
-
--- what a plan puts into the old database gives the new one
-abbrev pub Puts : {O : Type 0} → Parts O → Plan → Parts O → Type 0
-Puts old (ByRows plan) new = PutsRows old plan new
-Puts old (Whole plan) new = PutsWhole old plan new
 
 -- the same database: only the room of its tables differs
 abbrev pub IsSame : {O : Type 0} → Parts O → Parts O → Type 0
-IsSame old new = PutsRows old (record { stored = []; auxes = []; ids = old.ids }) new
+IsSame old new = Puts old (record { stored = []; auxes = []; memories = []; ids = old.ids }) new
 
 -- A WRITE, WHATEVER IS STORED: the database with the plan has the state after the model's write; it is refused exactly where the write would draw an identifier above the limit
-abbrev pub PlansBy : {O : Type 0} → {P : Type 0} → (P → Parts O → Type 0) → (O → Meaning) → Parts O → ℕ → ℕ → Rows → ℕ → Result P (Fault IdsSpent) → Type 0
-PlansBy {O} puts meaning d w t rows next (Ok plan) =
-    let end = write meaning d.graph.edges (state_for meaning d) w t rows next in
-    (end.next ≤ first_refused d.ids) × ((new : Parts O) → puts plan new → IsDatabase meaning new × (database_for meaning new ≡ record (database_for meaning d) { state = end }))
-PlansBy puts meaning d w t rows next (Err (Refused spent)) = IsSpent (write meaning d.graph.edges (state_for meaning d) w t rows next).next d.ids d.ids spent
-PlansBy puts meaning d w t rows next (Err (Memory memory)) = ⊤
-
 abbrev pub Plans : {O : Type 0} → (O → Meaning) → Parts O → ℕ → ℕ → Rows → ℕ → Result Plan (Fault IdsSpent) → Type 0
-Plans meaning d w t rows next plan = PlansBy (Puts d) meaning d w t rows next plan
+Plans {O} meaning d w t rows next (Ok plan) =
+    let end = write meaning d.graph.edges (state_for meaning d) w t rows next in
+    (end.next ≤ first_refused d.ids) × ((new : Parts O) → Puts d plan new → IsDatabase meaning new × (database_for meaning new ≡ record (database_for meaning d) { state = end }))
+Plans meaning d w t rows next (Err (Refused spent)) = IsSpent (write meaning d.graph.edges (state_for meaning d) w t rows next).next d.ids d.ids spent
+Plans meaning d w t rows next (Err (Memory memory)) = ⊤

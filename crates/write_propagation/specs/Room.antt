@@ -1,5 +1,4 @@
 -- When a plan may be put into a database.
-use Rattle.std.specs.Prelude.{⊤}
 use Rattle.op_law.specs.Meaning.{Meaning}
 use Rattle.db_state.specs.Fields.{IsDatabase}
 use Rattle.db_state.specs.declared.parts.Parts.{Parts}
@@ -7,23 +6,20 @@ use Rattle.kept_changes.specs.Changes.{AreOldAt, AreSidesAt}
 use Rattle.kept_changes.specs.Room.{FitAt, SidesFitAt}
 use Rattle.write_propagation.specs.Plans.{Puts}
 use Rattle.write_propagation.specs.declared.plans.Plan.{Plan}
-use Rattle.write_propagation.specs.declared.plans.Plan.TheVariants.{ByRows, Whole}
-use Rattle.write_propagation.specs.declared.plans.RowPlan.{RowPlan}
 
 -- each change has the old row of its table
-pub record ChangesRows {O : Type 0} (d : Parts O) (plan : RowPlan) : Type 0 where
+pub record HasOld {O : Type 0} (d : Parts O) (plan : Plan) : Type 0 where
   pub stored : AreOldAt d.stored plan.stored
   pub auxes : AreSidesAt d.aux plan.auxes
 
 -- there is room for all changes
-pub record HasRoom {O : Type 0} (d : Parts O) (plan : RowPlan) : Type 0 where
+pub record HasRoom {O : Type 0} (d : Parts O) (plan : Plan) : Type 0 where
   pub stored : FitAt d.stored plan.stored
   pub auxes : SidesFitAt d.aux plan.auxes
 
 -- what has to be there to put a plan in
 abbrev pub IsReadyFor : {O : Type 0} → Parts O → Plan → Type 0
-IsReadyFor d (ByRows plan) = ChangesRows d plan × HasRoom d plan
-IsReadyFor d (Whole plan) = ⊤
+IsReadyFor d plan = HasOld d plan × HasRoom d plan
 
 -- a plan may be put in: it leaves a database
 pub record MayCommit {O : Type 0} (meaning : O → Meaning) (d : Parts O) (plan : Plan) : Type 0 where

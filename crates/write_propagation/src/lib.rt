@@ -26,5 +26,5 @@ mod undo;
 
 pub use change::{commit, revert};
 pub use planning::plan;
-pub use plans::{Plan, RowPlan, RowWrite, WholePlan};
-pub use undo::{RowUndo, Undo};
+pub use plans::{Plan, RowWrite};
+pub use undo::Undo;

@@ -1,6 +1,7 @@
 //! The plan of a write.
 ghost use Rattle.std.specs.Prelude.{◌≡◌, ◌+◌, ◌*◌, ◌≤◌, length, map, IfOk};
 ghost use Rattle.row_store.specs.Changes.{AreOld};
+ghost use Rattle.row_changes.specs.Touched.{AllPass};
 ghost use Rattle.version_graph.specs.Sets.{In, Each};
 ghost use Rattle.version_graph.specs.Edges.{numbers};
 ghost use Rattle.op_law.specs.Calls.{first_refused};
@@ -10,17 +11,17 @@ ghost use Rattle.db_state.specs.Calls.{IsRelatedAt};
 ghost use Rattle.db_state.specs.Fields.{database_for, state_for};
 ghost use Rattle.db_state.specs.Parts.{passes, AreLocalAt, Ascends, MaySee, SeenWithin};
 ghost use Rattle.write_propagation.specs.Bounds.{HasSeen, PlansWithin};
-ghost use Rattle.write_propagation.specs.Plans.{rows_written, IsSame, Plans, PlansBy, PutsRows, PutsWhole};
-ghost use Rattle.write_propagation.specs.Room.{ChangesRows, HasRoom, IsReadyFor};
-ghost use Rattle.write_propagation.specs.Making.{made_over, AreAsManyMade, AreRowsFor, IsMadeFor, MayPlan};
+ghost use Rattle.write_propagation.specs.Plans.{rows_written, IsSame, Plans};
+ghost use Rattle.write_propagation.specs.Room.{HasOld, IsReadyFor};
+ghost use Rattle.write_propagation.specs.Making.{made_over, AreAsManyMade, IsPlanOf, MayPlan};
 
-use crate::copies::{copy_tables, kept_of, memories_of};
+use crate::copies::{kept_of, memories_of};
 use crate::differing::{aux_changes, table_changes};
 use crate::making::{Making, make_auxes, make_write};
-use crate::plans::{Plan, RowPlan, RowWrite, WholePlan};
+use crate::plans::{Plan, RowWrite};
 use crate::room::make_room;
 use crate::tree::{Tree, tree_of};
-use db_state::{Db, Sight, are_local};
+use db_state::{Db, Sight, sight_over};
 use expr_lang::Steps;
 use op_law::Operator;
 use par_base::{Fault, IdsSpent, List, Memory};
@@ -40,50 +41,22 @@ fn named_ids(alloc: Global, changes: &Changes) -> Result<List<u64>, Memory>
     Ok(ids)
 }
 
-fn whole_plan<O: Operator, L: Ledger>(
-    alloc: Global,
-    db: &Db<O>,
-    tree: &Tree,
-    making: Making,
-    steps: &mut Steps<L>,
-) -> Result<WholePlan, Memory>
-    requires { Each (IsRelatedAt O.meaning db.now.graph.edges (made_over making))
-        tree.now.operators }
-    ensures { IfOk result (IsMadeFor O.meaning db.now tree.now making) }
-{
-    let auxes = make_auxes(alloc, db, tree, &making, steps)?;
-    let numbers = kept_of(alloc, db.stored(), tree.tables.as_slice())?;
-    let stored = copy_tables(
-        alloc,
-        making.copies.tables.as_slice(),
-        making.made.tables.as_slice(),
-        numbers.as_slice(),
-        Sight::All,
-    )?;
-    let Making { copies: _, made } = making;
-    Ok(WholePlan {
-        stored,
-        auxes,
-        memories: memories_of(made.memories, tree.operators.as_slice()),
-        ids: made.ids,
-    })
-}
-
-fn row_plan<O: Operator, L: Ledger>(
+// The plan of what was made of what is seen of the tree.
+fn plan_of<O: Operator, L: Ledger>(
     alloc: Global,
     db: &Db<O>,
     tree: &Tree,
     making: Making,
     sight: Sight<'_>,
     steps: &mut Steps<L>,
-) -> Result<RowPlan, Memory>
+) -> Result<Plan, Memory>
     requires related { Each (IsRelatedAt O.meaning db.now.graph.edges (made_over making))
         tree.now.operators }
     requires ascends { Ascends sight }
     requires many { AreAsManyMade O.meaning db.now tree.now making }
     requires may { MaySee O.meaning db.now.graph.edges tree.now.operators sight }
     requires seen { HasSeen sight (made_over making) }
-    ensures rows { IfOk result (AreRowsFor O.meaning db.now tree.now (passes sight.entry) making) }
+    ensures plans { IfOk result (IsPlanOf O.meaning db.now tree.now (passes sight.entry) making) }
     ensures steps { SeenWithin 8 sight.entry (length tree.now.operators) steps.old steps.new }
 {
     let newer = make_auxes(alloc, db, tree, &making, steps)?;
@@ -96,71 +69,56 @@ fn row_plan<O: Operator, L: Ledger>(
         numbers.as_slice(),
     )?;
     let Making { copies: _, made } = making;
-    Ok(RowPlan {
+    Ok(Plan {
         stored,
         auxes,
+        memories: memories_of(made.memories, tree.operators.as_slice()),
         ids: made.ids,
     })
 }
 
-fn plan_whole<O: Operator, L: Ledger>(
+// The plan of a write that is made of what is seen of its tree.
+fn plan_seen<O: Operator, L: Ledger>(
     alloc: Global,
     db: &Db<O>,
     tree: &Tree,
     written: RowWrite,
+    sight: Sight<'_>,
     steps: &mut Steps<L>,
-) -> Result<WholePlan, Fault<IdsSpent>>
-    requires { MayPlan O.meaning db.now tree.now written }
-    ensures { PlansBy (PutsWhole db.now) O.meaning db.now written.set written.table
+) -> Result<Plan, Fault<IdsSpent>>
+    requires may { MayPlan O.meaning db.now tree.now written }
+    requires sees { MaySee O.meaning db.now.graph.edges tree.now.operators sight }
+    requires named { AllPass (passes sight) written.changes }
+    ensures plans { Plans O.meaning db.now written.set written.table
         (rows_written O.meaning db.now written) written.ids.next result }
+    ensures old { IfOk result (HasOld db.now) }
+    ensures steps { SeenWithin 16 sight.entry (length tree.now.operators) steps.old steps.new }
 {
-    let making = make_write(alloc, db, tree, written, Sight::All, steps)?;
-    let plan = whole_plan(alloc, db, tree, making, steps)?;
+    let making = make_write(alloc, db, tree, written, sight, steps)?;
+    let plan = plan_of(alloc, db, tree, making, sight, steps)?;
     Ok(plan)
 }
 
-// The changes of a write that is made of the rows that it names alone.
-fn plan_changes<O: Operator, L: Ledger>(
+// The plan of a write of a tree: of the rows that its changes name where each operator treats each
+// identifier by itself, and else of all rows.
+fn plan_tree<O: Operator, L: Ledger>(
     alloc: Global,
     db: &Db<O>,
     tree: &Tree,
     written: RowWrite,
     steps: &mut Steps<L>,
-) -> Result<RowPlan, Fault<IdsSpent>>
-    requires may { MayPlan O.meaning db.now tree.now written }
-    requires local { AreLocalAt O.meaning db.now.graph.edges tree.now.operators }
-    ensures plans { PlansBy (PutsRows db.now) O.meaning db.now written.set written.table
+) -> Result<Plan, Fault<IdsSpent>>
+    requires { MayPlan O.meaning db.now tree.now written }
+    ensures plans { Plans O.meaning db.now written.set written.table
         (rows_written O.meaning db.now written) written.ids.next result }
-    ensures old { IfOk result (ChangesRows db.now) }
-    ensures steps { steps.new ≤ steps.old
-        + 16 * (length written.changes * length tree.now.operators) }
+    ensures old { IfOk result (HasOld db.now) }
+    ensures steps { AreLocalAt O.meaning db.now.graph.edges tree.now.operators
+        → steps.new ≤ steps.old + 16 * (length written.changes * length tree.now.operators) }
 {
     let ids = named_ids(alloc, &written.changes)?;
-    let sight = Sight::Of(ids.as_slice());
-    let making = make_write(alloc, db, tree, written, sight, steps)?;
-    let plan = row_plan(alloc, db, tree, making, sight, steps)?;
-    Ok(plan)
-}
-
-fn plan_rows<O: Operator + Drop, L: Ledger>(
-    alloc: Global,
-    db: &mut Db<O>,
-    tree: &Tree,
-    written: RowWrite,
-    steps: &mut Steps<L>,
-) -> Result<RowPlan, Fault<IdsSpent>>
-    requires may { MayPlan O.meaning db.old tree.now written }
-    requires local { AreLocalAt O.meaning db.old.graph.edges tree.now.operators }
-    ensures plans { PlansBy (PutsRows db.new) O.meaning db.new written.set written.table
-        (rows_written O.meaning db.old written) written.ids.next result }
-    ensures ready { IfOk result (λ plan. ChangesRows db.new plan × HasRoom db.new plan) }
-    ensures same { IsSame db.old db.new }
-    ensures steps { steps.new ≤ steps.old
-        + 16 * (length written.changes * length tree.now.operators) }
-{
-    let plan = plan_changes(alloc, db, tree, written, steps)?;
-    make_room(alloc, db, &plan)?;
-    Ok(plan)
+    let named = Sight::Of(ids.as_slice());
+    let sight = sight_over(db.graph(), tree.operators.as_slice(), named);
+    plan_seen(alloc, db, tree, written, sight, steps)
 }
 
 /// What it takes to make changes in a table of a live working set, and to carry them over the whole
@@ -192,8 +150,7 @@ pub fn plan<O: Operator + Drop, L: Ledger>(
         steps.new }
 {
     let tree = tree_of(alloc, db.graph(), written.set)?;
-    if are_local(db.graph(), tree.operators.as_slice()) {
-        return Ok(Plan::ByRows(plan_rows(alloc, db, &tree, written, steps)?));
-    }
-    Ok(Plan::Whole(plan_whole(alloc, db, &tree, written, steps)?))
+    let plan = plan_tree(alloc, db, &tree, written, steps)?;
+    make_room(alloc, db, &plan)?;
+    Ok(plan)
 }

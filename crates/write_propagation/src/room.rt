@@ -4,9 +4,9 @@ ghost use Rattle.write_propagation.specs.Plans.{IsSame};
 ghost use Rattle.kept_changes.specs.Changes.{AreOldAt, AreSidesAt};
 ghost use Rattle.kept_changes.specs.Room.{FitAt, SidesFitAt};
 ghost use Rattle.write_propagation.specs.Calls.{KeepsAuxes, KeepsRows};
-ghost use Rattle.write_propagation.specs.Room.{ChangesRows, HasRoom};
+ghost use Rattle.write_propagation.specs.Room.{HasOld, HasRoom};
 
-use crate::plans::RowPlan;
+use crate::plans::Plan;
 use db_state::{Db, Parts, put_parts, take_parts};
 use kept_changes::{reserve_auxes, reserve_tables};
 use op_law::{Aux, Operator};
@@ -19,7 +19,7 @@ fn reserve_all(
     alloc: Global,
     stored: &mut Vec<Numbered<Table>>,
     aux: &mut Vec<Numbered<Aux>>,
-    plan: &RowPlan,
+    plan: &Plan,
 ) -> Result<(), Memory>
     requires stored { AreOldAt stored.old.items plan.now.stored }
     requires aux { AreSidesAt aux.old.items plan.now.auxes }
@@ -36,9 +36,9 @@ fn reserve_all(
 pub(crate) fn make_room<O: Operator + Drop>(
     alloc: Global,
     db: &mut Db<O>,
-    plan: &RowPlan,
+    plan: &Plan,
 ) -> Result<(), Memory>
-    requires { ChangesRows db.old plan.now }
+    requires { HasOld db.old plan.now }
     ensures same { IsSame db.old db.new }
     ensures room { OnOk result (HasRoom db.new plan.now) }
 {

@@ -9,10 +9,10 @@ use Rattle.db_state.specs.Parts.{passes}
 use Rattle.db_state.proofs.BoundLaws.{auxes_seen}
 use Rattle.write_propagation.specs.Making.{made_over}
 use Rattle.write_propagation.specs.Calls.{AreAuxChanges, AreTableChanges}
-use Rattle.write_propagation.proofs.planning.row_plan.Goals as goal
+use Rattle.write_propagation.proofs.planning.plan_of.Goals as goal
 
-pub returns-clause-rows : goal.returns-clause-rows
-returns-clause-rows g c =
+pub returns-clause-plans : goal.returns-clause-plans
+returns-clause-plans g c =
     let d = c.args.db.now in
     let tree = c.args.tree.now in
     let m = c.args.making in

@@ -1,0 +1,274 @@
+-- The plan of what was made of what is seen of a tree is the plan of the whole write.
+use Rattle.std.specs.Option.{option_map_or}
+use Rattle.std.proofs.lemmas.List.{length-map}
+use Rattle.std.proofs.Common.{◌≡◌, ℕ, ◌<◌, ◌≤◌, List, [], Bool, true, false, not, length, map, Ok, Err, Option, None, inl, inr, refl, sym, ap, ◌∙◌, subst}
+use Rattle.par_base.specs.declared.fault.Fault.{Fault}
+use Rattle.par_base.specs.declared.fault.Fault.TheVariants.{Refused, Memory as OutOfMemory}
+use Rattle.par_base.specs.declared.refusal.IdsSpent.{IdsSpent}
+use Rattle.row_store.specs.Rows.{Rows}
+use Rattle.row_store.specs.Changes.{AreOld}
+use Rattle.row_store.specs.declared.change.Change.{Change}
+use Rattle.version_graph.specs.Sets.{Distinct, Each, In}
+use Rattle.version_graph.specs.Forest.{Crossing, Link, crossing, forest, walk}
+use Rattle.version_graph.specs.declared.parts.Placed.{Placed}
+use Rattle.version_graph.proofs.SetLaws.{each_at, each_of, in_map, is_in_true}
+use Rattle.version_graph.proofs.TableLaws.{in_filter}
+use Rattle.layout_rules.proofs.ChangeLaws.{filter_in}
+use Rattle.id_memory.specs.States.{CounterState, MemoryState}
+use Rattle.db_state.proofs.FieldLaws.{none_at}
+use Rattle.op_law.specs.Tables.{AllRise, Tables}
+use Rattle.op_law.specs.Calls.{IsSpent, first_refused, tables_of}
+use Rattle.op_law.specs.Laws.{HalfLaws, Laws}
+use Rattle.op_law.specs.Local.{only, rows_only}
+use Rattle.op_law.specs.Meaning.{Meaning, PairState}
+use Rattle.op_law.specs.declared.side.Aux.{Aux}
+use Rattle.layout_rules.specs.Layouts.{IsStored}
+use Rattle.row_changes.specs.Changed.{AreChangesOf, TableChanges, changed, changed_tables}
+use Rattle.row_changes.specs.Differences.{AreDifferences, IsDifference}
+use Rattle.row_changes.specs.declared.change.SideChanges.{SideChanges}
+use Rattle.row_changes.proofs.DifferenceLaws.{difference_of_part, differences_of_part, differences_fit, differences_make}
+use Rattle.version_model.specs.Kept.{latest_of, newer_pairs, pairs_at, pairs_now, rows_at, auxes_at, numbers_in}
+use Rattle.version_model.specs.Sound.{IsSound}
+use Rattle.version_model.specs.States.{State, headings}
+use Rattle.version_model.specs.Steps.{directed, pair_in}
+use Rattle.version_model.specs.Writes.{write}
+use Rattle.version_model.specs.declared.numbered.Numbered.{Numbered}
+use Rattle.version_model.proofs.CarryLaws.{same_refused}
+use Rattle.version_model.proofs.HeadingLaws.{in_or_not}
+use Rattle.version_model.proofs.RunLaws.{way_laws}
+use Rattle.version_graph.specs.Edges.{is_in}
+use Rattle.storage_law.specs.Storage.{StandsOver, aux_of, stored_way}
+use Rattle.db_state.specs.Calls.{AreAuxesOf}
+use Rattle.db_state.specs.Fields.{IsDatabase, state_for, storage_in}
+use Rattle.db_state.specs.Parts.{passes}
+use Rattle.db_state.specs.declared.parts.Parts.{Parts}
+use Rattle.kept_changes.specs.Changes.{changes_at, sides_at, IsOldAt, IsSideAt}
+use Rattle.write_propagation.specs.Calls.{AreAsMany, stored_in}
+use Rattle.write_propagation.specs.Making.{AreAsManyMade, IsMaking, IsPlanOf, MakesWrite, MayPlan, made_over, seen_write}
+use Rattle.write_propagation.specs.Plans.{Plans, rows_written}
+use Rattle.write_propagation.specs.Room.{HasOld}
+use Rattle.write_propagation.specs.Trees.{IsWhole, part}
+use Rattle.write_propagation.specs.declared.making.Making.{Making}
+use Rattle.write_propagation.specs.declared.plans.RowWrite.{RowWrite}
+use Rattle.write_propagation.specs.declared.tree.Tree.{Tree}
+use Rattle.write_propagation.proofs.ItemLemmas.{item_at, latest_passes, latest_stops, stored_apart, stored_beside}
+use Rattle.write_propagation.proofs.LeadLemmas.{IsPlanTo, leads, no_changes}
+use Rattle.write_propagation.proofs.TreeLemmas.{outside_memory, outside_table, part_memory, part_table, same_pair}
+use Rattle.write_propagation.proofs.WholeLemmas.{IsInside, has_held, lives, operators_apart, walk_inside, whole}
+use Rattle.storage_law.proofs.LinkLaws.{not_in_false}
+use Rattle.id_memory.specs.Pairs.{Pairs}
+use Rattle.write_propagation.specs.declared.plans.Plan.{Plan}
+use Rattle.write_propagation.proofs.ShownLemmas.{Shows, as_many, end_sound, related_in}
+
+module _ {O : Type 0} (meaning : O → Meaning) (laws : (o : O) → Laws (meaning o)) (d : Parts O) (good : IsDatabase meaning d) (tree : Tree) (w : RowWrite) (plans : MayPlan meaning d tree w)
+    (test : ℕ → Bool) (shows : Shows meaning d tree w test) where
+  abbrev es : List (Placed O)
+  es = d.graph.edges
+
+  abbrev s : State
+  s = state_for meaning d
+
+  abbrev rows : Rows
+  rows = rows_written meaning d w
+
+  -- after the whole write, and after that of what passes the test
+  abbrev end : State
+  end = write meaning es s w.set w.table rows w.ids.next
+
+  abbrev small : State
+  small = seen_write meaning d tree w test
+
+  abbrev fails : ℕ → Bool
+  fails = λ id. not (test id)
+
+  of_tree : IsWhole es tree
+  of_tree = whole es good.graph.edges w.set tree plans.walked
+
+  in_tree : In w.table tree.tables
+  in_tree = has_held es good.graph.edges w.set tree plans.walked w.table plans.may.held
+
+  inside : Each (IsInside tree) (walk (forest es) w.set)
+  inside = walk_inside es good.graph.edges w.set tree plans.walked
+
+  sound_end : IsSound meaning es end
+  sound_end = end_sound meaning laws d good tree w plans
+
+  same_table : (t : ℕ) → (In t tree.tables → ⊥) → end.tables t ≡ s.tables t
+  same_table = outside_table meaning tree es s w.set w.table rows w.ids.next inside in_tree
+
+  same_memory : (n : ℕ) → (In n tree.operators → ⊥) → end.memory n ≡ s.memory n
+  same_memory = outside_memory meaning tree es s w.set w.table rows w.ids.next inside
+
+  -- ---- stored tables
+
+  -- the difference of what was seen is that of the whole tables
+  table_difference : (t : ℕ) (cs : List Change) → In t tree.tables → (before now : Rows) → before ≡ (part test tree s).tables t → now ≡ small.tables t → IsDifference before now cs → IsDifference (s.tables t) (end.tables t) cs
+  table_difference t cs i before now old new differs =
+      let b : before ≡ rows_only test (s.tables t) = old ∙ part_table test tree s t i in
+      let n : now ≡ rows_only test (end.tables t) = new ∙ sym (shows.part.tables t i) in
+      difference_of_part test (s.tables t) (end.tables t) cs (good.sound.well.tables t).0 (sound_end.well.tables t).0 (sym (shows.rests t i))
+      (subst (λ (x : Rows). IsDifference x (rows_only test (end.tables t)) cs) b (subst (λ (x : Rows). IsDifference before x cs) n differs))
+
+  -- ---- auxiliary tables
+
+  abbrev over : Link O → Crossing O
+  over e = stored_way d.layout.operators e
+
+  abbrev at : Link O → Meaning
+  at e = directed (over e).backward (meaning e.operator)
+
+  module _ (e : Link O) (i : In e (forest es)) (own : In e.number tree.operators) where
+    half : HalfLaws (at e)
+    half = way_laws (over e).backward (meaning e.operator) (laws e.operator)
+
+    abbrev kept : Tables
+    kept = aux_of meaning s (over e)
+
+    abbrev wanted : Tables
+    wanted = aux_of meaning end (over e)
+
+    rises : (x : State) → IsSound meaning es x → AllRise (aux_of meaning x (over e))
+    rises x sound = half.aux_rises (map (headings es) (over e).near) (map (headings es) (over e).far) (pair_in x (over e)) (related_in meaning laws d good tree w plans x sound e i)
+
+    aux_difference : (newer : Tables) (cs : TableChanges) → newer ≡ aux_of meaning small (over e) → AreDifferences (only test kept) newer cs → AreDifferences kept wanted cs
+    aux_difference newer cs is differs =
+        differences_of_part test kept wanted cs (rises s good.sound) (rises end sound_end) (shows.aux_rests e i own)
+        (subst (λ (x : Tables). AreDifferences (only test kept) x cs) (is ∙ shows.aux_part e i own) differs)
+
+    aux_many : (newer : Tables) → newer ≡ aux_of meaning small (over e) → length kept ≡ length newer
+    aux_many newer is = as_many fails kept wanted (shows.aux_rests e i own) ∙ sym (length-map wanted (rows_only test)) ∙ ap length (sym (is ∙ shows.aux_part e i own))
+
+  -- ---- the plan
+
+  module _ (making : Making) (is : IsMaking meaning d tree w test making) where
+    stood : (e : Link O) → In e (forest es) → auxes_at d.aux e.number ≡ aux_of meaning s (over e)
+    stood e i = (each_at (λ (f : Link O). StandsOver meaning (headings es) (storage_in d) s (stored_way d.layout.operators f)) (forest es) e i good.stands.edges).aux
+
+    module _ (newer : List (Numbered Aux)) (made : AreAuxesOf meaning es d.layout.operators (made_over making) tree.operators newer) where
+      numbered : (a : Numbered Aux) → In a newer → In a.number tree.operators
+      numbered a j = subst (λ (l : List ℕ). In a.number l) made.numbers (in_map (λ (x : Numbered Aux). x.number) a newer j)
+
+      made_aux : (a : Numbered Aux) → In a newer → (e : Link O) → In e (forest es) → e.number ≡ a.number → tables_of a.value ≡ aux_of meaning small (over e)
+      made_aux a j e i same = made.values a j e i same ∙ ap (λ (x : State). aux_of meaning x (over e)) is.made
+
+      many_made : AreAsMany d.aux newer
+      many_made a j =
+          let l = lives es good.graph.edges w.set tree plans.walked a.number (numbered a j) in
+          let own : In l.0.number tree.operators = subst (λ (n : ℕ). In n tree.operators) l.2 (numbered a j) in
+          ap (λ (n : ℕ). length (auxes_at d.aux n)) l.2 ∙ ap length (stood l.0 l.1) ∙ aux_many l.0 l.1 own (tables_of a.value) (made_aux a j l.0 l.1 (sym l.2))
+
+    pub are_many : AreAsManyMade meaning d tree making
+    are_many newer made = many_made newer made
+
+    module _ (plan : Plan) (for : IsPlanOf meaning d tree test making plan) where
+      stored_difference : (i : Numbered (List Change)) → In i plan.stored → IsDifference (s.tables i.number) (end.tables i.number) i.value
+      stored_difference i j =
+          let listed : In i.number (stored_in d tree) = subst (λ (l : List ℕ). In i.number l) for.stored.listed (in_map (λ (x : Numbered (List Change)). x.number) i plan.stored j) in
+          table_difference i.number i.value (stored_beside d tree i.number listed) _ _ (is.tables i.number) (ap (λ (x : State). x.tables i.number) is.made) (for.stored.values i j)
+
+      aux_listed : numbers_in plan.auxes ≡ tree.operators
+      aux_listed = for.auxes.listed ∙ for.made.numbers
+
+      side_difference : (i : Numbered SideChanges) → In i plan.auxes → (e : Link O) → In e (forest es) → e.number ≡ i.number → AreDifferences (aux_of meaning s (over e)) (aux_of meaning end (over e)) i.value.tables
+      side_difference i j e k same =
+          let v = for.auxes.values i j in
+          let number : e.number ≡ v.0.number = same ∙ sym v.2 in
+          let own : In e.number tree.operators = subst (λ (n : ℕ). In n tree.operators) (sym number) (numbered for.newer for.made v.0 v.1) in
+          let old : auxes_at d.aux v.0.number ≡ aux_of meaning s (over e) = ap (auxes_at d.aux) (sym number) ∙ stood e k in
+          aux_difference e k own (tables_of v.0.value) i.value.tables (made_aux for.newer for.made v.0 v.1 e k number)
+          (subst (λ (x : Tables). AreDifferences (only test x) (tables_of v.0.value) i.value.tables) old v.3)
+
+      to_stored : (t : ℕ) → IsStored (forest es) d.layout.operators t → changed (s.tables t) (changes_at plan.stored t) ≡ end.tables t
+      to_stored t stored =
+          let here = (good.tables t).1 stored in
+          in_or_not t tree.tables (changed (s.tables t) (changes_at plan.stored t) ≡ end.tables t)
+          (λ own.
+          let listed : In t (numbers_in plan.stored) = subst (λ (l : List ℕ). In t l) (sym for.stored.listed) (filter_in (λ u. is_in u tree.tables) t (numbers_in d.stored) here (is_in_true t tree.tables own)) in
+          let m = item_at plan.stored t listed in
+          ap (λ (o : Option (List Change)). changed (s.tables t) (option_map_or (λ (cs : List Change). cs) o [])) m.2
+          ∙ subst (λ (n : ℕ). changed (s.tables n) m.0.value ≡ end.tables n) m.3 (stored_difference m.0 m.1).new)
+          (λ other.
+          let none = none_at plan.stored t (λ j. other (stored_beside d tree t (subst (λ (l : List ℕ). In t l) for.stored.listed j))) in
+          ap (λ (o : Option (List Change)). changed (s.tables t) (option_map_or (λ (cs : List Change). cs) o [])) none
+          ∙ sym (same_table t other))
+
+      others_pair : (e : Link O) (x : Bool) → In e (forest es) → (In e.number tree.operators → ⊥) → pair_in s (crossing x e) ≡ pair_in end (crossing x e)
+      others_pair e true i other = same_pair s end (crossing true e) (λ t k. sym (same_table t (λ j. other (of_tree.operators e i t j (inr k))))) (λ t k. sym (same_table t (λ j. other (of_tree.operators e i t j (inl k))))) (sym (same_memory e.number other))
+      others_pair e false i other = same_pair s end (crossing false e) (λ t k. sym (same_table t (λ j. other (of_tree.operators e i t j (inl k))))) (λ t k. sym (same_table t (λ j. other (of_tree.operators e i t j (inr k))))) (sym (same_memory e.number other))
+
+      to_aux : (e : Link O) → In e (forest es) → changed_tables (aux_of meaning s (over e)) (sides_at plan.auxes e.number) ≡ aux_of meaning end (over e)
+      to_aux e i =
+          in_or_not e.number tree.operators (changed_tables (aux_of meaning s (over e)) (sides_at plan.auxes e.number) ≡ aux_of meaning end (over e))
+          (λ own.
+          let m = item_at plan.auxes e.number (subst (λ (l : List ℕ). In e.number l) (sym aux_listed) own) in
+          ap (λ (o : Option SideChanges). changed_tables (aux_of meaning s (over e)) (option_map_or (λ (side : SideChanges). side.tables) o [])) m.2
+          ∙ differences_make (aux_of meaning s (over e)) (aux_of meaning end (over e)) m.0.value.tables (side_difference m.0 m.1 e i (sym m.3)))
+          (λ other.
+          let none = none_at plan.auxes e.number (λ j. other (subst (λ (l : List ℕ). In e.number l) aux_listed j)) in
+          ap (λ (o : Option SideChanges). changed_tables (aux_of meaning s (over e)) (option_map_or (λ (side : SideChanges). side.tables) o [])) none
+          ∙ no_changes (aux_of meaning s (over e)) ∙ ap (λ (x : PairState). (at e).aux_at_source x) (others_pair e (is_in e.number d.layout.operators) i other))
+
+      -- ---- memories
+
+      listed_as : (n : ℕ) → In n tree.operators → latest_of plan.memories n ≡ latest_of making.made.memories n
+      listed_as n own = ap (λ (l : List (Numbered MemoryState)). latest_of l n) for.memories ∙ latest_passes (λ k. is_in k tree.operators) making.made.memories n (is_in_true n tree.operators own)
+
+      unlisted : (n : ℕ) → (In n tree.operators → ⊥) → latest_of plan.memories n ≡ None
+      unlisted n other = ap (λ (l : List (Numbered MemoryState)). latest_of l n) for.memories ∙ latest_stops (λ k. is_in k tree.operators) making.made.memories n (not_in_false n tree.operators other)
+
+      to_memory : (e : Link O) → In e (forest es) → pairs_now d.memories plan.memories e.number ≡ end.memory e.number
+      to_memory e i =
+          let n = e.number in
+          in_or_not n tree.operators (pairs_now d.memories plan.memories n ≡ end.memory n)
+          (λ own.
+          let old : pairs_at d.memories n ≡ pairs_at making.copies.memories n = sym (part_memory test tree s n own) ∙ sym (is.memories n) in
+          ap (λ (o : Option MemoryState). newer_pairs o (pairs_at d.memories n)) (listed_as n own) ∙ ap (λ (x : Pairs). newer_pairs (latest_of making.made.memories n) x) old ∙ ap (λ (x : State). x.memory n) is.made ∙ sym (shows.part.memory n own))
+          (λ other. ap (λ (o : Option MemoryState). newer_pairs o (pairs_at d.memories n)) (unlisted n other) ∙ sym (same_memory n other))
+
+      to : IsPlanTo meaning d end plan
+      to = record {
+        stored = to_stored;
+        aux = to_aux;
+        memory = to_memory;
+        next = ap (λ (c : CounterState). c.next) for.ids ∙ ap (λ (x : State). x.next) is.made ∙ sym shows.part.next;
+        limit = ap (λ (c : CounterState). c.limit) for.ids ∙ is.limit ∙ plans.limit;
+      }
+
+      refuses_same : first_refused w.ids ≡ first_refused d.ids
+      refuses_same = same_refused d.ids w.ids plans.may.more plans.drawn plans.limit
+
+      -- THE PLAN OF A WRITE
+      pub planned : Plans meaning d w.set w.table rows w.ids.next (Ok plan)
+      planned = (
+        subst (λ (n : ℕ). n ≤ first_refused d.ids) (sym shows.part.next) (subst (λ (n : ℕ). small.next ≤ n) refuses_same is.within),
+        λ new puts. leads meaning laws d good end sound_end plan to new puts,
+      )
+
+      -- and each change has the old row of its table
+      pub has_old : HasOld d plan
+      has_old = record {
+        stored = (
+          subst (λ (l : List ℕ). Distinct l) (sym for.stored.listed) (stored_apart d tree good.tables_ascending),
+          each_of (λ (i : Numbered (List Change)). IsOldAt d.stored i) plan.stored (λ i j.
+              let listed : In i.number (stored_in d tree) = subst (λ (l : List ℕ). In i.number l) for.stored.listed (in_map (λ (x : Numbered (List Change)). x.number) i plan.stored j) in
+              let kept : In i.number (numbers_in d.stored) = in_filter (λ u. is_in u tree.tables) i.number (numbers_in d.stored) listed in
+              let rows_are : rows_at d.stored i.number ≡ s.tables i.number = good.stands.stored i.number ((good.tables i.number).0 kept) in
+              (kept, subst (λ (x : Rows). AreOld x i.value) (sym rows_are) (stored_difference i j).old)),
+        );
+        auxes = (
+          subst (λ (l : List ℕ). Distinct l) (sym aux_listed) (operators_apart es good.graph.edges w.set tree plans.walked),
+          each_of (λ (i : Numbered SideChanges). IsSideAt d.aux i) plan.auxes (λ i j.
+              let own : In i.number tree.operators = subst (λ (l : List ℕ). In i.number l) aux_listed (in_map (λ (x : Numbered SideChanges). x.number) i plan.auxes j) in
+              let l = lives es good.graph.edges w.set tree plans.walked i.number own in
+              subst (λ (x : Tables). AreChangesOf x i.value.tables) (sym (ap (auxes_at d.aux) l.2 ∙ stood l.0 l.1))
+              (differences_fit (aux_of meaning s (over l.0)) (aux_of meaning end (over l.0)) i.value.tables (side_difference i j l.0 l.1 (sym l.2)))),
+        );
+      }
+
+  -- where the write of the part is refused, so is the whole
+  pub refused : (fault : Fault IdsSpent) → MakesWrite meaning d tree w test (Err fault) → Plans meaning d w.set w.table rows w.ids.next (Err fault)
+  refused (Refused spent) h =
+      let same = same_refused d.ids w.ids plans.may.more plans.drawn plans.limit in
+      let at = subst (λ (n : ℕ). IsSpent n w.ids w.ids spent) (sym shows.part.next) h in
+      (subst (λ (n : ℕ). n < end.next) same at.0, at.1 ∙ same, at.2 ∙ plans.limit, refl)
+  refused (OutOfMemory memory) h = tt

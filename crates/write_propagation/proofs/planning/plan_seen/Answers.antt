@@ -1,0 +1,58 @@
+use Rattle.std.proofs.lemmas.Result.{err_from_is_err_and}
+use Rattle.db_state.specs.Parts.{passes}
+use Rattle.db_state.proofs.BoundLaws.{seen_less, seen_sum}
+use Rattle.std.proofs.Common.{length, arith}
+use Rattle.write_propagation.proofs.SeenLemmas.{related_again}
+use Rattle.write_propagation.proofs.ShownLemmas.{shown}
+use Rattle.write_propagation.proofs.PlanLemmas.{are_many, has_old, planned, refused}
+use Rattle.write_propagation.proofs.planning.plan_seen.Goals as goal
+
+pub returns-in_err-making-clause-plans : goal.returns-in_err-making-clause-plans
+returns-in_err-making-clause-plans g c =
+    let m = g.O.Operator.meaning in
+    let laws = g.met.O.Operator.laws in
+    let d = c.args.db.now in
+    let may = c.requires.may in
+    let shows = shown m laws d may.kept c.args.tree.now c.args.written may c.args.sight c.requires.sees c.requires.named in
+    let p = err_from_is_err_and c.from_residual-in_err-making.result c.from_residual-in_err-making.ensures.1 in
+    rw (p.1, p.2) (refused m laws d may.kept c.args.tree.now c.args.written may (passes c.args.sight) shows c.in_err-making.field-0.0 c.in_err-making.ensures.makes)
+
+pub plan_of-requires-clause-related : goal.plan_of-requires-clause-related
+plan_of-requires-clause-related g c =
+    related_again g.O.Operator.meaning g.met.O.Operator.laws c.args.db.now c.requires.may.kept c.args.tree.now c.args.written c.requires.may c.args.sight c.requires.sees c.requires.named c.in_ok-making.making c.in_ok-making.ensures.makes.made
+
+pub plan_of-requires-clause-many : goal.plan_of-requires-clause-many
+plan_of-requires-clause-many g c =
+    let m = g.O.Operator.meaning in
+    let laws = g.met.O.Operator.laws in
+    let d = c.args.db.now in
+    let may = c.requires.may in
+    let shows = shown m laws d may.kept c.args.tree.now c.args.written may c.args.sight c.requires.sees c.requires.named in
+    are_many m laws d may.kept c.args.tree.now c.args.written may (passes c.args.sight) shows c.in_ok-making.making c.in_ok-making.ensures.makes
+
+pub returns-clause-plans : goal.returns-clause-plans
+returns-clause-plans g c =
+    let m = g.O.Operator.meaning in
+    let laws = g.met.O.Operator.laws in
+    let d = c.args.db.now in
+    let may = c.requires.may in
+    let shows = shown m laws d may.kept c.args.tree.now c.args.written may c.args.sight c.requires.sees c.requires.named in
+    planned m laws d may.kept c.args.tree.now c.args.written may (passes c.args.sight) shows c.in_ok-making.making c.in_ok-making.ensures.makes c.in_ok-plan.plan c.in_ok-plan.ensures.plans
+
+pub returns-clause-old : goal.returns-clause-old
+returns-clause-old g c =
+    let m = g.O.Operator.meaning in
+    let laws = g.met.O.Operator.laws in
+    let d = c.args.db.now in
+    let may = c.requires.may in
+    let shows = shown m laws d may.kept c.args.tree.now c.args.written may c.args.sight c.requires.sees c.requires.named in
+    has_old m laws d may.kept c.args.tree.now c.args.written may (passes c.args.sight) shows c.in_ok-making.making c.in_ok-making.ensures.makes c.in_ok-plan.plan c.in_ok-plan.ensures.plans
+
+pub returns-in_err-making-clause-steps : goal.returns-in_err-making-clause-steps
+returns-in_err-making-clause-steps g c = seen_less 8 16 c.args.sight (length c.args.tree.now.operators) c.args.steps.now c.make_write.new.steps (omega arith) c.in_err-making.ensures.steps
+
+pub returns-in_err-plan-clause-steps : goal.returns-in_err-plan-clause-steps
+returns-in_err-plan-clause-steps g c = seen_sum 8 8 c.args.sight (length c.args.tree.now.operators) c.args.steps.now c.make_write.new.steps c.plan_of.new.steps c.in_ok-making.ensures.steps c.in_err-plan.ensures.steps
+
+pub returns-clause-steps : goal.returns-clause-steps
+returns-clause-steps g c = seen_sum 8 8 c.args.sight (length c.args.tree.now.operators) c.args.steps.now c.make_write.new.steps c.plan_of.new.steps c.in_ok-making.ensures.steps c.in_ok-plan.ensures.steps
