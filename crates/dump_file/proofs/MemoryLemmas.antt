@@ -19,7 +19,7 @@ use Rattle.version_graph.specs.declared.parts.Placed.{Placed}
 use Rattle.op_law.specs.Tables.{Tables}
 use Rattle.expr_lang.specs.Terms.{Term}
 use Rattle.op_any.specs.Operators.{AnyView, Built, CreateTable, DropTable, Rename, AddColumn, AddTracked, DropColumn, Split, Merge, DecomposeSingle, DecomposePk, OuterJoinPk, JoinPk, DecomposeFk, OuterJoinFk, JoinFk, JoinOn, DecomposeOn, OuterJoinOn, meaning_of}
-use Rattle.op_any.specs.NameChecks.{heading_named, is_passing, repeated, known_table, other_table, new_table, known_column, known_places, known_columns, well_divided, new_columns, same_columns, few_columns, known_ids}
+use Rattle.op_checks.specs.NameChecks.{heading_named, is_passing, repeated, known_table, other_table, new_table, known_column, known_places, known_columns, well_divided, new_columns, same_columns, few_columns, known_ids}
 use Rattle.op_any.specs.Build.{adding_column, built, column_adder, creating_table, dropping_column, dropping_table, merging_tables, planned_edge, renaming_column, renaming_table, splitting_in_one, splitting_in_two, splitting_table, with_text}
 use Rattle.op_any.specs.BuildJoins.{columns_of_both, decomposing_in_one, decomposing_table, divided, joining_tables, meeting, on_fk, on_pk, parting}
 use Rattle.op_any.specs.BuiltOn.{AreBuiltOn}

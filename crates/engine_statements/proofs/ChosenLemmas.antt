@@ -8,7 +8,7 @@ use Rattle.par_base.specs.declared.value.Value.{Value}
 use Rattle.par_base.specs.declared.value.Value.TheVariants.{Null, Int, Text, Reference}
 use Rattle.expr_lang.specs.Terms.{Term}
 use Rattle.row_store.specs.Rows.{AreBelow, RiseFrom}
-use Rattle.op_any.specs.NameChecks.{known_id, repeated, unrepeated}
+use Rattle.op_checks.specs.NameChecks.{known_id, repeated, unrepeated}
 use Rattle.ordinary_table.specs.Written.{SetTerm, chosen_count, deleted, inserted, numbered, updated}
 use Rattle.ordinary_table.proofs.RowOfLaws.{row_of_deleted, row_of_inserted, row_of_updated}
 use Rattle.engine_state.specs.declared.reply.Reply.TheVariants.{Inserted, Updated, Deleted}

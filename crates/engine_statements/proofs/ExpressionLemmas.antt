@@ -13,7 +13,7 @@ use Rattle.expr_lang.proofs.ResolvingLaws.{resolved-fits}
 use Rattle.statements.specs.Views.{Tree, AssignmentView}
 use Rattle.op_law.specs.SoundTerms.{TermSound}
 use Rattle.par_base.specs.Checked.{Checked, ◌then◌}
-use Rattle.op_any.specs.NameChecks.{known_column, known_columns}
+use Rattle.op_checks.specs.NameChecks.{known_column, known_columns}
 use Rattle.op_any.specs.Texts.{TermFits}
 use Rattle.op_any.proofs.SoundTextsLaws.{resolved_sound}
 use Rattle.ordinary_table.specs.Shown.{condition_of}

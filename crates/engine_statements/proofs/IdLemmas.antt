@@ -8,7 +8,7 @@ use Rattle.par_base.specs.declared.value.Value.TheVariants.{Null, Int, Text, Ref
 use Rattle.expr_lang.specs.Resolved.{first_unknown_id}
 use Rattle.statements.specs.Views.{Tree}
 use Rattle.op_law.specs.Sound.{IsBelow, ValueSound, ValuesSound}
-use Rattle.op_any.specs.NameChecks.{known_id}
+use Rattle.op_checks.specs.NameChecks.{known_id}
 use Rattle.op_any.specs.Texts.{ValueFits}
 use Rattle.ordinary_table.proofs.KeptLaws.{all_behind}
 use Rattle.engine_statements.specs.Found.{first_of, unknown_in, unknown_value, unknown_in_row}

@@ -3,7 +3,7 @@ use Rattle.std.proofs.Common.{◌≡◌, ℕ, suc, ◌+◌, ◌<◌, ◌≤◌, 
 use Rattle.std.specs.List.{All}
 use Rattle.expr_lang.specs.Resolved.{place_of}
 use Rattle.par_base.specs.Checked.{Checked, ◌then◌}
-use Rattle.op_any.specs.NameChecks.{known_column}
+use Rattle.op_checks.specs.NameChecks.{known_column}
 use Rattle.engine_statements.specs.Found.{shown_names}
 use Rattle.engine_statements.specs.Statements.{places_from, known_items, listed_names, listed_places}
 use Rattle.engine_statements.proofs.ExpressionLemmas.{all_cons, ok_same, place_within}

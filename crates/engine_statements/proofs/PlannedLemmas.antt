@@ -9,7 +9,7 @@ use Rattle.statements.specs.Views.{Tree, AssignmentView}
 use Rattle.statements.specs.declared.statement.TableName.{TableName}
 use Rattle.version_graph.specs.declared.parts.Heading.{Heading}
 use Rattle.op_any.specs.Operators.{AnyView, any_meaning}
-use Rattle.op_any.specs.NameChecks.{known_id, repeated, unrepeated}
+use Rattle.op_checks.specs.NameChecks.{known_id, repeated, unrepeated}
 use Rattle.ordinary_table.specs.Written.{SetTerm, inserted, numbered, updated, deleted, chosen_count}
 use Rattle.db_state.specs.Fields.{database_for}
 use Rattle.db_state.specs.declared.parts.Parts.{Parts}

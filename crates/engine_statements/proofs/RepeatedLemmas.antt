@@ -7,7 +7,7 @@ use Rattle.std.proofs.lemmas.Bool.{cond-true, cond-false}
 use Rattle.std.proofs.lemmas.List.{map-append, take_more}
 use Rattle.statements.specs.declared.statement.Assignment.{Assignment}
 use Rattle.statements.specs.Views.{assignment_view, AssignmentView}
-use Rattle.op_any.specs.NameChecks.{repeated}
+use Rattle.op_checks.specs.NameChecks.{repeated}
 use Rattle.engine_statements.specs.Statements.{set_columns}
 
 abbrev pub columns_set : List Assignment → List (List ℕ)

@@ -10,7 +10,7 @@ use Rattle.statements.specs.declared.statement.TableName.{TableName}
 use Rattle.version_graph.specs.Tables.{TableVersion, table_named, row_name}
 use Rattle.version_graph.specs.Edges.{working, set_named}
 use Rattle.par_base.specs.Checked.{Checked, ◌then◌}
-use Rattle.op_any.specs.NameChecks.{known_columns, known_id}
+use Rattle.op_checks.specs.NameChecks.{known_columns, known_id}
 use Rattle.engine_state.specs.AnyDatabase.{AnyDatabase}
 use Rattle.engine_state.specs.SharedChecks.{known_version}
 

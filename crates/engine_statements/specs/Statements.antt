@@ -8,7 +8,7 @@ use Rattle.statements.specs.Views.{Tree, AssignmentView}
 use Rattle.statements.specs.declared.statement.TableName.{TableName}
 use Rattle.par_base.specs.Checked.{Checked, ◌then◌}
 use Rattle.op_any.specs.Operators.{any_meaning}
-use Rattle.op_any.specs.NameChecks.{known_column, repeated, unrepeated, known_id}
+use Rattle.op_checks.specs.NameChecks.{known_column, repeated, unrepeated, known_id}
 use Rattle.ordinary_table.specs.Written.{SetTerm, numbered, inserted, updated, deleted, chosen_count}
 use Rattle.ordinary_table.specs.Selected.{selected}
 use Rattle.version_model.specs.Writes.{write}

@@ -6,14 +6,14 @@ ghost use Rattle.std.specs.Str.{bytes_eq};
 ghost use Rattle.statements.specs.Views.{assignment_view, filter_view};
 ghost use Rattle.version_graph.specs.Tables.{row_name};
 ghost use Rattle.par_base.specs.Checked.{Gives};
-ghost use Rattle.op_any.specs.NameChecks.{repeated, unrepeated};
+ghost use Rattle.op_checks.specs.NameChecks.{repeated, unrepeated};
 ghost use Rattle.ordinary_table.specs.Written.{set_term, sets_of};
 ghost use Rattle.engine_statements.specs.Found.{shown_names as shown_names_lem, known_condition};
 ghost use Rattle.engine_statements.specs.Statements.{known_set, known_sets, set_columns};
 ghost use Rattle.engine_statements.specs.Calls.{condition_term};
 
 use expr_lang::{Expr, ExprText};
-use op_any::{find_place, resolve_value};
+use op_checks::{find_place, resolve_value};
 use ordinary_table::SetTo;
 use par_base::{Fault, List, Memory, Name, Refusal, read_name};
 use statements::Assignment;
@@ -106,7 +106,7 @@ fn is_set(assignments: &[Assignment], column: &Name) -> bool
         .any(|assignment| sets_column(assignment, column))
 }
 
-#[tactic(auto, unfolding(op_any::specs::NameChecks::repeated))]
+#[tactic(auto, unfolding(op_checks::specs::NameChecks::repeated))]
 fn find_repeated(assignments: &[Assignment]) -> Option<&Name>
     ensures { option_map (λ name. name.now) result
         ≡ repeated [] (set_columns (map assignment_view assignments.entry.now)) }

@@ -2,7 +2,7 @@
 ghost use Rattle.std.specs.Prelude.{◌≡◌, ◌++◌, map};
 ghost use Rattle.statements.specs.Views.{assignment_view, filter_view};
 ghost use Rattle.par_base.specs.Checked.{Gives};
-ghost use Rattle.op_any.specs.NameChecks.{known_id};
+ghost use Rattle.op_checks.specs.NameChecks.{known_id};
 ghost use Rattle.engine_statements.specs.Found.{unknown_value, unknown_in_row, unknown_in_rows, unknown_in, condition_list, known_references};
 ghost use Rattle.engine_statements.specs.Statements.{set_values};
 

@@ -4,7 +4,7 @@ ghost use Rattle.par_base.specs.Checked.{Gives};
 ghost use Rattle.engine_statements.specs.Found.{shown_names};
 ghost use Rattle.engine_statements.specs.Statements.{known_items, places_from, listed_places, listed_names};
 
-use op_any::find_place;
+use op_checks::find_place;
 use par_base::{Fault, List, Memory, Name, Refusal, copy_names};
 use std::alloc::Global;
 

@@ -16,7 +16,7 @@ use Rattle.version_graph.specs.declared.parts.Placed.{Placed}
 use Rattle.version_graph.proofs.StayLaws.{working_stays}
 use Rattle.par_base.specs.Checked.{Checked, ◌then◌}
 use Rattle.op_any.specs.Operators.{AnyView}
-use Rattle.op_any.specs.NameChecks.{heading_named, is_passing, known_table, other_table, new_table, known_column, known_columns, new_columns, same_columns, few_columns, known_id, known_ids}
+use Rattle.op_checks.specs.NameChecks.{heading_named, is_passing, known_table, other_table, new_table, known_column, known_columns, new_columns, same_columns, few_columns, known_id, known_ids}
 use Rattle.op_any.specs.Build.{adding_column, dropping_column, splitting_in_one, splitting_in_two, splitting_table, merging_tables, planned_edge, built}
 use Rattle.op_any.specs.BuildJoins.{Parting, parting, divided, decomposing_on, decomposing_table, meeting, columns_of_both, joining_on, joining_tables}
 use Rattle.op_any.specs.BuiltOn.{IsBuiltOn, AreBuiltOn}

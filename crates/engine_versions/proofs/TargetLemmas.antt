@@ -9,7 +9,7 @@ use Rattle.expr_lang.specs.Resolved.{place_of, resolved}
 use Rattle.version_graph.specs.declared.parts.Heading.{Heading}
 use Rattle.version_graph.specs.declared.parts.Edge.{Edge}
 use Rattle.op_any.specs.Operators.{Built, AnyView}
-use Rattle.op_any.specs.NameChecks.{heading_named, is_passing, repeated, known_places, well_divided, known_table, new_table, known_column, known_columns, new_columns, few_columns, known_ids, other_table, same_columns}
+use Rattle.op_checks.specs.NameChecks.{heading_named, is_passing, repeated, known_places, well_divided, known_table, new_table, known_column, known_columns, new_columns, few_columns, known_ids, other_table, same_columns}
 use Rattle.op_any.specs.Build.{creating_table, dropping_table, renaming_table, renaming_column, adding_column, dropping_column, splitting_in_one, splitting_in_two, splitting_table, merging_tables, planned_edge, with_text, built}
 use Rattle.op_any.specs.BuildJoins.{parting, divided, decomposing_in_one, decomposing_table, joining_tables, decomposing_on_pk, decomposing_on_fk, decomposing_on, meeting, columns_of_both, joining_on_pk, joining_on_fk, joining_on}
 use Rattle.engine_versions.specs.Evolve.{target_count}

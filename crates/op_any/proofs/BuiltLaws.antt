@@ -17,7 +17,7 @@ use Rattle.op_kinds.specs.Operators as «any»
 use Rattle.op_law.specs.Tables.{Heading as SeenHeading}
 use Rattle.op_law.specs.SoundTerms.{TermSound}
 use Rattle.op_column.specs.AddColumn.{AddColumnFits}
-use Rattle.op_any.specs.NameChecks.{heading_named, is_passing, known_table, new_table, known_column, known_columns, new_columns, few_columns, known_ids}
+use Rattle.op_checks.specs.NameChecks.{heading_named, is_passing, known_table, new_table, known_column, known_columns, new_columns, few_columns, known_ids}
 use Rattle.op_any.specs.Build.{creating_table, dropping_table, renaming_table, renaming_column, column_adder, adding_column, dropping_column, planned_edge, with_text, built}
 use Rattle.op_any.specs.BuildJoins.{decomposing_table, joining_tables}
 use Rattle.op_any.specs.Texts.{TextsFit}

@@ -16,7 +16,7 @@ use Rattle.row_parts.specs.Partition.{Divides}
 use Rattle.op_kinds.specs.Operators.{Built, meaning_of}
 use Rattle.op_kinds.specs.Operators as «any»
 use Rattle.op_any.specs.Edges.{one_to_both}
-use Rattle.op_any.specs.NameChecks.{heading_named, is_passing, repeated, known_table, new_table, known_places, known_columns, well_divided, new_columns, few_columns, known_ids}
+use Rattle.op_checks.specs.NameChecks.{heading_named, is_passing, repeated, known_table, new_table, known_places, known_columns, well_divided, new_columns, few_columns, known_ids}
 use Rattle.op_any.specs.BuildJoins.{Parting, parting, divided, with_column, decomposing_in_one, decomposing_on_pk, decomposing_on_fk, decomposing_on}
 use Rattle.op_any.specs.Laws.{as_seen, headings_taken, is_create_table, is_local_form}
 use Rattle.op_any.specs.Texts.{TextsFit}

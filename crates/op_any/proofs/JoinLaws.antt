@@ -18,7 +18,7 @@ use Rattle.row_parts.specs.Places.{names_at}
 use Rattle.row_parts.specs.Partition.{Divides}
 use Rattle.op_kinds.specs.Operators.{Built, meaning_of}
 use Rattle.op_any.specs.Edges.{two_to_one}
-use Rattle.op_any.specs.NameChecks.{heading_named, is_passing, known_table, other_table, new_table, known_column, known_columns, new_columns, few_columns, known_ids}
+use Rattle.op_checks.specs.NameChecks.{heading_named, is_passing, known_table, other_table, new_table, known_column, known_columns, new_columns, few_columns, known_ids}
 use Rattle.op_outer_cond.specs.Outerings.{places_from}
 use Rattle.op_any.specs.BuildJoins.{Sources, meeting, columns_of_both, on_pk, on_fk, on_condition, joining_on_pk, joining_on_fk, joining_on}
 use Rattle.op_any.specs.Laws.{as_seen, is_create_table, is_local_form}

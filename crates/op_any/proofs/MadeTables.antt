@@ -8,7 +8,7 @@ use Rattle.statements.specs.Views.{Tree, KeyView, BranchView, OpView}
 use Rattle.statements.specs.Views as «text»
 use Rattle.version_graph.specs.declared.parts.Heading.{Heading}
 use Rattle.version_graph.specs.declared.parts.Edge.{Edge}
-use Rattle.op_any.specs.NameChecks.{heading_named, is_passing, repeated, known_table, other_table, new_table, known_column, known_places, known_columns, well_divided, new_columns, same_columns, few_columns, known_ids}
+use Rattle.op_checks.specs.NameChecks.{heading_named, is_passing, repeated, known_table, other_table, new_table, known_column, known_places, known_columns, well_divided, new_columns, same_columns, few_columns, known_ids}
 use Rattle.op_any.specs.BuildJoins.{parting, divided, decomposing_in_one, decomposing_table, meeting, columns_of_both, joining_tables}
 use Rattle.op_any.specs.Build.{creating_table, dropping_table, renaming_table, renaming_column, adding_column, dropping_column, splitting_table, merging_tables, planned_edge, with_text, built}
 use Rattle.op_any.specs.Refusals.{heading, sources_in, targets_in, BuiltHasItsTables}

@@ -2,7 +2,6 @@
 use Rattle.std.proofs.Common.{◌≡◌, ℕ, zero, suc, ◌<◌, List, [], ◌∷◌, ◌++◌, length, get_or, Bool, true, false, cond, Option, Some, None, inl, inr, refl, sym, ◌∙◌, ap, subst, arith}
 use Rattle.std.specs.Prelude.{◌⊎◌, ◌||◌, MatchOption}
 use Rattle.std.specs.List.{list_any, insert, remove}
-use Rattle.std.specs.Option.{option_or}
 use Rattle.std.specs.Str.{bytes_eq}
 use Rattle.std.proofs.lemmas.Bool.{false≢true, or_parts}
 use Rattle.std.proofs.lemmas.List.{append_assoc, append-nil}
@@ -10,7 +9,7 @@ use Rattle.version_graph.specs.Sets.{In, Apart, Distinct}
 use Rattle.version_graph.proofs.SetLaws.{in_left, in_right}
 use Rattle.version_graph.proofs.TableLaws.{distinct_append}
 use Rattle.version_graph.proofs.NameLaws.{same_name, name_is}
-use Rattle.op_any.specs.NameChecks.{repeated}
+use Rattle.op_checks.specs.NameChecks.{repeated}
 use Rattle.op_any.specs.Laws.{IsFirstRepeated}
 
 module _ {X : Type 0} where
@@ -107,15 +106,3 @@ repeated-first seen (n ∷ names) once =
 pub unrepeated_distinct : (seen names : List (List ℕ)) → repeated seen names ≡ None → Distinct seen → Distinct (seen ++ names)
 unrepeated_distinct seen names none once =
     subst (λ (o : Option (List ℕ)). MatchOption o (Distinct (seen ++ names)) (IsFirstRepeated seen names)) none (repeated-first seen names once)
-
--- of two lists in turn
-pub repeated_both : (seen xs ys : List (List ℕ)) → repeated seen (xs ++ ys) ≡ option_or (repeated seen xs) (repeated (seen ++ xs) ys)
-unfolding repeated
-repeated_both seen [] ys = ap (λ (l : List (List ℕ)). repeated l ys) (sym (append-nil seen))
-repeated_both seen (x ∷ xs) ys =
-    let more : repeated (seen ++ x ∷ []) (xs ++ ys) ≡ option_or (repeated (seen ++ x ∷ []) xs) (repeated (seen ++ x ∷ xs) ys) =
-    repeated_both (seen ++ x ∷ []) xs ys ∙ ap (λ (l : List (List ℕ)). option_or (repeated (seen ++ x ∷ []) xs) (repeated l ys)) (append_assoc seen (x ∷ []) xs) in
-    elim (list_any (bytes_eq x) seen) as (λ b. cond b (Some x) (repeated (seen ++ x ∷ []) (xs ++ ys)) ≡ option_or (cond b (Some x) (repeated (seen ++ x ∷ []) xs)) (repeated (seen ++ x ∷ xs) ys)) [
-      | true ↦ refl
-      | false ↦ more
-    ]

@@ -18,7 +18,7 @@ use Rattle.row_parts.specs.Places.{has_place, AreOnce, names_at}
 use Rattle.row_parts.specs.Partition.{Divides, divides}
 use Rattle.row_parts.specs.inner.PlaceLemmas.{length-names}
 use Rattle.op_key_join.specs.OtherPlaces.{others_divide}
-use Rattle.op_any.specs.NameChecks.{repeated, left_out, misdivided, known_column, known_places, well_divided}
+use Rattle.op_checks.specs.NameChecks.{repeated, left_out, misdivided, known_column, known_places, well_divided}
 use Rattle.op_any.specs.Laws.{IsFirstRepeated, IsFirstLeftOut, IsFirstMisdivided}
 use Rattle.op_any.proofs.NameLists.{member, not_member, repeated-first, unrepeated_distinct}
 use Rattle.op_any.proofs.Suits.{if_then, at_ok, column_is, place_within}

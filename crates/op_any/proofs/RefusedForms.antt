@@ -15,7 +15,7 @@ use Rattle.version_graph.specs.Tables.{column_limit, row_name, heading_names, he
 use Rattle.version_graph.specs.declared.parts.Heading.{Heading}
 use Rattle.version_graph.specs.declared.parts.Edge.{Edge}
 use Rattle.op_kinds.specs.Operators.{Built}
-use Rattle.op_any.specs.NameChecks.{heading_named, is_passing, left_out, repeated, known_table, other_table, new_table, known_column, known_columns, new_columns, same_columns, few_columns}
+use Rattle.op_checks.specs.NameChecks.{heading_named, is_passing, left_out, repeated, known_table, other_table, new_table, known_column, known_columns, new_columns, same_columns, few_columns}
 use Rattle.op_any.specs.Build.{creating_table, dropping_table, renaming_table, renaming_column, adding_column, dropping_column, splitting_in_one, splitting_in_two, splitting_table, merging_tables, planned_edge, with_text}
 use Rattle.op_any.specs.Refusals.{refusal_in, without, unknown_table, same_table, existing_table, unknown_column, misplaced_column, differing, existing_column, wide_table, unknown_id, first_of, checks, FirstFailedRefuses, IsCause, EachRefusalHasItsCause}
 use Rattle.op_any.proofs.TableListsLaws.{found_stands}

@@ -14,7 +14,7 @@ use Rattle.statements.specs.Views.{KeyView}
 use Rattle.statements.specs.Views as «text»
 use Rattle.version_graph.specs.Tables.{column_limit, row_name, heading_names, headings_passing}
 use Rattle.version_graph.specs.declared.parts.Heading.{Heading}
-use Rattle.op_any.specs.NameChecks.{heading_named, is_passing, left_out, repeated, misdivided, known_table, other_table, new_table, known_column, known_places, known_columns, well_divided, new_columns, few_columns}
+use Rattle.op_checks.specs.NameChecks.{heading_named, is_passing, left_out, repeated, misdivided, known_table, other_table, new_table, known_column, known_places, known_columns, well_divided, new_columns, few_columns}
 use Rattle.op_any.specs.BuildJoins.{Parting, parting, divided, decomposing_in_one, decomposing_table, Sources, meeting, columns_of_both, joining_tables}
 use Rattle.op_any.specs.Refusals.{refusal_in, heading, columns_named, too_wide, first_of, checks}
 use Rattle.op_any.proofs.Suits.{table_is, column_is}

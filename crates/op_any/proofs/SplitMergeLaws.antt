@@ -10,7 +10,7 @@ use Rattle.statements.specs.Views as «text»
 use Rattle.version_graph.specs.Tables.{IsHeading}
 use Rattle.version_graph.specs.declared.parts.Heading.{Heading}
 use Rattle.op_kinds.specs.Operators as «any»
-use Rattle.op_any.specs.NameChecks.{heading_named, is_passing, known_table, other_table, new_table, known_columns, same_columns, known_ids}
+use Rattle.op_checks.specs.NameChecks.{heading_named, is_passing, known_table, other_table, new_table, known_columns, same_columns, known_ids}
 use Rattle.op_any.specs.Build.{splitting_in_one, splitting_in_two, splitting_table, merging_tables}
 use Rattle.op_any.proofs.TableListsLaws.{found_stands, stands_named, none_passing}
 use Rattle.op_any.proofs.Suits.{Suits, if_then, table_is, is_new, names_differ, sources_differ, expression_is, are_same, ids_known, heading_at, reads_columns, is_closed, one_fits, two_targets_fit, two_sources_fit, one_taken, two_taken}

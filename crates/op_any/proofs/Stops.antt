@@ -17,9 +17,10 @@ use Rattle.statements.specs.Views.{Tree}
 use Rattle.version_graph.specs.Tables.{column_limit, heading_names, headings_passing}
 use Rattle.version_graph.specs.declared.parts.Heading.{Heading}
 use Rattle.version_graph.proofs.NameLaws.{same_name, name_is}
-use Rattle.op_any.specs.NameChecks.{heading_named, is_passing, left_out, repeated, known_table, other_table, new_table, known_column, known_places, known_columns, well_divided, unrepeated, same_columns, few_columns, known_id}
+use Rattle.op_checks.specs.NameChecks.{heading_named, is_passing, left_out, repeated, known_table, other_table, new_table, known_column, known_places, known_columns, well_divided, unrepeated, same_columns, few_columns, known_id}
 use Rattle.op_any.specs.Refusals.{columns_named, refusal_in, too_wide, first_of}
-use Rattle.op_any.proofs.NameLists.{member, repeated_both}
+use Rattle.op_any.proofs.NameLists.{member}
+use Rattle.op_checks.proofs.RepeatedLaws.{repeated_both}
 use Rattle.op_any.proofs.TableListsLaws.{source_gone}
 
 -- ---- one check after the other

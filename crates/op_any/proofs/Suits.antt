@@ -22,7 +22,7 @@ use Rattle.version_graph.proofs.NameLaws.{name_is}
 use Rattle.op_law.specs.SoundTerms.{TermSound}
 use Rattle.par_base.specs.Checked.{Checked, ◌then◌}
 use Rattle.op_kinds.specs.Operators.{Built, meaning_of}
-use Rattle.op_any.specs.NameChecks.{heading_named, known_table, other_table, new_table, known_column, known_columns, unrepeated, new_columns, same_columns, few_columns, known_id}
+use Rattle.op_checks.specs.NameChecks.{heading_named, known_table, other_table, new_table, known_column, known_columns, unrepeated, new_columns, same_columns, few_columns, known_id}
 use Rattle.op_any.specs.Texts.{TermFits, TextsFit}
 use Rattle.op_any.specs.Laws.{as_seen, headings_taken, is_create_table, is_local_form}
 use Rattle.op_any.proofs.NameLists.{distinct_remove, unrepeated_distinct}

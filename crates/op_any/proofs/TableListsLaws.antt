@@ -10,7 +10,7 @@ use Rattle.version_graph.specs.declared.parts.Heading.{Heading}
 use Rattle.version_graph.proofs.SetLaws.{in_map, origin}
 use Rattle.version_graph.proofs.TableLaws.{passes}
 use Rattle.version_graph.proofs.NameLaws.{same_name, name_is}
-use Rattle.op_any.specs.NameChecks.{heading_named, is_passing}
+use Rattle.op_checks.specs.NameChecks.{heading_named, is_passing}
 use Rattle.op_any.specs.Laws.{headings_taken}
 
 -- a table that was found stands in the set under its name

@@ -11,7 +11,7 @@ use Rattle.version_graph.specs.declared.parts.Edge.{Edge}
 use Rattle.op_kinds.specs.Operators.{Built, CreateTable, DropTable, Rename, AddColumn, AddTracked, DropColumn, Split, Merge, AnyView}
 use Rattle.par_base.specs.Checked.{Checked, ◌then◌}
 use Rattle.op_any.specs.Edges.{one_to_one, one_to_two, two_to_one}
-use Rattle.op_any.specs.NameChecks.{heading_named, is_passing, known_table, other_table, new_table, known_column, known_columns, new_columns, same_columns, few_columns, known_ids}
+use Rattle.op_checks.specs.NameChecks.{heading_named, is_passing, known_table, other_table, new_table, known_column, known_columns, new_columns, same_columns, few_columns, known_ids}
 use Rattle.op_any.specs.BuildJoins.{decomposing_in_one, decomposing_table, joining_tables}
 
 -- CREATE TABLE t(c, ..): a table without a source

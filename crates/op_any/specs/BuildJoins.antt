@@ -11,7 +11,7 @@ use Rattle.op_outer_cond.specs.Outerings.{places_from}
 use Rattle.op_kinds.specs.Operators.{Built, DecomposeSingle, DecomposePk, DecomposeFk, DecomposeOn, JoinPk, OuterJoinPk, JoinFk, OuterJoinFk, JoinOn, OuterJoinOn}
 use Rattle.par_base.specs.Checked.{Checked, ◌then◌}
 use Rattle.op_any.specs.Edges.{one_to_one, one_to_both, two_to_one}
-use Rattle.op_any.specs.NameChecks.{heading_named, is_passing, repeated, misdivided, known_table, other_table, new_table, known_column, known_places, known_columns, well_divided, new_columns, few_columns, known_ids}
+use Rattle.op_checks.specs.NameChecks.{heading_named, is_passing, repeated, misdivided, known_table, other_table, new_table, known_column, known_places, known_columns, well_divided, new_columns, few_columns, known_ids}
 
 -- ---- DECOMPOSE
 

@@ -7,7 +7,7 @@ use Rattle.version_graph.specs.declared.parts.Heading.{Heading as TableHeading}
 use Rattle.version_graph.specs.declared.parts.Edge.{Edge}
 use Rattle.op_law.specs.Tables.{Heading}
 use Rattle.op_kinds.specs.Operators.{AnyView, any_meaning}
-use Rattle.op_any.specs.NameChecks.{heading_named, repeated, misdivided}
+use Rattle.op_checks.specs.NameChecks.{heading_named, repeated, misdivided}
 use Rattle.op_any.specs.Build.{built}
 use Rattle.op_any.specs.Texts.{TextsFit}
 

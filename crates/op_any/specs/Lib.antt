@@ -1,4 +1,3 @@
-pub mod NameChecks
 pub mod Edges
 pub mod BuildJoins
 pub mod Build

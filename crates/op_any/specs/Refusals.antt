@@ -15,7 +15,7 @@ use Rattle.version_graph.specs.Tables.{column_limit, row_name, heading_names, he
 use Rattle.version_graph.specs.declared.parts.Heading.{Heading}
 use Rattle.version_graph.specs.declared.parts.Edge.{Edge}
 use Rattle.op_kinds.specs.Operators.{AnyView}
-use Rattle.op_any.specs.NameChecks.{heading_named, left_out, misdivided, repeated}
+use Rattle.op_checks.specs.NameChecks.{heading_named, left_out, misdivided, repeated}
 use Rattle.op_any.specs.Build.{built}
 use Rattle.op_any.specs.Laws.{IsFirstLeftOut}
 

@@ -13,10 +13,8 @@
 
 mod any_op;
 mod build;
-mod checks;
 mod edges;
 mod laws;
-mod lookup;
 mod plan;
 mod plan_decompose;
 mod plan_joins;
@@ -24,7 +22,6 @@ mod plan_two;
 
 pub use any_op::AnyOp;
 pub use build::build_op;
-pub use checks::{find_place, resolve_value};
 pub use laws::{
     built_edges_fit, built_edges_have_their_tables, built_edges_keep_their_form,
     built_operators_are_closed, first_failed_check_refuses, first_misdivided_column_is_refused,

@@ -7,7 +7,7 @@ ghost use Rattle.op_kinds.specs.Views.{built_view};
 ghost use Rattle.op_any.specs.Build.{creating_table, dropping_table, renaming_table, renaming_column, adding_column, column_adder as column_added, dropping_column, planned_edge};
 ghost use Rattle.op_any.specs.Edges.{edge_view};
 
-use crate::checks::{
+use op_checks::{
     check_few_columns, check_ids, check_new_columns, check_new_table, find_place, find_table,
     resolve_value,
 };

@@ -5,13 +5,13 @@ ghost use Rattle.expr_lang.specs.Resolved.{resolved};
 ghost use Rattle.statements.specs.Views.{key_view};
 ghost use Rattle.op_kinds.specs.Views.{built_view};
 ghost use Rattle.par_base.specs.Checked.{Gives};
-ghost use Rattle.op_any.specs.NameChecks.{known_columns};
+ghost use Rattle.op_checks.specs.NameChecks.{known_columns};
 ghost use Rattle.op_any.specs.Edges.{edge_view};
 ghost use Rattle.op_outer_cond.specs.Outerings.{places_from};
 ghost use Rattle.op_any.specs.BuildJoins.{meeting, columns_of_both, on_pk, on_fk, on_condition, joining_on_pk, joining_on_fk, joining_on, joining_tables};
 ghost use Rattle.op_any.specs.inner.Found.{sources_view};
 
-use crate::checks::{
+use op_checks::{
     check_few_columns, check_ids, check_new_columns, check_new_table, check_other_table,
     find_place, find_table, resolve_value,
 };

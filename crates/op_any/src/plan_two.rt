@@ -4,7 +4,7 @@ ghost use Rattle.par_base.specs.Checked.{Gives};
 ghost use Rattle.op_any.specs.Build.{splitting_in_one, splitting_in_two, splitting_table, merging_tables};
 ghost use Rattle.op_any.specs.Edges.{edge_view};
 
-use crate::checks::{
+use op_checks::{
     check_ids, check_new_table, check_other_table, check_same_columns, check_second_table,
     find_table, resolve_value,
 };

@@ -8,7 +8,7 @@ use Rattle.par_base.specs.declared.value.Value.TheVariants.{Null, Int, Text, Ref
 use Rattle.par_base.specs.declared.refusal.Refusal.TheVariants.{WrongCount}
 use Rattle.par_base.specs.Checked.{Checked}
 use Rattle.op_law.specs.Sound.{IsBelow, ValueSound, ValuesSound}
-use Rattle.op_any.specs.NameChecks.{known_id}
+use Rattle.op_checks.specs.NameChecks.{known_id}
 use Rattle.op_any.specs.Texts.{ValueFits}
 use Rattle.ordinary_table.specs.Laws.{IsNewRow}
 use Rattle.ordinary_table.proofs.KeptLaws.{all_behind}

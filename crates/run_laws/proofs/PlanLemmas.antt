@@ -4,7 +4,7 @@ use Rattle.std.specs.List.{All}
 use Rattle.par_base.specs.declared.value.Value.{Value}
 use Rattle.statements.specs.Views.{Tree, AssignmentView}
 use Rattle.statements.specs.declared.statement.TableName.{TableName}
-use Rattle.op_any.specs.NameChecks.{known_id, repeated, unrepeated}
+use Rattle.op_checks.specs.NameChecks.{known_id, repeated, unrepeated}
 use Rattle.op_any.specs.Texts.{TermFits, ValueFits}
 use Rattle.ordinary_table.specs.Laws.{IsTable}
 use Rattle.ordinary_table.specs.Written.{deleted, inserted, updated}

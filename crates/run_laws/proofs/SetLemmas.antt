@@ -5,7 +5,7 @@ use Rattle.expr_lang.specs.Terms.{Term}
 use Rattle.expr_lang.specs.Resolved.{place_of, resolved, first_unknown_id}
 use Rattle.statements.specs.Views.{Tree, AssignmentView}
 use Rattle.op_law.specs.SoundTerms.{TermSound}
-use Rattle.op_any.specs.NameChecks.{known_column, known_columns}
+use Rattle.op_checks.specs.NameChecks.{known_column, known_columns}
 use Rattle.op_any.specs.Texts.{TermFits}
 use Rattle.op_any.proofs.SoundTextsLaws.{resolved_sound}
 use Rattle.ordinary_table.specs.Written.{SetTerm}

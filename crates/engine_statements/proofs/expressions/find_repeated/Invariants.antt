@@ -1,6 +1,6 @@
 use Rattle.std.proofs.Common.{◌≡◌, [], drop, map, take}
 use Rattle.statements.specs.Views.{assignment_view}
-use Rattle.op_any.specs.NameChecks.{repeated}
+use Rattle.op_checks.specs.NameChecks.{repeated}
 use Rattle.engine_statements.specs.Statements.{set_columns}
 use Rattle.engine_statements.proofs.expressions.find_repeated.Given as goal
 

@@ -1,11 +1,11 @@
-//! The checks of an operator, each with its refusal.
+//! The checks, each with its refusal.
 ghost use Rattle.std.specs.Prelude.{◌<◌, ◌||◌, ◌++◌, [], length, IfOk};
 ghost use Rattle.std.specs.Option.{option_map};
 ghost use Rattle.std.specs.Str.{bytes_eq};
 ghost use Rattle.expr_lang.specs.Terms.{text_term, expr_term};
 ghost use Rattle.expr_lang.specs.Resolved.{place_of, resolved};
 ghost use Rattle.par_base.specs.Checked.{Gives};
-ghost use Rattle.op_any.specs.NameChecks.{heading_named as heading_named_lem, is_passing as is_passing_name, known_table, other_table, new_table, known_column, known_places, known_columns, repeated, misdivided, well_divided, new_columns, same_columns, few_columns, known_ids};
+ghost use Rattle.op_checks.specs.NameChecks.{heading_named as heading_named_lem, is_passing as is_passing_name, known_table, other_table, new_table, known_column, known_places, known_columns, repeated, misdivided, well_divided, new_columns, same_columns, few_columns, known_ids};
 
 use crate::lookup::{
     find_again, find_column, find_misdivided, find_repeated, has_name, is_passing,
@@ -19,7 +19,7 @@ use version_graph::{Heading, heading_named};
 const COLUMN_LIMIT: usize = 64;
 
 /// The table of a working set with this name, or the refusal.
-pub(crate) fn find_table<'a>(
+pub fn find_table<'a>(
     alloc: Global,
     set: &'a [Heading],
     name: &Name,
@@ -36,7 +36,7 @@ pub(crate) fn find_table<'a>(
 }
 
 /// Refuses the name of a table that passes through beside these sources.
-pub(crate) fn check_new_table(
+pub fn check_new_table(
     alloc: Global,
     set: &[Heading],
     sources: &[Name],
@@ -54,7 +54,7 @@ pub(crate) fn check_new_table(
 }
 
 /// Refuses the name of a table that passes through beside these sources, or of the first target.
-pub(crate) fn check_second_table(
+pub fn check_second_table(
     alloc: Global,
     set: &[Heading],
     sources: &[Name],
@@ -74,7 +74,7 @@ pub(crate) fn check_second_table(
 }
 
 /// Refuses a second source that is the first one.
-pub(crate) fn check_other_table(
+pub fn check_other_table(
     alloc: Global,
     first: &Name,
     name: &Name,
@@ -107,7 +107,7 @@ pub fn find_place(alloc: Global, columns: &[Name], name: &Name) -> Result<usize,
 /// The places of these columns, or the refusal of the first name that is none of the table's. It
 /// takes time in the number of pairs of names.
 #[tactic(auto, unfolding(crate::specs::NameChecks::known_places))]
-pub(crate) fn find_places(
+pub fn find_places(
     alloc: Global,
     columns: &[Name],
     names: &[Name],
@@ -133,14 +133,14 @@ fn refuse_division(alloc: Global, column: Option<&Name>) -> Result<(), Fault<Ref
 }
 
 /// Refuses the first name that is listed twice.
-pub(crate) fn check_once(alloc: Global, names: &[Name]) -> Result<(), Fault<Refusal>>
+pub fn check_once(alloc: Global, names: &[Name]) -> Result<(), Fault<Refusal>>
     ensures { Gives (λ x. x) result (well_divided (repeated [] names.now)) }
 {
     refuse_division(alloc, find_again(&[], names))
 }
 
 /// Refuses the first name that two lists name twice, or else the first column that they leave out.
-pub(crate) fn check_divided(
+pub fn check_divided(
     alloc: Global,
     columns: &[Name],
     first: &[Name],
@@ -153,7 +153,7 @@ pub(crate) fn check_divided(
 }
 
 /// Refuses the first of the new columns that is `p`, a known one or one of those before it.
-pub(crate) fn check_new_columns(
+pub fn check_new_columns(
     alloc: Global,
     known: &[Name],
     names: &[Name],
@@ -169,7 +169,7 @@ pub(crate) fn check_new_columns(
 }
 
 /// Refuses two sources whose columns have other names or another order.
-pub(crate) fn check_same_columns(
+pub fn check_same_columns(
     alloc: Global,
     first: &Heading,
     second: &Heading,
@@ -186,7 +186,7 @@ pub(crate) fn check_same_columns(
 }
 
 /// Refuses a target with too many columns.
-pub(crate) fn check_few_columns(
+pub fn check_few_columns(
     alloc: Global,
     table: &Name,
     columns: &[Name],
@@ -219,7 +219,7 @@ pub fn resolve_value(
 }
 
 /// Refuses a reference to an identifier that is 0 or isn't below the next one.
-pub(crate) fn check_ids(value: &ExprText, next: u64) -> Result<(), Fault<Refusal>>
+pub fn check_ids(value: &ExprText, next: u64) -> Result<(), Fault<Refusal>>
     ensures { Gives (λ x. x) result (known_ids next (text_term value.now)) }
 {
     match first_unknown(value, next) {

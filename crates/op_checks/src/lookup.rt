@@ -5,7 +5,7 @@ ghost use Rattle.std.specs.List.{list_any};
 ghost use Rattle.std.specs.Str.{bytes_eq};
 ghost use Rattle.expr_lang.specs.Resolved.{place_of};
 ghost use Rattle.version_graph.specs.Tables.{row_name, is_among as is_source};
-ghost use Rattle.op_any.specs.NameChecks.{is_passing as is_passing_name, repeated, left_out, misdivided};
+ghost use Rattle.op_checks.specs.NameChecks.{is_passing as is_passing_name, repeated, left_out, misdivided};
 
 use par_base::Name;
 use version_graph::Heading;
@@ -95,7 +95,7 @@ pub(crate) fn find_again<'a>(known: &[Name], names: &'a [Name]) -> Option<&'a Na
     None
 }
 
-#[tactic(auto, using(crate::proofs::NameLists::repeated_both))]
+#[tactic(auto, using(crate::proofs::RepeatedLaws::repeated_both))]
 fn find_twice<'a>(first: &'a [Name], second: &'a [Name]) -> Option<&'a Name>
     ensures { option_map (λ name. name.now) result ≡ repeated []
         (first.entry.now ++ second.entry.now) }
