@@ -22,7 +22,7 @@ mod read;
 mod sight;
 mod table;
 
-pub use auxes::auxes_in;
+pub use auxes::{auxes_in, stored_way};
 pub use db::{Db, put_parts, take_parts};
 pub use laws::states_are_stored_once;
 pub use local::{are_local, sight_over};
