@@ -1,7 +1,7 @@
 pub mod FieldLaws
 pub mod FoundLaws
 mod EmptyLemmas
-mod AuxLemmas
+pub mod AuxLaws
 pub mod OnceLaws
 pub mod PartLaws
 pub mod BoundLaws

@@ -9,7 +9,7 @@
 //! database by `take_parts` and `put_parts` alone, so each of them proves that it leaves canonical
 //! storage. The crate knows operators by their laws alone, and nothing of names in statements.
 //!
-//! Lemmas that crates above may use stand in proofs/: `FieldLaws`, `FoundLaws`, `OnceLaws`,
+//! Lemmas that crates above may use stand in proofs/: `FieldLaws`, `FoundLaws`, `AuxLaws`, `OnceLaws`,
 //! `PartLaws`, `BoundLaws` and `PassLaws`.
 #![tactic(auto)]
 

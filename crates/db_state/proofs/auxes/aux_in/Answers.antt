@@ -1,7 +1,7 @@
 use Rattle.std.proofs.Common.{◌≡◌, Some, None}
 use Rattle.op_law.specs.Calls.{seen}
 use Rattle.version_model.specs.Calls.{crossing_of, made_state, seen_from}
-use Rattle.db_state.proofs.AuxLemmas.{far_few, near_few, some_pair}
+use Rattle.db_state.proofs.AuxLaws.{far_few, near_few, some_pair}
 use Rattle.db_state.proofs.BoundLaws.{aux_within}
 use Rattle.db_state.proofs.auxes.aux_in.Goals as goal
 

@@ -5,7 +5,7 @@ use Rattle.op_law.specs.declared.side.Aux.{Aux}
 use Rattle.version_model.specs.Calls.{made_state}
 use Rattle.version_model.specs.declared.numbered.Numbered.{Numbered}
 use Rattle.db_state.specs.Calls.{AreAuxesOf, IsRelatedAt}
-use Rattle.db_state.proofs.AuxLemmas.{all_auxes, one_aux_more}
+use Rattle.db_state.proofs.AuxLaws.{all_auxes, one_aux_more}
 use Rattle.db_state.proofs.BoundLaws.{all_auxes_within, one_aux_within}
 use Rattle.db_state.proofs.auxes.auxes_in.Goals as goal
 

@@ -1,6 +1,6 @@
 use Rattle.std.proofs.Common.{ap, ◌∙◌, List, ℕ}
 use Rattle.version_graph.specs.Edges.{is_in}
-use Rattle.db_state.proofs.AuxLemmas.{way_is}
+use Rattle.db_state.proofs.AuxLaws.{way_is}
 use Rattle.db_state.proofs.auxes.stored_way.Goals as goal
 
 pub returns : goal.returns

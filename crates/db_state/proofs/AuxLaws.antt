@@ -40,7 +40,7 @@ module _ {O : Type 0} (es : List (Placed O)) (edges : AreEdges es) where
 
 module _ {O : Type 0} (meaning : O → Meaning) (es : List (Placed O)) (layout : List ℕ) (s : State) (n : ℕ) (over : Crossing O) (known : IsRelatedAt meaning es s n)
     (is : (e : Link O) → In e (forest es) → e.number ≡ n → Some over ≡ Some (stored_way layout e)) where
-  over_is : over ≡ stored_way layout known.over
+  pub over_is : over ≡ stored_way layout known.over
   over_is = some_is over (stored_way layout known.over) (is known.over known.lives known.number)
 
   pub near_few : length over.near ≤ 2
