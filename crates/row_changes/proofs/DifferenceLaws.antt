@@ -43,21 +43,28 @@ pub whole_old : (P : ℕ → Bool) (rows : Rows) (cs : List Change) → AllPass 
 whole_old P rows [] pass old = tt
 whole_old P rows (c ∷ cs) pass old = (old.0 ∙ row_in P rows c.id pass.0, whole_old P rows cs pass.1 old.1)
 
+-- what changes make of what passes they make of the whole, where what fails is the same
+pub part_makes : (P : ℕ → Bool) (before now : Rows) (cs : List Change) → RiseFrom 0 before → RiseFrom 0 now
+    → rows_only (λ id. not (P id)) before ≡ rows_only (λ id. not (P id)) now → AllPass P cs
+    → changed (rows_only P before) cs ≡ rows_only P now → changed before cs ≡ now
+part_makes P before now cs rise_b rise_n same pass made =
+    let small = rise_only P 0 before rise_b in
+    ext 0 (changed before cs) now (changed_rise before cs rise_b) rise_n
+    (λ q. changed_at before cs q rise_b ∙ by_test (P q)
+    (λ e. ap (after cs q) (sym (row_in P before q e)) ∙ sym (changed_at (rows_only P before) cs q small)
+    ∙ ap (λ (rows : Rows). row_of rows q) made ∙ row_in P now q e)
+    (λ e. after_other P cs q (row_of before q) pass e ∙ same_rows (λ id. not (P id)) before now q (ap not e) same))
+
 -- THE DIFFERENCE OF WHAT PASSES IS THAT OF THE WHOLE, where what fails is the same
 pub difference_of_part : (P : ℕ → Bool) (before now : Rows) (cs : List Change) → RiseFrom 0 before → RiseFrom 0 now
     → rows_only (λ id. not (P id)) before ≡ rows_only (λ id. not (P id)) now
     → IsDifference (rows_only P before) (rows_only P now) cs → IsDifference before now cs
 difference_of_part P before now cs rise_b rise_n same part =
     let pass = part_passes P before now cs rise_b part in
-    let small = rise_only P 0 before rise_b in
     record {
       rise = part.rise;
       old = whole_old P before cs pass part.old;
-      new = ext 0 (changed before cs) now (changed_rise before cs rise_b) rise_n
-          (λ q. changed_at before cs q rise_b ∙ by_test (P q)
-          (λ e. ap (after cs q) (sym (row_in P before q e)) ∙ sym (changed_at (rows_only P before) cs q small)
-          ∙ ap (λ (rows : Rows). row_of rows q) part.new ∙ row_in P now q e)
-          (λ e. after_other P cs q (row_of before q) pass e ∙ same_rows (λ id. not (P id)) before now q (ap not e) same));
+      new = part_makes P before now cs rise_b rise_n same pass part.new;
       differ = part.differ;
     }
 
