@@ -22,11 +22,7 @@ use version_model::{Before, Made, Numbered, Way, memory_now, side_now, way_of};
 
 /// The way over an operator from the side that the layout stores. It takes time in the number of live
 /// operators.
-pub fn stored_way<'a, O>(
-    graph: &'a Graph<O>,
-    layout: &Layout,
-    number: u32,
-) -> Option<Way<'a, O>>
+pub fn stored_way<'a, O>(graph: &'a Graph<O>, layout: &Layout, number: u32) -> Option<Way<'a, O>>
     requires { AreEdges graph.now.edges }
     ensures { (e : Link O) → In e (forest graph.entry.now.edges) → e.number ≡ number
         → option_map crossing_of result ≡ Some (stored_way_lem layout.now.operators e) }

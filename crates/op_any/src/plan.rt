@@ -7,15 +7,15 @@ ghost use Rattle.op_kinds.specs.Views.{built_view};
 ghost use Rattle.op_any.specs.Build.{creating_table, dropping_table, renaming_table, renaming_column, adding_column, column_adder as column_added, dropping_column, planned_edge};
 ghost use Rattle.op_any.specs.Edges.{edge_view};
 
-use op_checks::{
-    check_few_columns, check_ids, check_new_columns, check_new_table, find_place, find_table,
-    resolve_value,
-};
 use crate::edges::{edge_of, from_one_to_one, heading_of, one_heading, one_name};
 use crate::plan_decompose::{decompose, decompose_in_one};
 use crate::plan_joins::{JoinNames, join};
 use crate::plan_two::{merge, split};
 use expr_lang::{Expr, ExprText};
+use op_checks::{
+    check_few_columns, check_ids, check_new_columns, check_new_table, find_place, find_table,
+    resolve_value,
+};
 use op_column::{AddColumn, AddTracked, CreateTable, DropTable, Rename};
 use op_kinds::BuiltOp;
 use op_rows::{FlipRow, Rowwise};

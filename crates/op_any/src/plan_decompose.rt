@@ -7,12 +7,12 @@ ghost use Rattle.op_any.specs.Edges.{edge_view};
 ghost use Rattle.op_any.specs.BuildJoins.{parting, divided, decomposing_in_one, decomposing_on_pk, decomposing_on_fk, decomposing_on, decomposing_table, with_column as with_column_of};
 ghost use Rattle.op_any.specs.inner.Found.{parts_view};
 
+use crate::edges::{edge_of, from_one_to, from_one_to_both};
+use expr_lang::ExprText;
 use op_checks::{
     check_divided, check_few_columns, check_ids, check_new_columns, check_new_table, check_once,
     check_second_table, find_places, find_table, resolve_value,
 };
-use crate::edges::{edge_of, from_one_to, from_one_to_both};
-use expr_lang::ExprText;
 use op_key_join::{DecomposePk, DecomposeSingle};
 use op_kinds::{BuiltOp, DecomposeFk, JoinOn};
 use op_law::Flip;

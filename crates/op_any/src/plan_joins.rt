@@ -11,12 +11,12 @@ ghost use Rattle.op_outer_cond.specs.Outerings.{places_from};
 ghost use Rattle.op_any.specs.BuildJoins.{meeting, columns_of_both, on_pk, on_fk, on_condition, joining_on_pk, joining_on_fk, joining_on, joining_tables};
 ghost use Rattle.op_any.specs.inner.Found.{sources_view};
 
+use crate::edges::{edge_of, from_two_to_one, two_names};
+use expr_lang::{Expr, ExprText};
 use op_checks::{
     check_few_columns, check_ids, check_new_columns, check_new_table, check_other_table,
     find_place, find_table, resolve_value,
 };
-use crate::edges::{edge_of, from_two_to_one, two_names};
-use expr_lang::{Expr, ExprText};
 use op_key_join::{DecomposePk, JoinPk};
 use op_kinds::{BuiltOp, DecomposeFk, JoinFk, JoinOn, OuterOn};
 use op_law::Flip;

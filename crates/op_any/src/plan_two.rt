@@ -4,12 +4,12 @@ ghost use Rattle.par_base.specs.Checked.{Gives};
 ghost use Rattle.op_any.specs.Build.{splitting_in_one, splitting_in_two, splitting_table, merging_tables};
 ghost use Rattle.op_any.specs.Edges.{edge_view};
 
+use crate::edges::{
+    edge_of, from_one_to_both, from_one_to_one, heading_of, one_heading, two_names,
+};
 use op_checks::{
     check_ids, check_new_table, check_other_table, check_same_columns, check_second_table,
     find_table, resolve_value,
-};
-use crate::edges::{
-    edge_of, from_one_to_both, from_one_to_one, heading_of, one_heading, two_names,
 };
 use op_kinds::BuiltOp;
 use op_rows::{FlipRow, Rowwise};

@@ -74,11 +74,7 @@ pub fn check_second_table(
 }
 
 /// Refuses a second source that is the first one.
-pub fn check_other_table(
-    alloc: Global,
-    first: &Name,
-    name: &Name,
-) -> Result<(), Fault<Refusal>>
+pub fn check_other_table(alloc: Global, first: &Name, name: &Name) -> Result<(), Fault<Refusal>>
     ensures { Gives (λ x. x) result (other_table name.now (bytes_eq name.now first.now)) }
 {
     if has_name(name, first) {

@@ -143,11 +143,11 @@ module _ {O : Type 0} (meaning : O → Meaning) (laws : (o : O) → Laws (meanin
       rests = λ t i. no_rows test all (end.tables t) ∙ sym (no_rows test all (s.tables t));
       aux_part = λ e i own.
           ap (λ (x : PairState). (at e).aux_at_source x)
-              (same_pair all_small end (over e) (λ t k. sym (agree.tables t (sides e i own t k))) (λ t k. sym (agree.tables t (others e i own t k))) (sym (agree.memory e.number own)))
-              ∙ sym (all_tables test all (aux_of meaning end (over e)));
+          (same_pair all_small end (over e) (λ t k. sym (agree.tables t (sides e i own t k))) (λ t k. sym (agree.tables t (others e i own t k))) (sym (agree.memory e.number own)))
+          ∙ sym (all_tables test all (aux_of meaning end (over e)));
       aux_rests = λ e i own.
           no_tables test all (aux_of meaning s (over e)) (aux_of meaning end (over e))
-              ((half e).aux_many (map (headings es) (over e).near) (map (headings es) (over e).far) (pair_in s (over e)) (pair_in end (over e)) (related_in s good.sound e i) (related_in end end_sound e i));
+          ((half e).aux_many (map (headings es) (over e).near) (map (headings es) (over e).far) (pair_in s (over e)) (pair_in end (over e)) (related_in s good.sound e i) (related_in end end_sound e i));
     }
 
   -- ---- where each operator treats each identifier by itself
