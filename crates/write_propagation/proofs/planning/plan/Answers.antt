@@ -1,1 +1,52 @@
+use Rattle.std.proofs.Common.{ℕ, List, Ok, ◌≤◌, ◌+◌, ◌*◌, length, sym, subst}
+use Rattle.version_graph.specs.Edges.{Drawn}
+use Rattle.write_propagation.specs.Plans.{rows_written}
+use Rattle.write_propagation.specs.Trees.{IsTree}
+use Rattle.write_propagation.proofs.WholeLemmas.{path_long, tree_local}
+use Rattle.write_propagation.proofs.LeadLemmas.{changes_same, plans_same, same_database, same_self}
 use Rattle.write_propagation.proofs.planning.plan.Goals as goal
+
+pub returns-in_err-tree-clause-same : goal.returns-in_err-tree-clause-same
+returns-in_err-tree-clause-same g c = same_self c.args.db.now
+
+pub returns-in_err-plan-clause-same : goal.returns-in_err-plan-clause-same
+returns-in_err-plan-clause-same g c = same_self c.args.db.now
+
+pub returns-in_err-make_room-clause-data : goal.returns-in_err-make_room-clause-data
+returns-in_err-make_room-clause-data g c = (same_database g.O.Operator.meaning g.met.O.Operator.laws c.args.db.now c.graph.ensures.kept c.make_room.new.db c.make_room.ensures.same).1
+
+pub returns-clause-data : goal.returns-clause-data
+returns-clause-data g c = (same_database g.O.Operator.meaning g.met.O.Operator.laws c.args.db.now c.graph.ensures.kept c.make_room.new.db c.make_room.ensures.same).1
+
+pub returns-clause-plans : goal.returns-clause-plans
+returns-clause-plans g c =
+    let d = c.args.db.now in
+    let w = c.args.written in
+    plans_same g.O.Operator.meaning g.met.O.Operator.laws d c.graph.ensures.kept c.make_room.new.db c.make_room.ensures.same w.set w.table (rows_written g.O.Operator.meaning d w) w.ids.next (Ok c.in_ok-plan.plan) c.in_ok-plan.ensures.plans
+
+pub returns-clause-ready : goal.returns-clause-ready
+returns-clause-ready g c = (changes_same c.args.db.now c.make_room.new.db c.in_ok-plan.plan c.make_room.ensures.same c.in_ok-plan.ensures.old, c.in_ok-make_room.ensures.room)
+
+pub returns-in_err-plan-clause-steps : goal.returns-in_err-plan-clause-steps
+returns-in_err-plan-clause-steps g c local =
+    let d = c.args.db.now in
+    let tree = c.in_ok-tree.tree in
+    let is = subst (λ (x : Drawn _). IsTree x.edges c.args.written.set tree) c.graph.ensures.graph c.in_ok-tree.ensures in
+    let at = tree_local d.graph.edges c.graph.ensures.kept.graph.edges c.args.written.set tree is g.O.Operator.meaning local in
+    subst (λ (n : ℕ). c.plan_tree.new.steps ≤ c.args.steps.now + 16 * (length c.args.written.changes * n)) (sym (path_long d.graph.edges c.graph.ensures.kept.graph.edges c.args.written.set tree is)) (c.in_err-plan.ensures.steps at)
+
+pub returns-in_err-make_room-clause-steps : goal.returns-in_err-make_room-clause-steps
+returns-in_err-make_room-clause-steps g c local =
+    let d = c.args.db.now in
+    let tree = c.in_ok-tree.tree in
+    let is = subst (λ (x : Drawn _). IsTree x.edges c.args.written.set tree) c.graph.ensures.graph c.in_ok-tree.ensures in
+    let at = tree_local d.graph.edges c.graph.ensures.kept.graph.edges c.args.written.set tree is g.O.Operator.meaning local in
+    subst (λ (n : ℕ). c.plan_tree.new.steps ≤ c.args.steps.now + 16 * (length c.args.written.changes * n)) (sym (path_long d.graph.edges c.graph.ensures.kept.graph.edges c.args.written.set tree is)) (c.in_ok-plan.ensures.steps at)
+
+pub returns-clause-steps : goal.returns-clause-steps
+returns-clause-steps g c local =
+    let d = c.args.db.now in
+    let tree = c.in_ok-tree.tree in
+    let is = subst (λ (x : Drawn _). IsTree x.edges c.args.written.set tree) c.graph.ensures.graph c.in_ok-tree.ensures in
+    let at = tree_local d.graph.edges c.graph.ensures.kept.graph.edges c.args.written.set tree is g.O.Operator.meaning local in
+    subst (λ (n : ℕ). c.plan_tree.new.steps ≤ c.args.steps.now + 16 * (length c.args.written.changes * n)) (sym (path_long d.graph.edges c.graph.ensures.kept.graph.edges c.args.written.set tree is)) (c.in_ok-plan.ensures.steps at)

@@ -2,6 +2,7 @@ use Rattle.std.proofs.Common.{ℕ, List, refl, ap, ◌∙◌, subst}
 use Rattle.std.specs.Prelude.{filter}
 use Rattle.op_law.specs.declared.side.Aux.{Aux}
 use Rattle.row_store.specs.States.{TableState}
+use Rattle.id_memory.specs.States.{MemoryState}
 use Rattle.version_graph.specs.Edges.{is_in}
 use Rattle.version_model.specs.declared.numbered.Numbered.{Numbered}
 use Rattle.version_model.specs.Kept.{numbers_in}
@@ -26,6 +27,7 @@ returns-clause-plans g c =
       made = c.in_ok-newer.ensures.auxes;
       auxes = subst (λ (l : List (Numbered Aux)). AreAuxChanges d.aux (passes c.args.sight) l c.in_ok-auxes.auxes) c.as_slice.ensures
           (subst (λ (l : List (Numbered Aux)). AreAuxChanges l (passes c.args.sight) c.as_slice.result.now c.in_ok-auxes.auxes) c.aux.ensures c.in_ok-auxes.ensures);
+      memories = c.memories_of.ensures ∙ ap (λ (ns : List ℕ). filter (λ (i : Numbered MemoryState). is_in i.number ns) m.made.memories) c.as_slice-6.ensures;
       ids = refl;
     }
 

@@ -14,7 +14,7 @@ returns-in_err-making-clause-plans g c =
     let d = c.args.db.now in
     let may = c.requires.may in
     let shows = shown m laws d may.kept c.args.tree.now c.args.written may c.args.sight c.requires.sees c.requires.named in
-    let p = err_from_is_err_and c.from_residual-in_err-making.result c.from_residual-in_err-making.ensures.1 in
+    let p = err_from_is_err_and c.from_residual.result c.from_residual.ensures.1 in
     rw (p.1, p.2) (refused m laws d may.kept c.args.tree.now c.args.written may (passes c.args.sight) shows c.in_err-making.field-0.0 c.in_err-making.ensures.makes)
 
 pub plan_of-requires-clause-related : goal.plan_of-requires-clause-related
