@@ -17,7 +17,7 @@ use Rattle.layout_rules.proofs.DownLaws.{link_listed}
 use Rattle.version_model.specs.Making.{ascending}
 use Rattle.version_model.specs.declared.numbered.Numbered.{Numbered}
 use Rattle.version_model.proofs.AscendingLaws.{edge_there}
-use Rattle.version_model.proofs.CarryLaws.{some_is}
+use Rattle.version_model.proofs.ToldLaws.{some_is}
 use Rattle.storage_law.specs.Storage.{stored_way}
 use Rattle.storage_law.proofs.OrderLaws.{link_at}
 use Rattle.db_state.specs.declared.parts.Parts.{Parts}

@@ -15,7 +15,7 @@ use Rattle.version_model.specs.Calls.{IsCrossing, IsTold}
 use Rattle.version_model.specs.States.{State, headings}
 use Rattle.version_model.specs.Steps.{pair_in, directed}
 use Rattle.version_model.specs.declared.numbered.Numbered.{Numbered}
-use Rattle.version_model.proofs.CarryLaws.{some_is, told_is}
+use Rattle.version_model.proofs.ToldLaws.{some_is, told_is}
 use Rattle.storage_law.specs.Storage.{stored_way}
 use Rattle.storage_law.proofs.CanonicalLaws.{either_way}
 use Rattle.db_state.specs.Calls.{AreAuxesOf, IsAuxOf, IsRelatedAt}

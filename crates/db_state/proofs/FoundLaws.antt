@@ -13,7 +13,7 @@ use Rattle.layout_rules.proofs.LinkLaws.{in_or_out}
 use Rattle.version_model.specs.Calls.{IsCrossing, IsTold}
 use Rattle.version_model.specs.Kept.{HasSides, value_of, numbers_in}
 use Rattle.version_model.specs.declared.numbered.Numbered.{Numbered}
-use Rattle.version_model.proofs.CarryLaws.{told_is}
+use Rattle.version_model.proofs.ToldLaws.{told_is}
 use Rattle.version_model.proofs.CrossingLaws.{crossings_live}
 use Rattle.version_model.proofs.NumberedLaws.{looked, value_of_first}
 use Rattle.db_state.proofs.FieldLaws.{none_at}

@@ -10,7 +10,7 @@ use Rattle.version_graph.specs.declared.parts.Placed.{Placed}
 use Rattle.version_graph.proofs.SetLaws.{in_append}
 use Rattle.version_graph.proofs.TakenLaws.{found_passes}
 use Rattle.op_law.specs.Meaning.{Meaning}
-use Rattle.version_model.proofs.CarryLaws.{some_is}
+use Rattle.version_model.proofs.ToldLaws.{some_is}
 use Rattle.db_state.specs.Parts.{AreLocalAt}
 use Rattle.db_state.proofs.FoundLaws.{crosses}
 

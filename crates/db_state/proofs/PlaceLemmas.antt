@@ -21,7 +21,7 @@ use Rattle.version_model.specs.Kept.{rows_now}
 use Rattle.version_model.specs.Making.{ascending}
 use Rattle.version_model.specs.declared.numbered.Numbered.{Numbered}
 use Rattle.version_model.proofs.AscendingLaws.{edge_there, some_there}
-use Rattle.version_model.proofs.CarryLaws.{some_is}
+use Rattle.version_model.proofs.ToldLaws.{some_is}
 use Rattle.version_model.proofs.CrossingLaws.{targets_linked}
 use Rattle.version_model.proofs.MakingLaws.{stands_at}
 use Rattle.storage_law.proofs.OrderLaws.{link_at, newer, next, split_at}

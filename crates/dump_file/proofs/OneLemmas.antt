@@ -18,7 +18,7 @@ use Rattle.op_law.specs.Calls.{tables_of}
 use Rattle.op_any.specs.Operators.{AnyView, any_meaning}
 use Rattle.version_model.specs.Kept.{pairs_at, rows_at, value_of, auxes_at, numbers_in}
 use Rattle.version_model.specs.declared.numbered.Numbered.{Numbered}
-use Rattle.version_model.proofs.CarryLaws.{some_is}
+use Rattle.version_model.proofs.ToldLaws.{some_is}
 use Rattle.storage_law.specs.Reading.{read_all}
 use Rattle.db_state.specs.Fields.{IsDatabase, database_for, state_for, storage_in}
 use Rattle.db_state.specs.declared.parts.Parts.{Parts}

@@ -13,7 +13,7 @@ use Rattle.version_graph.proofs.SetLaws.{each_append, each_more}
 use Rattle.version_model.specs.Calls.{IsCrossing, IsTold}
 use Rattle.version_model.specs.Making.{ascending}
 use Rattle.version_model.proofs.CrossingLaws.{crossings_live}
-use Rattle.version_model.proofs.CarryLaws.{told_is}
+use Rattle.version_model.proofs.ToldLaws.{told_is}
 
 module _ {X : Type 0} where
   pub reverse_first : (x : X) (xs : List X) → reverse (x ∷ xs) ≡ reverse xs ++ x ∷ []

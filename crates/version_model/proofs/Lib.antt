@@ -12,7 +12,7 @@ pub mod GrownLaws
 pub mod ProgressLaws
 pub mod AmongLaws
 pub mod BoundLaws
-pub mod CarryLaws
+pub mod ToldLaws
 pub mod AscendingLaws
 pub mod MakingLaws
 mod StillLemmas

@@ -29,7 +29,7 @@ use Rattle.version_model.specs.declared.progress.Before.{Before}
 use Rattle.version_model.specs.declared.progress.Made.{Made}
 use Rattle.version_model.proofs.NumberedLaws.{either, looked, value_of_first}
 use Rattle.version_model.proofs.PutLaws.{AsMany}
-use Rattle.version_model.proofs.CarryLaws.{same_refused}
+use Rattle.version_model.proofs.ToldLaws.{same_refused}
 
 -- ---- what was put is there
 

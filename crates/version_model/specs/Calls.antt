@@ -2,26 +2,20 @@
 use Rattle.std.specs.Prelude.{◌≡◌, ℕ, ◌≤◌, ◌⊎◌, Bool, true, false, cond, List, [], ◌∷◌, map, length, Result, Ok, Err, Option, Some, None, ⊤}
 use Rattle.par_base.specs.declared.fault.Fault.{Fault}
 use Rattle.par_base.specs.declared.refusal.IdsSpent.{IdsSpent}
-use Rattle.version_graph.specs.Edges.{AreEdges, edge_of, numbers, sources_at}
-use Rattle.version_graph.specs.Sets.{In, Each}
-use Rattle.version_graph.specs.Forest.{Crossing, forest, step_told, walk}
+use Rattle.version_graph.specs.Edges.{edge_of, sources_at}
+use Rattle.version_graph.specs.Forest.{Crossing}
 use Rattle.version_graph.specs.declared.parts.Placed.{Placed}
 use Rattle.version_graph.specs.declared.parts.Step.{Step}
 use Rattle.op_law.specs.Meaning.{Meaning, Mapped, PairState, exchanged}
 use Rattle.op_law.specs.Calls.{first_refused, IsSpent}
 use Rattle.par_base.specs.declared.fault.Fault.TheVariants.{Refused, Memory as OutOfMemory}
 use Rattle.version_model.specs.States.{State}
-use Rattle.version_model.specs.Kept.{rows_at, pairs_at, rows_now, pairs_now, HasSides}
+use Rattle.version_model.specs.Kept.{rows_at, pairs_at, rows_now, pairs_now}
 use Rattle.version_model.specs.declared.crossing.Way.{Way}
 use Rattle.version_model.specs.declared.progress.Before.{Before}
 use Rattle.version_model.specs.declared.progress.Made.{Made}
 use Rattle.version_model.specs.Put.{put}
-use Rattle.version_model.specs.Steps.{directed, pair_in, run}
-use Rattle.version_model.specs.Sound.{IsSound}
-use Rattle.version_model.specs.Writes.{written, write, MayWrite}
-use Rattle.version_model.specs.declared.write.Written.{Written}
-use Rattle.row_store.specs.Rows.{Rows}
-use Rattle.op_law.specs.Premises.{SomeMap}
+use Rattle.version_model.specs.Steps.{directed}
 
 -- an operator between its near and its far tables
 abbrev pub crossing_of : {O : Type 0} → Way O → Crossing O
@@ -41,7 +35,7 @@ abbrev pub IsTold : {O : Type 0} → List (Placed O) → Step → Option (Crossi
 IsTold {O} es step (Some p) = (e : Placed O) × (sources : List ℕ) × (edge_of es step.operator ≡ Some e) × (sources_at es step.operator ≡ Some sources) × (p ≡ record (crossing_over step.backward e sources) { number = step.operator })
 IsTold es step None = (edge_of es step.operator ≡ None) ⊎ (sources_at es step.operator ≡ None)
 
--- ---- a write on its way
+-- ---- an evolution on its way
 
 -- the state before
 abbrev pub before_state : Before → State
@@ -67,7 +61,7 @@ Crosses meaning b p old made new (Ok done) =
 Crosses meaning b p old made new (Err (Refused spent)) = IsSpent (given meaning (made_state b made) p old).next made.ids made.ids spent
 Crosses meaning b p old made new (Err (OutOfMemory memory)) = ⊤
 
--- ---- a walk
+-- ---- a live edge
 
 -- the crossing of a live edge, with its sources and targets
 pub record IsCrossing {O : Type 0} (es : List (Placed O)) (p : Crossing O) : Type 0 where
@@ -76,50 +70,3 @@ pub record IsCrossing {O : Type 0} (es : List (Placed O)) (p : Crossing O) : Typ
   pub operator : p.operator ≡ edge.edge.operator
   pub sources : sources_at es p.number ≡ Some (cond p.backward p.far p.near)
   pub targets : edge.tables ≡ cond p.backward p.near p.far
-
--- a step of a walk may be made
-pub record MayStep {O : Type 0} (meaning : O → Meaning) (es : List (Placed O)) (b : Before) (made : Made) (step : Step) : Type 0 where
-  pub over : Crossing O
-  pub crosses : IsCrossing es over
-  pub tells : step_told over ≡ step
-  pub near : length over.near ≤ 2
-  pub far : length over.far ≤ 2
-  pub may : SomeMap (directed over.backward (meaning over.operator)) (map (made_state b made).tables over.near) (pair_in (before_state b) over) made.ids.next
-
--- the state that was made so far is that of the written table alone
-pub record MayCarry {O : Type 0} (meaning : O → Meaning) (es : List (Placed O)) (b : Before) (made : Made) (set : ℕ) : Type 0 where
-  pub edges : AreEdges es
-  pub sides : Each HasSides (forest es)
-  pub sound : IsSound meaning es (before_state b)
-  pub lives : In set (numbers es)
-  pub table : ℕ
-  pub rows : Rows
-  pub next : ℕ
-  pub may : MayWrite es (before_state b) set table rows next
-  pub start : made_state b made ≡ written (before_state b) table rows next
-
--- the write was carried along the whole walk, or needs an identifier that the counter doesn't give
-abbrev pub Carries : {O : Type 0} → (O → Meaning) → List (Placed O) → Before → ℕ → Made → Made → Result (Unit {0}) (Fault IdsSpent) → Type 0
-Carries meaning es b set made new (Ok done) =
-    let end = run meaning (before_state b) (made_state b made) (walk (forest es) set) in
-    (end.next ≤ first_refused made.ids) × (made_state b new ≡ end) × (new.ids.limit ≡ made.ids.limit)
-Carries meaning es b set made new (Err (Refused spent)) = IsSpent (run meaning (before_state b) (made_state b made) (walk (forest es) set)).next made.ids made.ids spent
-Carries meaning es b set made new (Err (OutOfMemory memory)) = ⊤
-
--- ---- a write
-
--- a table of a live working set may get these rows
-pub record MayWriteRows {O : Type 0} (meaning : O → Meaning) (es : List (Placed O)) (b : Before) (w : Written) : Type 0 where
-  pub edges : AreEdges es
-  pub sides : Each HasSides (forest es)
-  pub sound : IsSound meaning es (before_state b)
-  pub lives : In w.set (numbers es)
-  pub may : MayWrite es (before_state b) w.set w.table w.rows.rows w.ids.next
-
--- the write was made, or needs an identifier that the counter doesn't give
-abbrev pub WritesRows : {O : Type 0} → (O → Meaning) → List (Placed O) → Before → Written → Result Made (Fault IdsSpent) → Type 0
-WritesRows meaning es b w (Ok made) =
-    let end = write meaning es (before_state b) w.set w.table w.rows.rows w.ids.next in
-    (end.next ≤ first_refused w.ids) × (made_state b made ≡ end) × (made.ids.limit ≡ w.ids.limit)
-WritesRows meaning es b w (Err (Refused spent)) = IsSpent (write meaning es (before_state b) w.set w.table w.rows.rows w.ids.next).next w.ids w.ids spent
-WritesRows meaning es b w (Err (OutOfMemory memory)) = ⊤

@@ -8,16 +8,16 @@
 //! the tables of the operators that go and changes no other one (`specs/Dropping.antt`); and that
 //! after each of these every operator relates its two sides (`specs/Sound.antt`). What the calls of a
 //! database answer, whatever it keeps, stands in `specs/Databases.antt`. The calls make the tables of
-//! a write and of an evolution from those that are lent to them, and keep none. The crate knows
-//! operators by their laws alone, and nothing of names in statements, of layouts or of replies.
+//! an evolution from those that are lent to them, and keep none; what a write makes is told by its
+//! changes in a crate above. The crate knows operators by their laws alone, and nothing of names in
+//! statements, of layouts or of replies.
 //!
 //! Lemmas that crates above may use stand in proofs/: `NumberedLaws`, `NowLaws`, `PutLaws`,
 //! `RunLaws`, `CrossingLaws`, `TreeLaws`, `WriteLaws`, `HeadingLaws`, `EvolveLaws`, `DropLaws`,
-//! `GrownLaws`, `ProgressLaws`, `AmongLaws`, `BoundLaws`, `CarryLaws`, `AscendingLaws`, `MakingLaws`,
+//! `GrownLaws`, `ProgressLaws`, `AmongLaws`, `BoundLaws`, `ToldLaws`, `AscendingLaws`, `MakingLaws`,
 //! `EvolvedLaws` and `LiveLaws`.
 #![tactic(auto)]
 
-mod carry;
 mod crossing;
 mod evolve;
 mod laws;
@@ -25,7 +25,6 @@ mod live;
 mod now;
 mod numbered;
 mod progress;
-mod write;
 
 pub use crossing::{Way, way_of};
 pub use evolve::{as_refusal, make_newer};
@@ -37,4 +36,3 @@ pub use live::{keep_live_operators, keep_live_tables};
 pub use now::{copy_now, memory_at, memory_now, put_side, side_now};
 pub use numbered::{Numbered, latest_of, place_of, replace_all, value_of};
 pub use progress::{Before, Made};
-pub use write::{Written, write_rows};

@@ -33,7 +33,7 @@ use Rattle.version_model.specs.States.{State, headings}
 use Rattle.version_model.specs.Steps.{directed, pair_in}
 use Rattle.version_model.specs.Writes.{write}
 use Rattle.version_model.specs.declared.numbered.Numbered.{Numbered}
-use Rattle.version_model.proofs.CarryLaws.{same_refused}
+use Rattle.version_model.proofs.ToldLaws.{same_refused}
 use Rattle.version_model.proofs.HeadingLaws.{in_or_not}
 use Rattle.version_model.proofs.RunLaws.{way_laws}
 use Rattle.version_graph.specs.Edges.{is_in}

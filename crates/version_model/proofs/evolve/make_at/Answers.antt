@@ -5,7 +5,7 @@ use Rattle.op_law.specs.Premises.{SomeMap}
 use Rattle.version_model.specs.States.{empty_at}
 use Rattle.version_model.specs.Steps.{directed, pair_in}
 use Rattle.version_model.specs.Calls.{crossing_of, made_state}
-use Rattle.version_model.proofs.CarryLaws.{some_is}
+use Rattle.version_model.proofs.ToldLaws.{some_is}
 use Rattle.version_model.proofs.evolve.make_at.Goals as goal
 
 pub cross-requires-clause-may : goal.cross-requires-clause-may
