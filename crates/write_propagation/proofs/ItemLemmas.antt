@@ -9,17 +9,10 @@ use Rattle.version_graph.specs.Edges.{Rises, is_in}
 use Rattle.version_graph.specs.Sets.{Distinct, In}
 use Rattle.version_graph.proofs.TableLaws.{in_filter, rises_apart}
 use Rattle.db_state.specs.declared.parts.Parts.{Parts}
-use Rattle.write_propagation.specs.Calls.{AreAuxChanges, AreTableChanges, stored_in}
+use Rattle.write_propagation.specs.Calls.{stored_in}
 use Rattle.write_propagation.specs.declared.tree.Tree.{Tree}
 use Rattle.version_graph.proofs.SetLaws.{in_append, in_left, in_map, in_of_test, in_right, origin}
 use Rattle.version_graph.proofs.WalkStepLaws.{in_reverse}
-use Rattle.row_store.specs.States.{TableState}
-use Rattle.row_store.specs.declared.change.Change.{Change}
-use Rattle.op_law.specs.Calls.{tables_of}
-use Rattle.op_law.specs.Local.{only}
-use Rattle.op_law.specs.declared.side.Aux.{Aux}
-use Rattle.row_changes.specs.Differences.{AreDifferences, IsDifference}
-use Rattle.row_changes.specs.declared.change.SideChanges.{SideChanges}
 use Rattle.version_model.specs.Kept.{latest_of, renewed, rows_at, rows_now, value_of, auxes_at, numbers_in}
 use Rattle.version_model.specs.declared.numbered.Numbered.{Numbered}
 use Rattle.version_model.proofs.AscendingLaws.{reverse_first}
@@ -165,38 +158,21 @@ filter_apart test (k ∷ ks) apart =
 pub stored_apart : {O : Type 0} (d : Parts O) (tree : Tree) → Rises 0 (numbers_in d.stored) → Distinct (stored_in d tree)
 stored_apart d tree rises = filter_apart (λ u. is_in u tree.tables) (numbers_in d.stored) (rises_apart 0 (numbers_in d.stored) rises)
 
--- ---- changes of one table more
+-- ---- one more
 
-module _ (before made : List (Numbered TableState)) (ns : List ℕ) (i : ℕ) (within : i < length ns) where
-  pub table_more : (items : List (Numbered (List Change))) (value : List Change) → AreTableChanges before made (take i ns) items → IsDifference (rows_at before (get_or ns i 0)) (rows_now before made (get_or ns i 0)) value
-      → AreTableChanges before made (take (i + 1) ns) (items ++ record { number = get_or ns i 0; value = value } ∷ [])
-  table_more items value are new =
-      let item : Numbered (List Change) = record { number = get_or ns i 0; value = value } in
-      record {
-        listed = map-append (λ (x : Numbered (List Change)). x.number) items (item ∷ []) ∙ ap (λ (l : List ℕ). l ++ get_or ns i 0 ∷ []) are.listed ∙ sym (take_more ns i 0 within);
-        values = λ x j.
-            elim (in_append x items (item ∷ []) j) as (λ _. IsDifference (rows_at before x.number) (rows_now before made x.number) x.value) [
-              | inl k ↦ are.values x k
-              | inr (inl same) ↦ subst (λ (y : Numbered (List Change)). IsDifference (rows_at before y.number) (rows_now before made y.number) y.value) (sym same) new
+module _ {T : Type 0} (P : ℕ → T → Type 0) (ns : List ℕ) (i : ℕ) (within : i < length ns) where
+  abbrev AreMade : List ℕ → List (Numbered T) → Type 0
+  AreMade ns items = (numbers_in items ≡ ns) × ((x : Numbered T) → In x items → P x.number x.value)
+
+  -- what is true of the value under each of some numbers is true of those of one number more
+  pub one_more : (items : List (Numbered T)) (value : T) → AreMade (take i ns) items → P (get_or ns i 0) value → AreMade (take (i + 1) ns) (items ++ record { number = get_or ns i 0; value = value } ∷ [])
+  one_more items value are new =
+      let item : Numbered T = record { number = get_or ns i 0; value = value } in (
+        map-append (λ (x : Numbered T). x.number) items (item ∷ []) ∙ ap (λ (l : List ℕ). l ++ get_or ns i 0 ∷ []) are.0 ∙ sym (take_more ns i 0 within),
+        λ x j.
+            elim (in_append x items (item ∷ []) j) as (λ _. P x.number x.value) [
+              | inl k ↦ are.1 x k
+              | inr (inl same) ↦ subst (λ (y : Numbered T). P y.number y.value) (sym same) new
               | inr (inr none) ↦ absurd none
-            ];
-      }
-
-module _ (kept : List (Numbered Aux)) (test : ℕ → Bool) (newer : List (Numbered Aux)) (i : ℕ) (one : Numbered Aux) (within : i < length newer) (is : one ≡ get_or newer i one) where
-  abbrev Differs : Numbered SideChanges → Numbered Aux → Type 0
-  Differs x b = AreDifferences (only test (auxes_at kept b.number)) (tables_of b.value) x.value.tables
-
-  pub aux_more : (items : List (Numbered SideChanges)) (value : SideChanges) → AreAuxChanges kept test (take i newer) items → AreDifferences (only test (auxes_at kept one.number)) (tables_of one.value) value.tables
-      → AreAuxChanges kept test (take (i + 1) newer) (items ++ record { number = one.number; value = value } ∷ [])
-  aux_more items value are new =
-      let item : Numbered SideChanges = record { number = one.number; value = value } in
-      let more : take (i + 1) newer ≡ take i newer ++ one ∷ [] = take_more newer i one within ∙ ap (λ (x : Numbered Aux). take i newer ++ x ∷ []) (sym is) in
-      subst (λ (l : List (Numbered Aux)). AreAuxChanges kept test l (items ++ item ∷ [])) (sym more) (record {
-        listed = map-append (λ (x : Numbered SideChanges). x.number) items (item ∷ []) ∙ ap (λ (l : List ℕ). l ++ one.number ∷ []) are.listed ∙ sym (map-append (λ (x : Numbered Aux). x.number) (take i newer) (one ∷ []));
-        values = λ x j.
-            elim (in_append x items (item ∷ []) j) as (λ _. (b : Numbered Aux) × In b (take i newer ++ one ∷ []) × (b.number ≡ x.number) × Differs x b) [
-              | inl k ↦ (let v = are.values x k in (v.0, in_left v.0 (take i newer) (one ∷ []) v.1, v.2, v.3))
-              | inr (inl same) ↦ (one, in_right one (take i newer) (one ∷ []) (inl refl), ap (λ (y : Numbered SideChanges). y.number) (sym same), subst (λ (y : Numbered SideChanges). Differs y one) (sym same) new)
-              | inr (inr none) ↦ absurd none
-            ];
-      })
+            ],
+      )

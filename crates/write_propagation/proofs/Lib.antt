@@ -6,6 +6,7 @@ mod CopyLemmas
 mod SeenLemmas
 mod LeadLemmas
 mod ShownLemmas
+mod AuxLemmas
 mod PlanLemmas
 mod ExchangeLemmas
 mod ChangeLemmas

@@ -24,9 +24,11 @@ use Rattle.op_law.specs.Meaning.{Meaning, PairState}
 use Rattle.op_law.specs.declared.side.Aux.{Aux}
 use Rattle.layout_rules.specs.Layouts.{IsStored}
 use Rattle.row_changes.specs.Changed.{AreChangesOf, TableChanges, changed, changed_tables}
-use Rattle.row_changes.specs.Differences.{AreDifferences, IsDifference}
+use Rattle.row_changes.specs.Differences.{AreDifferences}
 use Rattle.row_changes.specs.declared.change.SideChanges.{SideChanges}
-use Rattle.row_changes.proofs.DifferenceLaws.{difference_of_part, differences_of_part, differences_fit, differences_make}
+use Rattle.row_changes.specs.Touched.{AllPass}
+use Rattle.row_changes.proofs.DifferenceLaws.{differences_of_part, differences_fit, differences_make, part_makes, whole_old}
+use Rattle.changes_walk.specs.Changing.{latest_changes}
 use Rattle.version_model.specs.Kept.{latest_of, newer_pairs, pairs_at, pairs_now, rows_at, auxes_at, numbers_in}
 use Rattle.version_model.specs.Sound.{IsSound}
 use Rattle.version_model.specs.States.{State, headings}
@@ -43,8 +45,8 @@ use Rattle.db_state.specs.Fields.{IsDatabase, state_for, storage_in}
 use Rattle.db_state.specs.Parts.{passes}
 use Rattle.db_state.specs.declared.parts.Parts.{Parts}
 use Rattle.kept_changes.specs.Changes.{changes_at, sides_at, IsOldAt, IsSideAt}
-use Rattle.write_propagation.specs.Calls.{AreAsMany, stored_in}
-use Rattle.write_propagation.specs.Making.{AreAsManyMade, IsMaking, IsPlanOf, MakesWrite, MayPlan, made_over, seen_write}
+use Rattle.write_propagation.specs.Calls.{stored_in}
+use Rattle.write_propagation.specs.Making.{IsMaking, IsPlanOf, MakesWrite, MayPlan, made_over, seen_write}
 use Rattle.write_propagation.specs.Plans.{Plans, rows_written}
 use Rattle.write_propagation.specs.Room.{HasOld}
 use Rattle.write_propagation.specs.Trees.{IsWhole, part}
@@ -101,13 +103,19 @@ module _ {O : Type 0} (meaning : O → Meaning) (laws : (o : O) → Laws (meanin
 
   -- ---- stored tables
 
-  -- the difference of what was seen is that of the whole tables
-  table_difference : (t : ℕ) (cs : List Change) → In t tree.tables → (before now : Rows) → before ≡ (part test tree s).tables t → now ≡ small.tables t → IsDifference before now cs → IsDifference (s.tables t) (end.tables t) cs
-  table_difference t cs i before now old new differs =
-      let b : before ≡ rows_only test (s.tables t) = old ∙ part_table test tree s t i in
-      let n : now ≡ rows_only test (end.tables t) = new ∙ sym (shows.part.tables t i) in
-      difference_of_part test (s.tables t) (end.tables t) cs (good.sound.well.tables t).0 (sound_end.well.tables t).0 (sym (shows.rests t i))
-      (subst (λ (x : Rows). IsDifference x (rows_only test (end.tables t)) cs) b (subst (λ (x : Rows). IsDifference before x cs) n differs))
+  module _ (t : ℕ) (cs : List Change) (i : In t tree.tables) (pass : AllPass test cs) (before : Rows) (copied : before ≡ (part test tree s).tables t) where
+    seen_before : before ≡ rows_only test (s.tables t)
+    seen_before = copied ∙ part_table test tree s t i
+
+    -- the old rows of changes of what was seen are those of the whole table
+    has_rows : AreOld before cs → AreOld (s.tables t) cs
+    has_rows old = whole_old test (s.tables t) cs pass (subst (λ (x : Rows). AreOld x cs) seen_before old)
+
+    -- and what they make of it they make of the whole table
+    makes_rows : changed before cs ≡ small.tables t → changed (s.tables t) cs ≡ end.tables t
+    makes_rows made =
+        part_makes test (s.tables t) (end.tables t) cs (good.sound.well.tables t).0 (sound_end.well.tables t).0 (sym (shows.rests t i)) pass
+        (ap (λ (x : Rows). changed x cs) (sym seen_before) ∙ made ∙ sym (shows.part.tables t i))
 
   -- ---- auxiliary tables
 
@@ -135,48 +143,38 @@ module _ {O : Type 0} (meaning : O → Meaning) (laws : (o : O) → Laws (meanin
         differences_of_part test kept wanted cs (rises s good.sound) (rises end sound_end) (shows.aux_rests e i own)
         (subst (λ (x : Tables). AreDifferences (only test kept) x cs) (is ∙ shows.aux_part e i own) differs)
 
-    aux_many : (newer : Tables) → newer ≡ aux_of meaning small (over e) → length kept ≡ length newer
-    aux_many newer is = as_many fails kept wanted (shows.aux_rests e i own) ∙ sym (length-map wanted (rows_only test)) ∙ ap length (sym (is ∙ shows.aux_part e i own))
-
   -- ---- the plan
 
   module _ (making : Making) (is : IsMaking meaning d tree w test making) where
     stood : (e : Link O) → In e (forest es) → auxes_at d.aux e.number ≡ aux_of meaning s (over e)
     stood e i = (each_at (λ (f : Link O). StandsOver meaning (headings es) (storage_in d) s (stored_way d.layout.operators f)) (forest es) e i good.stands.edges).aux
 
-    module _ (newer : List (Numbered Aux)) (made : AreAuxesOf meaning es d.layout.operators (made_over making) tree.operators newer) where
-      numbered : (a : Numbered Aux) → In a newer → In a.number tree.operators
-      numbered a j = subst (λ (l : List ℕ). In a.number l) made.numbers (in_map (λ (x : Numbered Aux). x.number) a newer j)
-
-      made_aux : (a : Numbered Aux) → In a newer → (e : Link O) → In e (forest es) → e.number ≡ a.number → tables_of a.value ≡ aux_of meaning small (over e)
-      made_aux a j e i same = made.values a j e i same ∙ ap (λ (x : State). aux_of meaning x (over e)) is.made
-
-      many_made : AreAsMany d.aux newer
-      many_made a j =
-          let l = lives es good.graph.edges w.set tree plans.walked a.number (numbered a j) in
-          let own : In l.0.number tree.operators = subst (λ (n : ℕ). In n tree.operators) l.2 (numbered a j) in
-          ap (λ (n : ℕ). length (auxes_at d.aux n)) l.2 ∙ ap length (stood l.0 l.1) ∙ aux_many l.0 l.1 own (tables_of a.value) (made_aux a j l.0 l.1 (sym l.2))
-
-    pub are_many : AreAsManyMade meaning d tree making
-    are_many newer made = many_made newer made
-
     module _ (plan : Plan) (for : IsPlanOf meaning d tree test making plan) where
-      stored_difference : (i : Numbered (List Change)) → In i plan.stored → IsDifference (s.tables i.number) (end.tables i.number) i.value
-      stored_difference i j =
-          let listed : In i.number (stored_in d tree) = subst (λ (l : List ℕ). In i.number l) for.stored.listed (in_map (λ (x : Numbered (List Change)). x.number) i plan.stored j) in
-          table_difference i.number i.value (stored_beside d tree i.number listed) _ _ (is.tables i.number) (ap (λ (x : State). x.tables i.number) is.made) (for.stored.values i j)
+      -- the changes of a table are the last ones that were made
+      module _ (i : Numbered (List Change)) (j : In i plan.stored) where
+        in_stored : In i.number (stored_in d tree)
+        in_stored = subst (λ (l : List ℕ). In i.number l) for.stored.listed (in_map (λ (x : Numbered (List Change)). x.number) i plan.stored j)
+
+        abbrev last : List Change
+        last = latest_changes making.made.tables i.number
+
+        stored_old : AreOld (s.tables i.number) i.value
+        stored_old = subst (λ (cs : List Change). AreOld (s.tables i.number) cs) (sym (for.stored.values i j)) (has_rows i.number last (stored_beside d tree i.number in_stored) (is.pass i.number) _ (is.tables i.number) (is.fits i.number).1)
+
+        stored_made : changed (s.tables i.number) i.value ≡ end.tables i.number
+        stored_made =
+            ap (λ (cs : List Change). changed (s.tables i.number) cs) (for.stored.values i j)
+            ∙ makes_rows i.number last (stored_beside d tree i.number in_stored) (is.pass i.number) _ (is.tables i.number) (ap (λ (x : State). x.tables i.number) is.made)
 
       aux_listed : numbers_in plan.auxes ≡ tree.operators
-      aux_listed = for.auxes.listed ∙ for.made.numbers
+      aux_listed = for.auxes.listed
 
       side_difference : (i : Numbered SideChanges) → In i plan.auxes → (e : Link O) → In e (forest es) → e.number ≡ i.number → AreDifferences (aux_of meaning s (over e)) (aux_of meaning end (over e)) i.value.tables
       side_difference i j e k same =
-          let v = for.auxes.values i j in
-          let number : e.number ≡ v.0.number = same ∙ sym v.2 in
-          let own : In e.number tree.operators = subst (λ (n : ℕ). In n tree.operators) (sym number) (numbered for.newer for.made v.0 v.1) in
-          let old : auxes_at d.aux v.0.number ≡ aux_of meaning s (over e) = ap (auxes_at d.aux) (sym number) ∙ stood e k in
-          aux_difference e k own (tables_of v.0.value) i.value.tables (made_aux for.newer for.made v.0 v.1 e k number)
-          (subst (λ (x : Tables). AreDifferences (only test x) (tables_of v.0.value) i.value.tables) old v.3)
+          let own : In e.number tree.operators = subst (λ (n : ℕ). In n tree.operators) (sym same) (subst (λ (l : List ℕ). In i.number l) aux_listed (in_map (λ (x : Numbered SideChanges). x.number) i plan.auxes j)) in
+          let old : auxes_at d.aux i.number ≡ aux_of meaning s (over e) = ap (auxes_at d.aux) (sym same) ∙ stood e k in
+          aux_difference e k own (aux_of meaning (made_over making) (over e)) i.value.tables (ap (λ (x : State). aux_of meaning x (over e)) is.made)
+          (subst (λ (x : Tables). AreDifferences (only test x) (aux_of meaning (made_over making) (over e)) i.value.tables) old (for.auxes.values i j e k same))
 
       to_stored : (t : ℕ) → IsStored (forest es) d.layout.operators t → changed (s.tables t) (changes_at plan.stored t) ≡ end.tables t
       to_stored t stored =
@@ -186,7 +184,7 @@ module _ {O : Type 0} (meaning : O → Meaning) (laws : (o : O) → Laws (meanin
           let listed : In t (numbers_in plan.stored) = subst (λ (l : List ℕ). In t l) (sym for.stored.listed) (filter_in (λ u. is_in u tree.tables) t (numbers_in d.stored) here (is_in_true t tree.tables own)) in
           let m = item_at plan.stored t listed in
           ap (λ (o : Option (List Change)). changed (s.tables t) (option_map_or (λ (cs : List Change). cs) o [])) m.2
-          ∙ subst (λ (n : ℕ). changed (s.tables n) m.0.value ≡ end.tables n) m.3 (stored_difference m.0 m.1).new)
+          ∙ subst (λ (n : ℕ). changed (s.tables n) m.0.value ≡ end.tables n) m.3 (stored_made m.0 m.1))
           (λ other.
           let none = none_at plan.stored t (λ j. other (stored_beside d tree t (subst (λ (l : List ℕ). In t l) for.stored.listed j))) in
           ap (λ (o : Option (List Change)). changed (s.tables t) (option_map_or (λ (cs : List Change). cs) o [])) none
@@ -253,7 +251,7 @@ module _ {O : Type 0} (meaning : O → Meaning) (laws : (o : O) → Laws (meanin
               let listed : In i.number (stored_in d tree) = subst (λ (l : List ℕ). In i.number l) for.stored.listed (in_map (λ (x : Numbered (List Change)). x.number) i plan.stored j) in
               let kept : In i.number (numbers_in d.stored) = in_filter (λ u. is_in u tree.tables) i.number (numbers_in d.stored) listed in
               let rows_are : rows_at d.stored i.number ≡ s.tables i.number = good.stands.stored i.number ((good.tables i.number).0 kept) in
-              (kept, subst (λ (x : Rows). AreOld x i.value) (sym rows_are) (stored_difference i j).old)),
+              (kept, subst (λ (x : Rows). AreOld x i.value) (sym rows_are) (stored_old i j))),
         );
         auxes = (
           subst (λ (l : List ℕ). Distinct l) (sym aux_listed) (operators_apart es good.graph.edges w.set tree plans.walked),

@@ -1,6 +1,6 @@
--- The write of what is seen of a tree may be made, and what follows where it was made.
-use Rattle.std.proofs.Common.{◌≡◌, ℕ, ◌*◌, ◌≤◌, length, List, [], ◌∷◌, Bool, true, false, map, Ok, Err, refl, sym, ap, ◌∙◌, subst, arith}
+-- The changes of a write of what is seen of a tree may be carried, and what follows where they were.
 use Rattle.std.specs.Prelude.{◌==◌, ◌+◌, if◌then◌else◌}
+use Rattle.std.proofs.Common.{◌≡◌, ℕ, ◌*◌, ◌≤◌, length, List, [], ◌∷◌, Bool, true, false, map, Ok, Err, refl, sym, ap, ◌∙◌, subst, arith}
 use Rattle.std.proofs.lemmas.Bool.{cond-true, eq-eqb}
 use Rattle.std.proofs.lemmas.List.{length-map}
 use Rattle.std.proofs.lemmas.Nat.{mul-le}
@@ -10,51 +10,47 @@ use Rattle.par_base.specs.declared.fault.Fault.TheVariants.{Refused, Memory as O
 use Rattle.par_base.specs.declared.refusal.IdsSpent.{IdsSpent}
 use Rattle.row_store.specs.Rows.{Rows}
 use Rattle.row_store.specs.Changes.{AreOld, ChangesRise}
-use Rattle.op_law.specs.Identifiers.{IdsRise, has_id}
-use Rattle.row_store.specs.States.{TableState}
 use Rattle.row_store.specs.declared.change.Change.{Change}
-use Rattle.id_memory.specs.States.{MemoryState}
-use Rattle.version_graph.specs.Sets.{In, Each}
-use Rattle.version_graph.specs.Edges.{AreEdges, is_in}
+use Rattle.op_law.specs.Identifiers.{IdsRise, has_id}
+use Rattle.op_law.specs.Calls.{IsSpent, first_refused}
+use Rattle.op_law.specs.Laws.{Laws}
+use Rattle.op_law.specs.Local.{only, rows_only}
+use Rattle.op_law.specs.Meaning.{Meaning}
+use Rattle.version_graph.specs.Sets.{In}
 use Rattle.version_graph.specs.Forest.{Crossing, Link, crossing, forest, walk}
 use Rattle.version_graph.specs.declared.parts.Placed.{Placed}
 use Rattle.version_graph.proofs.SetLaws.{each_at, each_of}
-use Rattle.op_law.specs.Calls.{IsSpent, first_refused}
-use Rattle.op_law.specs.Laws.{Laws}
-use Rattle.op_law.specs.Local.{rows_only}
-use Rattle.op_law.specs.Meaning.{Meaning}
 use Rattle.row_changes.specs.Changed.{changed}
 use Rattle.row_changes.specs.Touched.{AllPass}
 use Rattle.row_changes.proofs.ChangedLaws.{only_changed, only_old}
-use Rattle.version_model.specs.Bounds.{AreLocal, WritesOnly, WritesWithin}
-use Rattle.version_model.specs.Calls.{MayWriteRows, WritesRows, before_state, made_state}
-use Rattle.version_model.specs.Kept.{HasSides, pairs_at, pairs_now, rows_at, rows_now}
+use Rattle.changes_walk.specs.Calls.{MayCarryBy}
+use Rattle.changes_walk.specs.Changing.{changing_state, latest_changes}
+use Rattle.changes_walk.specs.declared.progress.Changing.{Changing}
+use Rattle.changes_walk.proofs.StartLaws.{first_fit, first_state}
+use Rattle.version_model.specs.Bounds.{AreLocal}
+use Rattle.version_model.specs.Kept.{HasSides, auxes_at, rows_at}
 use Rattle.version_model.specs.Sound.{IsSound}
 use Rattle.version_model.specs.States.{State, headings}
-use Rattle.version_model.specs.Steps.{IsRelated}
-use Rattle.version_model.specs.Writes.{MayWrite, write}
-use Rattle.version_model.specs.declared.numbered.Numbered.{Numbered}
-use Rattle.version_model.specs.declared.progress.Before.{Before}
-use Rattle.version_model.specs.declared.progress.Made.{Made}
-use Rattle.version_model.specs.declared.write.Written.{Written}
+use Rattle.version_model.specs.Steps.{IsRelated, run}
+use Rattle.version_model.specs.Writes.{MayWrite, write, written}
 use Rattle.version_model.proofs.ProgressLaws.{state_is}
 use Rattle.version_model.proofs.WriteLaws.{write_is_ordinary}
+use Rattle.storage_law.specs.Storage.{StandsOver, aux_of, stored_way}
 use Rattle.db_state.specs.Calls.{IsRelatedAt}
-use Rattle.db_state.specs.Fields.{IsDatabase, state_for}
+use Rattle.db_state.specs.Fields.{IsDatabase, state_for, storage_in}
 use Rattle.db_state.specs.Parts.{MaySee, SeenWithin, passes}
 use Rattle.db_state.specs.declared.parts.Parts.{Parts}
 use Rattle.db_state.specs.declared.sight.Sight.{Sight}
 use Rattle.db_state.specs.declared.sight.Sight.TheVariants.{All, Of}
-use Rattle.db_state.proofs.PartLaws.{rows_all, rows_twice}
-use Rattle.write_propagation.specs.Bounds.{HasSeen}
 use Rattle.write_propagation.specs.Calls.{CopiesTree}
-use Rattle.write_propagation.specs.Making.{IsMaking, MakesWrite, MayPlan, made_over, seen_write}
+use Rattle.write_propagation.specs.Making.{CarriesWrite, CarriesWriteWithin, IsMaking, MakesWrite, MayChangeAuxAt, MayChangeAuxes, MayPlan, copied_state, first_changes, seen_write}
 use Rattle.write_propagation.specs.Plans.{rows_written}
-use Rattle.write_propagation.specs.Trees.{IsTree, IsWhole, part}
+use Rattle.write_propagation.specs.Trees.{IsWhole, part}
 use Rattle.write_propagation.specs.declared.copies.Copies.{Copies}
 use Rattle.write_propagation.specs.declared.making.Making.{Making}
 use Rattle.write_propagation.specs.declared.plans.RowWrite.{RowWrite}
 use Rattle.write_propagation.specs.declared.tree.Tree.{Tree}
+use Rattle.write_propagation.proofs.ShownLemmas.{shown}
 use Rattle.write_propagation.proofs.TreeLemmas.{all_sound, local_sound, part_may, part_table}
 use Rattle.write_propagation.proofs.WholeLemmas.{has_held, lives, path_long, walk_local, whole}
 
@@ -87,27 +83,15 @@ steps_named cs ids is n most s t less within =
     let all = mul-le most (length cs * n) 16 (length cs * n) less (omega arith) in
     omega (arith, own, all)
 
--- a part has no rows but those that are seen
-part_seen : (sight : Sight) (tree : Tree) (s : State) → HasSeen sight (part (passes sight) tree s)
-part_seen sight tree s t = elim (is_in t tree.tables) as (λ b. rows_only (passes sight) (if b then rows_only (passes sight) (s.tables t) else []) ≡ (if b then rows_only (passes sight) (s.tables t) else [])) [ true ↦ rows_twice (passes sight) (s.tables t) | false ↦ refl ]
+-- all identifiers pass where all rows are seen
+all_pass : (cs : List Change) → AllPass (passes All) cs
+all_pass [] = tt
+all_pass (c ∷ cs) = (refl, all_pass cs)
 
--- a write of rows that are seen takes few steps, and makes no other rows
-module _ {O : Type 0} (meaning : O → Meaning) (es : List (Placed O)) (edges : AreEdges es) (set : ℕ) (tree : Tree) (walked : IsTree es set tree) (b : Before) (all : Written) (same : all.set ≡ set) where
-  path_is : walk (forest es) all.set ≡ walk (forest es) set
-  path_is = ap (λ (n : ℕ). walk (forest es) n) same
-
-  writes_within : (sight : Sight) → MaySee meaning es tree.operators sight → HasSeen sight (before_state b) → rows_only (passes sight) all.rows.rows ≡ all.rows.rows → (s t : ℕ) → WritesWithin meaning es b all s t → SeenWithin 6 sight (length tree.operators) s t
-  writes_within All sees before rows s t within = tt
-  writes_within (Of ids) sees before rows s t within =
-      let local = subst (λ (ps : List (Crossing O)). AreLocal meaning ps) (sym path_is) (walk_local es edges set tree walked meaning sees.1) in
-      let own = within ids.now sees.0 local before rows in
-      let long : length (walk (forest es) all.set) ≡ length tree.operators = ap (λ (ps : List (Crossing O)). length ps) path_is ∙ path_long es edges set tree walked in
-      subst (λ (n : ℕ). t ≤ s + 6 * (length ids.now * n)) long own
-
-  writes_seen : (sight : Sight) → MaySee meaning es tree.operators sight → HasSeen sight (before_state b) → rows_only (passes sight) all.rows.rows ≡ all.rows.rows → (made : Made) → WritesOnly meaning es b all made → HasSeen sight (made_state b made)
-  writes_seen All sees before rows made only = λ t. rows_all ((made_state b made).tables t)
-  writes_seen (Of ids) sees before rows made only =
-      only ids.now sees.0 (subst (λ (ps : List (Crossing O)). AreLocal meaning ps) (sym path_is) (walk_local es edges set tree walked meaning sees.1)) before rows
+-- identifiers that rise are those of changes that do
+pub rise_named : (n : ℕ) (cs : List Change) → IdsRise n (ids_of cs) → ChangesRise n cs
+rise_named n [] rise = tt
+rise_named n (c ∷ cs) rise = (rise.0, rise_named (c.id + 1) cs rise.1)
 
 module _ {O : Type 0} (meaning : O → Meaning) (laws : (o : O) → Laws (meaning o)) (d : Parts O) (good : IsDatabase meaning d) (tree : Tree) (w : RowWrite) (plans : MayPlan meaning d tree w) where
   abbrev es : List (Placed O)
@@ -125,95 +109,128 @@ module _ {O : Type 0} (meaning : O → Meaning) (laws : (o : O) → Laws (meanin
   pub in_tree : In w.table tree.tables
   in_tree = has_held es good.graph.edges w.set tree plans.walked w.table plans.may.held
 
-  pub seen_sound : (sight : Sight) → MaySee meaning es tree.operators sight → IsSound meaning es (part (passes sight) tree s)
+  seen_sound : (sight : Sight) → MaySee meaning es tree.operators sight → IsSound meaning es (part (passes sight) tree s)
   seen_sound All sees = all_sound meaning laws es s good.sound tree of_tree (passes All) (λ q. refl)
   seen_sound (Of ids) sees = local_sound meaning laws es s good.sound tree of_tree (passes (Of ids)) sees.1
 
+  -- each operator of the tree relates its sides in a sound state
+  related_at : (x : State) → IsSound meaning es x → (n : ℕ) → In n tree.operators → IsRelatedAt meaning es x n
+  related_at x sound n i =
+      let l = lives es good.graph.edges w.set tree plans.walked n i in
+      record {
+        over = l.0;
+        lives = l.1;
+        number = sym l.2;
+        sides = each_at HasSides (forest es) l.0 l.1 good.sides;
+        related = each_at (λ (f : Link O). IsRelated meaning (headings es) x (crossing false f)) (forest es) l.0 l.1 sound.related;
+      }
+
   module _ (sight : Sight) (sees : MaySee meaning es tree.operators sight) (named : AllPass (passes sight) w.changes) where
+    abbrev test : ℕ → Bool
+    test = passes sight
+
     abbrev small : State
     small = part (passes sight) tree s
 
-    small_may : MayWrite es small w.set w.table (rows_only (passes sight) rows) w.ids.next
-    small_may = part_may meaning laws es s good.sound tree of_tree (passes sight) w.set w.table rows w.ids.next plans.may
+    small_may : MayWrite es small w.set w.table (rows_only test rows) w.ids.next
+    small_may = part_may meaning laws es s good.sound tree of_tree test w.set w.table rows w.ids.next plans.may
 
     abbrev end : State
     end = seen_write meaning d tree w (passes sight)
 
     end_sound : IsSound meaning es end
-    end_sound = (write_is_ordinary meaning es small (seen_sound sight sees) w.set w.table (rows_only (passes sight) rows) w.ids.next small_may laws good.graph.edges).sound
-
-    -- the operators of the tree relate their sides again
-    pub related_again : (making : Making) → made_over making ≡ end → Each (IsRelatedAt meaning es (made_over making)) tree.operators
-    related_again making is =
-        each_of (IsRelatedAt meaning es (made_over making)) tree.operators (λ n i.
-        let l = lives es good.graph.edges w.set tree plans.walked n i in
-        record {
-          over = l.0;
-          lives = l.1;
-          number = sym l.2;
-          sides = each_at HasSides (forest es) l.0 l.1 good.sides;
-          related = subst (λ (x : State). IsRelated meaning (headings es) x (crossing false l.0)) (sym is) (each_at (λ (f : Link O). IsRelated meaning (headings es) end (crossing false f)) (forest es) l.0 l.1 end_sound.related);
-        })
+    end_sound = (write_is_ordinary meaning es small (seen_sound sight sees) w.set w.table (rows_only test rows) w.ids.next small_may laws good.graph.edges).sound
 
     module _ (copies : Copies) (copied : CopiesTree meaning d tree sight copies) where
       -- the old rows are among those that were copied
-      pub copied_rows : rows_at copies.tables w.table ≡ rows_only (passes sight) (s.tables w.table)
-      copied_rows = copied.tables w.table ∙ part_table (passes sight) tree s w.table in_tree
+      copied_rows : rows_at copies.tables w.table ≡ rows_only test (s.tables w.table)
+      copied_rows = copied.tables w.table ∙ part_table test tree s w.table in_tree
 
-      pub copied_old : AreOld (rows_at copies.tables w.table) w.changes
-      copied_old = subst (λ (x : Rows). AreOld x w.changes) (sym copied_rows) (only_old (passes sight) (s.tables w.table) w.changes named plans.old)
+      copied_old : AreOld (rows_at copies.tables w.table) w.changes
+      copied_old = subst (λ (x : Rows). AreOld x w.changes) (sym copied_rows) (only_old test (s.tables w.table) w.changes named plans.old)
 
-      pub rows_are : changed (rows_at copies.tables w.table) w.changes ≡ rows_only (passes sight) rows
-      rows_are = ap (λ (x : Rows). changed x w.changes) copied_rows ∙ sym (only_changed (passes sight) (s.tables w.table) w.changes (good.sound.well.tables w.table).0 named)
+      rows_are : changed (rows_at copies.tables w.table) w.changes ≡ rows_only test rows
+      rows_are = ap (λ (x : Rows). changed x w.changes) copied_rows ∙ sym (only_changed test (s.tables w.table) w.changes (good.sound.well.tables w.table).0 named)
 
-      module _ (b : Before) (tables : b.tables.now ≡ copies.tables) (memories : b.memories.now ≡ copies.memories) (next : b.next ≡ d.ids.next) (x : TableState) (given : x.rows ≡ changed (rows_at copies.tables w.table) w.changes) where
-        abbrev all : Written
-        all = record { set = w.set; table = w.table; rows = x; ids = w.ids }
+      module _ (next : ℕ) (same : next ≡ d.ids.next) where
+        abbrev old : State
+        old = copied_state copies next
 
-        before_is : before_state b ≡ small
-        before_is = state_is _ _ _ _ _ _ (ap (λ (l : List (Numbered TableState)). rows_at l) tables ∙ fun_ext copied.tables) (ap (λ (l : List (Numbered MemoryState)). pairs_at l) memories ∙ fun_ext copied.memories) next
+        copied_is : old ≡ small
+        copied_is = state_is _ _ _ _ _ _ (fun_ext copied.tables) (fun_ext copied.memories) same
 
-        write_is : write meaning es (before_state b) w.set w.table x.rows w.ids.next ≡ end
-        write_is = ap (λ (y : State). write meaning es y w.set w.table x.rows w.ids.next) before_is ∙ ap (λ (y : Rows). write meaning es small w.set w.table y w.ids.next) (given ∙ rows_are)
+        first_is : changing_state old (first_changes w) ≡ written old w.table (rows_only test rows) w.ids.next
+        first_is = first_state old w.table w.changes w.ids ∙ ap (λ (x : Rows). written old w.table x w.ids.next) rows_are
 
-        -- THE WRITE OF WHAT IS SEEN MAY BE MADE
-        pub may_rows : MayWriteRows meaning es b all
-        may_rows = record {
+        -- THE CHANGES OF THE WRITE MAY BE CARRIED
+        pub may_carry : ChangesRise 0 w.changes → MayCarryBy meaning es old (first_changes w) w.set
+        may_carry rise = record {
           edges = good.graph.edges;
           sides = good.sides;
-          sound = subst (λ (y : State). IsSound meaning es y) (sym before_is) (seen_sound sight sees);
+          sound = subst (λ (y : State). IsSound meaning es y) (sym copied_is) (seen_sound sight sees);
           lives = plans.lives;
-          may = subst (λ (y : State). MayWrite es y w.set w.table x.rows w.ids.next) (sym before_is) (subst (λ (y : Rows). MayWrite es small w.set w.table y w.ids.next) (sym (given ∙ rows_are)) small_may);
+          table = w.table;
+          rows = rows_only test rows;
+          next = w.ids.next;
+          may = subst (λ (y : State). MayWrite es y w.set w.table (rows_only test rows) w.ids.next) (sym copied_is) small_may;
+          fit = first_fit old w.table w.changes rise copied_old;
+          start = first_is;
         }
 
-        made_is : (made : Made) → made_over (record { copies = copies; made = made }) ≡ made_state b made
-        made_is made = state_is _ _ _ _ _ _ (ap (λ (l : List (Numbered TableState)). rows_now l made.tables) (sym tables)) (ap (λ (l : List (Numbered MemoryState)). pairs_now l made.memories) (sym memories)) refl
+        carried_is : run meaning old (changing_state old (first_changes w)) (walk (forest es) w.set) ≡ end
+        carried_is = ap (λ (y : State). run meaning old y (walk (forest es) w.set)) first_is ∙ ap (λ (y : State). write meaning es y w.set w.table (rows_only test rows) w.ids.next) copied_is
 
-        before_seen : HasSeen sight (before_state b)
-        before_seen = subst (λ (y : State). HasSeen sight y) (sym before_is) (part_seen sight tree s)
-
-        rows_seen : rows_only (passes sight) x.rows ≡ x.rows
-        rows_seen = subst (λ (y : Rows). rows_only (passes sight) y ≡ y) (sym (given ∙ rows_are)) (rows_twice (passes sight) rows)
-
-        -- what it takes
-        pub write_within : (s t : ℕ) → WritesWithin meaning es b all s t → SeenWithin 6 sight (length tree.operators) s t
-        write_within s t within = writes_within meaning es good.graph.edges w.set tree plans.walked b all refl sight sees before_seen rows_seen s t within
-
-        -- and that it makes no other rows
-        pub write_seen : (made : Made) → WritesOnly meaning es b all made → HasSeen sight (made_over (record { copies = copies; made = made }))
-        write_seen made only = subst (λ (y : State). HasSeen sight y) (sym (made_is made)) (writes_seen meaning es good.graph.edges w.set tree plans.walked b all refl sight sees before_seen rows_seen made only)
-
-        -- where it was made
-        pub making_is : (made : Made) → WritesRows meaning es b all (Ok made) → IsMaking meaning d tree w (passes sight) (record { copies = copies; made = made })
+        -- where it was carried
+        pub making_is : (made : Changing) → CarriesWrite meaning es old w (Ok made) → IsMaking meaning d tree w (passes sight) (record { copies = copies; made = made })
         making_is made was = record {
           tables = copied.tables;
           memories = copied.memories;
-          made = made_is made ∙ was.1 ∙ write_is;
-          within = subst (λ (n : ℕ). n ≤ first_refused w.ids) (ap (λ (y : State). y.next) write_is) was.0;
-          limit = was.2;
+          made = was.0.1 ∙ carried_is;
+          fits = was.0.2;
+          pass = all_named sight sees named made was.1;
+          within = subst (λ (n : ℕ). n ≤ first_refused w.ids) (ap (λ (y : State). y.next) carried_is) was.0.0;
+          limit = was.0.3;
         }
+          where
+            all_named : (sight : Sight) → MaySee meaning es tree.operators sight → AllPass (passes sight) w.changes → (made : Changing)
+                → ((ids : List ℕ) → AreLocal meaning (walk (forest es) w.set) → AllPass (has_id ids) w.changes → (t : ℕ) → AllPass (has_id ids) (latest_changes made.tables t)) → (t : ℕ) → AllPass (passes sight) (latest_changes made.tables t)
+            all_named All sees named made only t = all_pass (latest_changes made.tables t)
+            all_named (Of ids) sees named made only t = only ids.now (walk_local es good.graph.edges w.set tree plans.walked meaning sees.1) named t
 
         -- and where it was refused
-        pub making_refused : (fault : Fault IdsSpent) → WritesRows meaning es b all (Err fault) → MakesWrite meaning d tree w (passes sight) (Err fault)
-        making_refused (Refused spent) h = subst (λ (n : ℕ). IsSpent n w.ids w.ids spent) (ap (λ (y : State). y.next) write_is) h
+        pub making_refused : (fault : Fault IdsSpent) → CarriesWrite meaning es old w (Err fault) → MakesWrite meaning d tree w (passes sight) (Err fault)
+        making_refused (Refused spent) h = subst (λ (n : ℕ). IsSpent n w.ids w.ids spent) (ap (λ (y : State). y.next) carried_is) h
         making_refused (OutOfMemory memory) h = tt
+
+    -- what it takes
+    pub carry_within : (s t : ℕ) → CarriesWriteWithin meaning es w s t → SeenWithin 6 sight (length tree.operators) s t
+    carry_within s t within = of_sight sight sees named
+      where
+        of_sight : (sight : Sight) → MaySee meaning es tree.operators sight → AllPass (passes sight) w.changes → SeenWithin 6 sight (length tree.operators) s t
+        of_sight All sees named = tt
+        of_sight (Of ids) sees named =
+            let own = within ids.now sees.0 (walk_local es good.graph.edges w.set tree plans.walked meaning sees.1) named in
+            subst (λ (n : ℕ). t ≤ s + 6 * (length ids.now * n)) (path_long es good.graph.edges w.set tree plans.walked) own
+
+    -- THE CHANGES OF AUXILIARY TABLES MAY BE TAKEN of what was made
+    module _ (making : Making) (is : IsMaking meaning d tree w (passes sight) making) where
+      abbrev over : Link O → Crossing O
+      over e = stored_way d.layout.operators e
+
+      before_is : copied_state making.copies d.ids.next ≡ small
+      before_is = state_is _ _ _ _ _ _ (fun_ext is.tables) (fun_ext is.memories) refl
+
+      pub may_change_auxes : MayChangeAuxes meaning d (passes sight) making tree.operators
+      may_change_auxes =
+          each_of (MayChangeAuxAt meaning d (passes sight) making) tree.operators (λ n i. record {
+            kept = good;
+            fits = is.fits;
+            pass = is.pass;
+            old = subst (λ (x : State). IsRelatedAt meaning es x n) (sym before_is) (related_at small (seen_sound sight sees) n i);
+            new = subst (λ (x : State). IsRelatedAt meaning es x n) (sym is.made) (related_at end end_sound n i);
+            aux = λ e j number.
+                let own : In e.number tree.operators = subst (λ (k : ℕ). In k tree.operators) (sym number) i in
+                let stood : auxes_at d.aux e.number ≡ aux_of meaning s (over e) = (each_at (λ (f : Link O). StandsOver meaning (headings es) (storage_in d) s (stored_way d.layout.operators f)) (forest es) e j good.stands.edges).aux in
+                ap (λ (k : ℕ). only test (auxes_at d.aux k)) (sym number) ∙ ap (only test) stood ∙ sym ((shown meaning laws d good tree w plans sight sees named).aux_before e j own)
+                ∙ ap (λ (x : State). aux_of meaning x (over e)) (sym before_is);
+          })

@@ -73,6 +73,7 @@ module _ {O : Type 0} (meaning : O → Meaning) (d : Parts O) (tree : Tree) (w :
 
   -- what passes the test, of the tables of the tree and of the auxiliary tables of its operators, is what the write of what passes makes, and what fails stays
   pub record Shows : Type 0 where
+    pub aux_before : (e : Link O) → In e (forest d.graph.edges) → In e.number tree.operators → aux_in (part test tree (state_for meaning d)) e ≡ only test (aux_in (state_for meaning d) e)
     pub part : IsPartOf test tree whole_end (seen_write meaning d tree w test)
     pub rests : Rests (λ id. not (test id)) tree (state_for meaning d) whole_end
     pub aux_part : (e : Link O) → In e (forest d.graph.edges) → In e.number tree.operators → aux_in (seen_write meaning d tree w test) e ≡ only test (aux_in whole_end e)
@@ -141,6 +142,11 @@ module _ {O : Type 0} (meaning : O → Meaning) (laws : (o : O) → Laws (meanin
     all_shown = record {
       part = record { tables = λ t i. all_rows test all (end.tables t) ∙ agree.tables t i; memory = agree.memory; next = agree.next };
       rests = λ t i. no_rows test all (end.tables t) ∙ sym (no_rows test all (s.tables t));
+      aux_before = λ e i own.
+          let before = all_agrees test all tree s in
+          ap (λ (x : PairState). (at e).aux_at_source x)
+          (same_pair (part test tree s) s (over e) (λ t k. sym (before.tables t (sides e i own t k))) (λ t k. sym (before.tables t (others e i own t k))) (sym (before.memory e.number own)))
+          ∙ sym (all_tables test all (aux_of meaning s (over e)));
       aux_part = λ e i own.
           ap (λ (x : PairState). (at e).aux_at_source x)
           (same_pair all_small end (over e) (λ t k. sym (agree.tables t (sides e i own t k))) (λ t k. sym (agree.tables t (others e i own t k))) (sym (agree.memory e.number own)))
@@ -250,6 +256,12 @@ module _ {O : Type 0} (meaning : O → Meaning) (laws : (o : O) → Laws (meanin
       same_memory : end.memory e.number ≡ s.memory e.number
       same_memory = none_after e i own ∙ sym (none_before e i own)
 
+      -- what passes of the old ones is that of the part
+      old_part : aux_of meaning (part test tree s) (over e) ≡ only test (aux_of meaning s (over e))
+      old_part =
+          ap (λ (x : PairState). (at e).aux_at_source x) (sym (only_pair test s (part test tree s) (over e) (λ t k. small_old.tables t (sides e i own t k)) (λ t k. small_old.tables t (others e i own t k)) (small_old.memory e.number own)))
+          ∙ law.aux test hs ht (pair_in s (over e)) (related_in s good.sound e i)
+
       -- what passes of the new ones was made
       made_part : aux_of meaning small (over e) ≡ only test (aux_of meaning end (over e))
       made_part =
@@ -267,7 +279,7 @@ module _ {O : Type 0} (meaning : O → Meaning) (laws : (o : O) → Laws (meanin
 
     -- THE WRITE OF WHAT PASSES IS WHAT PASSES OF THE WRITE
     pub local_shown : Shows meaning d tree w test
-    local_shown = record { part = of_end; rests = rests; aux_part = made_part; aux_rests = same_rest }
+    local_shown = record { part = of_end; rests = rests; aux_before = old_part; aux_part = made_part; aux_rests = same_rest }
 
   -- so it is of whatever is seen
   pub shown : (sight : Sight) → MaySee meaning es tree.operators sight → AllPass (passes sight) w.changes → Shows meaning d tree w (passes sight)

@@ -10,10 +10,6 @@ use Rattle.version_model.specs.States.{State}
 use Rattle.db_state.specs.Parts.{passes}
 use Rattle.db_state.specs.declared.sight.Sight.{Sight}
 
--- a state has no rows but those that are seen
-abbrev pub HasSeen : Sight → State → Type 0
-HasSeen sight s = (t : ℕ) → rows_only (passes sight) (s.tables t) ≡ s.tables t
-
 -- at most sixteen steps for each operator of the tree and each identifier that the changes name
 abbrev pub PlansWithin : {O : Type 0} → (O → Meaning) → List (Placed O) → ℕ → List Change → ℕ → ℕ → Type 0
 PlansWithin meaning es w changes old new =

@@ -1,5 +1,5 @@
 -- What inner calls ensure.
-use Rattle.std.specs.Prelude.{◌≡◌, ℕ, Bool, List, filter, length, map}
+use Rattle.std.specs.Prelude.{◌≡◌, ℕ, List, filter, map}
 use Rattle.row_store.specs.Rows.{Rows}
 use Rattle.row_store.specs.States.{TableState}
 use Rattle.id_memory.specs.Pairs.{Pairs}
@@ -8,12 +8,9 @@ use Rattle.row_store.specs.declared.change.Change.{Change}
 use Rattle.version_graph.specs.Edges.{is_in}
 use Rattle.version_graph.specs.Sets.{In}
 use Rattle.op_law.specs.Meaning.{Meaning}
-use Rattle.op_law.specs.Calls.{tables_of}
-use Rattle.op_law.specs.Local.{only}
 use Rattle.op_law.specs.declared.side.Aux.{Aux}
-use Rattle.row_changes.specs.Differences.{AreDifferences, IsDifference}
-use Rattle.row_changes.specs.declared.change.SideChanges.{SideChanges}
-use Rattle.version_model.specs.Kept.{pairs_at, rows_at, rows_now, auxes_at, numbers_in}
+use Rattle.changes_walk.specs.Changing.{latest_changes}
+use Rattle.version_model.specs.Kept.{pairs_at, rows_at, auxes_at, numbers_in}
 use Rattle.version_model.specs.declared.numbered.Numbered.{Numbered}
 use Rattle.db_state.specs.Fields.{state_for}
 use Rattle.db_state.specs.Parts.{passes}
@@ -44,19 +41,10 @@ pub record CopiesTree {O : Type 0} (meaning : O → Meaning) (d : Parts O) (tree
 abbrev pub stored_in : {O : Type 0} → Parts O → Tree → List ℕ
 stored_in d tree = filter (λ t. is_in t tree.tables) (numbers_in d.stored)
 
--- the difference of each of these tables before and after
-pub record AreTableChanges (before made : List (Numbered TableState)) (numbers : List ℕ) (items : List (Numbered (List Change))) : Type 0 where
+-- the last changes under each of these numbers
+pub record AreChangesNow (made : List (Numbered (List Change))) (numbers : List ℕ) (items : List (Numbered (List Change))) : Type 0 where
   pub listed : numbers_in items ≡ numbers
-  pub values : (i : Numbered (List Change)) → In i items → IsDifference (rows_at before i.number) (rows_now before made i.number) i.value
-
--- as many auxiliary tables are kept of each of these operators
-abbrev pub AreAsMany : List (Numbered Aux) → List (Numbered Aux) → Type 0
-AreAsMany kept newer = (a : Numbered Aux) → In a newer → length (auxes_at kept a.number) ≡ length (tables_of a.value)
-
--- the difference of the auxiliary tables that are seen and of newer ones
-pub record AreAuxChanges (kept : List (Numbered Aux)) (test : ℕ → Bool) (newer : List (Numbered Aux)) (items : List (Numbered SideChanges)) : Type 0 where
-  pub listed : numbers_in items ≡ numbers_in newer
-  pub values : (i : Numbered SideChanges) → In i items → (a : Numbered Aux) × In a newer × (a.number ≡ i.number) × AreDifferences (only test (auxes_at kept a.number)) (tables_of a.value) i.value.tables
+  pub values : (i : Numbered (List Change)) → In i items → i.value ≡ latest_changes made i.number
 
 -- the same rows are kept under the same numbers
 pub record KeepsRows (old new : List (Numbered TableState)) : Type 0 where

@@ -1,25 +1,39 @@
 -- What inner calls suppose and ensure of a write that is made of what is seen of its tree.
-use Rattle.std.specs.Prelude.{◌≡◌, ℕ, ◌≤◌, Bool, List, Result, Ok, Err, ⊤, filter}
+use Rattle.std.specs.Prelude.{◌≡◌, ℕ, ◌+◌, ◌*◌, ◌≤◌, Bool, List, [], ◌∷◌, length, Result, Ok, Err, ⊤, filter, map}
 use Rattle.par_base.specs.declared.fault.Fault.{Fault}
 use Rattle.par_base.specs.declared.fault.Fault.TheVariants.{Refused, Memory}
 use Rattle.par_base.specs.declared.refusal.IdsSpent.{IdsSpent}
 use Rattle.row_store.specs.Changes.{AreOld}
-use Rattle.version_graph.specs.Sets.{In}
+use Rattle.version_graph.specs.Sets.{Each, In}
 use Rattle.version_graph.specs.Edges.{is_in, numbers}
+use Rattle.version_graph.specs.Forest.{Link, forest, walk}
+use Rattle.version_graph.specs.declared.parts.Placed.{Placed}
 use Rattle.op_law.specs.Calls.{IsSpent, first_refused}
-use Rattle.op_law.specs.Local.{rows_only}
+use Rattle.op_law.specs.Identifiers.{IdsRise, has_id}
+use Rattle.op_law.specs.Local.{only, rows_only}
 use Rattle.op_law.specs.Meaning.{Meaning}
-use Rattle.op_law.specs.declared.side.Aux.{Aux}
-use Rattle.version_model.specs.Kept.{pairs_at, pairs_now, rows_at, rows_now}
+use Rattle.op_law.specs.Tables.{Tables}
+use Rattle.row_changes.specs.Changed.{TableChanges}
+use Rattle.row_changes.specs.Differences.{AreDifferences}
+use Rattle.row_changes.specs.Touched.{AllPass}
+use Rattle.row_changes.specs.declared.change.SideChanges.{SideChanges}
+use Rattle.changes_walk.specs.Bounds.{CarriesWithinBy}
+use Rattle.changes_walk.specs.Calls.{CarriesBy}
+use Rattle.changes_walk.specs.Changing.{AreOfState, changing_state, latest_changes}
+use Rattle.changes_walk.specs.declared.progress.Changing.{Changing}
+use Rattle.version_model.specs.Bounds.{AreLocal}
+use Rattle.version_model.specs.Kept.{auxes_at, numbers_in, pairs_at, rows_at}
 use Rattle.version_model.specs.States.{State}
 use Rattle.version_model.specs.Writes.{MayWrite, write}
 use Rattle.version_model.specs.declared.numbered.Numbered.{Numbered}
-use Rattle.db_state.specs.Calls.{AreAuxesOf}
+use Rattle.storage_law.specs.Storage.{aux_of, stored_way}
+use Rattle.db_state.specs.Calls.{IsRelatedAt}
 use Rattle.db_state.specs.Fields.{IsDatabase, state_for}
 use Rattle.db_state.specs.declared.parts.Parts.{Parts}
-use Rattle.write_propagation.specs.Calls.{AreAsMany, AreAuxChanges, AreTableChanges, stored_in}
+use Rattle.write_propagation.specs.Calls.{AreChangesNow, stored_in}
 use Rattle.write_propagation.specs.Plans.{rows_written}
 use Rattle.write_propagation.specs.Trees.{IsTree, part}
+use Rattle.write_propagation.specs.declared.copies.Copies.{Copies}
 use Rattle.write_propagation.specs.declared.making.Making.{Making}
 use Rattle.write_propagation.specs.declared.plans.Plan.{Plan}
 use Rattle.write_propagation.specs.declared.plans.RowWrite.{RowWrite}
@@ -39,15 +53,38 @@ pub record MayPlan {O : Type 0} (meaning : O → Meaning) (d : Parts O) (tree : 
 abbrev pub seen_write : {O : Type 0} → (O → Meaning) → Parts O → Tree → RowWrite → (ℕ → Bool) → State
 seen_write meaning d tree w test = write meaning d.graph.edges (part test tree (state_for meaning d)) w.set w.table (rows_only test (rows_written meaning d w)) w.ids.next
 
+-- ---- carrying
+
+-- what was copied of a tree, as a state
+abbrev pub copied_state : Copies → ℕ → State
+copied_state copies next = record { tables = rows_at copies.tables; memory = pairs_at copies.memories; next = next }
+
+-- the changes of the written table alone
+abbrev pub first_changes : RowWrite → Changing
+first_changes w = record { tables = record { number = w.table; value = w.changes } ∷ []; memories = []; ids = w.ids }
+
+-- they were carried along the tree, or an identifier is needed that the counter doesn't give
+abbrev pub CarriesWrite : {O : Type 0} → (O → Meaning) → List (Placed O) → State → RowWrite → Result Changing (Fault IdsSpent) → Type 0
+CarriesWrite meaning es old w (Ok made) = CarriesBy meaning es old w.set (first_changes w) made (Ok tt) × ((ids : List ℕ) → AreLocal meaning (walk (forest es) w.set) → AllPass (has_id ids) w.changes → (t : ℕ) → AllPass (has_id ids) (latest_changes made.tables t))
+CarriesWrite meaning es old w (Err fault) = CarriesBy meaning es old w.set (first_changes w) (first_changes w) (Err fault)
+
+-- with at most six steps for each operator and each identifier that the changes name, where each operator treats each identifier by itself
+abbrev pub CarriesWriteWithin : {O : Type 0} → (O → Meaning) → List (Placed O) → RowWrite → ℕ → ℕ → Type 0
+CarriesWriteWithin meaning es w old new = (ids : List ℕ) → IdsRise 0 ids → AreLocal meaning (walk (forest es) w.set) → AllPass (has_id ids) w.changes → new ≤ old + 6 * (length ids * length (walk (forest es) w.set))
+
+-- ---- making
+
 -- the state that was made
 abbrev pub made_over : Making → State
-made_over m = record { tables = rows_now m.copies.tables m.made.tables; memory = pairs_now m.copies.memories m.made.memories; next = m.made.ids.next }
+made_over m = changing_state (copied_state m.copies m.made.ids.next) m.made
 
--- what was copied and made is the write of what passes the test
+-- what was copied is what passes the test, and what was made of it the write of that; the changes are of what was copied, and name what passes alone
 pub record IsMaking {O : Type 0} (meaning : O → Meaning) (d : Parts O) (tree : Tree) (w : RowWrite) (test : ℕ → Bool) (making : Making) : Type 0 where
   pub tables : (t : ℕ) → rows_at making.copies.tables t ≡ (part test tree (state_for meaning d)).tables t
   pub memories : (n : ℕ) → pairs_at making.copies.memories n ≡ (part test tree (state_for meaning d)).memory n
   pub made : made_over making ≡ seen_write meaning d tree w test
+  pub fits : AreOfState (copied_state making.copies making.made.ids.next) making.made.tables
+  pub pass : (t : ℕ) → AllPass test (latest_changes making.made.tables t)
   pub within : (seen_write meaning d tree w test).next ≤ first_refused w.ids
   pub limit : making.made.ids.limit ≡ w.ids.limit
 
@@ -57,15 +94,38 @@ MakesWrite meaning d tree w test (Ok making) = IsMaking meaning d tree w test ma
 MakesWrite meaning d tree w test (Err (Refused spent)) = IsSpent (seen_write meaning d tree w test).next w.ids w.ids spent
 MakesWrite meaning d tree w test (Err (Memory memory)) = ⊤
 
--- as many auxiliary tables are kept of each operator of the tree as were made
-abbrev pub AreAsManyMade : {O : Type 0} → (O → Meaning) → Parts O → Tree → Making → Type 0
-AreAsManyMade meaning d tree making = (newer : List (Numbered Aux)) → AreAuxesOf meaning d.graph.edges d.layout.operators (made_over making) tree.operators newer → AreAsMany d.aux newer
+-- ---- auxiliary tables
+
+-- the auxiliary tables of an operator in a state
+abbrev pub auxes_over : {O : Type 0} → (O → Meaning) → Parts O → State → Link O → Tables
+auxes_over meaning d s e = aux_of meaning s (stored_way d.layout.operators e)
+
+-- the difference of those that are seen before and of those that were made
+abbrev pub IsAuxChange : {O : Type 0} → (O → Meaning) → Parts O → (ℕ → Bool) → Making → ℕ → TableChanges → Type 0
+IsAuxChange {O} meaning d test making n changes = (e : Link O) → In e (forest d.graph.edges) → e.number ≡ n → AreDifferences (only test (auxes_at d.aux n)) (auxes_over meaning d (made_over making) e) changes
+
+-- it may be taken: the operator relates both sides in what was copied and in what was made, and what is seen of its auxiliary tables is that of what was copied
+pub record MayChangeAuxAt {O : Type 0} (meaning : O → Meaning) (d : Parts O) (test : ℕ → Bool) (making : Making) (n : ℕ) : Type 0 where
+  pub kept : IsDatabase meaning d
+  pub fits : AreOfState (copied_state making.copies making.made.ids.next) making.made.tables
+  pub pass : (t : ℕ) → AllPass test (latest_changes making.made.tables t)
+  pub old : IsRelatedAt meaning d.graph.edges (copied_state making.copies d.ids.next) n
+  pub new : IsRelatedAt meaning d.graph.edges (made_over making) n
+  pub aux : (e : Link O) → In e (forest d.graph.edges) → e.number ≡ n → only test (auxes_at d.aux n) ≡ auxes_over meaning d (copied_state making.copies d.ids.next) e
+
+abbrev pub MayChangeAuxes : {O : Type 0} → (O → Meaning) → Parts O → (ℕ → Bool) → Making → List ℕ → Type 0
+MayChangeAuxes meaning d test making ns = Each (MayChangeAuxAt meaning d test making) ns
+
+-- they were taken of each of these operators
+pub record AreAuxChanges {O : Type 0} (meaning : O → Meaning) (d : Parts O) (test : ℕ → Bool) (making : Making) (ns : List ℕ) (items : List (Numbered SideChanges)) : Type 0 where
+  pub listed : numbers_in items ≡ ns
+  pub values : (i : Numbered SideChanges) → In i items → IsAuxChange meaning d test making i.number i.value.tables
+
+-- ---- the plan
 
 -- the plan of what was made: the changes of the stored tables of the tree and of the auxiliary tables of its operators, and their memories
 pub record IsPlanOf {O : Type 0} (meaning : O → Meaning) (d : Parts O) (tree : Tree) (test : ℕ → Bool) (making : Making) (plan : Plan) : Type 0 where
-  pub stored : AreTableChanges making.copies.tables making.made.tables (stored_in d tree) plan.stored
-  pub newer : List (Numbered Aux)
-  pub made : AreAuxesOf meaning d.graph.edges d.layout.operators (made_over making) tree.operators newer
-  pub auxes : AreAuxChanges d.aux test newer plan.auxes
+  pub stored : AreChangesNow making.made.tables (stored_in d tree) plan.stored
+  pub auxes : AreAuxChanges meaning d test making tree.operators plan.auxes
   pub memories : plan.memories ≡ filter (λ i. is_in i.number tree.operators) making.made.memories
   pub ids : plan.ids ≡ making.made.ids

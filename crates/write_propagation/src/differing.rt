@@ -1,52 +1,36 @@
-//! The changes between tables before a write and after it.
-ghost use Rattle.std.specs.Prelude.{◌≡◌, length, IfOk};
+//! The changes of what is kept, of what a write made.
+ghost use Rattle.std.specs.Prelude.{◌≡◌, [], ◌∷◌, length, IfOk};
 ghost use Rattle.op_law.specs.Calls.{tables_of};
 ghost use Rattle.op_law.specs.Local.{only};
-ghost use Rattle.row_changes.specs.Differences.{AreDifferences, IsDifference};
-ghost use Rattle.version_model.specs.Kept.{rows_at, rows_now, auxes_at};
-ghost use Rattle.db_state.specs.Parts.{passes, Ascends};
-ghost use Rattle.write_propagation.specs.Calls.{AreAuxChanges, AreTableChanges, AreAsMany};
+ghost use Rattle.version_model.specs.Kept.{auxes_at};
+ghost use Rattle.db_state.specs.Parts.{passes, Ascends, MaySee, SeenWithin};
+ghost use Rattle.write_propagation.specs.Calls.{AreChangesNow};
+ghost use Rattle.write_propagation.specs.Making.{AreAuxChanges, IsAuxChange, MayChangeAuxAt, MayChangeAuxes};
 
-use db_state::{Sight, aux_seen};
-use op_law::Aux;
+use crate::making::{Making, Seen};
+use crate::tree::Tree;
+use changes_walk::{aux_changes, changes_now};
+use db_state::{Db, Sight, aux_seen, stored_way};
+use expr_lang::Steps;
+use op_law::{Aux, Operator};
 use par_base::{List, Memory};
-use row_changes::{SideChanges, difference, differences};
-use row_store::{Changes, Table};
+use row_changes::SideChanges;
+use row_store::Changes;
 use std::alloc::Global;
-use version_model::{Before, Made, Numbered, latest_of, value_of};
+use std::sync::ledger::Ledger;
+use version_model::{Numbered, value_of};
 
-fn change_of(
-    alloc: Global,
-    before: &[Numbered<Table>],
-    made: &[Numbered<Table>],
-    number: u32,
-) -> Result<Changes, Memory>
-    ensures { IfOk result (IsDifference (rows_at before.now number)
-        (rows_now before.now made.now number)) }
-{
-    let none = Table::new(alloc);
-    let old = match value_of(before, number) {
-        Some(table) => table,
-        None => &none,
-    };
-    match latest_of(made, number) {
-        Some(new) => difference(alloc, old, new),
-        None => Ok(Changes::new(alloc)),
-    }
-}
-
-/// The changes of the tables of these numbers.
+/// Copies of the last changes under each of these numbers.
 pub(crate) fn table_changes(
     alloc: Global,
-    before: &[Numbered<Table>],
-    made: &[Numbered<Table>],
+    made: &[Numbered<Changes>],
     numbers: &[u32],
 ) -> Result<List<Numbered<Changes>>, Memory>
-    ensures { IfOk result (AreTableChanges before.now made.now numbers.now) }
+    ensures { IfOk result (AreChangesNow made.now numbers.now) }
 {
     let mut changes = List::new(alloc);
     for number in numbers {
-        let value = change_of(alloc, before, made, *number)?;
+        let value = changes_now(alloc, made, *number)?;
         changes.push(Numbered {
             number: *number,
             value,
@@ -73,42 +57,54 @@ fn aux_before(
     }
 }
 
-fn aux_change(
+fn aux_change<O: Operator, L: Ledger>(
     alloc: Global,
-    kept: &[Numbered<Aux>],
-    newer: &Numbered<Aux>,
+    db: &Db<O>,
+    making: &Making,
+    number: u32,
     sight: Sight<'_>,
+    steps: &mut Steps<L>,
 ) -> Result<SideChanges, Memory>
     requires ascends { Ascends sight }
-    requires many { length (auxes_at kept.now newer.now.number) ≡ length (tables_of newer.now.value) }
-    ensures { IfOk result (λ side. AreDifferences
-        (only (passes sight.entry) (auxes_at kept.now newer.now.number))
-        (tables_of newer.now.value) side.tables) }
+    requires sees { MaySee O.meaning db.now.graph.edges (number ∷ []) sight }
+    requires may { MayChangeAuxAt O.meaning db.now (passes sight) making.now number }
+    ensures change { IfOk result (λ side. IsAuxChange O.meaning db.now (passes sight.entry)
+        making.now number side.tables) }
+    ensures steps { SeenWithin 8 sight.entry 1 steps.old steps.new }
 {
-    let before = aux_before(alloc, kept, newer.number, sight)?;
-    differences(
-        alloc,
-        before.tables.as_slice(),
-        newer.value.tables.as_slice(),
-    )
+    let Some(over) = stored_way(db.graph(), db.layout(), number) else {
+        unreachable!()
+    };
+    let aux = aux_before(alloc, db.aux(), number, sight)?;
+    let rows = Seen {
+        copies: &making.copies,
+        next: db.ids().next(),
+    };
+    let change = aux_changes(alloc, &over, &rows, &making.made, &aux, steps)?;
+    Ok(change)
 }
 
-/// The changes of the auxiliary tables that are seen, for each of the newer ones.
-pub(crate) fn aux_changes(
+/// The changes of the auxiliary tables that are seen, of each operator of the tree.
+pub(crate) fn tree_aux_changes<O: Operator, L: Ledger>(
     alloc: Global,
-    kept: &[Numbered<Aux>],
-    newer: &[Numbered<Aux>],
+    db: &Db<O>,
+    tree: &Tree,
+    making: &Making,
     sight: Sight<'_>,
+    steps: &mut Steps<L>,
 ) -> Result<List<Numbered<SideChanges>>, Memory>
     requires ascends { Ascends sight }
-    requires many { AreAsMany kept.now newer.now }
-    ensures { IfOk result (AreAuxChanges kept.now (passes sight.entry) newer.now) }
+    requires sees { MaySee O.meaning db.now.graph.edges tree.now.operators sight }
+    requires may { MayChangeAuxes O.meaning db.now (passes sight) making.now tree.now.operators }
+    ensures changes { IfOk result (AreAuxChanges O.meaning db.now (passes sight.entry) making.now
+        tree.now.operators) }
+    ensures steps { SeenWithin 8 sight.entry (length tree.now.operators) steps.old steps.new }
 {
     let mut changes = List::new(alloc);
-    for item in newer {
-        let value = aux_change(alloc, kept, item, sight)?;
+    for number in tree.operators.as_slice() {
+        let value = aux_change(alloc, db, making, *number, sight, steps)?;
         changes.push(Numbered {
-            number: item.number,
+            number: *number,
             value,
         })?;
     }

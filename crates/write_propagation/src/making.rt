@@ -1,49 +1,103 @@
-//! What a write makes of what is seen of its tree.
+//! What a write makes of what is seen of its tree, told by its changes.
 ghost use Rattle.std.specs.Prelude.{◌≡◌, length, IfOk};
-ghost use Rattle.row_store.specs.Changes.{AreOld};
-ghost use Rattle.version_graph.specs.Sets.{Each};
-ghost use Rattle.row_changes.specs.Changed.{changed};
+ghost use Rattle.row_store.specs.Changes.{ChangesRise};
+ghost use Rattle.row_store.specs.Rows.{row_of};
 ghost use Rattle.row_changes.specs.Touched.{AllPass};
-ghost use Rattle.version_model.specs.Kept.{rows_at};
-ghost use Rattle.db_state.specs.Calls.{AreAuxesOf, AuxesWithin, IsRelatedAt};
+ghost use Rattle.changes_walk.specs.Calls.{MayCarryBy};
 ghost use Rattle.db_state.specs.Parts.{passes, MaySee, SeenWithin};
-ghost use Rattle.write_propagation.specs.Bounds.{HasSeen};
-ghost use Rattle.write_propagation.specs.Making.{made_over, MakesWrite, MayPlan};
+ghost use Rattle.write_propagation.specs.Making.{copied_state, first_changes, CarriesWrite, CarriesWriteWithin, MakesWrite, MayPlan};
 
 use crate::copies::{Copies, copy_tree};
 use crate::plans::RowWrite;
 use crate::tree::Tree;
-use db_state::{Db, Sight, auxes_in};
+use changes_walk::{Changing, StateRead, carry_changes};
+use db_state::{Db, Sight};
 use expr_lang::Steps;
-use op_law::{Aux, Operator};
-use par_base::{Fault, IdsSpent, List, Memory};
-use row_changes::changed_copy;
-use row_store::{Changes, Table};
+use id_memory::PairMemory;
+use op_law::Operator;
+use par_base::{Fault, IdsSpent, List, Memory, Row};
+use row_store::Table;
 use std::alloc::Global;
 use std::sync::ledger::Ledger;
-use version_model::{Before, Made, Numbered, Written, value_of, write_rows};
+use version_graph::Graph;
+use version_model::{Numbered, memory_at, value_of};
 
 /// What is seen of a tree, and what a write makes of it.
 #[derive(Drop)]
 pub struct Making {
     pub copies: Copies,
-    pub made: Made,
+    pub made: Changing,
 }
 
-// A table with its changes.
-fn rows_after(
-    alloc: Global,
-    tables: &[Numbered<Table>],
-    table: u32,
-    changes: &Changes,
-) -> Result<Table, Memory>
-    requires { AreOld (rows_at tables.now table) changes.now }
-    ensures { IfOk result (λ made. made.rows ≡ changed (rows_at tables.now table) changes.now) }
+/// What is seen of a tree, with the next identifier, as a state.
+#[derive(Clone, Copy)]
+pub(crate) struct Seen<'a> {
+    pub(crate) copies: &'a Copies,
+    pub(crate) next: u64,
+}
+
+fn copy_row(alloc: Global, table: &Table, id: u64) -> Result<Option<Row>, Memory>
+    ensures { IfOk result (λ row. row ≡ row_of table.now.rows id) }
 {
-    match value_of(tables, table) {
-        Some(rows) => changed_copy(alloc, rows, changes),
-        None => changed_copy(alloc, &Table::new(alloc), changes),
+    match table.get(id) {
+        Some(row) => Ok(Some(row.copy(alloc)?)),
+        None => Ok(None),
     }
+}
+
+impl StateRead for Seen<'_> {
+    ghost state = { λ it. copied_state it.copies.now it.next };
+
+    fn row(&self, alloc: Global, table: u32, id: u64) -> Result<Option<Row>, Memory> {
+        match value_of(self.copies.tables.as_slice(), table) {
+            Some(rows) => copy_row(alloc, rows, id),
+            None => Ok(None),
+        }
+    }
+
+    fn table(&self, alloc: Global, table: u32) -> Result<Table, Memory> {
+        match value_of(self.copies.tables.as_slice(), table) {
+            Some(rows) => rows.copy(),
+            None => Ok(Table::new(alloc)),
+        }
+    }
+
+    fn memory(&self, alloc: Global, operator: u32) -> Result<PairMemory, Memory> {
+        memory_at(alloc, self.copies.memories.as_slice(), operator)
+    }
+}
+
+/// Carries the changes of a write along its tree.
+fn carry_write<O: Operator, L: Ledger>(
+    alloc: Global,
+    graph: &Graph<O>,
+    rows: Seen<'_>,
+    written: RowWrite,
+    steps: &mut Steps<L>,
+) -> Result<Changing, Fault<IdsSpent>>
+    requires { MayCarryBy O.meaning graph.now.edges (copied_state rows.copies.now rows.next)
+        (first_changes written) written.set }
+    ensures carries { CarriesWrite O.meaning graph.now.edges
+        (copied_state rows.entry.copies.now rows.entry.next) written result }
+    ensures steps { CarriesWriteWithin O.meaning graph.now.edges written steps.old steps.new }
+{
+    let RowWrite {
+        set,
+        table,
+        changes,
+        ids,
+    } = written;
+    let mut made = Changing {
+        tables: List::new(alloc),
+        memories: List::new(alloc),
+        ids,
+    };
+    made.tables.push(Numbered {
+        number: table,
+        value: changes,
+    })?;
+    carry_changes(alloc, graph, &rows, &mut made, set, steps)?;
+    Ok(made)
 }
 
 /// Makes the write of what is seen: of all rows, or of those that it names.
@@ -58,55 +112,15 @@ pub(crate) fn make_write<O: Operator, L: Ledger>(
     requires may { MayPlan O.meaning db.now tree.now written }
     requires sees { MaySee O.meaning db.now.graph.edges tree.now.operators sight }
     requires named { AllPass (passes sight) written.changes }
+    requires rise { ChangesRise 0 written.changes }
     ensures makes { MakesWrite O.meaning db.now tree.now written (passes sight.entry) result }
-    ensures seen { IfOk result (λ making. HasSeen sight.entry (made_over making)) }
     ensures steps { SeenWithin 8 sight.entry (length tree.now.operators) steps.old steps.new }
 {
     let copies = copy_tree(alloc, db, tree, sight, steps)?;
-    let tables = copies.tables.as_slice();
-    let rows = rows_after(alloc, tables, written.table, &written.changes)?;
-    let before = Before {
-        tables,
-        memories: copies.memories.as_slice(),
+    let rows = Seen {
+        copies: &copies,
         next: db.ids().next(),
     };
-    let all = Written {
-        set: written.set,
-        table: written.table,
-        rows,
-        ids: written.ids,
-    };
-    let made = write_rows(alloc, db.graph(), before, all, steps)?;
+    let made = carry_write(alloc, db.graph(), rows, written, steps)?;
     Ok(Making { copies, made })
-}
-
-/// The auxiliary tables of the operators of the tree, of what was made.
-pub(crate) fn make_auxes<O: Operator, L: Ledger>(
-    alloc: Global,
-    db: &Db<O>,
-    tree: &Tree,
-    making: &Making,
-    steps: &mut Steps<L>,
-) -> Result<List<Numbered<Aux>>, Memory>
-    requires { Each (IsRelatedAt O.meaning db.now.graph.edges (made_over making.now))
-        tree.now.operators }
-    ensures auxes { IfOk result (AreAuxesOf O.meaning db.now.graph.edges db.now.layout.operators
-        (made_over making.now) tree.now.operators) }
-    ensures steps { AuxesWithin O.meaning db.now.graph.edges (made_over making.now)
-        tree.now.operators steps.old steps.new }
-{
-    let before = Before {
-        tables: making.copies.tables.as_slice(),
-        memories: making.copies.memories.as_slice(),
-        next: db.ids().next(),
-    };
-    auxes_in(
-        alloc,
-        db.graph(),
-        db.layout(),
-        before,
-        &making.made,
-        tree.operators.as_slice(),
-        steps,
-    )
 }

@@ -1,23 +1,22 @@
 //! The plan of a write.
 ghost use Rattle.std.specs.Prelude.{◌≡◌, ◌+◌, ◌*◌, ◌≤◌, length, map, IfOk};
-ghost use Rattle.row_store.specs.Changes.{AreOld};
+ghost use Rattle.row_store.specs.Changes.{AreOld, ChangesRise};
 ghost use Rattle.row_changes.specs.Touched.{AllPass};
-ghost use Rattle.version_graph.specs.Sets.{In, Each};
+ghost use Rattle.version_graph.specs.Sets.{In};
 ghost use Rattle.version_graph.specs.Edges.{numbers};
 ghost use Rattle.op_law.specs.Calls.{first_refused};
 ghost use Rattle.op_law.specs.Identifiers.{IdsRise};
 ghost use Rattle.version_model.specs.Writes.{MayWrite};
-ghost use Rattle.db_state.specs.Calls.{IsRelatedAt};
 ghost use Rattle.db_state.specs.Fields.{database_for, state_for};
 ghost use Rattle.db_state.specs.Parts.{passes, AreLocalAt, Ascends, MaySee, SeenWithin};
-ghost use Rattle.write_propagation.specs.Bounds.{HasSeen, PlansWithin};
+ghost use Rattle.write_propagation.specs.Bounds.{PlansWithin};
 ghost use Rattle.write_propagation.specs.Plans.{rows_written, IsSame, Plans};
 ghost use Rattle.write_propagation.specs.Room.{HasOld, IsReadyFor};
-ghost use Rattle.write_propagation.specs.Making.{made_over, AreAsManyMade, IsPlanOf, MayPlan};
+ghost use Rattle.write_propagation.specs.Making.{IsPlanOf, MayChangeAuxes, MayPlan};
 
 use crate::copies::{kept_of, memories_of};
-use crate::differing::{aux_changes, table_changes};
-use crate::making::{Making, make_auxes, make_write};
+use crate::differing::{table_changes, tree_aux_changes};
+use crate::making::{Making, make_write};
 use crate::plans::{Plan, RowWrite};
 use crate::room::make_room;
 use crate::tree::{Tree, tree_of};
@@ -50,24 +49,15 @@ fn plan_of<O: Operator, L: Ledger>(
     sight: Sight<'_>,
     steps: &mut Steps<L>,
 ) -> Result<Plan, Memory>
-    requires related { Each (IsRelatedAt O.meaning db.now.graph.edges (made_over making))
-        tree.now.operators }
     requires ascends { Ascends sight }
-    requires many { AreAsManyMade O.meaning db.now tree.now making }
-    requires may { MaySee O.meaning db.now.graph.edges tree.now.operators sight }
-    requires seen { HasSeen sight (made_over making) }
+    requires sees { MaySee O.meaning db.now.graph.edges tree.now.operators sight }
+    requires may { MayChangeAuxes O.meaning db.now (passes sight) making tree.now.operators }
     ensures plans { IfOk result (IsPlanOf O.meaning db.now tree.now (passes sight.entry) making) }
     ensures steps { SeenWithin 8 sight.entry (length tree.now.operators) steps.old steps.new }
 {
-    let newer = make_auxes(alloc, db, tree, &making, steps)?;
-    let auxes = aux_changes(alloc, db.aux(), newer.as_slice(), sight)?;
+    let auxes = tree_aux_changes(alloc, db, tree, &making, sight, steps)?;
     let numbers = kept_of(alloc, db.stored(), tree.tables.as_slice())?;
-    let stored = table_changes(
-        alloc,
-        making.copies.tables.as_slice(),
-        making.made.tables.as_slice(),
-        numbers.as_slice(),
-    )?;
+    let stored = table_changes(alloc, making.made.tables.as_slice(), numbers.as_slice())?;
     let Making { copies: _, made } = making;
     Ok(Plan {
         stored,
@@ -89,6 +79,7 @@ fn plan_seen<O: Operator, L: Ledger>(
     requires may { MayPlan O.meaning db.now tree.now written }
     requires sees { MaySee O.meaning db.now.graph.edges tree.now.operators sight }
     requires named { AllPass (passes sight) written.changes }
+    requires rise { ChangesRise 0 written.changes }
     ensures plans { Plans O.meaning db.now written.set written.table
         (rows_written O.meaning db.now written) written.ids.next result }
     ensures old { IfOk result (HasOld db.now) }

@@ -1,10 +1,11 @@
+use Rattle.std.proofs.Common.{length, arith}
 use Rattle.std.proofs.lemmas.Result.{err_from_is_err_and}
 use Rattle.db_state.specs.Parts.{passes}
 use Rattle.db_state.proofs.BoundLaws.{seen_less, seen_sum}
-use Rattle.std.proofs.Common.{length, arith}
-use Rattle.write_propagation.proofs.SeenLemmas.{related_again}
+use Rattle.write_propagation.proofs.AuxLemmas.{sees_rise}
+use Rattle.write_propagation.proofs.SeenLemmas.{may_change_auxes}
 use Rattle.write_propagation.proofs.ShownLemmas.{shown}
-use Rattle.write_propagation.proofs.PlanLemmas.{are_many, has_old, planned, refused}
+use Rattle.write_propagation.proofs.PlanLemmas.{has_old, planned, refused}
 use Rattle.write_propagation.proofs.planning.plan_seen.Goals as goal
 
 pub returns-in_err-making-clause-plans : goal.returns-in_err-making-clause-plans
@@ -17,18 +18,12 @@ returns-in_err-making-clause-plans g c =
     let p = err_from_is_err_and c.from_residual.result c.from_residual.ensures.1 in
     rw (p.1, p.2) (refused m laws d may.kept c.args.tree.now c.args.written may (passes c.args.sight) shows c.in_err-making.field-0.0 c.in_err-making.ensures.makes)
 
-pub plan_of-requires-clause-related : goal.plan_of-requires-clause-related
-plan_of-requires-clause-related g c =
-    related_again g.O.Operator.meaning g.met.O.Operator.laws c.args.db.now c.requires.may.kept c.args.tree.now c.args.written c.requires.may c.args.sight c.requires.sees c.requires.named c.in_ok-making.making c.in_ok-making.ensures.makes.made
+pub plan_of-requires-clause-ascends : goal.plan_of-requires-clause-ascends
+plan_of-requires-clause-ascends g c = sees_rise g.O.Operator.meaning c.args.db.now.graph.edges c.args.tree.now.operators c.args.sight c.requires.sees
 
-pub plan_of-requires-clause-many : goal.plan_of-requires-clause-many
-plan_of-requires-clause-many g c =
-    let m = g.O.Operator.meaning in
-    let laws = g.met.O.Operator.laws in
-    let d = c.args.db.now in
-    let may = c.requires.may in
-    let shows = shown m laws d may.kept c.args.tree.now c.args.written may c.args.sight c.requires.sees c.requires.named in
-    are_many m laws d may.kept c.args.tree.now c.args.written may (passes c.args.sight) shows c.in_ok-making.making c.in_ok-making.ensures.makes
+pub plan_of-requires-clause-may : goal.plan_of-requires-clause-may
+plan_of-requires-clause-may g c =
+    may_change_auxes g.O.Operator.meaning g.met.O.Operator.laws c.args.db.now c.requires.may.kept c.args.tree.now c.args.written c.requires.may c.args.sight c.requires.sees c.requires.named c.in_ok-making.making c.in_ok-making.ensures.makes
 
 pub returns-clause-plans : goal.returns-clause-plans
 returns-clause-plans g c =

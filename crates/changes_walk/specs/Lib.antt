@@ -1,0 +1,6 @@
+pub mod Changing
+pub mod Reading
+pub mod Whole
+pub mod Calls
+pub mod Bounds
+pub mod Auxiliary

@@ -1,0 +1,47 @@
+use Rattle.std.proofs.Common.{◌≡◌, ℕ, List, Some, ap, sym, ◌∙◌, subst}
+use Rattle.op_law.specs.Local.{only}
+use Rattle.op_law.specs.declared.side.Aux.{Aux}
+use Rattle.version_model.specs.Kept.{auxes_at}
+use Rattle.version_model.specs.declared.numbered.Numbered.{Numbered}
+use Rattle.id_memory.specs.States.{CounterState}
+use Rattle.layout_rules.specs.declared.layout.Layout.{Layout}
+use Rattle.version_graph.specs.Edges.{Drawn}
+use Rattle.version_graph.specs.Forest.{Link, forest}
+use Rattle.version_graph.specs.Sets.{In}
+use Rattle.changes_walk.specs.Auxiliary.{MayChangeAux}
+use Rattle.version_model.specs.Calls.{crossing_of}
+use Rattle.storage_law.specs.Storage.{stored_way}
+use Rattle.db_state.specs.Parts.{passes}
+use Rattle.write_propagation.specs.Making.{copied_state}
+use Rattle.write_propagation.proofs.AuxLemmas.{change_is, change_takes, may_change, told_way}
+use Rattle.write_propagation.proofs.differing.aux_change.Goals as goal
+
+pub aux_changes-requires-clause-may : goal.aux_changes-requires-clause-may
+aux_changes-requires-clause-may g c =
+    let m = g.O.Operator.meaning in
+    let d = c.args.db.now in
+    let over = crossing_of c.in-Some.over in
+    let next_is : c.next.result ≡ d.ids.next = c.next.ensures.value ∙ ap (λ (x : CounterState). x.next) c.ids.ensures in
+    subst (λ (k : ℕ). MayChangeAux m (copied_state c.args.making.now.copies k) c.args.making.now.made over) (sym next_is)
+    (may_change m d c.args.making.now c.args.number over (told_way d c.args.number over c.graph.result.now c.layout.result.now c.graph.ensures.graph c.layout.ensures c.in-Some.ensures) (passes c.args.sight) c.requires.may)
+
+pub returns-clause-change : goal.returns-clause-change
+returns-clause-change g c =
+    let d = c.args.db.now in
+    let over = crossing_of c.in-Some.over in
+    change_is g.O.Operator.meaning d c.args.making.now c.args.number over (told_way d c.args.number over c.graph.result.now c.layout.result.now c.graph.ensures.graph c.layout.ensures c.in-Some.ensures) (passes c.args.sight) c.requires.may
+    _ c.in_ok-change.change.tables (c.in_ok-aux.ensures ∙ ap (λ (l : List (Numbered Aux)). only (passes c.args.sight) (auxes_at l c.args.number)) c.aux.ensures) c.in_ok-change.ensures.answer
+
+pub returns-in_err-change-clause-steps : goal.returns-in_err-change-clause-steps
+returns-in_err-change-clause-steps g c =
+    let d = c.args.db.now in
+    let over = crossing_of c.in-Some.over in
+    change_takes g.O.Operator.meaning d c.args.making.now c.args.number over (told_way d c.args.number over c.graph.result.now c.layout.result.now c.graph.ensures.graph c.layout.ensures c.in-Some.ensures) c.args.sight c.requires.may c.requires.sees
+    c.args.steps.now c.aux_changes.new.steps c.in_err-change.ensures.steps
+
+pub returns-clause-steps : goal.returns-clause-steps
+returns-clause-steps g c =
+    let d = c.args.db.now in
+    let over = crossing_of c.in-Some.over in
+    change_takes g.O.Operator.meaning d c.args.making.now c.args.number over (told_way d c.args.number over c.graph.result.now c.layout.result.now c.graph.ensures.graph c.layout.ensures c.in-Some.ensures) c.args.sight c.requires.may c.requires.sees
+    c.args.steps.now c.aux_changes.new.steps c.in_ok-change.ensures.steps
