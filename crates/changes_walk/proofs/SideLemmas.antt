@@ -113,14 +113,4 @@ put_same m k pairs same = fun_ext (λ n.
     let both : M (n == k) = elim (n == k) as (λ b. M b) [ true ↦ λ e. same ∙ ap m (sym (eqb-true n k e)) | false ↦ λ e. refl ] in
     both refl)
 
-pub pairs_push : (old : ℕ → Pairs) (items : List (Numbered MemoryState)) (c : Numbered MemoryState) → latest_pairs old (items ++ c ∷ []) ≡ put (latest_pairs old items) (c.number ∷ []) (c.value.entries ∷ [])
-pairs_push old items c = fun_ext (λ n.
-    let M : Bool → Type 0 = λ b. newer_pairs (looked b c (latest_of items n)) (old n) ≡ (if b then c.value.entries else latest_pairs old items n) in
-    let both : M (n == c.number) = elim (n == c.number) as (λ b. M b) [ true ↦ refl | false ↦ refl ] in
-    ap (λ (o : Option MemoryState). newer_pairs o (old n)) (latest_push items c n) ∙ both)
-
 -- ---- a side of the pair that is read
-
-pub side_is : (of_target : Bool) (s : State) (source target : List ℕ) (number : ℕ) → side_at of_target (read_pair s source target number) ≡ map s.tables (numbers_at of_target source target)
-side_is false s source target number = refl
-side_is true s source target number = refl

@@ -76,10 +76,6 @@ module _ {O : Type 0} (meaning : O → Meaning) (d : Parts O) (making : Making) 
       after = related_over (made_over making) may.new;
     }
 
-    -- those that are seen are those of what was copied
-    pub aux_is : only test (auxes_at d.aux n) ≡ aux_beside meaning old over
-    aux_is = may.aux may.old.over may.old.lives may.old.number ∙ ap (aux_beside meaning old) (sym (way_of may.old.over may.old.lives may.old.number))
-
     -- and their changes are those from the ones to the others
     pub change_is : (aux : Tables) (changes : TableChanges) → aux ≡ only test (auxes_at d.aux n) → AreDifferences aux (aux_beside meaning (made_over making) over) changes → (e : Link O) → In e (forest es) → e.number ≡ n → AreDifferences (only test (auxes_at d.aux n)) (auxes_over meaning d (made_over making) e) changes
     change_is aux changes same differs e i number =

@@ -20,10 +20,6 @@ use Rattle.version_model.proofs.LiveLaws.{value_passes}
 use Rattle.version_model.proofs.NumberedLaws.{looked, value_of_first}
 use Rattle.db_state.proofs.FieldLaws.{none_at}
 
--- what was turned twice is as it was
-pub in_turned : {X : Type 0} (x : X) (xs : List X) → In x (reverse xs) → In x xs
-in_turned {X} x xs i = subst (λ (l : List X). In x l) (reverse-reverse xs) (in_reverse x (reverse xs) i)
-
 module _ {T : Type 0} where
   -- the value under a listed number is that of an item
   pub item_at : (items : List (Numbered T)) (n : ℕ) → In n (numbers_in items) → (i : Numbered T) × In i items × (value_of items n ≡ Some i.value) × (i.number ≡ n)
@@ -36,20 +32,6 @@ module _ {T : Type 0} where
             let m = item_at xs n later in
             (m.0, inr m.1, value_of_first x xs n ∙ ap (λ b. looked b x (value_of xs n)) is ∙ m.2, m.3)
       ]) refl
-
-  -- and so is the last one
-  pub latest_at : (items : List (Numbered T)) (n : ℕ) → In n (numbers_in items) → (i : Numbered T) × In i items × (latest_of items n ≡ Some i.value) × (i.number ≡ n)
-  latest_at items n h =
-      let o = origin (λ (i : Numbered T). i.number) n items h in
-      let there : In n (numbers_in (reverse items)) = subst (λ (k : ℕ). In k (numbers_in (reverse items))) (sym o.2) (in_map (λ (i : Numbered T). i.number) o.0 (reverse items) (in_reverse o.0 items o.1)) in
-      let m = item_at (reverse items) n there in
-      (m.0, in_turned m.0 items m.1, m.2, m.3)
-
-  pub latest_none : (items : List (Numbered T)) (n : ℕ) → (In n (numbers_in items) → ⊥) → latest_of items n ≡ None
-  latest_none items n none =
-      none_at (reverse items) n (λ h.
-      let o = origin (λ (i : Numbered T). i.number) n (reverse items) h in
-      none (subst (λ (k : ℕ). In k (numbers_in items)) (sym o.2) (in_map (λ (i : Numbered T). i.number) o.0 items (in_turned o.0 items o.1))))
 
 -- ---- what is seen of the values
 
@@ -81,15 +63,6 @@ module _ {T V : Type 0} (see : T → V) where
     told_values (x ∷ xs) (n ∷ ns) is i (inr h) =
         let tail : told xs ≡ held f ns = cc in
         told_values xs ns tail i h
-
-    -- the last value of a listed number
-    pub latest_told : (items : List (Numbered T)) (ns : List ℕ) → told items ≡ held f ns → (n : ℕ) → In n ns → (y : T) × (latest_of items n ≡ Some y) × (see y ≡ f n)
-    latest_told items ns is n h =
-        let m = latest_at items n (subst (λ (l : List ℕ). In n l) (sym (told_numbers items ns is)) h) in
-        (m.0.value, m.2, told_values items ns is m.0 m.1 ∙ ap f m.3)
-
-    pub latest_untold : (items : List (Numbered T)) (ns : List ℕ) → told items ≡ held f ns → (n : ℕ) → (In n ns → ⊥) → latest_of items n ≡ None
-    latest_untold items ns is n none = latest_none items n (λ h. none (subst (λ (l : List ℕ). In n l) (told_numbers items ns is) h))
 
     -- the first value of a listed number, and of another one
     pub seen_told : (items : List (Numbered T)) (ns : List ℕ) → told items ≡ held f ns → (n : ℕ) → In n ns → (none : V) → option_map_or see (value_of items n) none ≡ f n

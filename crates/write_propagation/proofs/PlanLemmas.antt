@@ -60,7 +60,7 @@ use Rattle.write_propagation.proofs.WholeLemmas.{IsInside, has_held, lives, oper
 use Rattle.storage_law.proofs.LinkLaws.{not_in_false}
 use Rattle.id_memory.specs.Pairs.{Pairs}
 use Rattle.write_propagation.specs.declared.plans.Plan.{Plan}
-use Rattle.write_propagation.proofs.ShownLemmas.{Shows, as_many, end_sound, related_in}
+use Rattle.write_propagation.proofs.ShownLemmas.{Shows, end_sound, related_in}
 
 module _ {O : Type 0} (meaning : O → Meaning) (laws : (o : O) → Laws (meaning o)) (d : Parts O) (good : IsDatabase meaning d) (tree : Tree) (w : RowWrite) (plans : MayPlan meaning d tree w)
     (test : ℕ → Bool) (shows : Shows meaning d tree w test) where
@@ -79,9 +79,6 @@ module _ {O : Type 0} (meaning : O → Meaning) (laws : (o : O) → Laws (meanin
 
   abbrev small : State
   small = seen_write meaning d tree w test
-
-  abbrev fails : ℕ → Bool
-  fails = λ id. not (test id)
 
   of_tree : IsWhole es tree
   of_tree = whole es good.graph.edges w.set tree plans.walked

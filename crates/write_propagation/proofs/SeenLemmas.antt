@@ -88,11 +88,6 @@ all_pass : (cs : List Change) → AllPass (passes All) cs
 all_pass [] = tt
 all_pass (c ∷ cs) = (refl, all_pass cs)
 
--- identifiers that rise are those of changes that do
-pub rise_named : (n : ℕ) (cs : List Change) → IdsRise n (ids_of cs) → ChangesRise n cs
-rise_named n [] rise = tt
-rise_named n (c ∷ cs) rise = (rise.0, rise_named (c.id + 1) cs rise.1)
-
 module _ {O : Type 0} (meaning : O → Meaning) (laws : (o : O) → Laws (meaning o)) (d : Parts O) (good : IsDatabase meaning d) (tree : Tree) (w : RowWrite) (plans : MayPlan meaning d tree w) where
   abbrev es : List (Placed O)
   es = d.graph.edges

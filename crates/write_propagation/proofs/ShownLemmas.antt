@@ -41,10 +41,6 @@ use Rattle.write_propagation.proofs.WholeLemmas.{IsInside, walk_inside, whole}
 use Rattle.db_state.specs.declared.sight.Sight.{Sight}
 use Rattle.db_state.specs.declared.sight.Sight.TheVariants.{All, Of}
 
--- tables that are the same where a test fails are as many
-pub as_many : (test : ℕ → Bool) (ts us : Tables) → only test ts ≡ only test us → length ts ≡ length us
-as_many test ts us same = sym (length-map ts (rows_only test)) ∙ ap length same ∙ length-map us (rows_only test)
-
 -- where all pass, all rows do, and none fails
 all_tables : (test : ℕ → Bool) → ((q : ℕ) → test q ≡ true) → (ts : Tables) → only test ts ≡ ts
 all_tables test all [] = refl

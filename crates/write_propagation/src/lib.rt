@@ -5,10 +5,10 @@
 //! model's is. `plan` makes everything that may fail and changes no contents; `commit` puts the plan
 //! into the database and takes no memory, so a write is made whole or not at all; `revert` takes it
 //! back with what `commit` gave, without memory too, and the old database is there again
-//! (`specs/Undo.antt`). A write reads, makes and puts tables of its own tree alone; where every
-//! operator of the tree treats each identifier by itself, it reads, makes and puts the rows of the
-//! identifiers that it names, and no others. The crate knows operators by their laws alone, and
-//! nothing of names in statements or of replies.
+//! (`specs/Undo.antt`). A write is carried along its own tree by its changes, and what is put in are the
+//! changes of what is kept; where every operator of the tree treats each identifier by itself, it
+//! reads the rows of the identifiers that it names, and no others. The crate knows operators by their
+//! laws alone, and nothing of names in statements or of replies.
 //!
 //! Lemmas that crates above may use stand in proofs/: `PlanLaws`.
 #![tactic(auto)]
