@@ -2,7 +2,7 @@
 use crate::case::{Case, Script, first_word, joined};
 use crate::checks::{check, compare};
 use crate::marked::unmarked;
-use crate::running::{ROOM, Told, no_files};
+use crate::running::{ROOM, Told, no_files, ran_out};
 use outside::MemoryFiles;
 use std::alloc::Global;
 use std::test::Fail;
@@ -105,10 +105,13 @@ impl Book {
     fn add_files(&self, alloc: Global, case: &Case, files: &mut MemoryFiles) -> Result<(), Fail> {
         for line in case.text.as_str().lines() {
             if let Some(name) = line.strip_prefix(": vacant ") {
-                files.add_room(alloc, name, ROOM)?;
+                files.add_room(alloc, name, ROOM).map_err(ran_out)?;
             } else if let Some(option) = line.strip_prefix(": file ") {
                 let (name, value) = first_word(option);
-                files.add(alloc, name, self.bytes(alloc, value)?.as_slice(), ROOM)?;
+                let bytes = self.bytes(alloc, value)?;
+                files
+                    .add(alloc, name, bytes.as_slice(), ROOM)
+                    .map_err(ran_out)?;
             }
         }
         Ok(())

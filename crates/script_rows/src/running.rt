@@ -55,15 +55,20 @@ pub fn run(
     let puts = vec![in alloc; case.number("put", NEVER)?]?;
     let words = words_of(alloc, words)?;
     let mut source = MemorySource::new(script, PIECE, takes);
-    let mut sink = MemorySink::new(alloc, room, TAKEN, puts)?;
+    let mut sink = MemorySink::new(alloc, room, TAKEN, puts).map_err(ran_out)?;
     let status = inverda(alloc, words.as_slice(), &mut source, &mut sink, files) as u64;
     Told::new(alloc, status, sink.bytes())
+}
+
+/// Memory ran out.
+pub fn ran_out<E: Drop>(_error: E) -> Fail {
+    Fail::new(format_args!("memory ran out"))
 }
 
 /// Runs a script that is dumped at its end, and another one over that dump. The status is the greater one.
 pub fn run_both(alloc: Global, case: &Case, first: &str, second: &str) -> Result<Told, Fail> {
     let mut files = no_files(alloc);
-    files.add_room(alloc, "f", ROOM)?;
+    files.add_room(alloc, "f", ROOM).map_err(ran_out)?;
     let begun = run(alloc, case, "--dump f", first, ROOM, &mut files)?;
     let more = run(alloc, case, "--load f", second, ROOM, &mut files)?;
     let status = begun.status.max(more.status);
