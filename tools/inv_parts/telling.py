@@ -27,7 +27,7 @@ HINTS = [
     (b"(" + rb"|".join(sorted(
         b"add advise and as begin column commit csv decompose default fk foreign from in into is join key layout merge "
         b"not null on or outer pk primary rename rollback schema set split step steps table to tracked unwatch values "
-        b"version watch where with".split())) + rb")\b", "a reserved word can't be a name"),
+        b"version watch where with".split())) + rb")\b", "is a word missing before it, or another one due? A reserved word, it can't be a name"),
 ]
 
 LAST_LINES = {
