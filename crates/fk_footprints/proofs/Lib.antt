@@ -1,0 +1,5 @@
+mod PartLemmas
+mod JoinPartLemmas
+mod DrawPartLemmas
+pub mod JoinForwardLaws
+pub mod JoinBackwardLaws
