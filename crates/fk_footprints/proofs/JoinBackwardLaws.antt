@@ -28,7 +28,7 @@ use Rattle.op_fk_join.specs.inner.ColumnLemmas.{fits}
 use Rattle.op_fk_join.specs.inner.JoinLaws.{target_one, source_two}
 use Rattle.fk_footprints.specs.Closed.{BringsGoals}
 use Rattle.fk_footprints.specs.JoinBackward.{BringsLeast, IsClosedJoinBack, ClosedIsJoinBackFootprint}
-use Rattle.fk_footprints.proofs.PartLemmas.{part_may, first_only, second_only, low, near_same, part_is, rest_is}
+use Rattle.fk_footprints.proofs.PartLemmas.{part_may, first_only, second_only, low, first_same, part_is, rest_is}
 use Rattle.fk_footprints.proofs.JoinPartLemmas.{goal_in, join_in, join_part}
 use Rattle.fk_footprints.proofs.DrawPartLemmas.{drawn_same, numbered_low}
 
@@ -179,7 +179,7 @@ module _ (Fits : List Heading → List Heading → Type 0) (k : FkParts) (w a b 
 
   -- R is as it was where nothing passes, and joined there
   still : (q : ℕ) → P q ≡ false → row_of new q ≡ joined_row k (row_of s q) t
-  still q e = near_same ids n p.source near (all_rise may.hs p.source may.may.sound.pair.source_of) c.touches q e ∙ may.may.sound.pair.related.1 q
+  still q e = first_same ids n p.source near (all_rise may.hs p.source may.may.sound.pair.source_of) c.touches q e ∙ may.may.sound.pair.related.1 q
 
   -- the part draws for the same values
   part_drawn : join_drawn k (rows_only P s) (rows_only P t) (rows_only P new) ≡ d

@@ -22,7 +22,7 @@ use Rattle.op_fk_join.specs.inner.ColumnLemmas.{fits}
 use Rattle.op_fk_join.specs.inner.JoinLaws.{joined_at, target_one, source_two, table_rise}
 use Rattle.fk_footprints.specs.Closed.{BringsGoals}
 use Rattle.fk_footprints.specs.JoinForward.{IsClosedJoin, ClosedIsJoinFootprint}
-use Rattle.fk_footprints.proofs.PartLemmas.{part_may, first_only, second_only, near_same, part_is, rest_is}
+use Rattle.fk_footprints.proofs.PartLemmas.{part_may, first_only, second_only, first_same, part_is, rest_is}
 use Rattle.fk_footprints.proofs.JoinPartLemmas.{at_same, join_in, join_part}
 
 -- two tables that have the same where a row of S refers join it in the same way
@@ -89,7 +89,7 @@ module _ (Fits : List Heading → List Heading → Type 0) (k : FkParts) (w a b 
   rest_row : (q : ℕ) → P q ≡ false → row_of (join_table k new_s new_t) q ≡ row_of r q
   rest_row q e =
       joined_at k new_s new_t q
-      ∙ ap (λ (x : Cell). joined_row k x new_t) (near_same ids n p.source near (all_rise may.hs p.source may.may.sound.pair.source_of) c.touches q e)
+      ∙ ap (λ (x : Cell). joined_row k x new_t) (first_same ids n p.source near (all_rise may.hs p.source may.may.sound.pair.source_of) c.touches q e)
       ∙ join_same k (row_of s q) new_t t (λ v f is goal. c.others q v f e is goal)
       ∙ sym (may.may.sound.pair.related.1 q)
 

@@ -1,6 +1,6 @@
 -- Parts of a pair: what stands at the identifiers that pass.
-use Rattle.std.proofs.Common.{◌≡◌, ℕ, ◌<◌, List, [], ◌∷◌, Bool, true, false, not, cond, None, refl, ap, sym, ◌∙◌, arith}
-use Rattle.std.proofs.lemmas.Bool.{not-true}
+use Rattle.std.proofs.Common.{◌≡◌, ℕ, ◌<◌, ◌≤◌, List, [], ◌∷◌, Bool, true, false, not, cond, None, refl, ap, sym, ◌∙◌, arith}
+use Rattle.std.proofs.lemmas.Bool.{not-true, or_right}
 use Rattle.std.proofs.lemmas.Bool.Decides.{nat_tests}
 use Rattle.std.specs.Prelude.{◌||◌, nat_lt}
 use Rattle.row_store.specs.Rows.{Rows, RiseFrom, row_of}
@@ -68,17 +68,30 @@ second_only P (t ∷ ts) = first_only P ts
 pub low : (ids : List ℕ) (n q : ℕ) → passes ids n q ≡ false → q < n
 low ids n q e = grind (arith, nat_tests)
 
--- and isn't listed
+-- one that wasn't passes
+pub high : (ids : List ℕ) (n q : ℕ) → n ≤ q → passes ids n q ≡ true
+high ids n q h = let no : nat_lt q n ≡ false = grind (arith, nat_tests) in or_right (has_id ids q) (not (nat_lt q n)) (ap not no)
+
+-- an identifier that doesn't pass isn't listed
 unlisted : (a b : Bool) → not (a || b) ≡ true → a ≡ false
 unlisted true b e = absurd (cc)
 unlisted false b e = refl
 
 -- what doesn't pass is as it was
-pub near_same : (ids : List ℕ) (n : ℕ) (ts : Tables) (near : TableChanges) → AllRise ts → EachPass (has_id ids) near → (q : ℕ) → passes ids n q ≡ false → row_of (first_table (changed_tables ts near)) q ≡ row_of (first_table ts) q
-near_same ids n ts near rise touches q e =
+sides_same : (ids : List ℕ) (n : ℕ) (ts : Tables) (near : TableChanges) → AllRise ts → EachPass (has_id ids) near → only (λ q. not (passes ids n q)) (changed_tables ts near) ≡ only (λ q. not (passes ids n q)) ts
+sides_same ids n ts near rise touches = other_changes (has_id ids) (λ q. not (passes ids n q)) ts near rise touches (λ q h. unlisted (has_id ids q) (not (nat_lt q n)) h)
+
+-- in the first table
+pub first_same : (ids : List ℕ) (n : ℕ) (ts : Tables) (near : TableChanges) → AllRise ts → EachPass (has_id ids) near → (q : ℕ) → passes ids n q ≡ false → row_of (first_table (changed_tables ts near)) q ≡ row_of (first_table ts) q
+first_same ids n ts near rise touches q e =
     let Q : ℕ → Bool = λ q. not (passes ids n q) in
-    let same : only Q (changed_tables ts near) ≡ only Q ts = other_changes (has_id ids) Q ts near rise touches (λ q h. unlisted (has_id ids q) (not (nat_lt q n)) h) in
-    same_rows Q (first_table (changed_tables ts near)) (first_table ts) q (ap not e) (sym (first_only Q (changed_tables ts near)) ∙ ap first_table same ∙ first_only Q ts)
+    same_rows Q (first_table (changed_tables ts near)) (first_table ts) q (ap not e) (sym (first_only Q (changed_tables ts near)) ∙ ap first_table (sides_same ids n ts near rise touches) ∙ first_only Q ts)
+
+-- and in the second
+pub second_same : (ids : List ℕ) (n : ℕ) (ts : Tables) (near : TableChanges) → AllRise ts → EachPass (has_id ids) near → (q : ℕ) → passes ids n q ≡ false → row_of (second_table (changed_tables ts near)) q ≡ row_of (second_table ts) q
+second_same ids n ts near rise touches q e =
+    let Q : ℕ → Bool = λ q. not (passes ids n q) in
+    same_rows Q (second_table (changed_tables ts near)) (second_table ts) q (ap not e) (sym (second_only Q (changed_tables ts near)) ∙ ap second_table (sides_same ids n ts near rise touches) ∙ second_only Q ts)
 
 -- a table that has what another has of what passes, and nothing else, is the part of the other
 pub part_is : (P : ℕ → Bool) (t whole : Rows) → RiseFrom 0 t → RiseFrom 0 whole → ((q : ℕ) → P q ≡ true → row_of t q ≡ row_of whole q) → ((q : ℕ) → P q ≡ false → row_of t q ≡ None) → t ≡ rows_only P whole

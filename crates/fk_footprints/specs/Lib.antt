@@ -1,3 +1,5 @@
 pub mod Closed
 pub mod JoinForward
 pub mod JoinBackward
+pub mod DecomposeBackward
+pub mod DecomposeForward
