@@ -1,5 +1,5 @@
 -- DECOMPOSE ON FK, from S and T: closed identifiers are a footprint.
-use Rattle.std.proofs.Common.{◌≡◌, ℕ, ◌+◌, List, [], ◌∷◌, Bool, true, false, not, length, Some, None, refl, ap, sym, ◌∙◌}
+use Rattle.std.proofs.Common.{◌≡◌, ℕ, ◌+◌, List, [], ◌∷◌, Bool, true, false, not, length, Some, refl, ap, sym, ◌∙◌}
 use Rattle.std.proofs.lemmas.Bool.{false≢true}
 use mathlib.Core.Logic.{inl, inr}
 use Rattle.par_base.specs.declared.value.Value.{Value}
@@ -151,6 +151,6 @@ module _ (Fits : List Heading → List Heading → Type 0) (k : FkParts) (w a b 
   }
 
 -- CLOSED IDENTIFIERS ARE A FOOTPRINT
-pub closed_decompose_back : (first second : List ℕ) (place : ℕ) → ClosedIsDecomposeBackFootprint first second place
+pub closed_decompose_back : ClosedIsDecomposeBackFootprint
 closed_decompose_back first second place near p n ids may c =
     decompose_back_footprint (DecomposeFits first second place) (column_parts first second place) (length first + length second) (length first) (length second) (length first + 1) (fits first second place) near p n ids may c

@@ -1,5 +1,5 @@
 -- DECOMPOSE ON FK, from R: the mapping of a part is the part of the mapping.
-use Rattle.std.proofs.Common.{◌≡◌, ℕ, ◌+◌, ◌<◌, List, [], ◌∷◌, Bool, true, false, not, ◌&&◌, ◌||◌, cond, Option, Some, None, refl, ap, sym, ◌∙◌, arith}
+use Rattle.std.proofs.Common.{◌≡◌, ℕ, ◌+◌, List, [], ◌∷◌, Bool, true, false, not, ◌&&◌, ◌||◌, cond, Option, Some, None, refl, ap, sym, ◌∙◌}
 use Rattle.par_base.specs.declared.value.Value.{Value}
 use Rattle.par_base.specs.declared.value.Value.TheVariants.{Null, Reference}
 use Rattle.par_base.specs.SameRows.{same_row}
@@ -10,20 +10,18 @@ use Rattle.op_law.proofs.OnlyLaws.{row_in, row_out, rise_only}
 use Rattle.op_rows.specs.Cells.{first_cell, other_cells, table_from}
 use Rattle.op_rows.specs.inner.CellLemmas.{none_at}
 use Rattle.op_rows.specs.inner.Tabulated.{row_from}
-use Rattle.row_parts.specs.RowCells.{Cell, is_there, or_else, kept_if, map_cell, in_cell, id_or, by_test, by_option}
+use Rattle.row_parts.specs.RowCells.{Cell, is_there, or_else, kept_if, map_cell, in_cell, id_or, by_test}
 use Rattle.op_tables.specs.Lookups.{one_at, one_rise, three_rise}
 use Rattle.foreign_keys.specs.KeyParts.{FkParts}
 use Rattle.foreign_keys.specs.References.{referred, far_part}
-use Rattle.foreign_keys.specs.DrawnIds.{numbered, place}
+use Rattle.foreign_keys.specs.DrawnIds.{place}
 use Rattle.foreign_keys.specs.Least.{least_with}
-use Rattle.foreign_keys.specs.inner.DrawnLemmas.{numbered_rise}
 use Rattle.op_fk_decompose.specs.Decompose.{alone, may_share, least_in, how_in, how, draws_for, needs, ref, near_row, made_row, new_first, second_from, new_s, t_from}
 use Rattle.op_fk_decompose.specs.inner.DecomposeKept.{alone_none, pick_new}
 use Rattle.fk_footprints.specs.Closed.{BringsGoals}
 use Rattle.fk_footprints.specs.DecomposeForward.{BringsShared}
 use Rattle.fk_footprints.proofs.PartLemmas.{part_is}
 use Rattle.fk_footprints.proofs.DecomposePartLemmas.{far_in, alone_in}
-use Rattle.fk_footprints.proofs.DrawPartLemmas.{numbered_low}
 
 -- a table over the identifiers of three others
 three_at : (a b c : Rows) (f : ℕ → Cell) (q : ℕ) → (row_of a q ≡ None → row_of b q ≡ None → row_of c q ≡ None → f q ≡ None) → row_of (table_from (ids_over (a ∷ b ∷ c ∷ []) []) f) q ≡ f q

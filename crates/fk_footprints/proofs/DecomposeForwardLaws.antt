@@ -1,6 +1,5 @@
 -- DECOMPOSE ON FK, from R: closed identifiers are a footprint.
-use Rattle.std.specs.Prelude.{nat_lt}
-use Rattle.std.proofs.Common.{◌≡◌, ◌⊎◌, ℕ, ◌+◌, ◌≤◌, List, [], ◌∷◌, Bool, true, false, not, length, Some, None, refl, ap, sym, ◌∙◌, arith}
+use Rattle.std.proofs.Common.{◌≡◌, ◌⊎◌, ℕ, ◌+◌, List, [], ◌∷◌, Bool, true, false, not, length, Some, None, refl, ap, sym, ◌∙◌, arith}
 use Rattle.std.proofs.lemmas.Bool.{false≢true}
 use mathlib.Core.Logic.{inl, inr}
 use Rattle.par_base.specs.declared.value.Value.{Value}
@@ -9,7 +8,6 @@ use Rattle.op_law.specs.Tables.{Tables, Heading}
 use Rattle.op_law.specs.Local.{rows_only, only, pair_only}
 use Rattle.op_law.specs.Meaning.{Mapped, Meaning, PairState}
 use Rattle.op_rows.specs.inner.Tabulated.{all_rise}
-use Rattle.row_parts.specs.RowCells.{Cell, in_cell}
 use Rattle.op_tables.specs.Lookups.{One, Two, one_rise, three_rise}
 use Rattle.op_tables.specs.SideTables.{first_table, second_table}
 use Rattle.row_changes.specs.Changed.{TableChanges, changed_tables}
@@ -21,10 +19,10 @@ use Rattle.foreign_keys.specs.DrawnIds.{numbered}
 use Rattle.foreign_keys.specs.Shared.{FkFits}
 use Rattle.foreign_keys.specs.inner.DrawnLemmas.{numbered_rise}
 use Rattle.op_fk_decompose.specs.Columns.{column_parts, DecomposeFits}
-use Rattle.op_fk_decompose.specs.Decompose.{joined, needs, values_drawn, made_row, new_first, second_from, new_s, t_from, target_from, decompose_fk}
+use Rattle.op_fk_decompose.specs.Decompose.{joined, needs, values_drawn, new_first, second_from, new_s, t_from, target_from, decompose_fk}
 use Rattle.op_fk_decompose.specs.inner.ColumnLemmas.{fits}
 use Rattle.op_fk_decompose.specs.inner.DecomposeLaws.{source_of, target_of}
-use Rattle.fk_footprints.specs.Closed.{BringsGoals, Witness}
+use Rattle.fk_footprints.specs.Closed.{Witness}
 use Rattle.fk_footprints.specs.DecomposeForward.{IsClosedDecompose, ClosedIsDecomposeFootprint}
 use Rattle.fk_footprints.proofs.PartLemmas.{part_may, first_only, second_only, low, high, first_same, rest_is}
 use Rattle.fk_footprints.proofs.ReferPartLemmas.{same_referred, part_referred}
@@ -186,6 +184,6 @@ module _ (Fits : List Heading → List Heading → Type 0) (k : FkParts) (w a b 
   }
 
 -- CLOSED IDENTIFIERS ARE A FOOTPRINT
-pub closed_decompose : (first second : List ℕ) (place : ℕ) → ClosedIsDecomposeFootprint first second place
+pub closed_decompose : ClosedIsDecomposeFootprint
 closed_decompose first second place near p n ids may c =
     decompose_footprint (DecomposeFits first second place) (column_parts first second place) (length first + length second) (length first) (length second) (length first + 1) (fits first second place) near p n ids may c

@@ -8,7 +8,7 @@ use Rattle.op_law.proofs.OnlyLaws.{row_in, row_out}
 use Rattle.row_parts.specs.RowCells.{Cell, is_there, row_or, by_test, by_option}
 use Rattle.op_tables.specs.SideTables.{first_table, second_table}
 use Rattle.foreign_keys.specs.KeyParts.{FkParts}
-use Rattle.foreign_keys.specs.References.{goal_of, at_goal, referred, far_part}
+use Rattle.foreign_keys.specs.References.{goal_of, referred, far_part}
 use Rattle.op_fk_decompose.specs.Decompose.{alone, joined_in, joined}
 use Rattle.op_fk_decompose.specs.inner.DecomposeKept.{alone_none, none_joined}
 use Rattle.fk_footprints.specs.Closed.{BringsGoals}

@@ -1,7 +1,6 @@
 -- DECOMPOSE ON FK, from R: rows that are as they were, and to what new rows refer.
 use Rattle.std.proofs.Common.{◌≡◌, ◌⊎◌, ℕ, ◌+◌, ◌≤◌, List, Bool, true, false, not, ◌&&◌, ◌||◌, cond, length, Option, Some, None, refl, ap, sym, ◌∙◌, subst, arith}
-use Rattle.std.proofs.lemmas.Bool.{or_from}
-use mathlib.Core.Logic.{inl, inr}
+use mathlib.Core.Logic.{inl}
 use Rattle.par_base.specs.declared.value.Value.{Value}
 use Rattle.par_base.specs.declared.value.Value.TheVariants.{Null, Reference}
 use Rattle.par_base.specs.SameRows.{same_row}
@@ -9,7 +8,7 @@ use Rattle.par_base.specs.inner.SameLaws.{row_same}
 use Rattle.row_store.specs.Rows.{Rows, row_of}
 use Rattle.op_law.specs.Tables.{RowsWide}
 use Rattle.op_law.proofs.SoundLaws.{wide_at}
-use Rattle.row_parts.specs.RowCells.{Cell, is_there, or_else, kept_if, row_or, map_cell, in_cell, id_or, value_or, by_test, by_option}
+use Rattle.row_parts.specs.RowCells.{Cell, is_there, row_or, map_cell, in_cell, id_or, value_or, by_test, by_option}
 use Rattle.foreign_keys.specs.KeyParts.{FkParts, FkWell}
 use Rattle.foreign_keys.specs.References.{goal_of, at_goal, referred, far_part}
 use Rattle.foreign_keys.specs.DrawnIds.{place}

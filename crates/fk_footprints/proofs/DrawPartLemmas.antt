@@ -17,8 +17,8 @@ pub drawn_same : (k : FkParts) (P : ℕ → Bool) (needs part : ℕ → List Val
 drawn_same k P needs part seen m [] rise same none = refl
 drawn_same k P needs part seen m (x ∷ xs) rise same none =
     let rest =
-        drawn_same k P needs part (cond (needs x.0 x.1) (add_once (k.second x.1) seen) seen) (x.0 + 1) xs rise.1
-        (λ y row at. same y row (later x xs y row rise.1 at)) (λ y row at. none y row (later x xs y row rise.1 at)) in
+    drawn_same k P needs part (cond (needs x.0 x.1) (add_once (k.second x.1) seen) seen) (x.0 + 1) xs rise.1
+    (λ y row at. same y row (later x xs y row rise.1 at)) (λ y row at. none y row (later x xs y row rise.1 at)) in
     by_test (P x.0)
     (λ e. rw e (ap (λ (b : Bool). drawn k part (cond b (add_once (k.second x.1) seen) seen) (rows_only P xs)) (same x.0 x.1 (own_row x xs) e) ∙ rest))
     (λ e. rw e (ap (λ (b : Bool). drawn k part (cond b (add_once (k.second x.1) seen) seen) (rows_only P xs)) (sym (none x.0 x.1 (own_row x xs) e)) ∙ rest))

@@ -233,6 +233,6 @@ module _ (Fits : List Heading → List Heading → Type 0) (k : FkParts) (w a b 
   }
 
 -- CLOSED IDENTIFIERS ARE A FOOTPRINT
-pub closed_join_back : (first second place : ℕ) → ClosedIsJoinBackFootprint first second place
+pub closed_join_back : ClosedIsJoinBackFootprint
 closed_join_back first second place near p n ids may c =
     join_back_footprint (JoinFits first second place) (side_parts (first - 1) second place) ((first - 1) + second) (first - 1) second ((first - 1) + 1) (fits first second place) near p n ids may c

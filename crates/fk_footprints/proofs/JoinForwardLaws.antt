@@ -1,5 +1,5 @@
 -- JOIN ON FK, from S and T: closed identifiers are a footprint.
-use Rattle.std.proofs.Common.{◌≡◌, ℕ, ◌-◌, ◌+◌, List, [], ◌∷◌, Bool, true, false, not, Some, None, refl, ap, sym, ◌∙◌}
+use Rattle.std.proofs.Common.{◌≡◌, ℕ, ◌-◌, ◌+◌, List, [], ◌∷◌, Bool, false, not, Some, None, refl, ap, sym, ◌∙◌}
 use Rattle.par_base.specs.declared.value.Value.{Value}
 use Rattle.row_store.specs.Rows.{Rows, RiseFrom, row_of}
 use Rattle.op_law.specs.Tables.{Tables, Heading}
@@ -20,7 +20,6 @@ use Rattle.op_fk_join.specs.Columns.{side_parts, JoinFits}
 use Rattle.op_fk_join.specs.Join.{joined_row, join_table, join_fk}
 use Rattle.op_fk_join.specs.inner.ColumnLemmas.{fits}
 use Rattle.op_fk_join.specs.inner.JoinLaws.{joined_at, target_one, source_two, table_rise}
-use Rattle.fk_footprints.specs.Closed.{BringsGoals}
 use Rattle.fk_footprints.specs.JoinForward.{IsClosedJoin, ClosedIsJoinFootprint}
 use Rattle.fk_footprints.proofs.PartLemmas.{part_may, first_only, second_only, first_same, part_is, rest_is}
 use Rattle.fk_footprints.proofs.JoinPartLemmas.{at_same, join_in, join_part}
@@ -110,6 +109,6 @@ module _ (Fits : List Heading → List Heading → Type 0) (k : FkParts) (w a b 
   }
 
 -- CLOSED IDENTIFIERS ARE A FOOTPRINT
-pub closed_join : (first second place : ℕ) → ClosedIsJoinFootprint first second place
+pub closed_join : ClosedIsJoinFootprint
 closed_join first second place near p n ids may c =
     join_footprint (JoinFits first second place) (side_parts (first - 1) second place) ((first - 1) + second) (first - 1) second ((first - 1) + 1) (fits first second place) near p n ids may c

@@ -1,5 +1,5 @@
 -- JOIN ON FK: parts of tables join as the whole.
-use Rattle.std.proofs.Common.{◌≡◌, ℕ, List, Bool, true, false, Option, Some, None, refl, ap, sym, ◌∙◌}
+use Rattle.std.proofs.Common.{◌≡◌, ℕ, List, Bool, true, Option, Some, None, refl, ap, sym, ◌∙◌}
 use mathlib.Core.Logic.{inl, inr}
 use Rattle.par_base.specs.declared.value.Value.{Value}
 use Rattle.row_store.specs.Rows.{Rows, row_of}
@@ -24,10 +24,10 @@ module _ (k : FkParts) (P : ℕ → Bool) (s t : Rows) (brings : BringsGoals k P
   pub goal_in : (p : ℕ) (v : List Value) → P p ≡ true → row_of s p ≡ Some v → at_goal (rows_only P t) (goal_of (k.key v)) ≡ at_goal t (goal_of (k.key v))
   goal_in p v e at =
       at_same (goal_of (k.key v)) (rows_only P t) t (λ q goal.
-        elim (brings p v q e at goal) [
-          | inl passed ↦ row_in P t q passed
-          | inr none ↦ by_test (P q) (λ b. row_in P t q b) (λ b. row_out P t q b ∙ sym none)
-        ])
+      elim (brings p v q e at goal) [
+        | inl passed ↦ row_in P t q passed
+        | inr none ↦ by_test (P q) (λ b. row_in P t q b) (λ b. row_out P t q b ∙ sym none)
+      ])
 
   -- a row that passes joins as in the whole
   pub join_in : (p : ℕ) (c : Cell) → P p ≡ true → row_of s p ≡ c → joined_row k c (rows_only P t) ≡ joined_row k c t

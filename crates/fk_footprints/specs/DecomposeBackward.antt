@@ -21,6 +21,6 @@ pub record IsClosedDecomposeBack (k : FkParts) (near : TableChanges) (p : PairSt
   pub witness : BringsWitness k (passes ids n) (first_table p.source) (second_table p.source) (first_table p.source) (first_table (changed_tables p.source near))
 
 -- such identifiers are a footprint
-abbrev pub ClosedIsDecomposeBackFootprint : List ℕ → List ℕ → ℕ → Type 0
-ClosedIsDecomposeBackFootprint first second place = (near : TableChanges) (p : PairState) (n : ℕ) (ids : List ℕ) → MayChange (flip (decompose_columns first second place)) near p n
+abbrev pub ClosedIsDecomposeBackFootprint : Type 0
+ClosedIsDecomposeBackFootprint = (first second : List ℕ) (place : ℕ) (near : TableChanges) (p : PairState) (n : ℕ) (ids : List ℕ) → MayChange (flip (decompose_columns first second place)) near p n
     → IsClosedDecomposeBack (column_parts first second place) near p n ids → IsFootprint (flip (decompose_columns first second place)) near p n ids

@@ -28,6 +28,6 @@ pub record IsClosedDecompose (k : FkParts) (near : TableChanges) (p : PairState)
   pub least : BringsShared k (passes ids n) (first_table (changed_tables p.source near)) (first_table p.target) (second_table p.target)
 
 -- such identifiers are a footprint
-abbrev pub ClosedIsDecomposeFootprint : List ℕ → List ℕ → ℕ → Type 0
-ClosedIsDecomposeFootprint first second place = (near : TableChanges) (p : PairState) (n : ℕ) (ids : List ℕ) → MayChange (decompose_columns first second place) near p n
+abbrev pub ClosedIsDecomposeFootprint : Type 0
+ClosedIsDecomposeFootprint = (first second : List ℕ) (place : ℕ) (near : TableChanges) (p : PairState) (n : ℕ) (ids : List ℕ) → MayChange (decompose_columns first second place) near p n
     → IsClosedDecompose (column_parts first second place) near p n ids → IsFootprint (decompose_columns first second place) near p n ids

@@ -26,6 +26,6 @@ pub record IsClosedJoinBack (k : FkParts) (near : TableChanges) (p : PairState) 
   pub least : BringsLeast k (passes ids n) (first_table (changed_tables p.source near)) (second_table p.target)
 
 -- such identifiers are a footprint
-abbrev pub ClosedIsJoinBackFootprint : ℕ → ℕ → ℕ → Type 0
-ClosedIsJoinBackFootprint first second place = (near : TableChanges) (p : PairState) (n : ℕ) (ids : List ℕ) → MayChange (flip (join_columns first second place)) near p n
+abbrev pub ClosedIsJoinBackFootprint : Type 0
+ClosedIsJoinBackFootprint = (first second place : ℕ) (near : TableChanges) (p : PairState) (n : ℕ) (ids : List ℕ) → MayChange (flip (join_columns first second place)) near p n
     → IsClosedJoinBack (side_parts (first - 1) second place) near p n ids → IsFootprint (flip (join_columns first second place)) near p n ids

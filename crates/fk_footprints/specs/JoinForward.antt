@@ -20,6 +20,6 @@ pub record IsClosedJoin (k : FkParts) (near : TableChanges) (p : PairState) (n :
   pub others : SeesNoChange k (passes ids n) (first_table p.source) (second_table p.source) (second_table (changed_tables p.source near))
 
 -- such identifiers are a footprint
-abbrev pub ClosedIsJoinFootprint : ℕ → ℕ → ℕ → Type 0
-ClosedIsJoinFootprint first second place = (near : TableChanges) (p : PairState) (n : ℕ) (ids : List ℕ) → MayChange (join_columns first second place) near p n
+abbrev pub ClosedIsJoinFootprint : Type 0
+ClosedIsJoinFootprint = (first second place : ℕ) (near : TableChanges) (p : PairState) (n : ℕ) (ids : List ℕ) → MayChange (join_columns first second place) near p n
     → IsClosedJoin (side_parts (first - 1) second place) near p n ids → IsFootprint (join_columns first second place) near p n ids
