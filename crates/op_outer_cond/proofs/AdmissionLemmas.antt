@@ -1,21 +1,20 @@
 -- What admits a side, and what doesn't.
 use Rattle.std.specs.Prelude.{nat_eq}
-use Rattle.std.proofs.Common.{◌≡◌, ℕ, zero, suc, ◌+◌, ◌<◌, ◌≤◌, ◌==◌, List, [], ◌∷◌, ◌++◌, length, take, slice_index_or, filter, count_by, if◌then◌else◌, Bool, true, false, not, ◌||◌, ◌&&◌, Option, Some, None, IsSome, is_some, refl, ap, sym, ◌∙◌, subst, arith}
+use Rattle.std.proofs.Common.{◌≡◌, ℕ, zero, suc, ◌+◌, ◌<◌, ◌≤◌, ◌==◌, List, [], ◌∷◌, ◌++◌, length, take, slice_index_or, if◌then◌else◌, Bool, true, false, not, ◌||◌, ◌&&◌, Option, Some, None, IsSome, is_some, refl, ap, sym, ◌∙◌, subst, arith}
 use Rattle.std.proofs.lemmas.List.{take_more}
 use Rattle.std.proofs.lemmas.Bool.{and_parts, false≢true, eqb-true, eq-eqb, ne_eqb}
 use Rattle.std.proofs.lemmas.Bool.Decides.{nat_tests}
-use Rattle.par_base.specs.declared.value.Value.{Value}
 use Rattle.row_store.specs.Rows.{Rows, RiseFrom, row_of}
 use Rattle.row_store.specs.States.{TableState}
 use Rattle.row_store.specs.inner.FoundRows.{none_under, rise_more}
-use Rattle.id_memory.specs.Pairs.{Pairs, RiseFrom as PairsRise, IsOneToOne, has_pair}
+use Rattle.id_memory.specs.Pairs.{Pairs, RiseFrom as PairsRise, IsOneToOne}
 use Rattle.op_law.specs.Tables.{Tables, RowsWide, AreTablesOf, contents}
-use Rattle.op_law.specs.Meaning.{PairState, flip}
+use Rattle.op_law.specs.Meaning.{flip}
 use Rattle.op_law.specs.Premises.{IsPair, Belongs}
 use Rattle.op_law.specs.Calls.{Admits}
 use Rattle.op_rows.specs.Cells.{with_row, table_from, CellWide}
 use Rattle.row_parts.specs.Places.{pick as part}
-use Rattle.row_parts.specs.RowCells.{Cell, map_cell, or_else, by_test, by_option}
+use Rattle.row_parts.specs.RowCells.{Cell, map_cell, by_test}
 use Rattle.row_parts.specs.inner.PlaceLemmas.{length-pick}
 use Rattle.pair_rows.specs.declared.half.Half.{Half}
 use Rattle.pair_rows.specs.declared.half.Half.TheVariants.{First, Second}
@@ -25,11 +24,11 @@ use Rattle.pair_rows.specs.Kept.{alone, paired, ids_paired, side_read}
 use Rattle.pair_rows.specs.Sides.{JoinFits, table_at}
 use Rattle.pair_rows.specs.Shown.{Joining, AreThere}
 use Rattle.pair_rows.specs.inner.Numbers.{count_cons}
-use Rattle.pair_rows.specs.inner.Lookups.{filter_found, filter_lost, filter_rise}
+use Rattle.pair_rows.specs.inner.Lookups.{filter_found}
 use Rattle.pair_rows.specs.inner.PairLemmas.{count_yes, count_no}
 use Rattle.pair_rows.specs.inner.ShownLaws.{joined_rise, joined_wide}
 use Rattle.pair_rows.specs.inner.TwoSides.{two_tables, two_of, one_of}
-use Rattle.outer_law.specs.Entries.{with_absent, with_half, with_half_alone, AreHalves, IsOuter}
+use Rattle.outer_law.specs.Entries.{with_absent, with_half, with_half_alone, IsOuter}
 use Rattle.outer_law.specs.OuterOn.{shown, with_it, outer_on}
 use Rattle.outer_law.proofs.StartLaws.{ArePicks, first_picks, second_picks, stands_counted, counted_stands}
 use Rattle.outer_law.proofs.BackwardLaws.{outer_recovered}

@@ -4,7 +4,7 @@ use Rattle.par_base.specs.declared.fault.Fault.{Fault}
 use Rattle.par_base.specs.declared.fault.Fault.TheVariants.{Refused, Memory as OutOfMemory}
 use Rattle.par_base.specs.declared.refusal.IdsSpent.{IdsSpent}
 use Rattle.row_store.specs.Rows.{Rows, RiseFrom, AreBelow}
-use Rattle.id_memory.specs.Pairs.{Pairs, RiseFrom as PairsRise, IsOneToOne, has_pair}
+use Rattle.id_memory.specs.Pairs.{Pairs, RiseFrom as PairsRise, has_pair}
 use Rattle.id_memory.specs.States.{CounterState}
 use Rattle.op_law.specs.Calls.{first_refused, IsMapped}
 use Rattle.op_law.specs.Tables.{Tables}

@@ -1,17 +1,16 @@
 -- Passes over the rows of a new source.
-use Rattle.std.proofs.Common.{◌≡◌, ℕ, zero, suc, ◌+◌, ◌<◌, ◌≤◌, List, [], ◌∷◌, ◌++◌, length, filter, drop, take, slice_index_or, Bool, true, false, ◌||◌, Option, Some, None, refl, ap, sym, ◌∙◌, subst, append_assoc, append-nil, arith}
+use Rattle.std.proofs.Common.{◌≡◌, ℕ, ◌+◌, ◌<◌, ◌≤◌, List, [], ◌∷◌, ◌++◌, length, filter, drop, take, slice_index_or, Bool, Option, Some, None, refl, ap, sym, ◌∙◌, subst, append_assoc, append-nil, arith}
 use Rattle.std.proofs.lemmas.List.{take_more}
 use Rattle.par_base.specs.declared.value.Value.{Value}
 use Rattle.row_store.specs.Rows.{Rows, AreBelow, row_of}
 use Rattle.id_memory.specs.Pairs.{Pairs, RiseFrom as PairsRise}
 use Rattle.op_rows.specs.Cells.{with_row}
 use Rattle.row_parts.specs.Places.{row_of_both as joined_row}
-use Rattle.row_parts.specs.RowCells.{Cell, by_test}
+use Rattle.row_parts.specs.RowCells.{Cell}
 use Rattle.pair_rows.specs.Shown.{Joining, join_cells, row_at, joined, pairs_with, all_pairs}
 use Rattle.pair_rows.specs.inner.JoinedRows.{joined_long}
 use Rattle.pair_rows.specs.inner.Lookups.{filter_append, with_append as cells_append, with_below}
 use Rattle.pair_rows.proofs.ShowingLemmas.{split_at}
-use Rattle.outer_law.specs.Entries.{some_row}
 
 -- a joined row is as wide as both parts
 pub row_wide : (j : Joining) (s t : Rows) (a b : ℕ) (row : List Value) → Some row ≡ row_at j s t a b → length row ≡ length j.first + length j.second
@@ -22,25 +21,8 @@ row_wide j s t a b row e = cell_wide (row_of s a) (row_of t b) e
     cell_wide (Some x) None e = absurd (cc)
     cell_wide None d e = absurd (cc)
 
--- some row of two lists
-some_append : (test : ℕ → Bool) (xs ys : Rows) → some_row test (xs ++ ys) ≡ (some_row test xs || some_row test ys)
-some_append test [] ys = refl
-some_append test (x ∷ xs) ys = by_test (test x.0) (λ q. rw q refl) (λ q. rw q (some_append test xs ys))
-
--- one row more that fails
-pub some_more : (test : ℕ → Bool) (rows : Rows) (i : ℕ) (row : ℕ × List Value) → i < length rows → row ≡ slice_index_or rows i row → some_row test (take i rows) ≡ false → test row.0 ≡ false → some_row test (take (i + 1) rows) ≡ false
-some_more test rows i row h at none fails =
-    let split : take (i + 1) rows ≡ take i rows ++ row ∷ [] = take_more rows i row h ∙ ap (λ (r : ℕ × List Value). take i rows ++ r ∷ []) (sym at) in
-    ap (some_row test) split ∙ some_append test (take i rows) (row ∷ []) ∙ rw (none, fails) refl
-
--- a row that passes is some
-pub some_here : (test : ℕ → Bool) (rows : Rows) (i : ℕ) (d : ℕ × List Value) → i < length rows → test (slice_index_or rows i d).0 ≡ true → some_row test rows ≡ true
-some_here test [] i d h passes = absurd (omega arith)
-some_here test (r ∷ rs) zero d h passes = rw passes refl
-some_here test (r ∷ rs) (suc i) d h passes = by_test (test r.0) (λ q. rw q refl) (λ q. rw q (some_here test rs i d (omega arith) passes))
-
 -- all pairs of two lists of rows
-with_append : (a : ℕ) (xs ys : Rows) → pairs_with a (xs ++ ys) ≡ pairs_with a xs ++ pairs_with a ys
+pub with_append : (a : ℕ) (xs ys : Rows) → pairs_with a (xs ++ ys) ≡ pairs_with a xs ++ pairs_with a ys
 with_append a [] ys = refl
 with_append a (x ∷ xs) ys = ap (λ (zs : List (ℕ × ℕ)). (a, x.0) ∷ zs) (with_append a xs ys)
 
@@ -54,11 +36,12 @@ with_more test before a front rows i row made new h at is pushed =
     ap (λ (all : Rows). filter test (pairs_with a (front ∷ all))) split ∙ ap (filter test) (with_append a (front ∷ take i rows) (row ∷ [])) ∙ filter_append test (pairs_with a (front ∷ take i rows)) ((a, row.0) ∷ []) in
     pushed ∙ ap (λ (xs : List (ℕ × ℕ)). xs ++ last) is ∙ append_assoc before (filter test (pairs_with a (front ∷ take i rows))) last ∙ ap (λ (xs : List (ℕ × ℕ)). before ++ xs) (sym more)
 
--- all pairs of one first row more
-all_append : (xs ys t : Rows) → all_pairs (xs ++ ys) t ≡ all_pairs xs t ++ all_pairs ys t
+-- the same of first rows
+pub all_append : (xs ys t : Rows) → all_pairs (xs ++ ys) t ≡ all_pairs xs t ++ all_pairs ys t
 all_append [] ys t = refl
 all_append (x ∷ xs) ys t = ap (λ (zs : List (ℕ × ℕ)). pairs_with x.0 t ++ zs) (all_append xs ys t) ∙ sym (append_assoc (pairs_with x.0 t) (all_pairs xs t) (all_pairs ys t))
 
+-- all pairs of one first row more
 pub all_more : (test : ℕ × ℕ → Bool) (front : ℕ × List Value) (rows t : Rows) (i : ℕ) (row : ℕ × List Value) (made new : List (ℕ × ℕ)) → i < length rows → row ≡ slice_index_or rows i row
     → made ≡ filter test (all_pairs (front ∷ take i rows) t) → new ≡ made ++ filter test (pairs_with row.0 t)
     → new ≡ filter test (all_pairs (front ∷ take (i + 1) rows) t)

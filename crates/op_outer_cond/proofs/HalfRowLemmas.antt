@@ -1,12 +1,12 @@
 -- The rows of both tables while entries are placed.
-use Rattle.std.proofs.Common.{◌≡◌, ℕ, ◌+◌, ◌≤◌, List, [], ◌∷◌, ◌++◌, if◌then◌else◌, Option, Some, None, refl, ap, sym, ◌∙◌, subst, arith}
+use Rattle.std.proofs.Common.{◌≡◌, ℕ, ◌≤◌, List, [], ◌∷◌, ◌++◌, if◌then◌else◌, Option, Some, None, refl, ap, sym, ◌∙◌, subst}
 use Rattle.par_base.specs.declared.value.Value.{Value}
 use Rattle.row_store.specs.Rows.{Rows, AreBelow}
 use Rattle.row_store.specs.inner.FoundRows.{below_more}
 use Rattle.id_memory.specs.Pairs.{Pairs}
 use Rattle.id_memory.specs.States.{CounterState}
 use Rattle.pair_rows.specs.Shown.{has}
-use Rattle.pair_rows.specs.Given.{Got, got}
+use Rattle.pair_rows.specs.Given.{got}
 use Rattle.pair_rows.specs.inner.Knowing.{FindsLeast}
 use Rattle.pair_rows.proofs.GivenLaws.{got_rises, got_below}
 use Rattle.outer_law.specs.Placed.{Parts, Placing, first_both, first_got, second_both, place_both, first_alone, second_alone, place_first, place_second}

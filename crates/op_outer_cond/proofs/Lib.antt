@@ -1,4 +1,5 @@
 mod EntryLemmas
+mod FindingLemmas
 mod PlaceLemmas
 mod MappingLemmas
 mod StandingLemmas

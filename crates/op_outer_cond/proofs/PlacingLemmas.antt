@@ -1,5 +1,5 @@
 -- Passes over the rows of a new target.
-use Rattle.std.proofs.Common.{◌≡◌, ℕ, ◌+◌, ◌<◌, ◌≤◌, List, [], ◌∷◌, ◌++◌, length, take, drop, slice_index_or, if◌then◌else◌, take-append-drop, Bool, true, false, Option, Some, None, refl, ap, sym, ◌∙◌, arith}
+use Rattle.std.proofs.Common.{◌≡◌, ℕ, ◌+◌, ◌<◌, ◌≤◌, List, [], ◌∷◌, ◌++◌, length, take, drop, slice_index_or, take-append-drop, Bool, true, false, Option, Some, None, refl, ap, sym, ◌∙◌, arith}
 use Rattle.std.proofs.lemmas.List.{take_more, drop_more}
 use Rattle.std.proofs.lemmas.Bool.{false≢true}
 use Rattle.par_base.specs.declared.value.Value.{Value}
@@ -9,7 +9,7 @@ use Rattle.pair_rows.specs.Halves.{first_of, second_of}
 use Rattle.pair_rows.specs.Shown.{Joining}
 use Rattle.pair_rows.specs.Given.{unchanged}
 use Rattle.pair_rows.proofs.GivenLaws.{got_rises}
-use Rattle.outer_law.specs.Placed.{Parts, parts_of, Placing, is_present, first_both, first_got, second_both, second_got, last_both, place_both, place_first, place_second, own_alone, place_halves, place_changed, place_by, place_row, placed, ending}
+use Rattle.outer_law.specs.Placed.{Parts, parts_of, Placing, is_present, first_both, first_got, second_both, second_got, last_both, place_both, place_first, place_second, own_alone, place_halves, place_by, place_row, placed, ending}
 
 -- placing one row more
 placed_append : (j : Joining) (r : Rows) (m : Pairs) (d : Placing) (xs : Rows) (x : ℕ × List Value)

@@ -1,4 +1,5 @@
 pub mod Calls
+pub mod Finding
 pub mod Placings
 pub mod Admitted
 pub mod Mappings

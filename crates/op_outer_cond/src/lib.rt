@@ -8,6 +8,7 @@
 
 mod admission;
 mod entries;
+mod finding;
 mod half_rows;
 mod halves;
 mod mapping;
@@ -19,6 +20,7 @@ mod parts;
 mod places;
 mod placing;
 mod reading;
+mod showing;
 mod standing;
 
 pub use outer::OuterOn;

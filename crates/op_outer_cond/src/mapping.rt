@@ -14,12 +14,14 @@ ghost use Rattle.op_outer_cond.specs.inner.Calls.{joining_of, ReadsIn, new_in, e
 ghost use Rattle.op_outer_cond.specs.inner.Placings.{placing_of, Knows, IsReady, full_kept_in, placed_in};
 ghost use Rattle.op_outer_cond.specs.inner.Mappings.{mapped_in};
 
-use crate::entries::{Showing, kept_entries, new_entries};
+use crate::entries::{kept_entries, new_entries};
+use crate::finding::found_in;
 use crate::half_rows::rows_from;
 use crate::outer::OuterOn;
 use crate::places::{Outer, outer_of, places_of};
 use crate::placing::{Placing, place};
 use crate::reading::shown;
+use crate::showing::Showing;
 use crate::standing::{full, standing};
 use expr_lang::Steps;
 use id_memory::{IdCounter, PairMemory};
@@ -51,9 +53,10 @@ fn entries<L: Ledger>(
     ensures { Draws (ids.old.next + length (new_in it.now)) ids.old ids.new
         (λ made. made ≡ entries_in it.now ids.old.next) result }
 {
+    let found = found_in(alloc, it, steps)?;
     let old = entries_of(alloc, it.memory)?;
-    let mut made = kept_entries(alloc, it, old.as_slice(), steps)?;
-    let new = new_entries(alloc, it, steps)?;
+    let mut made = kept_entries(alloc, it, &found, old.as_slice())?;
+    let new = new_entries(alloc, it, &found)?;
     let drawn = draw_for(alloc, new.as_slice(), ids)?;
     append(&mut made, drawn.as_slice())?;
     Ok(made)

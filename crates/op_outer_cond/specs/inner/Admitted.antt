@@ -1,10 +1,10 @@
 -- Which rows and entries belong together.
-use Rattle.std.specs.Prelude.{◌≡◌, ℕ, ◌≤◌, ◌==◌, List, [], ◌∷◌, length, count_by, true, IsSome}
+use Rattle.std.specs.Prelude.{◌≡◌, ℕ, ◌≤◌, ◌==◌, List, [], ◌∷◌, count_by, true, IsSome}
 use Rattle.row_store.specs.Rows.{Rows, row_of}
 use Rattle.id_memory.specs.Pairs.{Pairs, has_pair}
 use Rattle.pair_rows.specs.declared.half.Half.{Half}
 use Rattle.pair_rows.specs.declared.half.Half.TheVariants.{First, Second}
-use Rattle.pair_rows.specs.Halves.{first_of, second_of, pick_of}
+use Rattle.pair_rows.specs.Halves.{first_of, second_of}
 use Rattle.pair_rows.specs.Shown.{Joining, AreThere}
 use Rattle.outer_law.specs.Entries.{with_absent, with_half, AreHalves}
 use Rattle.outer_law.specs.OuterOn.{shown}

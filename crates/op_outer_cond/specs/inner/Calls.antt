@@ -6,7 +6,7 @@ use Rattle.row_store.specs.Rows.{row_of}
 use Rattle.id_memory.specs.Pairs.{Pairs}
 use Rattle.pair_rows.specs.Shown.{Joining, has, is_shown}
 use Rattle.op_outer_cond.specs.declared.places.Outer.{Outer}
-use Rattle.op_outer_cond.specs.declared.entries.Showing.{Showing}
+use Rattle.op_outer_cond.specs.declared.showing.Showing.{Showing}
 use Rattle.outer_law.specs.Entries.{is_entry, entries, new_entries}
 
 -- what the laws see
@@ -26,6 +26,10 @@ ReadsIn it = Reads it.join.now
 -- whether a pair of new rows is a full entry
 abbrev pub is_full_in : Showing → ℕ → ℕ → Bool
 is_full_in it a b = is_shown (joining_in it) it.s.now.rows it.t.now.rows it.memory.now.entries it.new_s.now.rows it.new_t.now.rows a b
+
+-- the same of a pair as one thing
+abbrev pub is_full_pair : Showing → ℕ × ℕ → Bool
+is_full_pair it x = is_full_in it x.0 x.1
 
 -- whether a pair is an entry
 abbrev pub is_entry_in : Showing → ℕ → ℕ → Bool

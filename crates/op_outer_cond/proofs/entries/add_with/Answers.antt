@@ -8,7 +8,7 @@ use Rattle.op_outer_cond.proofs.EntryLemmas.{with_more}
 use Rattle.op_outer_cond.proofs.entries.add_with.Goals as goal
 
 pub loop-row-preserved : goal.loop-row-preserved
-loop-row-preserved g c =
+loop-row-preserved c =
     let it = c.args.it.now in
     let rows = it.new_t.now.rows in
     let places = it.join.now.second.now in

@@ -8,7 +8,7 @@ use Rattle.op_outer_cond.proofs.EntryLemmas.{all_more}
 use Rattle.op_outer_cond.proofs.entries.new_entries.Goals as goal
 
 pub loop-row-preserved : goal.loop-row-preserved
-loop-row-preserved g c =
+loop-row-preserved c =
     let it = c.args.it.now in
     let rows = it.new_s.now.rows in
     let first = it.join.now.first.now in

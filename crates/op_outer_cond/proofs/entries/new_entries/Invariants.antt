@@ -6,7 +6,7 @@ use Rattle.op_outer_cond.specs.inner.Calls.{is_new_in}
 use Rattle.op_outer_cond.proofs.entries.new_entries.Given as goal
 
 abbrev pub invariant-loop-row : goal.invariant-loop-row
-invariant-loop-row g l = record {
+invariant-loop-row l = record {
   left : AreLeft l.it.new_s.now.rows l.row-iterator;
   made : l.made ≡ filter (is_new_in l.it) (all_pairs (with_absent l.it.join.now.first.now (take (passed l.it.new_s.now.rows l.row-iterator) l.it.new_s.now.rows)) (with_absent l.it.join.now.second.now l.it.new_t.now.rows));
 }
