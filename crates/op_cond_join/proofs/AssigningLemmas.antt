@@ -1,23 +1,17 @@
 -- Passes over the rows of a new target.
-use Rattle.std.proofs.Common.{◌≡◌, ℕ, ◌+◌, ◌<◌, ◌≤◌, List, [], ◌∷◌, ◌++◌, length, take, drop, slice_index_or, if◌then◌else◌, take-append-drop, Option, Some, None, refl, ap, sym, ◌∙◌, subst, arith}
+use Rattle.std.proofs.Common.{◌≡◌, ℕ, ◌+◌, ◌<◌, ◌≤◌, List, [], ◌∷◌, ◌++◌, length, take, drop, slice_index_or, if◌then◌else◌, take-append-drop, Option, Some, None, refl, ap, sym, ◌∙◌, arith}
 use Rattle.std.specs.Option.{option_map}
 use Rattle.std.proofs.lemmas.List.{take_more, drop_more}
-use Rattle.par_base.specs.declared.fault.Fault.{Fault}
-use Rattle.par_base.specs.declared.fault.Fault.TheVariants.{Refused, Memory as OutOfMemory}
-use Rattle.par_base.specs.declared.refusal.IdsSpent.{IdsSpent}
-use Rattle.id_memory.specs.States.{CounterState}
-use Rattle.op_law.specs.Calls.{first_refused}
 use Rattle.row_parts.specs.RowCells.{Cell}
-use Rattle.pair_rows.specs.inner.Draws.{WasRefused}
 use Rattle.op_cond_join.specs.inner.Assignings.{AreBelowNext}
 use Rattle.par_base.specs.declared.value.Value.{Value}
 use Rattle.row_store.specs.Rows.{Rows, AreBelow, row_of}
-use Rattle.row_store.specs.inner.FoundRows.{below_more, below_push}
+use Rattle.row_store.specs.inner.FoundRows.{below_more}
 use Rattle.id_memory.specs.Pairs.{Pairs, pair_of}
 use Rattle.pair_rows.specs.Shown.{Joining, has}
 use Rattle.row_parts.specs.Places.{pick as part}
 use Rattle.pair_rows.proofs.GivenLaws.{got_rises, got_below}
-use Rattle.pair_rows.specs.Given.{unchanged, kept_entry, kept_in, Got, got, least, own, or_id, side_got}
+use Rattle.pair_rows.specs.Given.{unchanged, least, own, or_id, side_got}
 use Rattle.op_cond_join.specs.Assigned.{Assigning, first_got, second_got, last_got, place_changed, place_by, place_row, assigned, ending}
 
 -- assigning one row more

@@ -1,19 +1,23 @@
 -- What the mappings may suppose, and that their entries are a memory.
-use Rattle.std.proofs.Common.{◌≡◌, ℕ, ◌≤◌, [], ◌∷◌, ap, sym, ◌∙◌, subst}
+use Rattle.std.proofs.Common.{◌≡◌, ℕ, ◌≤◌, [], ◌∷◌, Err, refl, ap, sym, ◌∙◌, subst}
+use Rattle.par_base.specs.declared.fault.Fault.{Fault}
+use Rattle.par_base.specs.declared.fault.Fault.TheVariants.{Refused, Memory as OutOfMemory}
+use Rattle.par_base.specs.declared.refusal.IdsSpent.{IdsSpent}
 use Rattle.row_store.specs.Rows.{Rows}
 use Rattle.id_memory.specs.Pairs.{Pairs, RiseFrom, IsOneToOne}
 use Rattle.id_memory.specs.States.{CounterState}
-use Rattle.op_law.specs.Calls.{first_refused}
+use Rattle.op_law.specs.Calls.{first_refused, IsMapped}
 use Rattle.op_law.specs.Tables.{Tables}
-use Rattle.op_law.specs.Meaning.{PairState, flip, exchanged}
+use Rattle.op_law.specs.Meaning.{PairState, Mapped, flip, exchanged}
 use Rattle.op_law.specs.Premises.{SomeMap}
 use Rattle.op_law.proofs.SoundLaws.{below_sound}
 use Rattle.pair_rows.specs.Shown.{Joining, IsJoined, shown_pairs}
 use Rattle.pair_rows.specs.inner.TwoSides.{table_sound}
+use Rattle.pair_rows.specs.inner.Draws.{WasRefused}
 use Rattle.pair_rows.specs.Given.{kept_in}
 use Rattle.op_cond_join.specs.Assigned.{Assigning, beginning, assigned, ending}
 use Rattle.pair_rows.specs.Stays.{staying}
-use Rattle.op_cond_join.specs.inner.Assignings.{AreBelowNext}
+use Rattle.op_cond_join.specs.inner.Assignings.{AreBelowNext, mapped_from}
 use Rattle.pair_rows.specs.Sides.{table_at}
 use Rattle.op_cond_join.specs.JoinOn.{join_on, join_backward}
 use Rattle.pair_rows.specs.Halves.{first_of, second_of}
@@ -70,28 +74,40 @@ backward_entries j near old n d r new pairs some start target rows is =
     ∙ ap (λ (all : Rows). assigned j (table_at 0 old.target) old.memory (beginning (table_at 0 old.source) (table_at 1 old.source) (table_at 0 old.target) old.memory (table_at 0 near) n) all) rows in
     subst (λ (es : Pairs). AreEntries es) (sym all) (record { rises = related.rises; one = related.one })
 
--- so the mapping backward gives what it should
-pub backward_mapped : (j : Joining) (near : Tables) (old : PairState) (counter copy now : CounterState) (d state : Assigning) (r new : Rows) (pairs memory : Pairs) (first second : Rows) (side : Tables)
-    → copy ≡ counter → d ≡ beginning (table_at 0 old.source) (table_at 1 old.source) (table_at 0 old.target) old.memory (table_at 0 near) counter.next → r ≡ table_at 0 old.target → new ≡ table_at 0 near
-    → (ending j r old.memory d new).next ≤ first_refused copy → pairs ≡ assigned j r old.memory d new → state ≡ ending j r old.memory d new → now ≡ record copy { next = (ending j r old.memory d new).next }
-    → memory ≡ pairs → first ≡ staying first_of old.memory memory state.first → second ≡ staying second_of old.memory memory state.second → side ≡ first ∷ second ∷ []
-    → ((join_backward j near old counter.next).next ≤ first_refused counter) × ((side ≡ (join_backward j near old counter.next).far) × (memory ≡ (join_backward j near old counter.next).memory)) × (now ≡ record counter { next = (join_backward j near old counter.next).next })
-backward_mapped j near old counter copy now d state r new pairs memory first second side same start target rows low is ended raised memory_is first_is second_is side_is =
-    let m = old.memory in
-    let begun = beginning (table_at 0 old.source) (table_at 1 old.source) (table_at 0 old.target) m (table_at 0 near) counter.next in
-    let all = assigned j (table_at 0 old.target) m begun (table_at 0 near) in
-    let end = ending j (table_at 0 old.target) m begun (table_at 0 near) in
-    let entries : memory ≡ all =
-    memory_is ∙ is ∙ ap (λ (e : Assigning). assigned j r m e new) start ∙ ap (λ (rs : Rows). assigned j rs m begun new) target ∙ ap (λ (rs : Rows). assigned j (table_at 0 old.target) m begun rs) rows in
-    let last : ending j r m d new ≡ end =
-    ap (λ (e : Assigning). ending j r m e new) start ∙ ap (λ (rs : Rows). ending j rs m begun new) target ∙ ap (λ (rs : Rows). ending j (table_at 0 old.target) m begun rs) rows in
+-- the new source and memory are those of the pairs that are given
+pub given_mapped : (j : Joining) (r new : Rows) (m : Pairs) (d begun : Assigning) (counter copy now : CounterState) (state : Assigning) (es memory : Pairs) (first second : Rows) (side : Tables)
+    → copy ≡ counter → begun ≡ d → (ending j r m begun new).next ≤ first_refused copy → es ≡ assigned j r m begun new → state ≡ ending j r m begun new → now ≡ record copy { next = (ending j r m begun new).next }
+    → memory ≡ es → first ≡ staying first_of m memory state.first → second ≡ staying second_of m memory state.second → side ≡ first ∷ second ∷ []
+    → ((mapped_from j r m d new).next ≤ first_refused counter) × ((side ≡ (mapped_from j r m d new).far) × (memory ≡ (mapped_from j r m d new).memory)) × (now ≡ record counter { next = (mapped_from j r m d new).next })
+given_mapped j r new m d begun counter copy now state es memory first second side same start low is ended raised memory_is first_is second_is side_is =
+    let all = assigned j r m d new in
+    let end = ending j r m d new in
+    let entries : memory ≡ all = memory_is ∙ is ∙ ap (λ (e : Assigning). assigned j r m e new) start in
+    let last : ending j r m begun new ≡ end = ap (λ (e : Assigning). ending j r m e new) start in
     let at_end : state ≡ end = ended ∙ last in (
       subst (λ (c : CounterState). end.next ≤ first_refused c) same (subst (λ (e : Assigning). e.next ≤ first_refused copy) last low),
       (
         side_is ∙ ap (λ (rs : Rows). rs ∷ second ∷ []) first_is ∙ ap (λ (rs : Rows). staying first_of m memory state.first ∷ rs ∷ []) second_is
-            ∙ ap (λ (es : Pairs). staying first_of m es state.first ∷ staying second_of m es state.second ∷ []) entries
+            ∙ ap (λ (ps : Pairs). staying first_of m ps state.first ∷ staying second_of m ps state.second ∷ []) entries
             ∙ ap (λ (e : Assigning). staying first_of m all e.first ∷ staying second_of m all e.second ∷ []) at_end,
         entries,
       ),
-      raised ∙ ap (λ (c : CounterState). record c { next = (ending j r m d new).next }) same ∙ ap (λ (e : Assigning). record counter { next = e.next }) last,
+      raised ∙ ap (λ (c : CounterState). record c { next = (ending j r m begun new).next }) same ∙ ap (λ (e : Assigning). record counter { next = e.next }) last,
     )
+
+-- and it is refused where giving the pairs is
+pub given_refused : (to : Mapped) (n : ℕ) (counter copy : CounterState) (fault : Fault IdsSpent) → copy ≡ counter → n ≡ to.next → WasRefused n copy fault → IsMapped to counter counter (Err fault)
+given_refused to n counter copy (Refused spent) same next was =
+    let here : WasRefused to.next counter (Refused spent) = subst (λ (k : ℕ). WasRefused k counter (Refused spent)) next (subst (λ (c : CounterState). WasRefused n c (Refused spent)) same was) in
+    (here.0, here.1, here.2, refl)
+given_refused to n counter copy (OutOfMemory memory) same next was = refl
+
+-- from the old pair and the new target
+pub mapped_is : (j : Joining) (near : Tables) (old : PairState) (n : ℕ) (d : Assigning) (r new : Rows)
+    → d ≡ beginning (table_at 0 old.source) (table_at 1 old.source) (table_at 0 old.target) old.memory (table_at 0 near) n → r ≡ table_at 0 old.target → new ≡ table_at 0 near
+    → mapped_from j r old.memory d new ≡ join_backward j near old n
+mapped_is j near old n d r new start target rows =
+    let begun = beginning (table_at 0 old.source) (table_at 1 old.source) (table_at 0 old.target) old.memory (table_at 0 near) n in
+    ap (λ (e : Assigning). mapped_from j r old.memory e new) start
+    ∙ ap (λ (rs : Rows). mapped_from j rs old.memory begun new) target
+    ∙ ap (λ (rs : Rows). mapped_from j (table_at 0 old.target) old.memory begun rs) rows

@@ -3,6 +3,7 @@ ghost use Rattle.std.specs.Prelude.{◌≡◌, ◌+◌, ◌++◌, ◌∷◌, [],
 ghost use Rattle.id_memory.specs.Pairs.{RiseFrom, IsOneToOne};
 ghost use Rattle.op_law.specs.Calls.{seen, IsMapped};
 ghost use Rattle.pair_rows.specs.Halves.{first_of, second_of};
+ghost use Rattle.pair_rows.specs.Shown.{joined};
 ghost use Rattle.pair_rows.specs.Stays.{staying as staying_rows};
 ghost use Rattle.op_law.specs.Meaning.{flip, exchanged};
 ghost use Rattle.op_law.specs.Premises.{SomeMap};
@@ -10,8 +11,8 @@ ghost use Rattle.op_cond_join.specs.Joinings.{joining, Reads};
 ghost use Rattle.op_cond_join.specs.JoinOn.{join_on, join_forward, join_backward};
 ghost use Rattle.pair_rows.specs.inner.Draws.{Draws};
 ghost use Rattle.pair_rows.specs.Given.{kept_in as kept_entries};
-ghost use Rattle.op_cond_join.specs.inner.Assignings.{Knows};
-ghost use Rattle.op_cond_join.specs.inner.Calls.{shown_in, new_in};
+ghost use Rattle.op_cond_join.specs.inner.Assignings.{assigning, Knows, AreBelowNext, given_in, mapped_back};
+ghost use Rattle.op_cond_join.specs.inner.Calls.{shown_in, new_in, mapped_in};
 
 use crate::assigning::{Assigning, assign};
 use crate::join::JoinOn;
@@ -57,6 +58,40 @@ pub(crate) fn shown_pairs<L: Ledger>(
     Ok(pairs)
 }
 
+/// The new target and memory, from the pairs that are shown.
+fn target_of(alloc: Global, it: &Showing<'_>, pairs: &[(u64, u64, u64)]) -> Result<Far, Memory>
+    requires rise { RiseFrom 0 pairs.now }
+    requires one { IsOneToOne pairs.now }
+    ensures memory { IfOk result (λ far. far.memory.entries ≡ pairs.now) }
+    ensures side { let j = joining it.now.join.now in
+        IfOk result (λ far.
+        far.side ≡ joined j it.now.new_s.now.rows it.now.new_t.now.rows pairs.now ∷ []) }
+{
+    let memory = memory_of(alloc, pairs)?;
+    let table = joined_table(alloc, it.join, it.new_s, it.new_t, pairs)?;
+    let side = Side::one(alloc, table)?;
+    Ok(Far { side, memory })
+}
+
+/// The new target and memory, from the old and the new rows.
+fn far_shown<L: Ledger>(
+    alloc: Global,
+    it: &Showing<'_>,
+    ids: &mut IdCounter,
+    steps: &mut Steps<L>,
+) -> Result<Far, Fault<IdsSpent>>
+    requires reads { Reads it.now.join.now }
+    requires rise { RiseFrom 0 (shown_in it.now ids.old.next) }
+    requires one { IsOneToOne (shown_in it.now ids.old.next) }
+    ensures { IsMapped (mapped_in it.now ids.old.next) ids.old ids.new result }
+{
+    let mut drawn = ids.copy();
+    let pairs = shown_pairs(alloc, it, &mut drawn, steps)?;
+    let far = target_of(alloc, it, pairs.as_slice())?;
+    *ids = drawn;
+    Ok(far)
+}
+
 /// The new target and memory, from a new source. It looks at each pair of rows of which one isn't as
 /// it was.
 pub(crate) fn forward<L: Ledger>(
@@ -80,16 +115,10 @@ pub(crate) fn forward<L: Ledger>(
         new_s: table_in(near, 0, &none),
         new_t: table_in(near, 1, &none),
     };
-    let mut drawn = ids.copy();
-    let pairs = shown_pairs(alloc, &it, &mut drawn, steps)?;
-    let memory = memory_of(alloc, pairs.as_slice())?;
-    let table = joined_table(alloc, join, it.new_s, it.new_t, pairs.as_slice())?;
-    let side = Side::one(alloc, table)?;
-    *ids = drawn;
-    Ok(Far { side, memory })
+    far_shown(alloc, &it, ids, steps)
 }
 
-// The new source and memory, from the pairs that were given and the rows that there are then.
+/// The new source and memory, from the pairs that were given and the rows that there are then.
 fn source_of(
     alloc: Global,
     old: &PairMemory,
@@ -110,8 +139,8 @@ fn source_of(
     Ok(Far { side, memory })
 }
 
-// What stands before the first row of a new target is placed: the old rows of both sides, and the
-// pairs of the rows that stay as they were.
+/// What stands before the first row of a new target is placed: the old rows of both sides, and the
+/// pairs of the rows that stay as they were.
 fn assigning_from(
     alloc: Global,
     before: &OldTarget<'_>,
@@ -132,6 +161,37 @@ fn assigning_from(
         second,
         taken,
     })
+}
+
+/// The new source and memory, from what stands before the rows of a new target are placed.
+fn far_from(
+    alloc: Global,
+    join: &JoinOn,
+    old: &OldTarget<'_>,
+    near: &Table,
+    it: &mut Assigning,
+    ids: &mut IdCounter,
+) -> Result<Far, Fault<IdsSpent>>
+    requires below { AreBelowNext (assigning it.old ids.old.next) }
+    requires knows { Knows it.old }
+    requires rise { let d = assigning it.old ids.old.next in
+        RiseFrom 0 (given_in join.now old.now d near.now.rows) }
+    requires one { let d = assigning it.old ids.old.next in
+        IsOneToOne (given_in join.now old.now d near.now.rows) }
+    ensures { let d = assigning it.old ids.old.next in
+        IsMapped (mapped_back join.now old.now d near.now.rows) ids.old ids.new result }
+{
+    let mut drawn = ids.copy();
+    let pairs = assign(alloc, join, old, near, it, &mut drawn)?;
+    let far = source_of(
+        alloc,
+        old.memory,
+        pairs.as_slice(),
+        &it.first.table,
+        &it.second.table,
+    )?;
+    *ids = drawn;
+    Ok(far)
 }
 
 /// The new source and memory, from a new target. It takes look-ups in the number of the rows.
@@ -157,15 +217,5 @@ pub(crate) fn backward<L: Ledger>(
     let first = table_in(&old.source, 0, &none);
     let second = table_in(&old.source, 1, &none);
     let mut it = assigning_from(alloc, &before, new, first, second)?;
-    let mut drawn = ids.copy();
-    let pairs = assign(alloc, join, &before, new, &mut it, &mut drawn)?;
-    let far = source_of(
-        alloc,
-        &old.memory,
-        pairs.as_slice(),
-        &it.first.table,
-        &it.second.table,
-    )?;
-    *ids = drawn;
-    Ok(far)
+    far_from(alloc, join, &before, new, &mut it, ids)
 }

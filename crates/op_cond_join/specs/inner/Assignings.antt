@@ -1,15 +1,19 @@
 -- What is said of the pairs that rows get while they are assigned.
-use Rattle.std.specs.Prelude.{◌≡◌, ℕ, List, Some, None, if◌then◌else◌}
+use Rattle.std.specs.Prelude.{◌≡◌, ℕ, List, [], ◌∷◌}
 use Rattle.par_base.specs.declared.value.Value.{Value}
 use Rattle.row_store.specs.Rows.{Rows, AreBelow}
 use Rattle.id_memory.specs.Pairs.{Pairs}
+use Rattle.op_law.specs.Meaning.{Mapped}
 use Rattle.op_cond_join.specs.declared.assigning.Assigning.{Assigning as State}
 use Rattle.op_cond_join.specs.declared.join.JoinOn.{JoinOn}
 use Rattle.pair_rows.specs.declared.unchanged.OldTarget.{OldTarget}
 use Rattle.pair_rows.specs.declared.growing.Growing.{Growing}
 use Rattle.op_cond_join.specs.Joinings.{joining}
+use Rattle.pair_rows.specs.Halves.{first_of, second_of}
+use Rattle.pair_rows.specs.Shown.{Joining}
+use Rattle.pair_rows.specs.Stays.{staying}
 use Rattle.pair_rows.specs.inner.Knowing.{FindsLeast, KnowsPairs}
-use Rattle.pair_rows.specs.Given.{Got, least, or_id}
+use Rattle.pair_rows.specs.Given.{Got}
 use Rattle.op_cond_join.specs.Assigned.{Assigning, Placed, place_changed, place_row, assigned, ending}
 
 -- what the laws see
@@ -52,3 +56,17 @@ end_of join old it next near = ending (joining join) old.rows.now.rows old.memor
 -- the rows of both tables are below the next identifier
 abbrev pub AreBelowNext : Assigning → Type 0
 AreBelowNext d = AreBelow d.first d.next × AreBelow d.second d.next
+
+-- the pairs of rows from what is assigned before them
+abbrev pub given_in : JoinOn → OldTarget → Assigning → Rows → Pairs
+given_in join old d near = assigned (joining join) old.rows.now.rows old.memory.now.entries d near
+
+-- the new source and memory
+abbrev pub mapped_from : Joining → Rows → Pairs → Assigning → Rows → Mapped
+mapped_from j r m d near =
+    let es = assigned j r m d near in
+    let end = ending j r m d near in
+    record { far = staying first_of m es end.first ∷ staying second_of m es end.second ∷ []; memory = es; next = end.next }
+
+abbrev pub mapped_back : JoinOn → OldTarget → Assigning → Rows → Mapped
+mapped_back join old d near = mapped_from (joining join) old.rows.now.rows old.memory.now.entries d near

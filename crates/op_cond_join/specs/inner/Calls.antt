@@ -1,17 +1,13 @@
 -- What the inner calls answer.
-use Rattle.std.specs.Prelude.{◌≡◌, ℕ, ◌<◌, ◌≤◌, List, Bool, ◌&&◌, not, Result, Ok, Err}
-use Rattle.par_base.specs.declared.fault.Fault.{Fault}
-use Rattle.par_base.specs.declared.fault.Fault.TheVariants.{Refused, Memory as OutOfMemory}
-use Rattle.par_base.specs.declared.refusal.IdsSpent.{IdsSpent}
+use Rattle.std.specs.Prelude.{◌≡◌, ℕ, ◌+◌, List, [], ◌∷◌, length, Bool, ◌&&◌, not}
 use Rattle.row_store.specs.Rows.{row_of, RiseFrom}
-use Rattle.id_memory.specs.States.{CounterState}
-use Rattle.op_law.specs.Calls.{first_refused}
+use Rattle.op_law.specs.Meaning.{Mapped}
 use Rattle.op_cond_join.specs.declared.showing.Showing.{Showing}
 use Rattle.op_cond_join.specs.declared.showing.Seconds.{Seconds}
 use Rattle.pair_rows.specs.inner.Changed.{ids_of, changed_in}
 use Rattle.op_cond_join.specs.Joinings.{joining}
 use Rattle.id_memory.specs.Pairs.{Pairs}
-use Rattle.pair_rows.specs.Shown.{has, is_shown, new_pairs, shown_pairs}
+use Rattle.pair_rows.specs.Shown.{has, is_shown, joined, new_pairs, shown_pairs}
 
 -- whether a pair of new rows is shown
 abbrev pub shows : Showing → ℕ → ℕ → Bool
@@ -38,3 +34,7 @@ new_in it = new_pairs (joining it.join.now) it.s.now.rows it.t.now.rows it.memor
 -- the entries of the new memory
 abbrev pub shown_in : Showing → ℕ → Pairs
 shown_in it n = shown_pairs (joining it.join.now) it.s.now.rows it.t.now.rows it.memory.now.entries it.new_s.now.rows it.new_t.now.rows n
+
+-- the new target and memory
+abbrev pub mapped_in : Showing → ℕ → Mapped
+mapped_in it n = record { far = joined (joining it.join.now) it.new_s.now.rows it.new_t.now.rows (shown_in it n) ∷ []; memory = shown_in it n; next = n + length (new_in it) }

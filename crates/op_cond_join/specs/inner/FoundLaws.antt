@@ -1,24 +1,23 @@
 -- The new source: its rows are the parts of the new joined table's rows.
-use Rattle.std.proofs.Common.{◌≡◌, ℕ, ◌+◌, ◌<◌, ◌==◌, List, [], ◌∷◌, length, Bool, true, false, not, ◌||◌, Option, Some, None, IsSome, refl, ap, sym, ◌∙◌, subst, arith}
+use Rattle.std.proofs.Common.{◌≡◌, ℕ, List, [], ◌∷◌, length, Bool, true, false, not, ◌||◌, Option, Some, None, IsSome, refl, ap, ◌∙◌, arith}
 use Rattle.par_base.specs.declared.value.Value.{Value}
-use Rattle.row_store.specs.Rows.{Rows, RiseFrom, row_of}
-use Rattle.id_memory.specs.Pairs.{Pairs, RiseFrom as PairsRise, pair_of}
+use Rattle.row_store.specs.Rows.{Rows, row_of}
+use Rattle.id_memory.specs.Pairs.{Pairs, pair_of}
 use Rattle.op_law.specs.Tables.{RowsWide}
-use Rattle.op_law.specs.Sound.{IsBelow, ValuesSound, RowsSound, PairsSound}
-use Rattle.op_law.proofs.SoundLaws.{rows_more, sound_at}
+use Rattle.op_law.specs.Sound.{IsBelow, ValuesSound, RowsSound}
+use Rattle.op_law.proofs.SoundLaws.{rows_more}
 use Rattle.op_rows.specs.Cells.{with_row}
 use Rattle.row_parts.specs.Places.{pick as part, ArePartition}
-use Rattle.row_parts.specs.RowCells.{Cell, map_cell, by_test, by_option}
-use Rattle.row_parts.specs.inner.PlaceLemmas.{pick_sound, join_parts}
+use Rattle.row_parts.specs.RowCells.{Cell}
+use Rattle.row_parts.specs.inner.PlaceLemmas.{pick_sound}
 use Rattle.par_base.specs.inner.SameLaws.{row_same}
-use Rattle.pair_rows.specs.inner.Lookups.{filter_found, filter_all}
+use Rattle.pair_rows.specs.inner.Lookups.{filter_all}
 use Rattle.pair_rows.specs.Shown.{Joining, row_at, joined, AreThere, IsJoined}
 use Rattle.pair_rows.specs.inner.ShownLaws.{row_for, joined_found, there_cells}
 use Rattle.pair_rows.specs.Given.{unchanged}
 use Rattle.op_cond_join.specs.Assigned.{Assigning, Placed, first_got, second_got, last_got, place_by, place_row, assigned, ending}
 use Rattle.pair_rows.specs.Stays.{stands, staying}
-use Rattle.pair_rows.specs.inner.FoundPairs.{AreFound, found_there, found_joined, found_rises, found_sound, all_stand, found_stays, AllPaired, all_paired, PartsFound, parts_found}
-use Rattle.pair_rows.specs.inner.FoundPairs.{old_pair}
+use Rattle.pair_rows.specs.inner.FoundPairs.{AreFound, AllPaired, all_paired}
 use Rattle.op_cond_join.specs.inner.AssignedLaws.{Ready, placed, end_grown, first_is, second_is, last_is}
 
 module _ (j : Joining) (parts : ArePartition j.first j.second) (s t r : Rows) (m : Pairs) (is : IsJoined j s t r m) (wide : RowsWide (length j.first) s) (other_wide : RowsWide (length j.second) t) where
