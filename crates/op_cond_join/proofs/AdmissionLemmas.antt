@@ -1,5 +1,5 @@
 -- What admits a side, and what doesn't.
-use Rattle.std.proofs.Common.{◌≡◌, ℕ, zero, suc, ◌+◌, ◌<◌, List, [], ◌∷◌, ◌++◌, length, take, slice_index_or, Some, None, IsSome, refl, ap, sym, ◌∙◌, subst, arith}
+use Rattle.std.proofs.Common.{◌≡◌, ℕ, zero, suc, ◌+◌, ◌<◌, List, [], ◌∷◌, ◌++◌, length, take, slice_index_or, Option, Some, None, IsSome, refl, ap, sym, ◌∙◌, subst, arith}
 use Rattle.std.proofs.lemmas.List.{take_more}
 use Rattle.par_base.specs.declared.value.Value.{Value}
 use Rattle.row_store.specs.Rows.{Rows, RiseFrom, row_of}
@@ -18,7 +18,7 @@ use Rattle.op_cond_join.specs.JoinOn.{join_on}
 use Rattle.pair_rows.specs.Halves.{first_of, second_of}
 use Rattle.pair_rows.specs.inner.TwoSides.{two_tables, two_of, one_of}
 use Rattle.op_cond_join.specs.inner.JoinOnLaws.{backward_recovered}
-use Rattle.op_cond_join.specs.inner.Admitted.{IsSource}
+use Rattle.op_cond_join.specs.inner.Admitted.{IsSource, AnswersSource}
 
 -- one row more of this width
 pub wide_more : (w : ℕ) (rows : Rows) (i : ℕ) (row : ℕ × List Value) → i < length rows → row ≡ slice_index_or rows i row → RowsWide w (take i rows) → length row.1 ≡ w → RowsWide w (take (i + 1) rows)
@@ -111,6 +111,12 @@ refuses_source j near aux m r first second s t target kept first_is second_is no
     (subst (λ (rs : Rows). IsSource j rs m first second (table_at 0 far) (table_at 1 far)) (sym target)
     (subst (λ (rs : Rows). IsSource j (table_at 0 near) m rs second (table_at 0 far) (table_at 1 far)) (sym first_alone)
     (subst (λ (rs : Rows). IsSource j (table_at 0 near) m (alone first_of m (table_at 0 far)) rs (table_at 0 far) (table_at 1 far)) (sym second_alone) found)))))
+
+-- so what is answered of the tables that were read is the source
+pub answers_admits : (j : Joining) (near aux : Tables) (m : Pairs) (r first second s t : Rows) → r ≡ table_at 0 near → aux ≡ first ∷ second ∷ [] → PairsRise 0 m → IsOneToOne m
+    → s ≡ side_read first_of j.first r m first → t ≡ side_read second_of j.second r m second → (source : Option Tables) → AnswersSource j r m first second s t source → Admits (flip (join_on j)) near aux m source
+answers_admits j near aux m r first second s t target kept rise one first_is second_is None none = refuses_source j near aux m r first second s t target kept first_is second_is none
+answers_admits j near aux m r first second s t target kept rise one first_is second_is (Some far) is = admits_source j near aux m r first second s t far target kept is.0 rise one is.1 is.2 is.3
 
 -- no auxiliary tables
 pub no_tables : (tables : List TableState) → length tables ≡ 0 → contents tables ≡ []

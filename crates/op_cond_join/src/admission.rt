@@ -8,14 +8,15 @@ ghost use Rattle.op_law.specs.Calls.{tables_of, Admits};
 ghost use Rattle.op_cond_join.specs.Joinings.{joining};
 ghost use Rattle.pair_rows.specs.Shown.{AreThere};
 ghost use Rattle.op_cond_join.specs.JoinOn.{join_on};
-ghost use Rattle.op_cond_join.specs.inner.Admitted.{IsSource};
+ghost use Rattle.op_cond_join.specs.inner.Admitted.{IsSourceOf, AnswersFor};
 
 use crate::join::JoinOn;
 use crate::joining::joined_table;
+use crate::reading::{KeptTarget, ReadTables, tables_read};
 use crate::showing::is_there;
 use id_memory::PairMemory;
 use op_law::{Aux, Side};
-use pair_rows::{Half, alone, entries_of, side_read, table_in};
+use pair_rows::{Half, alone, entries_of, table_in};
 use par_base::Memory;
 use row_store::Table;
 use std::alloc::Global;
@@ -72,28 +73,21 @@ pub(crate) fn admit_target(
     Ok(Some(Side::one(alloc, table)?))
 }
 
-/// A target with its memory and the rows in no pair, and a source that may belong to them.
-#[derive(Clone, Copy)]
-pub(crate) struct Candidate<'a> {
-    pub(crate) target: &'a Table,
-    pub(crate) memory: &'a PairMemory,
-    pub(crate) first_alone: &'a Table,
-    pub(crate) second_alone: &'a Table,
-    pub(crate) s: &'a Table,
-    pub(crate) t: &'a Table,
-}
-
-/// Whether the source belongs to them.
-fn is_source(alloc: Global, join: &JoinOn, it: &Candidate<'_>) -> Result<bool, Memory>
-    ensures first_rise { RiseFrom 0 it.now.s.now.rows }
-    ensures second_rise { RiseFrom 0 it.now.t.now.rows }
-    ensures answer { IfOk result (λ yes. IsTrue yes ↔
-        IsSource (joining join.now) it.now.target.now.rows it.now.memory.now.entries
-        it.now.first_alone.now.rows it.now.second_alone.now.rows it.now.s.now.rows
-        it.now.t.now.rows) }
+/// Whether two tables are the source of a target.
+fn is_source(
+    alloc: Global,
+    join: &JoinOn,
+    it: &KeptTarget<'_>,
+    s: &Table,
+    t: &Table,
+) -> Result<bool, Memory>
+    ensures first_rise { RiseFrom 0 s.now.rows }
+    ensures second_rise { RiseFrom 0 t.now.rows }
+    ensures answer { IfOk result (λ yes.
+        IsTrue yes ↔ IsSourceOf join.now it.now s.now.rows t.now.rows) }
 {
-    let is_first_wide = are_wide(it.s, join.first.len());
-    let is_second_wide = are_wide(it.t, join.second.len());
+    let is_first_wide = are_wide(s, join.first.len());
+    let is_second_wide = are_wide(t, join.second.len());
     if !is_first_wide {
         return Ok(false);
     }
@@ -101,19 +95,35 @@ fn is_source(alloc: Global, join: &JoinOn, it: &Candidate<'_>) -> Result<bool, M
         return Ok(false);
     }
     let entries = entries_of(alloc, it.memory)?;
-    if !are_there(it.s, it.t, entries.as_slice()) {
+    if !are_there(s, t, entries.as_slice()) {
         return Ok(false);
     }
-    let table = joined_table(alloc, join, it.s, it.t, entries.as_slice())?;
-    if !table.is_same(it.target) {
+    let table = joined_table(alloc, join, s, t, entries.as_slice())?;
+    if !table.is_same(it.rows) {
         return Ok(false);
     }
-    let first = alone(alloc, Half::First, it.memory, it.s)?;
+    let first = alone(alloc, Half::First, it.memory, s)?;
     if !first.is_same(it.first_alone) {
         return Ok(false);
     }
-    let second = alone(alloc, Half::Second, it.memory, it.t)?;
+    let second = alone(alloc, Half::Second, it.memory, t)?;
     Ok(second.is_same(it.second_alone))
+}
+
+/// The tables that were read, where they are the source of the target.
+fn admit_read(
+    alloc: Global,
+    join: &JoinOn,
+    it: &KeptTarget<'_>,
+    read: ReadTables,
+) -> Result<Option<Side>, Memory>
+    ensures { IfOk result (λ source.
+        AnswersFor join.now it.now read.first.rows read.second.rows source) }
+{
+    if !is_source(alloc, join, it, &read.first, &read.second)? {
+        return Ok(None);
+    }
+    Ok(Some(Side::two(alloc, read.first, read.second)?))
 }
 
 /// The source of the related pair to which a target, auxiliary tables and a memory belong.
@@ -134,36 +144,12 @@ pub(crate) fn admit_source(
         return Ok(None);
     }
     let none = Table::new(alloc);
-    let r = table_in(target, 0, &none);
-    let first_alone = &kept[0];
-    let second_alone = &kept[1];
-    let entries = entries_of(alloc, memory)?;
-    let s = side_read(
-        alloc,
-        Half::First,
-        join.first.as_slice(),
-        r,
-        entries.as_slice(),
-        first_alone,
-    )?;
-    let t = side_read(
-        alloc,
-        Half::Second,
-        join.second.as_slice(),
-        r,
-        entries.as_slice(),
-        second_alone,
-    )?;
-    let it = Candidate {
-        target: r,
+    let it = KeptTarget {
+        rows: table_in(target, 0, &none),
         memory,
-        first_alone,
-        second_alone,
-        s: &s,
-        t: &t,
+        first_alone: &kept[0],
+        second_alone: &kept[1],
     };
-    if !is_source(alloc, join, &it)? {
-        return Ok(None);
-    }
-    Ok(Some(Side::two(alloc, s, t)?))
+    let read = tables_read(alloc, join, &it)?;
+    admit_read(alloc, join, &it, read)
 }
