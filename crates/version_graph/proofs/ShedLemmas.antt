@@ -4,7 +4,7 @@ use Rattle.std.specs.Prelude.{◌==◌, ◌||◌, Some, None, remove, position, 
 use Rattle.std.specs.List.{list_any, position_or_len}
 use Rattle.std.specs.Map.{remove_entry, keys_of, lookup}
 use Rattle.std.proofs.lemmas.Bool.{ne_eqb, eq-eqb, cases_eq}
-use Rattle.std.proofs.lemmas.List.{take_more, drop_more, reverse-append, take_at, drop_at, length-take-le}
+use Rattle.std.proofs.lemmas.List.{append-nil, take_more, drop_more, reverse-append, take_at, drop_at, length-take-le}
 use Rattle.std.proofs.lemmas.List.Folds.{list_any-append}
 use mathlib.Core.List.{reverse}
 use Rattle.version_graph.specs.Edges.{is_in}
@@ -74,18 +74,26 @@ module _ {O : Type 0} (nodes : List (Node O)) (left : ℕ) (k : Node O) (some : 
   pub opened : placed_in (reverse (take left nodes)) ≡ k.placed ∷ below
   opened = ap (λ (l : List (Node O)). placed_in l) (turned_at nodes left k some within is)
 
-  pub doom_kept : (needed more : List ℕ) (gone all : List ℕ) → gone ++ doomed needed (placed_in (reverse (take left nodes))) ≡ all → is_in k.placed.number needed ≡ true → more ≡ needed ++ k.placed.parent ∷ [] → gone ++ doomed more below ≡ all
+  doom_kept : (needed more : List ℕ) (gone all : List ℕ) → gone ++ doomed needed (placed_in (reverse (take left nodes))) ≡ all → is_in k.placed.number needed ≡ true → more ≡ needed ++ k.placed.parent ∷ [] → gone ++ doomed more below ≡ all
   doom_kept needed more gone all so_far test m =
       ap (λ (l : List ℕ). gone ++ doomed l below) m
       ∙ ap (λ (l : List ℕ). gone ++ l) (same_doom below (needed ++ k.placed.parent ∷ []) (k.placed.parent ∷ needed) (last_is_first k.placed.parent needed)
       ∙ sym (ap (λ (b : Bool). cond b (doomed (k.placed.parent ∷ needed) below) (k.placed.number ∷ doomed needed below)) test) ∙ sym (ap (λ (es : List (Placed O)). doomed needed es) opened))
       ∙ so_far
 
-  pub doom_gone : (needed gone more all : List ℕ) → gone ++ doomed needed (placed_in (reverse (take left nodes))) ≡ all → is_in k.placed.number needed ≡ false → more ≡ gone ++ k.placed.number ∷ [] → more ++ doomed needed below ≡ all
+  doom_gone : (needed gone more all : List ℕ) → gone ++ doomed needed (placed_in (reverse (take left nodes))) ≡ all → is_in k.placed.number needed ≡ false → more ≡ gone ++ k.placed.number ∷ [] → more ++ doomed needed below ≡ all
   doom_gone needed gone more all so_far test m =
       ap (λ (l : List ℕ). l ++ doomed needed below) m ∙ append_assoc gone (k.placed.number ∷ []) (doomed needed below)
       ∙ ap (λ (l : List ℕ). gone ++ l) (sym (ap (λ (b : Bool). cond b (doomed (k.placed.parent ∷ needed) below) (k.placed.number ∷ doomed needed below)) test) ∙ sym (ap (λ (es : List (Placed O)). doomed needed es) opened))
       ∙ so_far
+
+  pub doom_step : (needed more gone went all : List ℕ) → gone ++ doomed needed (placed_in (reverse (take left nodes))) ≡ all → more ≡ cond (is_in k.placed.number needed) (needed ++ k.placed.parent ∷ []) needed → went ≡ cond (is_in k.placed.number needed) gone (gone ++ k.placed.number ∷ [])
+      → went ++ doomed more below ≡ all
+  doom_step needed more gone went all so_far m w =
+      (elim (is_in k.placed.number needed) as (λ b. is_in k.placed.number needed ≡ b → more ≡ cond b (needed ++ k.placed.parent ∷ []) needed → went ≡ cond b gone (gone ++ k.placed.number ∷ []) → went ++ doomed more below ≡ all) [
+        | true ↦ λ test n x. ap (λ (l : List ℕ). l ++ doomed more below) x ∙ doom_kept needed more gone all so_far test n
+        | false ↦ λ test n x. ap (λ (l : List ℕ). went ++ doomed l below) n ∙ doom_gone needed gone went all so_far test x
+      ]) refl m w
 
   -- ---- one pass, done
 
@@ -122,6 +130,11 @@ module _ {O : Type 0} (nodes : List (Node O)) (left : ℕ) (k : Node O) (some : 
       ap (λ (l : List (Node O)). stays_from l (reverse (take (left - 1) new)) sets) same
       ∙ ap (λ (l : List (Node O)). stays_from (drop left nodes) (reverse l) sets) front
       ∙ sym (open_pass sets false test) ∙ so_far
+
+-- the pass is over
+pub doom_done : {O : Type 0} (nodes : List (Node O)) (left : ℕ) (needed gone all : List ℕ) → left ≡ 0 → gone ++ doomed needed (placed_in (reverse (take left nodes))) ≡ all → gone ≡ all
+doom_done nodes left needed gone all none so_far =
+    sym (append-nil gone) ∙ ap (λ (n : ℕ). gone ++ doomed needed (placed_in (reverse (take n nodes)))) (sym none) ∙ so_far
 
 pub place_is : {K : Type 0} (test : K → Bool) (ks : List K) (at : ℕ) → position test ks ≡ Some at → position_or_len test ks ≡ at
 place_is test ks at e =

@@ -12,10 +12,9 @@ use Rattle.version_graph.specs.Sets.{In, Distinct, Each}
 use Rattle.version_graph.specs.Tables.{TableVersion, table_numbers, headings_of, heading_names, is_among, passing, taken, table_named}
 use Rattle.version_graph.specs.Edges.{AreEdges, set_after, made_by_edge, sources_of, working, made, has_name, heading_of, is_in, number_named}
 use Rattle.version_graph.specs.Forest.{minus}
-use Rattle.version_graph.specs.Kept.{IsRight, tree_on, numbers_named}
+use Rattle.version_graph.specs.Kept.{numbers_named}
 use Rattle.version_graph.specs.declared.parts.Placed.{Placed}
 use Rattle.version_graph.specs.declared.parts.Heading.{Heading}
-use Rattle.version_graph.specs.declared.node.Node.{Node}
 use Rattle.version_graph.proofs.SetLaws.{each_of, in_map, is_in_true, in_of_test}
 use Rattle.version_graph.proofs.NameLaws.{same_name, name_is}
 use Rattle.version_graph.proofs.TableLaws.{numbers_made, made_once, working_made, tables_once, names_once}
@@ -151,22 +150,25 @@ numbers_named_more es ts names i name within is =
     one None = refl
     one (Some n) = refl
 
--- the node of an edge is right
-pub node_right : {O : Type 0} (es : List (Placed O)) (k : Node O) (e : Placed O) (before sources : List ℕ) → AreEdges es → length e.tables ≡ length e.edge.targets → k.placed ≡ e → before ≡ table_numbers (working es e.parent)
-    → sources ≡ numbers_named es before e.edge.sources → k.sources ≡ sources → k.set ≡ minus before sources ++ e.tables → k.tree ≡ tree_on es e → IsRight es k
-node_right es k e before sources edges counted is set named ks kset ktree =
+-- the source tables of an edge, by number
+pub sources_right : {O : Type 0} (es : List (Placed O)) (e : Placed O) (before sources : List ℕ) → AreEdges es → before ≡ table_numbers (working es e.parent) → sources ≡ numbers_named es before e.edge.sources → sources ≡ table_numbers (sources_of es e)
+sources_right es e before sources edges set named =
+    named ∙ ap (λ (l : List ℕ). numbers_named es l e.edge.sources) set ∙ sym (numbers_found es (working es e.parent) e.edge.sources (known_set es edges e.parent))
+
+-- the working set of an edge, by number
+pub set_right : {O : Type 0} (es : List (Placed O)) (e : Placed O) (before sources after : List ℕ) → AreEdges es → length e.tables ≡ length e.edge.targets → before ≡ table_numbers (working es e.parent) → sources ≡ numbers_named es before e.edge.sources
+    → after ≡ minus before sources ++ e.tables → after ≡ table_numbers (set_after (working es e.parent) e)
+set_right es e before sources after edges counted set named is =
     let w = working es e.parent in
-    let taken_is : sources ≡ table_numbers (taken w e.edge.sources) = named ∙ ap (λ (l : List ℕ). numbers_named es l e.edge.sources) set ∙ sym (numbers_found es w e.edge.sources (known_set es edges e.parent)) in
+    let taken_is : sources ≡ table_numbers (taken w e.edge.sources) = sources_right es e before sources edges set named in
     let made_is = numbers_made e.tables e.edge.targets counted in
-    let after : table_numbers (set_after w e) ≡ minus before sources ++ e.tables =
+    let whole : table_numbers (set_after w e) ≡ minus before sources ++ e.tables =
     map-append (λ (t : TableVersion). t.number) (passing w e.edge.sources) (made_by_edge e)
     ∙ ap (λ (l : List ℕ). l ++ table_numbers (made_by_edge e)) (passing_numbers w e.edge.sources (tables_once es edges e.parent) (names_once es edges e.parent))
     ∙ ap (λ (l : List ℕ). minus (table_numbers w) (table_numbers (taken w e.edge.sources)) ++ l) made_is
     ∙ ap (λ (l : List ℕ). minus l (table_numbers (taken w e.edge.sources)) ++ e.tables) (sym set)
     ∙ ap (λ (l : List ℕ). minus before l ++ e.tables) (sym taken_is) in
-    let goal_at : Placed _ → Type 0 = λ f. (k.sources ≡ table_numbers (sources_of es f)) × (k.set ≡ table_numbers (set_after (working es f.parent) f)) × (k.tree ≡ tree_on es f) in
-    let all : goal_at k.placed = subst goal_at (sym is) (ks ∙ taken_is, kset ∙ sym after, ktree) in
-    record { sources = all.0; set = all.1; tree = all.2 }
+    is ∙ sym whole
 
 -- one heading more
 pub headings_more : {O : Type 0} (es : List (Placed O)) (ts : List ℕ) (i : ℕ) → i < length ts → filter_map (heading_of es) (take (i + 1) ts) ≡ filter_map (heading_of es) (take i ts) ++ option_to_list (heading_of es (get_or ts i 0))

@@ -2,7 +2,8 @@
 ghost use Rattle.std.specs.Prelude.{◌≡◌, ◌++◌, ◌∷◌, length, IfOk, OnOk, option_to_list};
 ghost use mathlib.Core.List.{reverse};
 ghost use Rattle.version_graph.specs.Sets.{In};
-ghost use Rattle.version_graph.specs.Edges.{AreEdges, has_name as has_name_lem, number_named as number_named_lem, numbers, working};
+ghost use Rattle.version_graph.specs.Tables.{table_numbers};
+ghost use Rattle.version_graph.specs.Edges.{AreEdges, has_name as has_name_lem, number_named as number_named_lem, numbers, set_after as after_edge, sources_of, working};
 ghost use Rattle.version_graph.specs.Forest.{minus};
 ghost use Rattle.version_graph.specs.Kept.{AreRight, HaveMarks, IsRight, edges_of, numbers_named as numbers_named_lem, tree_on as tree_on_lem};
 
@@ -13,6 +14,7 @@ use crate::node::Node;
 use par_base::{List, Memory, Name};
 use std::alloc::Global;
 use std::iter::Iterator;
+use std::mem;
 
 fn has_name<O>(nodes: &[Node<O>], table: u32, name: &Name) -> bool
     requires edges { AreEdges (edges_of nodes.now) }
@@ -103,6 +105,27 @@ fn tree_on<O>(nodes: &[Node<O>], placed: &Placed<O>) -> u32
     }
 }
 
+// The numbers of an edge's source tables, and the tables of its working set.
+fn tables_on<O>(
+    alloc: Global,
+    nodes: &[Node<O>],
+    placed: &Placed<O>,
+) -> Result<(List<u32>, List<u32>), Memory>
+    requires right { AreRight (reverse nodes.now) }
+    requires edges { AreEdges (edges_of nodes.now) }
+    requires counted { length placed.now.tables ≡ length placed.now.edge.targets }
+    requires marked { HaveMarks nodes.now }
+    ensures sources { IfOk result (λ made. made.0
+        ≡ table_numbers (sources_of (edges_of nodes.now) placed.now)) }
+    ensures set { IfOk result (λ made. made.1 ≡ table_numbers
+        (after_edge (working (edges_of nodes.now) placed.now.parent) placed.now)) }
+{
+    let before = tables_of_set(nodes, placed.parent);
+    let sources = numbers_named(alloc, nodes, before, placed.edge.sources.as_slice())?;
+    let set = set_after(alloc, before, sources.as_slice(), placed.tables.as_slice())?;
+    Ok((sources, set))
+}
+
 /// The node of an edge that fits on others, after this last table number. It takes time in the
 /// logarithm of the number of nodes and in the number of tables of one of them, for each source and
 /// each table of the working set before it.
@@ -121,15 +144,18 @@ pub fn node_on<O: Drop>(
     ensures right { IfOk result (IsRight (edges_of nodes.now)) }
     ensures before { IfOk result (λ node. node.last_before ≡ last_before) }
 {
-    let before = tables_of_set(nodes, placed.parent);
-    let sources = numbers_named(alloc, nodes, before, placed.edge.sources.as_slice())?;
-    let set = set_after(alloc, before, sources.as_slice(), placed.tables.as_slice())?;
     let tree = tree_on(nodes, &placed);
-    Ok(Node {
-        placed,
-        sources,
-        set,
-        tree,
-        last_before,
-    })
+    match tables_on(alloc, nodes, &placed) {
+        Ok((sources, set)) => Ok(Node {
+            placed,
+            sources,
+            set,
+            tree,
+            last_before,
+        }),
+        Err(memory) => {
+            mem::drop(placed);
+            Err(memory)
+        }
+    }
 }

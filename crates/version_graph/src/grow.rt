@@ -260,7 +260,6 @@ pub fn name_set(versions: &mut IndexMap<Name, u32>, version: (Name, u32)) -> Res
 }
 
 /// The number of live operators.
-#[tactic(auto, using(crate::proofs::EvolveLaws::length_edges))]
 pub fn count<O>(nodes: &[Node<O>]) -> usize
     ensures { result ≡ length (edges_of nodes.now) }
 {

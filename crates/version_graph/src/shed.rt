@@ -1,5 +1,5 @@
 //! Drops: which operators no name needs any longer, and the graph without them.
-ghost use Rattle.std.specs.Prelude.{◌≡◌, ◌==◌, ◌||◌, drop, length, IfOk, ◌<◌};
+ghost use Rattle.std.specs.Prelude.{◌≡◌, ◌==◌, ◌||◌, ◌++◌, ◌∷◌, [], cond, drop, length, remove, IfOk, OnOk, ◌<◌};
 ghost use mathlib.Core.List.{reverse};
 ghost use Rattle.version_graph.specs.Edges.{is_in, version_sets};
 ghost use Rattle.version_graph.specs.Dropped.{Dooms, LeavesSets, doomed as doomed_lem, dropped, other_versions};
@@ -15,6 +15,7 @@ use indexmap::IndexMap;
 use par_base::{Fault, List, Memory, Name, Refusal};
 use std::alloc::Global;
 use std::iter::Iterator;
+use std::mem;
 
 fn sets_of(alloc: Global, versions: &IndexMap<Name, u32>) -> Result<Vec<u32>, Memory>
     ensures { IfOk result (λ sets. sets.items ≡ version_sets versions.now.entries) }
@@ -54,6 +55,21 @@ fn sets_without(
     }
 }
 
+// Where the node's working set is needed, so is the one that it starts from; else its operator goes.
+fn judge<O>(node: &Node<O>, needed: &mut Vec<u32>, gone: &mut List<u32>) -> Result<(), Memory>
+    ensures needed { OnOk result (needed.new.items ≡ cond (is_in node.now.placed.number
+        needed.old.items) (needed.old.items ++ node.now.placed.parent ∷ []) needed.old.items) }
+    ensures gone { OnOk result (gone.new ≡ cond (is_in node.now.placed.number needed.old.items)
+        gone.old (gone.old ++ node.now.placed.number ∷ [])) }
+{
+    if needed.as_slice().contains(&node.placed.number) {
+        needed.push(node.placed.parent)?;
+    } else {
+        gone.push(node.placed.number)?;
+    }
+    Ok(())
+}
+
 fn gone_without<O>(alloc: Global, nodes: &[Node<O>], sets: Vec<u32>) -> Result<List<u32>, Memory>
     ensures { IfOk result (λ gone. gone ≡ doomed_lem sets.items (edges_of nodes.now)) }
 {
@@ -62,14 +78,22 @@ fn gone_without<O>(alloc: Global, nodes: &[Node<O>], sets: Vec<u32>) -> Result<L
     let mut left = nodes.len();
     while left > 0 {
         left -= 1;
-        let node = &nodes[left];
-        if needed.as_slice().contains(&node.placed.number) {
-            needed.push(node.placed.parent)?;
-        } else {
-            gone.push(node.placed.number)?;
-        }
+        judge(&nodes[left], &mut needed, &mut gone)?;
     }
     Ok(gone)
+}
+
+fn doomed_by<O>(
+    alloc: Global,
+    nodes: &[Node<O>],
+    versions: &IndexMap<Name, u32>,
+    name: &Name,
+) -> Result<List<u32>, Memory>
+    ensures { IfOk result (λ gone. gone ≡ doomed_lem
+        (version_sets (other_versions versions.now.entries name.now)) (edges_of nodes.now)) }
+{
+    let sets = sets_without(alloc, versions, name)?;
+    gone_without(alloc, nodes, sets)
 }
 
 /// The operators that no version but one of this name needs, leaves first. It takes time in the
@@ -82,8 +106,8 @@ pub fn doomed<O>(alloc: Global, parts: &Parts<O>, name: &Name) -> Result<List<u3
             version: name.copy(alloc)?,
         }));
     }
-    let sets = sets_without(alloc, &parts.versions, name)?;
-    Ok(gone_without(alloc, parts.nodes.as_slice(), sets)?)
+    let gone = doomed_by(alloc, parts.nodes.as_slice(), &parts.versions, name)?;
+    Ok(gone)
 }
 
 fn is_needed<O>(above: &[Node<O>], versions: &IndexMap<Name, u32>, set: u32) -> bool
@@ -104,6 +128,13 @@ pub fn is_last_needed<O>(nodes: &[Node<O>], count: usize, versions: &IndexMap<Na
     is_needed(&nodes[count..], versions, node.placed.number)
 }
 
+fn remove_node<O: Drop>(nodes: &mut Vec<Node<O>>, at: usize)
+    requires { at < length nodes.old.items }
+    ensures { nodes.new.items ≡ remove nodes.old.items at }
+{
+    mem::drop(nodes.remove(at));
+}
+
 fn shed<O: Drop>(nodes: &mut Vec<Node<O>>, versions: &IndexMap<Name, u32>)
     ensures { reverse nodes.new.items
         ≡ staying_nodes (version_sets versions.now.entries) (reverse nodes.old.items) }
@@ -113,7 +144,7 @@ fn shed<O: Drop>(nodes: &mut Vec<Node<O>>, versions: &IndexMap<Name, u32>)
         let needed = is_last_needed(nodes.as_slice(), left, versions);
         left -= 1;
         if !needed {
-            nodes.remove(left);
+            remove_node(nodes, left);
         }
     }
 }

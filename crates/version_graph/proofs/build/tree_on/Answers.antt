@@ -1,10 +1,15 @@
 use mathlib.Core.List.{reverse}
 use Rattle.std.proofs.Common.{sym, ◌∙◌}
-use Rattle.std.proofs.lemmas.Bool.{cond-false, ne_eqb}
+use Rattle.std.proofs.lemmas.Bool.{cond-false, cond-true, eq-eqb, ne_eqb}
 use Rattle.version_graph.specs.Forest.{forest, tree}
 use Rattle.version_graph.specs.Kept.{edges_of}
 use Rattle.version_graph.proofs.NodeLaws.{tree_of_node, has_node}
 use Rattle.version_graph.proofs.build.tree_on.Goals as goal
+
+pub returns-then-placed-eq0 : goal.returns-then-placed-eq0
+returns-then-placed-eq0 g c =
+    let placed = c.args.placed.now in
+    sym (cond-true (Rattle.std.specs.Prelude.◌==◌ placed.parent 0) placed.number (tree (forest (edges_of c.args.nodes.now)) placed.parent) (eq-eqb placed.parent 0 c.if-placed-eq0.true))
 
 pub returns-in-Some : goal.returns-in-Some
 returns-in-Some g c =

@@ -15,9 +15,9 @@ loop-left-preserved-then-not-needed g c =
     let told = c.is_last_needed-needed.ensures here.0 (here.1 ∙ ap (λ (x : List (Node _)). get_or x (l.left - 1) here.0) (sym seen)) in
     let off = c.if-not-needed.true in
     let test = sym (told ∙ ap (λ (x : List (Node _)). is_in here.0.placed.number (needed_by (drop l.left x) sets)) seen) ∙ off in
-    let m = c.remove.ensures.items in
-    let w : l.left - 1 ≤ length c.remove.new.self.items = omega (arith, gone_within nodes l.left c.remove.new.self.items m c.loop-left-test.true l.invariant.within) in
-    record { within = w; so_far = pass_gone nodes l.left here.0 c.loop-left-test.true l.invariant.within here.1 c.remove.new.self.items sets _ m l.invariant.so_far test }
+    let m = c.remove_node.ensures in
+    let w : l.left - 1 ≤ length c.remove_node.new.nodes.items = omega (arith, gone_within nodes l.left c.remove_node.new.nodes.items m c.loop-left-test.true l.invariant.within) in
+    record { within = w; so_far = pass_gone nodes l.left here.0 c.loop-left-test.true l.invariant.within here.1 c.remove_node.new.nodes.items sets _ m l.invariant.so_far test }
 
 pub loop-left-preserved : goal.loop-left-preserved
 loop-left-preserved g c =
