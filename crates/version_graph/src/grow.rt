@@ -1,10 +1,10 @@
 //! Evolutions: refusals in their order, and new edges under the next numbers.
-ghost use Rattle.std.specs.Prelude.{◌≡◌, ◌+◌, ◌<◌, ◌^◌, ◌≤◌, ◌∷◌, ◌++◌, [], None, length, take, IfOk, OnOk, OnErr};
+ghost use Rattle.std.specs.Prelude.{◌≡◌, ◌+◌, ◌<◌, ◌^◌, ◌≤◌, ◌∷◌, ◌++◌, [], Some, None, Ok, Err, length, take, IfOk, IfErr, OnOk, OnErr};
 ghost use mathlib.Core.List.{reverse};
 ghost use Rattle.std.specs.Option.{option_copied};
 ghost use Rattle.version_graph.specs.Sets.{In};
-ghost use Rattle.version_graph.specs.Edges.{AreEdges, Drawn, numbers, operator_limit, set_named as set_named_lem};
-ghost use Rattle.version_graph.specs.Evolve.{numbers_after, placed_next, grown, MayEvolve, EvolvesGraph, IsEvolvedFrom, targets_in};
+ghost use Rattle.version_graph.specs.Edges.{AreEdges, Drawn, IsGraph, numbers, operator_limit, set_named as set_named_lem};
+ghost use Rattle.version_graph.specs.Evolve.{start_of as start_of_lem, numbers_after, placed_next, grown, MayEvolve, EvolvesGraph, IsEvolvedFrom, targets_in};
 ghost use Rattle.version_graph.specs.Finished.{IsFinished};
 ghost use Rattle.version_graph.specs.Kept.{AreMarked, AreRight, IsKept, drawn, edges_of};
 ghost use Rattle.version_graph.specs.Calls.{AddsNode, CanGrow, CanAdd, FindsStart, IsUnused, FindsRoom, FindsRoomAt};
@@ -17,6 +17,7 @@ use crate::{Edge, Heading, Placed};
 use indexmap::IndexMap;
 use par_base::{Fault, List, Memory, Name, Refusal};
 use std::alloc::Global;
+use std::mem;
 
 /// The working set from which an evolution starts.
 pub fn start_of(
@@ -266,6 +267,30 @@ pub fn count<O>(nodes: &[Node<O>]) -> usize
     nodes.len()
 }
 
+// Where an evolution starts, its name, and the last numbers after it.
+fn plan<O>(
+    alloc: Global,
+    parts: &Parts<O>,
+    name: Name,
+    from: Option<&Name>,
+    edges: &[Edge<O>],
+) -> Result<(u32, Name, Last), Fault<Refusal>>
+    requires { IsGraph (drawn parts.now) }
+    ensures start { IfOk result (λ plan. start_of_lem parts.now.versions.entries
+        (option_copied from.entry) ≡ Some plan.0) }
+    ensures name { IfOk result (λ plan. plan.1 ≡ name) }
+    ensures unused { IfOk result (λ _. set_named_lem parts.now.versions.entries name ≡ None) }
+    ensures room { IfOk result (λ plan. FindsRoom (length (drawn parts.now).edges) parts.now.last
+        edges.now (Ok plan.2)) }
+    ensures refused { IfErr result (λ fault. EvolvesGraph (drawn parts.now) name
+        (option_copied from.entry) edges.now (Err fault) (drawn parts.now)) }
+{
+    let set = start_of(alloc, &parts.versions, from)?;
+    let name = unused(&parts.versions, name)?;
+    let after = room_for(count(parts.nodes.as_slice()), parts.last, edges)?;
+    Ok((set, name, after))
+}
+
 /// Adds the edges, each on the working set before it, and names the last working set.
 pub fn evolve<O: Drop>(
     alloc: Global,
@@ -282,21 +307,26 @@ pub fn evolve<O: Drop>(
     ensures kept { IsKept parts.new }
     ensures finished { IsFinished (drawn parts.old) → IsFinished (drawn parts.new) }
 {
-    let set = start_of(alloc, &parts.versions, from)?;
-    let name = unused(&parts.versions, name)?;
-    let after = room_for(count(parts.nodes.as_slice()), parts.last, edges.as_slice())?;
-    let version = (name, after.operator);
-    grow_and_name(
-        alloc,
-        &mut parts.nodes,
-        &mut parts.versions,
-        parts.last,
-        set,
-        edges,
-        version,
-    )?;
-    parts.last = after;
-    Ok(after.operator)
+    match plan(alloc, parts, name, from, edges.as_slice()) {
+        Ok((set, name, after)) => {
+            let version = (name, after.operator);
+            grow_and_name(
+                alloc,
+                &mut parts.nodes,
+                &mut parts.versions,
+                parts.last,
+                set,
+                edges,
+                version,
+            )?;
+            parts.last = after;
+            Ok(after.operator)
+        }
+        Err(fault) => {
+            mem::drop(edges);
+            Err(fault)
+        }
+    }
 }
 
 /// Takes back an evolution of a graph that had so many operators and these last numbers. It takes no
