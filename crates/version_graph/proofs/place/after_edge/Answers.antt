@@ -1,6 +1,6 @@
-use Rattle.std.proofs.Common.{◌≡◌, ℕ, List, length, arith, refl, sym, ap, ◌∙◌, inl, inr}
+use Rattle.std.proofs.Common.{◌≡◌, ℕ, List, length, arith, refl, sym, ap, ◌∙◌, inl, inr, subst}
 use Rattle.std.specs.Prelude.{Some, None}
-use Rattle.version_graph.specs.Edges.{is_in, numbers}
+use Rattle.version_graph.specs.Edges.{AreEdges, is_in, numbers}
 use Rattle.version_graph.specs.Kept.{edges_of}
 use Rattle.version_graph.specs.Placing.{top_of}
 use Rattle.version_graph.specs.declared.node.Node.{Node}
@@ -45,3 +45,18 @@ returns-in-None g c can =
     let tables = c.args.placed.now.tables in
     let none : top_of low tables ≡ None = sym (ap (λ (l : List ℕ). top_of low l) c.as_slice.ensures) ∙ sym c.top_of.ensures ∙ c.in-None.is in
     no_top low tables none can.rising
+
+pub returns-then-count-ge-MOST_OPERATORS : goal.returns-then-count-ge-MOST_OPERATORS
+returns-then-count-ge-MOST_OPERATORS g c can =
+    let nodes = ap (λ (l : List (Node _)). length (edges_of l)) c.as_slice-nodes.ensures.value in
+    let few = c.count.ensures ∙ nodes in
+    omega (arith, c.if-count-ge-MOST_OPERATORS.true, few, can.room)
+
+pub returns-then-placed-parts : goal.returns-then-placed-parts
+returns-then-placed-parts g c can = omega (arith, c.if-placed-parts.true, can.next)
+
+pub returns-then-len : goal.returns-then-len
+returns-then-len g c can = c.if-len.true (c.len.ensures ∙ can.counted ∙ sym c.len-2.ensures)
+
+pub is_live-requires : goal.is_live-requires
+is_live-requires g c = subst (λ (l : List (Node _)). AreEdges (edges_of l)) (sym c.as_slice-nodes.ensures.value) c.requires
