@@ -1,7 +1,9 @@
 //! Whole dumps.
-ghost use Rattle.std.specs.Prelude.{◌≡◌, ◌≤◌, ◌^◌, IfOk, IfSome, OnOk, option_map};
+ghost use Rattle.std.specs.Prelude.{◌≡◌, ◌≤◌, ◌^◌, codes, IfOk, IfSome, OnOk, option_map};
 ghost use Rattle.serde_json.specs.View.{members_view, view};
-ghost use Rattle.dump_values.specs.Dumps.{dump_of, dump_seen, graph_of, has_format as is_of_format, kept_of, kept_seen, written};
+ghost use Rattle.dump_values.specs.Dumps.{auxes_seen, dump_of, dump_seen, graph_of, has_format as is_of_format, kept_of, kept_seen, memories_seen, written};
+ghost use Rattle.dump_values.specs.Lines.{aux_of, memory_of, operator_of, version_of};
+ghost use Rattle.dump_values.specs.Members.{both, list_at, member_of, next_of, numbers_of, small_of};
 ghost use Rattle.dump_values.specs.inner.Calls.{with_graph, with_layout, with_tables};
 
 use crate::lines::{OperatorLine, VersionLine};
@@ -12,6 +14,7 @@ use par_base::{List, Memory};
 use row_store::Table;
 use serde_json::{Map, Value as Json, put};
 use std::alloc::Global;
+use std::mem;
 
 /// What the graph is made of.
 #[derive(Drop)]
@@ -63,20 +66,53 @@ fn has_format(json: &Json) -> bool
     }
 }
 
-fn read_graph(alloc: Global, json: &Json) -> Result<Option<GraphLines>, Memory>
-    ensures { IfOk result (λ graph. graph ≡ graph_of (view json.now)) }
+// The operators and the versions.
+fn graph_lists(
+    alloc: Global,
+    json: &Json,
+) -> Result<Option<(List<OperatorLine>, List<VersionLine>)>, Memory>
+    ensures { IfOk result (λ lists. lists
+        ≡ both (list_at operator_of (codes "operators") (view json.now))
+        (list_at version_of (codes "versions") (view json.now))) }
 {
     let Some(operators) = operators_at(alloc, json, "operators")? else {
         return Ok(None);
     };
-    let Some(versions) = versions_at(alloc, json, "versions")? else {
-        return Ok(None);
-    };
-    let Some(last_operator) = small_at(json, "last_operator") else {
-        return Ok(None);
+    match versions_at(alloc, json, "versions") {
+        Ok(Some(versions)) => Ok(Some((operators, versions))),
+        Ok(None) => {
+            mem::drop(operators);
+            Ok(None)
+        }
+        Err(memory) => {
+            mem::drop(operators);
+            Err(memory)
+        }
+    }
+}
+
+// The last numbers given.
+fn last_numbers(json: &Json) -> Option<(u32, u32)>
+    ensures { result ≡ both (member_of small_of (codes "last_operator") (view json.now))
+        (member_of small_of (codes "last_table") (view json.now)) }
+{
+    let Some(operator) = small_at(json, "last_operator") else {
+        return None;
     };
     match small_at(json, "last_table") {
-        Some(last_table) => Ok(Some(GraphLines {
+        Some(table) => Some((operator, table)),
+        None => None,
+    }
+}
+
+fn read_graph(alloc: Global, json: &Json) -> Result<Option<GraphLines>, Memory>
+    ensures { IfOk result (λ graph. graph ≡ graph_of (view json.now)) }
+{
+    let Some((operators, versions)) = graph_lists(alloc, json)? else {
+        return Ok(None);
+    };
+    match last_numbers(json) {
+        Some((last_operator, last_table)) => Ok(Some(GraphLines {
             operators,
             versions,
             last_operator,
@@ -86,24 +122,59 @@ fn read_graph(alloc: Global, json: &Json) -> Result<Option<GraphLines>, Memory>
     }
 }
 
-fn read_kept(alloc: Global, json: &Json) -> Result<Option<KeptLines>, Memory>
-    ensures value { IfOk result (λ kept. option_map kept_seen kept ≡ kept_of (view json.now)) }
-    ensures within { IfOk result (λ kept. IfSome kept (λ k. (1 ≤ k.next) × (k.next ≤ 2 ^ 63))) }
+// The layout and the next identifier.
+fn layout_and_next(alloc: Global, json: &Json) -> Result<Option<(List<u32>, u64)>, Memory>
+    ensures value { IfOk result (λ found. found
+        ≡ both (member_of numbers_of (codes "layout") (view json.now))
+        (member_of next_of (codes "next") (view json.now))) }
+    ensures within { IfOk result (λ found. IfSome found (λ f. (1 ≤ f.1) × (f.1 ≤ 2 ^ 63))) }
 {
     let Some(layout) = numbers_at(alloc, json, "layout")? else {
         return Ok(None);
     };
-    let Some(next) = next_at(json, "next") else {
+    match next_at(json, "next") {
+        Some(next) => Ok(Some((layout, next))),
+        None => Ok(None),
+    }
+}
+
+// The auxiliary tables and the memories.
+fn operator_lists(
+    alloc: Global,
+    json: &Json,
+) -> Result<Option<(List<(u32, List<Table>)>, List<(u32, PairMemory)>)>, Memory>
+    ensures { IfOk result (λ lists. option_map (λ l. (auxes_seen l.0, memories_seen l.1)) lists
+        ≡ both (list_at aux_of (codes "aux") (view json.now))
+        (list_at memory_of (codes "memories") (view json.now))) }
+{
+    let Some(auxes) = auxes_at(alloc, json, "aux")? else {
+        return Ok(None);
+    };
+    match memories_at(alloc, json, "memories") {
+        Ok(Some(memories)) => Ok(Some((auxes, memories))),
+        Ok(None) => {
+            mem::drop(auxes);
+            Ok(None)
+        }
+        Err(memory) => {
+            mem::drop(auxes);
+            Err(memory)
+        }
+    }
+}
+
+fn read_kept(alloc: Global, json: &Json) -> Result<Option<KeptLines>, Memory>
+    ensures value { IfOk result (λ kept. option_map kept_seen kept ≡ kept_of (view json.now)) }
+    ensures within { IfOk result (λ kept. IfSome kept (λ k. (1 ≤ k.next) × (k.next ≤ 2 ^ 63))) }
+{
+    let Some((layout, next)) = layout_and_next(alloc, json)? else {
         return Ok(None);
     };
     let Some(stored) = stored_at(alloc, json, "stored")? else {
         return Ok(None);
     };
-    let Some(auxes) = auxes_at(alloc, json, "aux")? else {
-        return Ok(None);
-    };
-    match memories_at(alloc, json, "memories")? {
-        Some(memories) => Ok(Some(KeptLines {
+    match operator_lists(alloc, json)? {
+        Some((auxes, memories)) => Ok(Some(KeptLines {
             layout,
             stored,
             auxes,

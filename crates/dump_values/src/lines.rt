@@ -1,8 +1,10 @@
 //! The entries of a dump: stored tables, auxiliary tables and memories under a number, versions and
 //! operators.
-ghost use Rattle.std.specs.Prelude.{◌≡◌, map, IfOk, option_map};
+ghost use Rattle.std.specs.Prelude.{◌≡◌, codes, map, IfOk, option_map};
+ghost use Rattle.serde_json.specs.Find.{as_str};
 ghost use Rattle.serde_json.specs.View.{view};
 ghost use Rattle.dump_values.specs.Lines.{aux_json, aux_of, memory_json, memory_of, operator_json, operator_of, stored_json, stored_of, version_json, version_of};
+ghost use Rattle.dump_values.specs.Members.{both, member_of, numbers_of, small_of};
 
 use crate::members::{
     count_members, numbers_at, put_number, put_text, small_at, text_at, write_numbers,
@@ -14,6 +16,7 @@ use par_base::{List, Memory, Text};
 use row_store::Table;
 use serde_json::{Map, Value as Json, put};
 use std::alloc::Global;
+use std::mem;
 
 /// A version: its name as it is written, and its working set.
 #[derive(Drop)]
@@ -98,23 +101,53 @@ pub(crate) fn read_version(alloc: Global, json: &Json) -> Result<Option<VersionL
     }
 }
 
+// The number of an operator, and the working set that it starts from.
+fn place_of(json: &Json) -> Option<(u32, u32)>
+    ensures { result ≡ both (member_of small_of (codes "number") (view json.now))
+        (member_of small_of (codes "parent") (view json.now)) }
+{
+    let Some(number) = small_at(json, "number") else {
+        return None;
+    };
+    match small_at(json, "parent") {
+        Some(parent) => Some((number, parent)),
+        None => None,
+    }
+}
+
+// The numbers of an operator's targets, and its text.
+fn rest_of(alloc: Global, json: &Json) -> Result<Option<(List<u32>, Text)>, Memory>
+    ensures { IfOk result (λ rest. rest
+        ≡ both (member_of numbers_of (codes "targets") (view json.now))
+        (member_of as_str (codes "text") (view json.now))) }
+{
+    let Some(targets) = numbers_at(alloc, json, "targets")? else {
+        return Ok(None);
+    };
+    match text_at(alloc, json, "text") {
+        Ok(Some(text)) => Ok(Some((targets, text))),
+        Ok(None) => {
+            mem::drop(targets);
+            Ok(None)
+        }
+        Err(memory) => {
+            mem::drop(targets);
+            Err(memory)
+        }
+    }
+}
+
 pub(crate) fn read_operator(alloc: Global, json: &Json) -> Result<Option<OperatorLine>, Memory>
     ensures { IfOk result (λ line. line ≡ operator_of (view json.now)) }
 {
     if count_members(json) != 4 {
         return Ok(None);
     }
-    let Some(number) = small_at(json, "number") else {
+    let Some((number, parent)) = place_of(json) else {
         return Ok(None);
     };
-    let Some(parent) = small_at(json, "parent") else {
-        return Ok(None);
-    };
-    let Some(targets) = numbers_at(alloc, json, "targets")? else {
-        return Ok(None);
-    };
-    match text_at(alloc, json, "text")? {
-        Some(text) => Ok(Some(OperatorLine {
+    match rest_of(alloc, json)? {
+        Some((targets, text)) => Ok(Some(OperatorLine {
             number,
             parent,
             targets,
