@@ -27,7 +27,7 @@ use Rattle.op_law.proofs.OnlyLaws.{by_test, first_table, other_tables, row_in, r
 use Rattle.operator_changes.specs.Calls.{toward, IsChangedTo, MayChange}
 use Rattle.row_changes.specs.Changed.{TableChanges, AreChangesOf, changed_tables}
 use Rattle.row_changes.specs.Differences.{AreDifferences}
-use Rattle.operator_changes.specs.MemoryChanges.{IsMemoryDifference}
+use Rattle.pair_changes.specs.MemoryChanges.{IsMemoryDifference}
 use Rattle.operator_changes.specs.Parts.{part_of, pair_part}
 use Rattle.row_changes.specs.Picked.{PicksEach}
 use Rattle.operator_changes.specs.Footprint.{IsFootprint, passes, with_drawn}

@@ -11,7 +11,7 @@ use Rattle.op_law.specs.Calls.{first_refused, IsSpent}
 use Rattle.row_changes.specs.Changed.{TableChanges, AreChangesOf, changed_tables}
 use Rattle.row_changes.specs.Differences.{AreDifferences}
 use Rattle.row_changes.specs.Touched.{touched}
-use Rattle.operator_changes.specs.MemoryChanges.{IsMemoryDifference}
+use Rattle.pair_changes.specs.MemoryChanges.{IsMemoryDifference}
 use Rattle.operator_changes.specs.declared.change.FarChanges.{FarChanges}
 
 -- an operator as it is crossed: forward, or backward as its flip is forward

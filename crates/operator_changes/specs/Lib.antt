@@ -1,4 +1,3 @@
-pub mod MemoryChanges
 pub mod Pairs
 pub mod Parts
 pub mod Footprint

@@ -18,7 +18,7 @@ mod part;
 mod reader;
 
 pub use auxiliary::aux_changes_over;
-pub use change::{FarChanges, PairChange};
+pub use change::FarChanges;
 pub use laws::all_identifiers_are_a_footprint;
 pub use local::{changes_backward, changes_forward, changes_over};
 pub use mapping::changes_by;

@@ -11,7 +11,7 @@ use Rattle.operator_changes.specs.Footprint.{passes, with_drawn}
 use Rattle.op_rows.specs.inner.CellLemmas.{has_id}
 use Rattle.operator_changes.proofs.DrawnLemmas.{with_passes}
 use Rattle.row_changes.proofs.PickLaws.{each_pass_of}
-use Rattle.operator_changes.specs.declared.change.PairChange.{PairChange}
+use Rattle.pair_changes.specs.declared.change.PairChange.{PairChange}
 use Rattle.operator_changes.proofs.FootLemmas.{answered, far_many, part_fits, part_may, part_next, part_rises, part_steps, spent, toward_laws}
 use Rattle.operator_changes.proofs.PartLemmas.{part_ahead}
 use Rattle.operator_changes.proofs.LoopLemmas.{contents_long}

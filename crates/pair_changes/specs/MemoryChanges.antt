@@ -1,7 +1,7 @@
 -- Exactly the difference of two memories.
 use Rattle.std.specs.Prelude.{◌≡◌, ℕ, ◌+◌, ◌≤◌, ◌==◌, List, [], ◌∷◌, if◌then◌else◌, Option}
 use Rattle.id_memory.specs.Pairs.{Pairs, pair_of}
-use Rattle.operator_changes.specs.declared.change.PairChange.{PairChange}
+use Rattle.pair_changes.specs.declared.change.PairChange.{PairChange}
 
 -- the identifiers of the changes rise strictly, each with the pair that it had, and none leaves it
 abbrev pub ArePairChanges : ℕ → Pairs → List PairChange → Type 0

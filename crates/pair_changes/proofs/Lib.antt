@@ -1,0 +1,5 @@
+pub mod ChangedLaws
+mod DifferLemmas
+mod PutLemmas
+mod TakeLemmas
+mod TurnLemmas

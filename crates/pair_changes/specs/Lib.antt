@@ -1,0 +1,5 @@
+pub mod MemoryChanges
+pub mod Changed
+pub mod Undo
+pub mod Laws
+pub mod inner
