@@ -5,3 +5,4 @@ mod StepLemmas
 mod SideLemmas
 mod RoomLemmas
 mod BackLemmas
+mod MemoryLemmas

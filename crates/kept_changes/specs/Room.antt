@@ -1,12 +1,15 @@
--- Room for changes in kept tables and auxiliary tables.
+-- Room for changes in kept tables, auxiliary tables and memories.
 use Rattle.std.specs.Prelude.{ℕ, ◌≤◌, List, [], ◌∷◌, length, map}
 use Rattle.std.specs.Option.{option_map_or}
 use Rattle.row_store.specs.declared.change.Change.{Change}
 use Rattle.row_store.specs.States.{TableState}
+use Rattle.id_memory.specs.States.{MemoryState}
 use Rattle.version_graph.specs.Sets.{Each}
 use Rattle.op_law.specs.declared.side.Aux.{Aux}
 use Rattle.row_changes.specs.declared.change.SideChanges.{SideChanges}
 use Rattle.row_changes.specs.Changed.{TableChanges}
+use Rattle.pair_changes.specs.declared.change.PairChange.{PairChange}
+use Rattle.pair_changes.specs.Undo.{PairsFit}
 use Rattle.version_model.specs.Kept.{value_of}
 use Rattle.version_model.specs.declared.numbered.Numbered.{Numbered}
 
@@ -43,3 +46,15 @@ IsSideFitAt auxes i = HaveRoom (rooms_at auxes i.number) i.value.tables
 -- all such changes have room in the auxiliary tables under their numbers
 abbrev pub SidesFitAt : List (Numbered Aux) → List (Numbered SideChanges) → Type 0
 SidesFitAt auxes items = Each (λ i. IsSideFitAt auxes i) items
+
+-- how many more pairs fit the memory under a number: none where no memory is kept
+abbrev pub memory_room_at : List (Numbered MemoryState) → ℕ → ℕ
+memory_room_at memories n = option_map_or (λ (memory : MemoryState). memory.room) (value_of memories n) 0
+
+-- changes have room in the memory under their number
+abbrev pub IsMemoryFitAt : List (Numbered MemoryState) → Numbered (List PairChange) → Type 0
+IsMemoryFitAt memories i = PairsFit (memory_room_at memories i.number) i.value
+
+-- all such changes have room in the memories under their numbers
+abbrev pub MemoriesFitAt : List (Numbered MemoryState) → List (Numbered (List PairChange)) → Type 0
+MemoriesFitAt memories items = Each (λ i. IsMemoryFitAt memories i) items

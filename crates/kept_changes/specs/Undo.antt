@@ -1,17 +1,20 @@
--- When changes of kept tables and auxiliary tables can be taken back, and what that restores.
+-- When changes of kept tables, auxiliary tables and memories can be taken back, and what that restores.
 use Rattle.std.specs.Prelude.{◌≡◌, ℕ, ◌+◌, ◌≤◌, List, [], ◌∷◌, length}
 use Rattle.row_store.specs.declared.change.Change.{Change}
 use Rattle.row_store.specs.Rows.{Rows}
 use Rattle.row_store.specs.States.{TableState}
 use Rattle.row_store.specs.Changes.{WasApplied}
+use Rattle.id_memory.specs.States.{MemoryState}
 use Rattle.version_graph.specs.Sets.{Distinct, Each, In}
 use Rattle.op_law.specs.Tables.{Tables}
 use Rattle.op_law.specs.declared.side.Aux.{Aux}
 use Rattle.row_changes.specs.declared.change.SideChanges.{SideChanges}
 use Rattle.row_changes.specs.Changed.{TableChanges}
-use Rattle.version_model.specs.Kept.{rows_at, auxes_at, numbers_in}
+use Rattle.pair_changes.specs.declared.change.PairChange.{PairChange}
+use Rattle.pair_changes.specs.Undo.{PairsLeadBack}
+use Rattle.version_model.specs.Kept.{rows_at, auxes_at, pairs_at, numbers_in}
 use Rattle.version_model.specs.declared.numbered.Numbered.{Numbered}
-use Rattle.kept_changes.specs.Room.{room_at, rooms_at}
+use Rattle.kept_changes.specs.Room.{room_at, rooms_at, memory_room_at}
 
 -- `back` is what changes left that made `now` of `before`, and there is room for the rows by which the table grows
 abbrev pub LeadsBack : Rows → Rows → ℕ → List Change → Type 0
@@ -62,3 +65,22 @@ RestoresTables now back again = (before : List (Numbered TableState)) → Tables
 -- to whatever auxiliary tables the changes lead back, their rows are there again
 abbrev pub RestoresAuxes : List (Numbered Aux) → List (Numbered SideChanges) → List (Numbered Aux) → Type 0
 RestoresAuxes now back again = (before : List (Numbered Aux)) → AuxesLeadBack before now back → (n : ℕ) → auxes_at again n ≡ auxes_at before n
+
+-- changes of a kept memory lead back to what was kept under its number
+abbrev pub MemoryLeadsBackAt : List (Numbered MemoryState) → List (Numbered MemoryState) → Numbered (List PairChange) → Type 0
+MemoryLeadsBackAt before now i = In i.number (numbers_in now) × PairsLeadBack (pairs_at before i.number) (pairs_at now i.number) (memory_room_at now i.number) i.value
+
+-- all such changes do, and the other memories are as they were
+pub record MemoriesLeadBack (before now : List (Numbered MemoryState)) (back : List (Numbered (List PairChange))) : Type 0 where
+  pub listed : numbers_in now ≡ numbers_in before
+  pub distinct : Distinct (numbers_in back)
+  pub changes : Each (λ i. MemoryLeadsBackAt before now i) back
+  pub others : (n : ℕ) → (In n (numbers_in back) → ⊥) → pairs_at now n ≡ pairs_at before n
+
+-- there are memories to which the changes lead back
+abbrev pub MemoriesUndoable : List (Numbered MemoryState) → List (Numbered (List PairChange)) → Type 0
+MemoriesUndoable now back = (before : List (Numbered MemoryState)) × MemoriesLeadBack before now back
+
+-- to whatever memories the changes lead back, their pairs are there again
+abbrev pub RestoresMemories : List (Numbered MemoryState) → List (Numbered (List PairChange)) → List (Numbered MemoryState) → Type 0
+RestoresMemories now back again = (before : List (Numbered MemoryState)) → MemoriesLeadBack before now back → (n : ℕ) → pairs_at again n ≡ pairs_at before n

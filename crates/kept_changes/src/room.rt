@@ -1,14 +1,17 @@
-//! Room for changes in kept tables and auxiliary tables.
+//! Room for changes in kept tables, auxiliary tables and memories.
 ghost use Rattle.std.specs.Prelude.{◌≡◌, ◌≤◌, ℕ, OnOk};
 ghost use Rattle.version_graph.specs.Sets.{In};
-ghost use Rattle.version_model.specs.Kept.{rows_at, auxes_at, numbers_in};
-ghost use Rattle.kept_changes.specs.Changes.{AreOldAt, AreSidesAt, IsSideAt};
+ghost use Rattle.version_model.specs.Kept.{rows_at, auxes_at, pairs_at, numbers_in};
+ghost use Rattle.kept_changes.specs.Changes.{AreOldAt, AreSidesAt, AreMemoriesAt, IsSideAt};
 ghost use Rattle.kept_changes.specs.Room.{room_at, rooms_at, FitAt, SidesFitAt, IsSideFitAt};
+ghost use Rattle.kept_changes.specs.Room.{memory_room_at, IsMemoryFitAt, MemoriesFitAt};
 ghost use Rattle.kept_changes.specs.inner.Calls.{AreAtLeast};
 
 use crate::side::reserve_side;
+use id_memory::PairMemory;
 use op_law::Aux;
-use par_base::Memory;
+use pair_changes::PairChange;
+use par_base::{List, Memory};
 use row_changes::SideChanges;
 use row_store::{Changes, Table};
 use std::alloc::Global;
@@ -81,6 +84,40 @@ pub fn reserve_auxes(
 {
     for item in changes {
         reserve_aux(alloc, auxes, item)?;
+    }
+    Ok(())
+}
+
+fn reserve_memory(
+    memories: &mut Vec<Numbered<PairMemory>>,
+    item: &Numbered<List<PairChange>>,
+) -> Result<(), Memory>
+    requires { In item.now.number (numbers_in memories.old.items) }
+    ensures room { OnOk result (IsMemoryFitAt memories.new.items item.now) }
+    ensures grown { (n : ℕ) → memory_room_at memories.old.items n
+        ≤ memory_room_at memories.new.items n }
+    ensures same { (n : ℕ) → pairs_at memories.new.items n ≡ pairs_at memories.old.items n }
+    ensures numbers { numbers_in memories.new.items ≡ numbers_in memories.old.items }
+{
+    let Some(at) = place_of(memories.as_slice(), item.number) else {
+        unreachable!()
+    };
+    memories[at].value.reserve(item.value.len())
+}
+
+/// Room for changes in the memories under their numbers. The pairs stay. For each of the memories it
+/// takes one comparison of numbers for each memory before it, and the time of `PairMemory::reserve`.
+pub fn reserve_memories(
+    memories: &mut Vec<Numbered<PairMemory>>,
+    changes: &[Numbered<List<PairChange>>],
+) -> Result<(), Memory>
+    requires { AreMemoriesAt memories.old.items changes.now }
+    ensures room { OnOk result (MemoriesFitAt memories.new.items changes.now) }
+    ensures same { (n : ℕ) → pairs_at memories.new.items n ≡ pairs_at memories.old.items n }
+    ensures numbers { numbers_in memories.new.items ≡ numbers_in memories.old.items }
+{
+    for item in changes {
+        reserve_memory(memories, item)?;
     }
     Ok(())
 }

@@ -5,10 +5,10 @@ use Rattle.par_base.proofs.TestLaws.{apart_below}
 use Rattle.id_memory.specs.Pairs.{Pairs, RiseFrom, IsOneToOne, pair_of}
 use Rattle.pair_changes.specs.declared.change.PairChange.{PairChange}
 use Rattle.pair_changes.specs.MemoryChanges.{ArePairChanges, pair_after}
-use Rattle.pair_changes.specs.Undo.{LeadBack, puts, reverse_of, takes, turned}
+use Rattle.pair_changes.specs.Undo.{PairsLeadBack, puts, turned_changes, takes, turned}
 use Rattle.pair_changes.proofs.ChangedLaws.{by_test}
 
-fit_turned : (n : ℕ) (before now : Pairs) (cs : List PairChange) → ArePairChanges n before cs → ((q : ℕ) → n ≤ q → pair_of now q ≡ pair_after cs q (pair_of before q)) → ArePairChanges n now (reverse_of cs)
+fit_turned : (n : ℕ) (before now : Pairs) (cs : List PairChange) → ArePairChanges n before cs → ((q : ℕ) → n ≤ q → pair_of now q ≡ pair_after cs q (pair_of before q)) → ArePairChanges n now (turned_changes cs)
 fit_turned n before now [] fit is = tt
 fit_turned n before now (c ∷ cs) fit is =
     let own = eq-eqb c.id c.id refl in
@@ -23,31 +23,31 @@ fit_turned n before now (c ∷ cs) fit is =
           is q (omega (arith, h, fit.0)) ∙ behind),
     )
 
-back_again : (n : ℕ) (before : Pairs) (cs : List PairChange) (q : ℕ) → ArePairChanges n before cs → pair_of before q ≡ pair_after (reverse_of cs) q (pair_after cs q (pair_of before q))
+back_again : (n : ℕ) (before : Pairs) (cs : List PairChange) (q : ℕ) → ArePairChanges n before cs → pair_of before q ≡ pair_after (turned_changes cs) q (pair_after cs q (pair_of before q))
 back_again n before [] q fit = refl
 back_again n before (c ∷ cs) q fit =
     by_test (c.id == q)
     (λ e. rw e (ap (λ (k : ℕ). pair_of before k) (sym (eqb-true c.id q e)) ∙ sym fit.1))
     (λ e. rw e (back_again (c.id + 1) before cs q fit.3))
 
-puts_turned : (cs : List PairChange) → puts (reverse_of cs) ≡ takes cs
+puts_turned : (cs : List PairChange) → puts (turned_changes cs) ≡ takes cs
 puts_turned [] = refl
 puts_turned (c ∷ cs) = ap (λ (n : ℕ). (if is_some c.old then 1 else 0) + n) (puts_turned cs)
 
-takes_turned : (cs : List PairChange) → takes (reverse_of cs) ≡ puts cs
+takes_turned : (cs : List PairChange) → takes (turned_changes cs) ≡ puts cs
 takes_turned [] = refl
 takes_turned (c ∷ cs) = ap (λ (n : ℕ). (if is_some c.new then 1 else 0) + n) (takes_turned cs)
 
 -- THE WAY BACK
 pub turned_back : (before now : Pairs) (room more : ℕ) (cs : List PairChange) → RiseFrom 0 before → IsOneToOne before → ArePairChanges 0 before cs → ((q : ℕ) → pair_of now q ≡ pair_after cs q (pair_of before q))
-    → more + puts cs ≡ room + takes cs → LeadBack before now more (reverse_of cs)
+    → more + puts cs ≡ room + takes cs → PairsLeadBack before now more (turned_changes cs)
 turned_back before now room more cs rise one fit is rooms = record {
   lead = record {
     rises = rise;
     one = one;
     difference = record {
       fit = fit_turned 0 before now cs fit (λ q h. is q);
-      new = λ q. back_again 0 before cs q fit ∙ ap (λ (pair : Option (ℕ × ℕ)). pair_after (reverse_of cs) q pair) (sym (is q));
+      new = λ q. back_again 0 before cs q fit ∙ ap (λ (pair : Option (ℕ × ℕ)). pair_after (turned_changes cs) q pair) (sym (is q));
     };
   };
   room = omega (arith, rooms, puts_turned cs, takes_turned cs);
@@ -73,11 +73,11 @@ turn_more zero (x ∷ xs) made d new h are is = turn_first x xs made d new are i
 turn_more (suc k) (x ∷ xs) [] d new h are is = absurd are
 turn_more (suc k) (x ∷ xs) (y ∷ ys) d new h are is = (are.0, turn_more k xs ys d new (omega arith) are.1 is)
 
-pub turn_end : (k : ℕ) (all made : List PairChange) → length all ≤ k → AreTurned k all made → made ≡ reverse_of all
+pub turn_end : (k : ℕ) (all made : List PairChange) → length all ≤ k → AreTurned k all made → made ≡ turned_changes all
 turn_end zero [] made h are = are
 turn_end (suc k) [] made h are = are
 turn_end zero (x ∷ xs) made h are = absurd (omega (arith, h))
 turn_end (suc k) (x ∷ xs) [] h are = absurd are
 turn_end (suc k) (x ∷ xs) (y ∷ ys) h are =
-    let rest : ys ≡ reverse_of xs = turn_end k xs ys (omega arith) are.1 in
+    let rest : ys ≡ turned_changes xs = turn_end k xs ys (omega arith) are.1 in
     ap (λ (z : PairChange). z ∷ ys) are.0 ∙ ap (λ (l : List PairChange). turned x ∷ l) rest

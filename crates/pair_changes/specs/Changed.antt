@@ -25,11 +25,11 @@ pub record IsMemoryChanged (before : Pairs) (changes : List PairChange) (now : P
   pub pairs : (id : ℕ) → pair_of now id ≡ pair_after changes id (pair_of before id)
 
 -- the changes are the difference to a memory in which no pair stands twice
-pub record LeadTo (before now : Pairs) (changes : List PairChange) : Type 0 where
+pub record PairsLeadTo (before now : Pairs) (changes : List PairChange) : Type 0 where
   pub rises : RiseFrom 0 now
   pub one : IsOneToOne now
   pub difference : IsMemoryDifference before now changes
 
 -- there is such a memory
 abbrev pub AreMemoryChanges : Pairs → List PairChange → Type 0
-AreMemoryChanges before changes = (now : Pairs) × LeadTo before now changes
+AreMemoryChanges before changes = (now : Pairs) × PairsLeadTo before now changes

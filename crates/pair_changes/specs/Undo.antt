@@ -2,7 +2,7 @@
 use Rattle.std.specs.Prelude.{ℕ, ◌+◌, ◌≤◌, List, [], ◌∷◌, map, is_some, if◌then◌else◌}
 use Rattle.id_memory.specs.Pairs.{Pairs}
 use Rattle.pair_changes.specs.declared.change.PairChange.{PairChange}
-use Rattle.pair_changes.specs.Changed.{LeadTo}
+use Rattle.pair_changes.specs.Changed.{PairsLeadTo}
 
 -- how many of the changes put a pair
 abbrev pub puts : List PairChange → ℕ
@@ -15,18 +15,18 @@ takes [] = 0
 takes (c ∷ cs) = (if is_some c.old then 1 else 0) + takes cs
 
 -- once the old pairs are out there is room for the new ones
-abbrev pub HaveRoom : ℕ → List PairChange → Type 0
-HaveRoom room changes = puts changes ≤ room + takes changes
+abbrev pub PairsFit : ℕ → List PairChange → Type 0
+PairsFit room changes = puts changes ≤ room + takes changes
 
 -- the change the other way round
 abbrev pub turned : PairChange → PairChange
 turned c = record { id = c.id; old = c.new; new = c.old }
 
 -- the reverse of changes
-abbrev pub reverse_of : List PairChange → List PairChange
-reverse_of changes = map turned changes
+abbrev pub turned_changes : List PairChange → List PairChange
+turned_changes changes = map turned changes
 
 -- the changes lead from the memory after a change to the one before, and there is room for its pairs
-pub record LeadBack (before now : Pairs) (spare : ℕ) (back : List PairChange) : Type 0 where
-  pub lead : LeadTo now before back
-  pub room : HaveRoom spare back
+pub record PairsLeadBack (before now : Pairs) (spare : ℕ) (back : List PairChange) : Type 0 where
+  pub lead : PairsLeadTo now before back
+  pub room : PairsFit spare back

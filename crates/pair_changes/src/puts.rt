@@ -6,7 +6,7 @@ ghost use Rattle.std.specs.Prelude.{◌≡◌, ℕ, ◌+◌, ◌≤◌, is_some,
 ghost use Rattle.id_memory.specs.Pairs.{Pairs, RiseFrom, IsOneToOne, IsWith, pair_of};
 ghost use Rattle.pair_changes.specs.Changed.{AreMemoryChanges, changed_pairs};
 ghost use Rattle.pair_changes.specs.MemoryChanges.{ArePairChanges, pair_after};
-ghost use Rattle.pair_changes.specs.Undo.{puts, takes, turned, HaveRoom, LeadBack, reverse_of};
+ghost use Rattle.pair_changes.specs.Undo.{puts, takes, turned, PairsFit, PairsLeadBack, turned_changes};
 ghost use Rattle.pair_changes.specs.inner.Calls.{CanBePut, ChangesRise, pair_without};
 
 use crate::PairChange;
@@ -75,7 +75,7 @@ fn turn(change: &mut PairChange)
 }
 
 fn turn_all(changes: &mut [PairChange])
-    ensures { changes.new ≡ reverse_of changes.old }
+    ensures { changes.new ≡ turned_changes changes.old }
 {
     for change in changes.iter_mut() {
         turn(change);
@@ -86,9 +86,9 @@ fn turn_all(changes: &mut [PairChange])
 /// binary search for each pair that it takes out or puts in, and moves the entries behind it.
 pub fn change_pairs(memory: &mut PairMemory, changes: &mut [PairChange])
     requires old { AreMemoryChanges memory.old.entries changes.old }
-    requires room { HaveRoom memory.old.room changes.old }
+    requires room { PairsFit memory.old.room changes.old }
     ensures pairs { memory.new.entries ≡ changed_pairs memory.old.entries changes.old }
-    ensures back { LeadBack memory.old.entries memory.new.entries memory.new.room changes.new }
+    ensures back { PairsLeadBack memory.old.entries memory.new.entries memory.new.room changes.new }
 {
     is_one_to_one(memory);
     take_out(memory, changes);
@@ -99,8 +99,8 @@ pub fn change_pairs(memory: &mut PairMemory, changes: &mut [PairChange])
 
 /// The memory to which changes lead back. It takes no memory, and no more time than `change_pairs`.
 pub fn undo_pairs(memory: &mut PairMemory, back: &mut [PairChange])
-    requires { (before : Pairs) × LeadBack before memory.old.entries memory.old.room back.old }
-    ensures { (before : Pairs) → LeadBack before memory.old.entries memory.old.room back.old
+    requires { (before : Pairs) × PairsLeadBack before memory.old.entries memory.old.room back.old }
+    ensures { (before : Pairs) → PairsLeadBack before memory.old.entries memory.old.room back.old
         → memory.new.entries ≡ before }
 {
     is_one_to_one(memory);

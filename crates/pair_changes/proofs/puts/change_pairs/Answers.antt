@@ -2,7 +2,7 @@ use Rattle.std.proofs.Common.{◌≡◌, ℕ, List, Option, ap, sym, ◌∙◌, 
 use Rattle.id_memory.specs.Pairs.{pair_of}
 use Rattle.pair_changes.specs.declared.change.PairChange.{PairChange}
 use Rattle.pair_changes.specs.MemoryChanges.{pair_after}
-use Rattle.pair_changes.specs.Undo.{LeadBack}
+use Rattle.pair_changes.specs.Undo.{PairsLeadBack}
 use Rattle.pair_changes.proofs.ChangedLaws.{changed_is}
 use Rattle.pair_changes.proofs.DifferLemmas.{rise_of}
 use Rattle.pair_changes.proofs.PutLemmas.{after_without, all_out}
@@ -44,5 +44,5 @@ returns-clause-back c =
     let cs = c.args.changes.now in
     let now = c.put_in.new.memory.entries in
     let pairs : (q : ℕ) → pair_of now q ≡ pair_after cs q (pair_of before q) = λ q. c.put_in.ensures.pairs q ∙ ap (λ (pair : Option (ℕ × ℕ)). pair_after cs q pair) (c.take_out.ensures.pairs q) ∙ after_without cs q (pair_of before q) in
-    subst (λ (l : List PairChange). LeadBack before now c.put_in.new.memory.room l) (sym c.turn_all.ensures)
+    subst (λ (l : List PairChange). PairsLeadBack before now c.put_in.new.memory.room l) (sym c.turn_all.ensures)
     (turned_back before now c.args.memory.now.room c.put_in.new.memory.room cs c.is_one_to_one.ensures.rise c.is_one_to_one.ensures.one c.requires.old.1.difference.fit pairs (omega (arith, c.take_out.ensures.room, c.put_in.ensures.room)))
