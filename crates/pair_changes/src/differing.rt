@@ -1,13 +1,15 @@
 //! The difference of two memories, by one pass over both.
 ghost use Rattle.std.specs.Prelude.{◌≡◌, ◌↔◌, ◌+◌, IfOk, OnOk, IsTrue};
 ghost use Rattle.id_memory.specs.Pairs.{RiseFrom};
-ghost use Rattle.pair_changes.specs.Changed.{with_pair};
+ghost use Rattle.pair_changes.specs.Changed.{with_pair, changed_pairs, PairsLeadTo};
 ghost use Rattle.pair_changes.specs.MemoryChanges.{IsMemoryDifference};
 ghost use Rattle.pair_changes.specs.inner.Calls.{Tells};
 ghost use Rattle.pair_changes.specs.inner.Left.{all_left, IsRead};
 
 use crate::PairChange;
+use crate::laws::changed_pairs_are_changed;
 use crate::left::{Left, all_of, least_id, take_at};
+use crate::puts::is_one_to_one;
 use id_memory::PairMemory;
 use par_base::{List, Memory};
 use std::alloc::Global;
@@ -53,8 +55,7 @@ fn tell(changes: &mut List<PairChange>, change: PairChange) -> Result<(), Memory
     changes.push(change)
 }
 
-/// Exactly the changes by which the first memory becomes the second. It goes over both once.
-pub fn pair_difference(
+fn difference_of(
     alloc: Global,
     old: &PairMemory,
     new: &PairMemory,
@@ -67,5 +68,22 @@ pub fn pair_difference(
     while let Some(id) = least_id(&before, &now) {
         tell(&mut changes, take_change(id, &mut before, &mut now))?;
     }
+    Ok(changes)
+}
+
+/// Exactly the changes by which the first memory becomes the second. It goes over both once.
+pub fn pair_difference(
+    alloc: Global,
+    old: &PairMemory,
+    new: &PairMemory,
+) -> Result<List<PairChange>, Memory>
+    ensures lead { IfOk result (PairsLeadTo old.now.entries new.now.entries) }
+    ensures makes { IfOk result (λ changes. changed_pairs old.now.entries changes
+        ≡ new.now.entries) }
+{
+    is_one_to_one(old);
+    is_one_to_one(new);
+    changed_pairs_are_changed();
+    let changes = difference_of(alloc, old, new)?;
     Ok(changes)
 }

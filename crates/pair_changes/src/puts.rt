@@ -14,7 +14,7 @@ use id_memory::{PairMemory, id_of_is_the_other_way, pairs_are_the_memory};
 use std::mem;
 
 /// What any memory is. It does nothing.
-fn is_one_to_one(memory: &PairMemory)
+pub(crate) fn is_one_to_one(memory: &PairMemory)
     ensures rise { RiseFrom 0 memory.now.entries }
     ensures one { IsOneToOne memory.now.entries }
 {

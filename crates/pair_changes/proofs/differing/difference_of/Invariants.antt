@@ -1,7 +1,7 @@
 use Rattle.std.proofs.Common.{ℕ, ◌+◌, length}
 use Rattle.pair_changes.specs.inner.Left.{all_left, IsRead}
 use Rattle.pair_changes.proofs.DifferLemmas.{Continues}
-use Rattle.pair_changes.proofs.differing.pair_difference.Given as goal
+use Rattle.pair_changes.proofs.differing.difference_of.Given as goal
 
 abbrev pub invariant-loop-id : goal.invariant-loop-id
 invariant-loop-id l = record {
