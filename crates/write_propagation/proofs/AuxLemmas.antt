@@ -1,20 +1,17 @@
 -- The auxiliary tables of one operator may be changed, and what that takes.
-use Rattle.std.proofs.Common.{◌≡◌, ℕ, ◌+◌, ◌*◌, ◌≤◌, List, [], ◌∷◌, Bool, true, false, Some, inl, inr, length, map, sym, ap, ◌∙◌, subst, arith}
+use Rattle.std.proofs.Common.{◌≡◌, ℕ, List, [], ◌∷◌, Bool, true, false, Some, inl, inr, map, sym, subst, arith}
 use Rattle.version_graph.specs.Sets.{In}
 use Rattle.layout_rules.specs.declared.layout.Layout.{Layout}
 use Rattle.version_graph.specs.Edges.{Drawn, is_in}
 use Rattle.version_graph.specs.Forest.{Crossing, Link, forest}
 use Rattle.version_graph.specs.declared.parts.Placed.{Placed}
-use Rattle.op_law.specs.Identifiers.{has_id}
 use Rattle.op_law.specs.Local.{only}
 use Rattle.op_law.specs.Meaning.{Meaning}
 use Rattle.op_law.specs.Premises.{IsPair}
 use Rattle.op_law.specs.Tables.{Tables}
 use Rattle.row_changes.specs.Changed.{TableChanges}
 use Rattle.row_changes.specs.Differences.{AreDifferences}
-use Rattle.row_changes.specs.Touched.{AllPass}
 use Rattle.changes_walk.specs.Auxiliary.{AuxTakes, MayChangeAux, aux_beside}
-use Rattle.changes_walk.specs.Changing.{latest_changes}
 use Rattle.version_model.specs.Kept.{auxes_at}
 use Rattle.version_model.specs.States.{State, headings}
 use Rattle.version_model.specs.Steps.{directed, pair_in}
@@ -26,7 +23,7 @@ use Rattle.db_state.specs.Parts.{Ascends, MaySee, SeenWithin, passes}
 use Rattle.db_state.specs.declared.parts.Parts.{Parts}
 use Rattle.db_state.specs.declared.sight.Sight.{Sight}
 use Rattle.db_state.specs.declared.sight.Sight.TheVariants.{All, Of}
-use Rattle.db_state.proofs.AuxLaws.{far_few, near_few, over_is}
+use Rattle.db_state.proofs.AuxLaws.{far_few, near_few}
 use Rattle.write_propagation.specs.Making.{MayChangeAuxAt, auxes_over, copied_state, made_over}
 use Rattle.write_propagation.specs.declared.making.Making.{Making}
 

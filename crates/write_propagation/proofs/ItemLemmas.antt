@@ -1,22 +1,17 @@
 -- Values under numbers, and newer ones over them.
 use Rattle.std.specs.Option.{option_map_or}
-use Rattle.std.proofs.Common.{◌≡◌, ℕ, ◌+◌, ◌<◌, ◌==◌, take, get_or, length, List, [], ◌∷◌, ◌++◌, Bool, true, false, cond, filter, map, Option, Some, None, inl, inr, refl, sym, ap, ◌∙◌, subst}
-use Rattle.std.proofs.lemmas.Bool.{cond-false, cond-true, eq-eqb, eqb-true}
-use Rattle.std.proofs.lemmas.List.{append-nil, map-append, reverse-reverse, take_more}
-use Rattle.std.proofs.lemmas.List.Elements.{filter-append}
-use mathlib.Core.List.{reverse}
+use Rattle.std.proofs.Common.{◌≡◌, ℕ, ◌+◌, ◌<◌, ◌==◌, take, get_or, length, List, [], ◌∷◌, ◌++◌, Bool, true, false, cond, filter, map, Option, Some, inl, inr, refl, sym, ap, ◌∙◌, subst}
+use Rattle.std.proofs.lemmas.Bool.{eq-eqb, eqb-true}
+use Rattle.std.proofs.lemmas.List.{map-append, take_more}
 use Rattle.version_graph.specs.Edges.{Rises, is_in}
 use Rattle.version_graph.specs.Sets.{Distinct, In}
 use Rattle.version_graph.proofs.TableLaws.{in_filter, rises_apart}
 use Rattle.db_state.specs.declared.parts.Parts.{Parts}
 use Rattle.write_propagation.specs.Calls.{stored_in}
 use Rattle.write_propagation.specs.declared.tree.Tree.{Tree}
-use Rattle.version_graph.proofs.SetLaws.{in_append, in_left, in_map, in_of_test, in_right, origin}
-use Rattle.version_graph.proofs.WalkStepLaws.{in_reverse}
-use Rattle.version_model.specs.Kept.{latest_of, renewed, rows_at, rows_now, value_of, auxes_at, numbers_in}
+use Rattle.version_graph.proofs.SetLaws.{in_append, in_of_test}
+use Rattle.version_model.specs.Kept.{value_of, numbers_in}
 use Rattle.version_model.specs.declared.numbered.Numbered.{Numbered}
-use Rattle.version_model.proofs.AscendingLaws.{reverse_first}
-use Rattle.version_model.proofs.LiveLaws.{value_passes}
 use Rattle.version_model.proofs.NumberedLaws.{looked, value_of_first}
 use Rattle.db_state.proofs.FieldLaws.{none_at}
 
@@ -72,43 +67,6 @@ module _ {T V : Type 0} (see : T → V) where
 
     pub seen_untold : (items : List (Numbered T)) (ns : List ℕ) → told items ≡ held f ns → (n : ℕ) → (In n ns → ⊥) → (none : V) → option_map_or see (value_of items n) none ≡ none
     seen_untold items ns is n out none = ap (λ (o : Option T). option_map_or see o none) (none_at items n (λ h. out (subst (λ (l : List ℕ). In n l) (told_numbers items ns is) h)))
-
-  -- a newer value stands where there was one, and otherwise the older one
-  module _ (none : V) (old new newer : List (Numbered T)) (n : ℕ) (is : value_of new n ≡ renewed (value_of old n) (latest_of newer n)) where
-    pub reads_newer : In n (numbers_in old) → (y : T) → latest_of newer n ≡ Some y → option_map_or see (value_of new n) none ≡ see y
-    reads_newer h y last =
-        let m = item_at old n h in
-        ap (λ (o : Option T). option_map_or see o none) (is ∙ ap (λ (o : Option T). renewed o (latest_of newer n)) m.2 ∙ ap (λ (o : Option T). renewed (Some m.0.value) o) last)
-
-    pub reads_older : latest_of newer n ≡ None → option_map_or see (value_of new n) none ≡ option_map_or see (value_of old n) none
-    reads_older last = ap (λ (o : Option T). option_map_or see o none) (is ∙ ap (λ (o : Option T). renewed (value_of old n) o) last ∙ kept (value_of old n))
-      where
-        kept : (o : Option T) → renewed o None ≡ o
-        kept None = refl
-        kept (Some x) = refl
-
--- ---- items whose numbers pass a test
-
-module _ {T : Type 0} (test : ℕ → Bool) where
-  abbrev passing : List (Numbered T) → List (Numbered T)
-  passing items = filter (λ (i : Numbered T). test i.number) items
-
-  passing_turned : (items : List (Numbered T)) → reverse (passing items) ≡ passing (reverse items)
-  passing_turned [] = refl
-  passing_turned (x ∷ xs) =
-      let M : Bool → Type 0 = λ b. reverse (cond b (x ∷ passing xs) (passing xs)) ≡ passing (reverse xs) ++ cond b (x ∷ []) [] in
-      let both : M (test x.number) = elim (test x.number) as (λ b. M b) [
-        | true ↦ reverse_first x (passing xs) ∙ ap (λ (l : List (Numbered T)). l ++ x ∷ []) (passing_turned xs)
-        | false ↦ passing_turned xs ∙ sym (append-nil (passing (reverse xs)))
-      ] in
-      both ∙ sym (filter-append (λ (i : Numbered T). test i.number) (reverse xs) (x ∷ [])) ∙ sym (ap passing (reverse_first x xs))
-
-  -- the last value of a number that passes stays, and another number has none
-  pub latest_passes : (items : List (Numbered T)) (n : ℕ) → test n ≡ true → latest_of (filter (λ (i : Numbered T). test i.number) items) n ≡ latest_of items n
-  latest_passes items n is = ap (λ (l : List (Numbered T)). value_of l n) (passing_turned items) ∙ value_passes test (reverse items) n ∙ cond-true (test n) (value_of (reverse items) n) None is
-
-  pub latest_stops : (items : List (Numbered T)) (n : ℕ) → test n ≡ false → latest_of (filter (λ (i : Numbered T). test i.number) items) n ≡ None
-  latest_stops items n is = ap (λ (l : List (Numbered T)). value_of l n) (passing_turned items) ∙ value_passes test (reverse items) n ∙ cond-false (test n) (value_of (reverse items) n) None is
 
 -- ---- stored tables of a tree
 

@@ -1,5 +1,5 @@
 -- Changes that are put into a database lead to the state for which they were made.
-use Rattle.std.proofs.Common.{◌≡◌, ℕ, ◌≤◌, List, [], ◌∷◌, Option, Some, None, Result, Ok, Err, refl, sym, ap, ◌∙◌, subst}
+use Rattle.std.proofs.Common.{◌≡◌, ℕ, ◌≤◌, List, [], ◌∷◌, Result, Ok, Err, refl, sym, ap, ◌∙◌, subst}
 use Rattle.par_base.specs.declared.fault.Fault.{Fault}
 use Rattle.par_base.specs.declared.fault.Fault.TheVariants.{Refused, Memory as OutOfMemory}
 use Rattle.par_base.specs.declared.refusal.IdsSpent.{IdsSpent}
@@ -23,12 +23,13 @@ use Rattle.op_law.specs.Meaning.{Meaning}
 use Rattle.op_law.specs.Tables.{Tables}
 use Rattle.layout_rules.specs.Layouts.{IsStored}
 use Rattle.layout_rules.specs.declared.layout.Layout.{Layout}
-use Rattle.layout_rules.proofs.ChangeLaws.{link_number}
 use Rattle.row_store.specs.States.{TableState}
 use Rattle.op_law.specs.declared.side.Aux.{Aux}
-use Rattle.write_propagation.specs.Calls.{KeepsAuxes, KeepsRows}
+use Rattle.write_propagation.specs.Calls.{KeepsAuxes, KeepsPairs, KeepsRows}
 use Rattle.row_changes.specs.Changed.{AreChangesOf, changed, changed_tables}
-use Rattle.version_model.specs.Kept.{Database, latest_of, newer_pairs, pairs_at, pairs_now, renewed, rows_at, value_of, auxes_at, numbers_in}
+use Rattle.pair_changes.specs.declared.change.PairChange.{PairChange}
+use Rattle.pair_changes.specs.Changed.{AreMemoryChanges, changed_pairs}
+use Rattle.version_model.specs.Kept.{Database, pairs_at, rows_at, auxes_at}
 use Rattle.version_model.specs.Sound.{IsSound}
 use Rattle.version_model.specs.States.{State, headings}
 use Rattle.version_model.specs.Writes.{write}
@@ -37,12 +38,10 @@ use Rattle.storage_law.specs.Storage.{StandsOver, aux_of, stored_way}
 use Rattle.db_state.specs.Fields.{IsDatabase, database_for, state_for, storage_in}
 use Rattle.db_state.specs.declared.parts.Parts.{Parts}
 use Rattle.db_state.proofs.FieldLaws.{IsShaped, Store, is_database}
-use Rattle.kept_changes.specs.Changes.{IsOldAt, IsSideAt, changes_at, sides_at}
+use Rattle.kept_changes.specs.Changes.{IsMemoryAt, IsOldAt, IsSideAt, changes_at, pair_changes_at, sides_at}
 use Rattle.write_propagation.specs.Plans.{IsSame, Plans, Puts}
 use Rattle.write_propagation.specs.Room.{HasOld}
 use Rattle.write_propagation.specs.declared.plans.Plan.{Plan}
-use Rattle.write_propagation.proofs.ExchangeLemmas.{renewed_none}
-use Rattle.write_propagation.proofs.ItemLemmas.{reads_newer, reads_older}
 
 -- no changes leave all tables
 pub no_changes : (ts : Tables) → changed_tables ts [] ≡ ts
@@ -56,7 +55,7 @@ turned n ns i = subst (λ (l : List ℕ). In n l) (reverse-reverse ns) (in_rever
 pub record IsPlanTo {O : Type 0} (meaning : O → Meaning) (d : Parts O) (end : State) (plan : Plan) : Type 0 where
   pub stored : (t : ℕ) → IsStored (forest d.graph.edges) d.layout.operators t → changed ((state_for meaning d).tables t) (changes_at plan.stored t) ≡ end.tables t
   pub aux : (e : Link O) → In e (forest d.graph.edges) → changed_tables (aux_of meaning (state_for meaning d) (stored_way d.layout.operators e)) (sides_at plan.auxes e.number) ≡ aux_of meaning end (stored_way d.layout.operators e)
-  pub memory : (e : Link O) → In e (forest d.graph.edges) → pairs_now d.memories plan.memories e.number ≡ end.memory e.number
+  pub memory : (e : Link O) → In e (forest d.graph.edges) → changed_pairs (pairs_at d.memories e.number) (pair_changes_at plan.memories e.number) ≡ end.memory e.number
   pub next : plan.ids.next ≡ end.next
   pub limit : plan.ids.limit ≡ d.ids.limit
 
@@ -81,18 +80,8 @@ module _ {O : Type 0} (meaning : O → Meaning) (laws : (o : O) → Laws (meanin
     stored_aux : (e : Link O) → In e (forest es) → auxes_at new.aux e.number ≡ aux_of meaning end (stored_way d.layout.operators e)
     stored_aux e i = puts.aux e.number ∙ ap (λ (x : Tables). changed_tables x (sides_at plan.auxes e.number)) (stood e i).aux ∙ for.aux e i
 
-    abbrev entries : MemoryState → Pairs
-    entries x = x.entries
-
-    -- a memory that came newly, or is as it was
     stored_memory : (e : Link O) → In e (forest es) → pairs_at new.memories e.number ≡ end.memory e.number
-    stored_memory e i =
-        let n = e.number in
-        let here : In n (numbers_in d.memories) = subst (λ (l : List ℕ). In n l) (sym good.memories) (in_reverse n (numbers es) (link_number es e i)) in
-        (elim (latest_of plan.memories n) as (λ o. latest_of plan.memories n ≡ o → newer_pairs o (pairs_at d.memories n) ≡ end.memory n → pairs_at new.memories n ≡ end.memory n) [
-          | Some y ↦ λ last there. reads_newer entries [] d.memories new.memories plan.memories n (puts.memory n) here y last ∙ there
-          | None ↦ λ last there. reads_older entries [] d.memories new.memories plan.memories n (puts.memory n) last ∙ there
-        ]) refl (for.memory e i)
+    stored_memory e i = puts.memory e.number ∙ for.memory e i
 
     store : Store meaning over end
     store = record {
@@ -166,7 +155,7 @@ same_self d = record {
   memories = refl;
   stored = λ n. refl;
   aux = λ n. sym (no_changes (auxes_at d.aux n));
-  memory = λ n. sym (renewed_none (value_of d.memories n));
+  memory = λ n. refl;
 }
 
 -- a plan for the same database is one for the old one
@@ -180,7 +169,7 @@ puts_same d new last plan same puts = record {
   memories = puts.memories ∙ same.memories;
   stored = λ n. puts.stored n ∙ ap (λ (x : Rows). changed x (changes_at plan.stored n)) (same.stored n);
   aux = λ n. puts.aux n ∙ ap (λ (x : Tables). changed_tables x (sides_at plan.auxes n)) (same.aux n ∙ no_changes (auxes_at d.aux n));
-  memory = λ n. puts.memory n ∙ ap (λ (o : Option MemoryState). renewed o (latest_of plan.memories n)) (same.memory n ∙ renewed_none (value_of d.memories n));
+  memory = λ n. puts.memory n ∙ ap (λ (x : Pairs). changed_pairs x (pair_changes_at plan.memories n)) (same.memory n);
 }
 
 -- the old rows that a plan names are there in the same database
@@ -195,6 +184,11 @@ changes_same d new plan same old = record {
     old.auxes.0,
     each_more (λ (i : Numbered SideChanges). IsSideAt d.aux i) (λ (i : Numbered SideChanges). IsSideAt new.aux i)
         (λ i h. subst (λ (x : Tables). AreChangesOf x i.value.tables) (sym (same.aux i.number ∙ no_changes (auxes_at d.aux i.number))) h) plan.auxes old.auxes.1,
+  );
+  memories = (
+    old.memories.0,
+    each_more (λ (i : Numbered (List PairChange)). IsMemoryAt d.memories i) (λ (i : Numbered (List PairChange)). IsMemoryAt new.memories i)
+        (λ i h. (subst (λ (l : List ℕ). In i.number l) (sym same.memories) h.0, subst (λ (x : Pairs). AreMemoryChanges x i.value) (sym (same.memory i.number)) h.1)) plan.memories old.memories.1,
   );
 }
 
@@ -222,19 +216,19 @@ module _ {O : Type 0} (meaning : O → Meaning) (laws : (o : O) → Laws (meanin
   plans_same (Err (Refused spent)) h = subst (λ (s : State). IsSpent s.next new.ids new.ids spent) (sym write_is) (subst (λ (c : CounterState). IsSpent before.next c c spent) (sym same.ids) h)
   plans_same (Err (OutOfMemory memory)) h = tt
 
--- more room in the same tables
-pub room_made : {O : Type 0} (d parts : Parts O) (stored : List (Numbered TableState)) (aux : List (Numbered Aux)) → parts ≡ d → KeepsRows parts.stored stored → KeepsAuxes parts.aux aux
-    → IsSame d (record { graph = parts.graph; layout = parts.layout; stored = stored; aux = aux; memories = parts.memories; ids = parts.ids })
-room_made {O} d parts stored aux same a b =
-    subst (λ (x : Parts O). IsSame x (record { graph = parts.graph; layout = parts.layout; stored = stored; aux = aux; memories = parts.memories; ids = parts.ids })) same
+-- more room in the same tables and memories
+pub room_made : {O : Type 0} (d parts : Parts O) (stored : List (Numbered TableState)) (aux : List (Numbered Aux)) (memories : List (Numbered MemoryState)) → parts ≡ d → KeepsRows parts.stored stored → KeepsAuxes parts.aux aux → KeepsPairs parts.memories memories
+    → IsSame d (record { graph = parts.graph; layout = parts.layout; stored = stored; aux = aux; memories = memories; ids = parts.ids })
+room_made {O} d parts stored aux memories same a b c =
+    subst (λ (x : Parts O). IsSame x (record { graph = parts.graph; layout = parts.layout; stored = stored; aux = aux; memories = memories; ids = parts.ids })) same
     (record {
       graph = refl;
       layout = refl;
       ids = refl;
       tables = a.listed;
       auxes = b.listed;
-      memories = refl;
+      memories = c.listed;
       stored = a.rows;
       aux = λ n. b.rows n ∙ sym (no_changes (auxes_at parts.aux n));
-      memory = λ n. sym (renewed_none (value_of parts.memories n));
+      memory = c.pairs;
     })

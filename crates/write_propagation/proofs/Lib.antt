@@ -8,6 +8,5 @@ mod LeadLemmas
 mod ShownLemmas
 mod AuxLemmas
 mod PlanLemmas
-mod ExchangeLemmas
 mod ChangeLemmas
 pub mod PlanLaws

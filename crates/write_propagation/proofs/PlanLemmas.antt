@@ -1,7 +1,6 @@
 -- The plan of what was made of what is seen of a tree is the plan of the whole write.
 use Rattle.std.specs.Option.{option_map_or}
-use Rattle.std.proofs.lemmas.List.{length-map}
-use Rattle.std.proofs.Common.{◌≡◌, ℕ, ◌<◌, ◌≤◌, List, [], Bool, true, false, not, length, map, Ok, Err, Option, None, inl, inr, refl, sym, ap, ◌∙◌, subst}
+use Rattle.std.proofs.Common.{◌≡◌, ℕ, ◌<◌, ◌≤◌, List, [], Bool, true, false, map, Ok, Err, Option, inl, inr, refl, sym, ap, ◌∙◌, subst}
 use Rattle.par_base.specs.declared.fault.Fault.{Fault}
 use Rattle.par_base.specs.declared.fault.Fault.TheVariants.{Refused, Memory as OutOfMemory}
 use Rattle.par_base.specs.declared.refusal.IdsSpent.{IdsSpent}
@@ -13,15 +12,15 @@ use Rattle.version_graph.specs.Forest.{Crossing, Link, crossing, forest, walk}
 use Rattle.version_graph.specs.declared.parts.Placed.{Placed}
 use Rattle.version_graph.proofs.SetLaws.{each_at, each_of, in_map, is_in_true}
 use Rattle.version_graph.proofs.TableLaws.{in_filter}
-use Rattle.layout_rules.proofs.ChangeLaws.{filter_in}
-use Rattle.id_memory.specs.States.{CounterState, MemoryState}
+use Rattle.version_graph.proofs.WalkStepLaws.{in_reverse}
+use Rattle.layout_rules.proofs.ChangeLaws.{filter_in, link_number}
+use Rattle.id_memory.specs.States.{CounterState}
 use Rattle.db_state.proofs.FieldLaws.{none_at}
 use Rattle.op_law.specs.Tables.{AllRise, Tables}
-use Rattle.op_law.specs.Calls.{IsSpent, first_refused, tables_of}
+use Rattle.op_law.specs.Calls.{IsSpent, first_refused}
 use Rattle.op_law.specs.Laws.{HalfLaws, Laws}
 use Rattle.op_law.specs.Local.{only, rows_only}
 use Rattle.op_law.specs.Meaning.{Meaning, PairState}
-use Rattle.op_law.specs.declared.side.Aux.{Aux}
 use Rattle.layout_rules.specs.Layouts.{IsStored}
 use Rattle.row_changes.specs.Changed.{AreChangesOf, TableChanges, changed, changed_tables}
 use Rattle.row_changes.specs.Differences.{AreDifferences}
@@ -38,13 +37,13 @@ use Rattle.version_model.specs.declared.numbered.Numbered.{Numbered}
 use Rattle.version_model.proofs.ToldLaws.{same_refused}
 use Rattle.version_model.proofs.HeadingLaws.{in_or_not}
 use Rattle.version_model.proofs.RunLaws.{way_laws}
-use Rattle.version_graph.specs.Edges.{is_in}
+use Rattle.version_graph.specs.Edges.{is_in, numbers}
 use Rattle.storage_law.specs.Storage.{StandsOver, aux_of, stored_way}
-use Rattle.db_state.specs.Calls.{AreAuxesOf}
 use Rattle.db_state.specs.Fields.{IsDatabase, state_for, storage_in}
-use Rattle.db_state.specs.Parts.{passes}
 use Rattle.db_state.specs.declared.parts.Parts.{Parts}
-use Rattle.kept_changes.specs.Changes.{changes_at, sides_at, IsOldAt, IsSideAt}
+use Rattle.kept_changes.specs.Changes.{changes_at, sides_at, pair_changes_at, IsMemoryAt, IsOldAt, IsSideAt}
+use Rattle.pair_changes.specs.declared.change.PairChange.{PairChange}
+use Rattle.pair_changes.specs.Changed.{changed_pairs}
 use Rattle.write_propagation.specs.Calls.{stored_in}
 use Rattle.write_propagation.specs.Making.{IsMaking, IsPlanOf, MakesWrite, MayPlan, made_over, seen_write}
 use Rattle.write_propagation.specs.Plans.{Plans, rows_written}
@@ -53,11 +52,10 @@ use Rattle.write_propagation.specs.Trees.{IsWhole, part}
 use Rattle.write_propagation.specs.declared.making.Making.{Making}
 use Rattle.write_propagation.specs.declared.plans.RowWrite.{RowWrite}
 use Rattle.write_propagation.specs.declared.tree.Tree.{Tree}
-use Rattle.write_propagation.proofs.ItemLemmas.{item_at, latest_passes, latest_stops, stored_apart, stored_beside}
+use Rattle.write_propagation.proofs.ItemLemmas.{item_at, stored_apart, stored_beside}
 use Rattle.write_propagation.proofs.LeadLemmas.{IsPlanTo, leads, no_changes}
 use Rattle.write_propagation.proofs.TreeLemmas.{outside_memory, outside_table, part_memory, part_table, same_pair}
 use Rattle.write_propagation.proofs.WholeLemmas.{IsInside, has_held, lives, operators_apart, walk_inside, whole}
-use Rattle.storage_law.proofs.LinkLaws.{not_in_false}
 use Rattle.id_memory.specs.Pairs.{Pairs}
 use Rattle.write_propagation.specs.declared.plans.Plan.{Plan}
 use Rattle.write_propagation.proofs.ShownLemmas.{Shows, end_sound, related_in}
@@ -205,20 +203,30 @@ module _ {O : Type 0} (meaning : O → Meaning) (laws : (o : O) → Laws (meanin
 
       -- ---- memories
 
-      listed_as : (n : ℕ) → In n tree.operators → latest_of plan.memories n ≡ latest_of making.made.memories n
-      listed_as n own = ap (λ (l : List (Numbered MemoryState)). latest_of l n) for.memories ∙ latest_passes (λ k. is_in k tree.operators) making.made.memories n (is_in_true n tree.operators own)
+      -- a memory that was made is that of the new state
+      memory_now : (n : ℕ) → In n tree.operators → pairs_now d.memories making.made.memories n ≡ end.memory n
+      memory_now n own =
+          let old : pairs_at d.memories n ≡ pairs_at making.copies.memories n = sym (part_memory test tree s n own) ∙ sym (is.memories n) in
+          ap (λ (x : Pairs). newer_pairs (latest_of making.made.memories n) x) old ∙ ap (λ (x : State). x.memory n) is.made ∙ sym (shows.part.memory n own)
 
-      unlisted : (n : ℕ) → (In n tree.operators → ⊥) → latest_of plan.memories n ≡ None
-      unlisted n other = ap (λ (l : List (Numbered MemoryState)). latest_of l n) for.memories ∙ latest_stops (λ k. is_in k tree.operators) making.made.memories n (not_in_false n tree.operators other)
+      memory_own : (i : Numbered (List PairChange)) → In i plan.memories → In i.number tree.operators
+      memory_own i j = subst (λ (l : List ℕ). In i.number l) for.memories.listed (in_map (λ (x : Numbered (List PairChange)). x.number) i plan.memories j)
 
-      to_memory : (e : Link O) → In e (forest es) → pairs_now d.memories plan.memories e.number ≡ end.memory e.number
+      memory_made : (i : Numbered (List PairChange)) → In i plan.memories → changed_pairs (pairs_at d.memories i.number) i.value ≡ end.memory i.number
+      memory_made i j = (for.memories.values i j).makes ∙ memory_now i.number (memory_own i j)
+
+      to_memory : (e : Link O) → In e (forest es) → changed_pairs (pairs_at d.memories e.number) (pair_changes_at plan.memories e.number) ≡ end.memory e.number
       to_memory e i =
           let n = e.number in
-          in_or_not n tree.operators (pairs_now d.memories plan.memories n ≡ end.memory n)
+          in_or_not n tree.operators (changed_pairs (pairs_at d.memories n) (pair_changes_at plan.memories n) ≡ end.memory n)
           (λ own.
-          let old : pairs_at d.memories n ≡ pairs_at making.copies.memories n = sym (part_memory test tree s n own) ∙ sym (is.memories n) in
-          ap (λ (o : Option MemoryState). newer_pairs o (pairs_at d.memories n)) (listed_as n own) ∙ ap (λ (x : Pairs). newer_pairs (latest_of making.made.memories n) x) old ∙ ap (λ (x : State). x.memory n) is.made ∙ sym (shows.part.memory n own))
-          (λ other. ap (λ (o : Option MemoryState). newer_pairs o (pairs_at d.memories n)) (unlisted n other) ∙ sym (same_memory n other))
+          let m = item_at plan.memories n (subst (λ (l : List ℕ). In n l) (sym for.memories.listed) own) in
+          ap (λ (o : Option (List PairChange)). changed_pairs (pairs_at d.memories n) (option_map_or (λ (cs : List PairChange). cs) o [])) m.2
+          ∙ subst (λ (k : ℕ). changed_pairs (pairs_at d.memories k) m.0.value ≡ end.memory k) m.3 (memory_made m.0 m.1))
+          (λ other.
+          let none = none_at plan.memories n (λ j. other (subst (λ (l : List ℕ). In n l) for.memories.listed j)) in
+          ap (λ (o : Option (List PairChange)). changed_pairs (pairs_at d.memories n) (option_map_or (λ (cs : List PairChange). cs) o [])) none
+          ∙ sym (same_memory n other))
 
       to : IsPlanTo meaning d end plan
       to = record {
@@ -257,6 +265,14 @@ module _ {O : Type 0} (meaning : O → Meaning) (laws : (o : O) → Laws (meanin
               let l = lives es good.graph.edges w.set tree plans.walked i.number own in
               subst (λ (x : Tables). AreChangesOf x i.value.tables) (sym (ap (auxes_at d.aux) l.2 ∙ stood l.0 l.1))
               (differences_fit (aux_of meaning s (over l.0)) (aux_of meaning end (over l.0)) i.value.tables (side_difference i j l.0 l.1 (sym l.2)))),
+        );
+        memories = (
+          subst (λ (l : List ℕ). Distinct l) (sym for.memories.listed) (operators_apart es good.graph.edges w.set tree plans.walked),
+          each_of (λ (i : Numbered (List PairChange)). IsMemoryAt d.memories i) plan.memories (λ i j.
+              let l = lives es good.graph.edges w.set tree plans.walked i.number (memory_own i j) in
+              let live : In i.number (numbers es) = subst (λ (n : ℕ). In n (numbers es)) (sym l.2) (link_number es l.0 l.1) in
+              let kept : In i.number (numbers_in d.memories) = subst (λ (ns : List ℕ). In i.number ns) (sym good.memories) (in_reverse i.number (numbers es) live) in
+              (kept, (pairs_now d.memories making.made.memories i.number, (for.memories.values i j).lead))),
         );
       }
 

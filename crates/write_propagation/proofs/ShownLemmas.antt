@@ -1,5 +1,4 @@
 -- What passes a test of a write is the write of what passes, over operators that treat each identifier by itself, and over any where all passes.
-use Rattle.std.proofs.lemmas.List.{length-map}
 use Rattle.std.proofs.Common.{◌≡◌, ℕ, List, [], ◌∷◌, Bool, true, false, not, cond, length, map, inl, inr, refl, sym, ap, ◌∙◌, subst}
 use Rattle.std.proofs.lemmas.Bool.{cond-false, not-true}
 use Rattle.row_store.specs.Rows.{Rows, RiseFrom}

@@ -1,14 +1,10 @@
 -- How many steps a write takes at most, where each operator of its tree treats each identifier by itself.
-use Rattle.std.specs.Prelude.{◌≡◌, ℕ, ◌+◌, ◌*◌, ◌≤◌, List, length}
+use Rattle.std.specs.Prelude.{ℕ, ◌+◌, ◌*◌, ◌≤◌, List, length}
 use Rattle.row_store.specs.declared.change.Change.{Change}
 use Rattle.version_graph.specs.Forest.{forest, walk}
 use Rattle.version_graph.specs.declared.parts.Placed.{Placed}
-use Rattle.op_law.specs.Local.{rows_only}
 use Rattle.op_law.specs.Meaning.{Meaning}
 use Rattle.version_model.specs.Bounds.{AreLocal}
-use Rattle.version_model.specs.States.{State}
-use Rattle.db_state.specs.Parts.{passes}
-use Rattle.db_state.specs.declared.sight.Sight.{Sight}
 
 -- at most sixteen steps for each operator of the tree and each identifier that the changes name
 abbrev pub PlansWithin : {O : Type 0} → (O → Meaning) → List (Placed O) → ℕ → List Change → ℕ → ℕ → Type 0

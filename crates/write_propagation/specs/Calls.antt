@@ -10,7 +10,9 @@ use Rattle.version_graph.specs.Sets.{In}
 use Rattle.op_law.specs.Meaning.{Meaning}
 use Rattle.op_law.specs.declared.side.Aux.{Aux}
 use Rattle.changes_walk.specs.Changing.{latest_changes}
-use Rattle.version_model.specs.Kept.{pairs_at, rows_at, auxes_at, numbers_in}
+use Rattle.pair_changes.specs.declared.change.PairChange.{PairChange}
+use Rattle.pair_changes.specs.Changed.{PairsLeadTo, changed_pairs}
+use Rattle.version_model.specs.Kept.{pairs_at, pairs_now, rows_at, auxes_at, numbers_in}
 use Rattle.version_model.specs.declared.numbered.Numbered.{Numbered}
 use Rattle.db_state.specs.Fields.{state_for}
 use Rattle.db_state.specs.Parts.{passes}
@@ -54,3 +56,17 @@ pub record KeepsRows (old new : List (Numbered TableState)) : Type 0 where
 pub record KeepsAuxes (old new : List (Numbered Aux)) : Type 0 where
   pub rows : (n : ℕ) → auxes_at new n ≡ auxes_at old n
   pub listed : numbers_in new ≡ numbers_in old
+
+pub record KeepsPairs (old new : List (Numbered MemoryState)) : Type 0 where
+  pub pairs : (n : ℕ) → pairs_at new n ≡ pairs_at old n
+  pub listed : numbers_in new ≡ numbers_in old
+
+-- the changes lead from one memory to the other, and make it
+pub record IsMemoryChange (old new : Pairs) (changes : List PairChange) : Type 0 where
+  pub lead : PairsLeadTo old new changes
+  pub makes : changed_pairs old changes ≡ new
+
+-- those of the memory under each of these numbers, to the one that was made last
+pub record AreMemoryChangesNow (kept made : List (Numbered MemoryState)) (numbers : List ℕ) (items : List (Numbered (List PairChange))) : Type 0 where
+  pub listed : numbers_in items ≡ numbers
+  pub values : (i : Numbered (List PairChange)) → In i items → IsMemoryChange (pairs_at kept i.number) (pairs_now kept made i.number) i.value

@@ -1,11 +1,11 @@
 -- What inner calls suppose and ensure of a write that is made of what is seen of its tree.
-use Rattle.std.specs.Prelude.{◌≡◌, ℕ, ◌+◌, ◌*◌, ◌≤◌, Bool, List, [], ◌∷◌, length, Result, Ok, Err, ⊤, filter, map}
+use Rattle.std.specs.Prelude.{◌≡◌, ℕ, ◌+◌, ◌*◌, ◌≤◌, Bool, List, [], ◌∷◌, length, Result, Ok, Err, ⊤}
 use Rattle.par_base.specs.declared.fault.Fault.{Fault}
 use Rattle.par_base.specs.declared.fault.Fault.TheVariants.{Refused, Memory}
 use Rattle.par_base.specs.declared.refusal.IdsSpent.{IdsSpent}
 use Rattle.row_store.specs.Changes.{AreOld}
 use Rattle.version_graph.specs.Sets.{Each, In}
-use Rattle.version_graph.specs.Edges.{is_in, numbers}
+use Rattle.version_graph.specs.Edges.{numbers}
 use Rattle.version_graph.specs.Forest.{Link, forest, walk}
 use Rattle.version_graph.specs.declared.parts.Placed.{Placed}
 use Rattle.op_law.specs.Calls.{IsSpent, first_refused}
@@ -17,7 +17,6 @@ use Rattle.row_changes.specs.Changed.{TableChanges}
 use Rattle.row_changes.specs.Differences.{AreDifferences}
 use Rattle.row_changes.specs.Touched.{AllPass}
 use Rattle.row_changes.specs.declared.change.SideChanges.{SideChanges}
-use Rattle.changes_walk.specs.Bounds.{CarriesWithinBy}
 use Rattle.changes_walk.specs.Calls.{CarriesBy}
 use Rattle.changes_walk.specs.Changing.{AreOfState, changing_state, latest_changes}
 use Rattle.changes_walk.specs.declared.progress.Changing.{Changing}
@@ -30,7 +29,7 @@ use Rattle.storage_law.specs.Storage.{aux_of, stored_way}
 use Rattle.db_state.specs.Calls.{IsRelatedAt}
 use Rattle.db_state.specs.Fields.{IsDatabase, state_for}
 use Rattle.db_state.specs.declared.parts.Parts.{Parts}
-use Rattle.write_propagation.specs.Calls.{AreChangesNow, stored_in}
+use Rattle.write_propagation.specs.Calls.{AreChangesNow, AreMemoryChangesNow, stored_in}
 use Rattle.write_propagation.specs.Plans.{rows_written}
 use Rattle.write_propagation.specs.Trees.{IsTree, part}
 use Rattle.write_propagation.specs.declared.copies.Copies.{Copies}
@@ -123,9 +122,9 @@ pub record AreAuxChanges {O : Type 0} (meaning : O → Meaning) (d : Parts O) (t
 
 -- ---- the plan
 
--- the plan of what was made: the changes of the stored tables of the tree and of the auxiliary tables of its operators, and their memories
+-- the plan of what was made: the changes of the stored tables of the tree, and of the auxiliary tables and the memories of its operators
 pub record IsPlanOf {O : Type 0} (meaning : O → Meaning) (d : Parts O) (tree : Tree) (test : ℕ → Bool) (making : Making) (plan : Plan) : Type 0 where
   pub stored : AreChangesNow making.made.tables (stored_in d tree) plan.stored
   pub auxes : AreAuxChanges meaning d test making tree.operators plan.auxes
-  pub memories : plan.memories ≡ filter (λ i. is_in i.number tree.operators) making.made.memories
+  pub memories : AreMemoryChangesNow d.memories making.made.memories tree.operators plan.memories
   pub ids : plan.ids ≡ making.made.ids

@@ -7,11 +7,12 @@ use Rattle.row_store.specs.Rows.{Rows}
 use Rattle.op_law.specs.Meaning.{Meaning}
 use Rattle.op_law.specs.Calls.{IsSpent, first_refused}
 use Rattle.row_changes.specs.Changed.{changed, changed_tables}
-use Rattle.version_model.specs.Kept.{latest_of, renewed, rows_at, value_of, auxes_at, numbers_in}
+use Rattle.pair_changes.specs.Changed.{changed_pairs}
+use Rattle.version_model.specs.Kept.{rows_at, auxes_at, pairs_at, numbers_in}
 use Rattle.version_model.specs.Writes.{write}
 use Rattle.db_state.specs.Fields.{IsDatabase, database_for, state_for}
 use Rattle.db_state.specs.declared.parts.Parts.{Parts}
-use Rattle.kept_changes.specs.Changes.{changes_at, sides_at}
+use Rattle.kept_changes.specs.Changes.{changes_at, sides_at, pair_changes_at}
 use Rattle.write_propagation.specs.declared.plans.Plan.{Plan}
 use Rattle.write_propagation.specs.declared.plans.RowWrite.{RowWrite}
 
@@ -19,7 +20,7 @@ use Rattle.write_propagation.specs.declared.plans.RowWrite.{RowWrite}
 abbrev pub rows_written : {O : Type 0} → (O → Meaning) → Parts O → RowWrite → Rows
 rows_written meaning d w = changed ((state_for meaning d).tables w.table) w.changes
 
--- each stored and each auxiliary table gets its changes, a newer memory stands in the place of the older one, and nothing else changes but the counter
+-- each stored table, each auxiliary table and each memory gets its changes, and nothing else changes but the counter
 pub record Puts {O : Type 0} (old : Parts O) (plan : Plan) (new : Parts O) : Type 0 where
   pub graph : new.graph ≡ old.graph
   pub layout : new.layout ≡ old.layout
@@ -29,9 +30,9 @@ pub record Puts {O : Type 0} (old : Parts O) (plan : Plan) (new : Parts O) : Typ
   pub memories : numbers_in new.memories ≡ numbers_in old.memories
   pub stored : (n : ℕ) → rows_at new.stored n ≡ changed (rows_at old.stored n) (changes_at plan.stored n)
   pub aux : (n : ℕ) → auxes_at new.aux n ≡ changed_tables (auxes_at old.aux n) (sides_at plan.auxes n)
-  pub memory : (n : ℕ) → value_of new.memories n ≡ renewed (value_of old.memories n) (latest_of plan.memories n)
+  pub memory : (n : ℕ) → pairs_at new.memories n ≡ changed_pairs (pairs_at old.memories n) (pair_changes_at plan.memories n)
 
--- the same database: only the room of its tables differs
+-- the same database: only the room of its tables and memories differs
 abbrev pub IsSame : {O : Type 0} → Parts O → Parts O → Type 0
 IsSame old new = Puts old (record { stored = []; auxes = []; memories = []; ids = old.ids }) new
 

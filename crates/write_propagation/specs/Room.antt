@@ -2,20 +2,22 @@
 use Rattle.op_law.specs.Meaning.{Meaning}
 use Rattle.db_state.specs.Fields.{IsDatabase}
 use Rattle.db_state.specs.declared.parts.Parts.{Parts}
-use Rattle.kept_changes.specs.Changes.{AreOldAt, AreSidesAt}
-use Rattle.kept_changes.specs.Room.{FitAt, SidesFitAt}
+use Rattle.kept_changes.specs.Changes.{AreOldAt, AreSidesAt, AreMemoriesAt}
+use Rattle.kept_changes.specs.Room.{FitAt, SidesFitAt, MemoriesFitAt}
 use Rattle.write_propagation.specs.Plans.{Puts}
 use Rattle.write_propagation.specs.declared.plans.Plan.{Plan}
 
--- each change has the old row of its table
+-- each change has the old row of its table, and those of a memory lead to another one
 pub record HasOld {O : Type 0} (d : Parts O) (plan : Plan) : Type 0 where
   pub stored : AreOldAt d.stored plan.stored
   pub auxes : AreSidesAt d.aux plan.auxes
+  pub memories : AreMemoriesAt d.memories plan.memories
 
 -- there is room for all changes
 pub record HasRoom {O : Type 0} (d : Parts O) (plan : Plan) : Type 0 where
   pub stored : FitAt d.stored plan.stored
   pub auxes : SidesFitAt d.aux plan.auxes
+  pub memories : MemoriesFitAt d.memories plan.memories
 
 -- what has to be there to put a plan in
 abbrev pub IsReadyFor : {O : Type 0} → Parts O → Plan → Type 0

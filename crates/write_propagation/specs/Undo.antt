@@ -1,22 +1,20 @@
 -- When a write can be taken back, and what that restores.
-use Rattle.std.specs.Prelude.{◌≡◌, ℕ}
+use Rattle.std.specs.Prelude.{◌≡◌}
 use Rattle.op_law.specs.Meaning.{Meaning}
 use Rattle.db_state.specs.Fields.{IsDatabase, database_for}
 use Rattle.db_state.specs.declared.parts.Parts.{Parts}
-use Rattle.kept_changes.specs.Undo.{AuxesLeadBack, TablesLeadBack}
-use Rattle.version_model.specs.Kept.{latest_of, renewed, value_of, numbers_in}
+use Rattle.kept_changes.specs.Undo.{AuxesLeadBack, MemoriesLeadBack, TablesLeadBack}
 use Rattle.write_propagation.specs.Plans.{IsSame}
 use Rattle.write_propagation.specs.declared.undo.Undo.{Undo}
 
--- what takes a write back leads from the database after it to the one before: its changes lead the stored and the auxiliary tables back, the older memories stand in the place of the newer ones, the counter is the one before, and nothing else differs
+-- what takes a write back leads from the database after it to the one before: its changes lead the stored tables, the auxiliary tables and the memories back, the counter is the one before, and nothing else differs
 pub record LeadsTo {O : Type 0} (before now : Parts O) (undo : Undo) : Type 0 where
   pub graph : now.graph ≡ before.graph
   pub layout : now.layout ≡ before.layout
   pub ids : undo.ids ≡ before.ids
   pub stored : TablesLeadBack before.stored now.stored undo.stored
   pub auxes : AuxesLeadBack before.aux now.aux undo.auxes
-  pub memories : numbers_in now.memories ≡ numbers_in before.memories
-  pub memory : (n : ℕ) → value_of before.memories n ≡ renewed (value_of now.memories n) (latest_of undo.memories n)
+  pub memories : MemoriesLeadBack before.memories now.memories undo.memories
 
 -- THE OLD DATABASE OF A WRITE: it is in canonical storage, and what takes the write back leads to it
 pub record Undoes {O : Type 0} (meaning : O → Meaning) (before now : Parts O) (undo : Undo) : Type 0 where

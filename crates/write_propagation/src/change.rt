@@ -4,11 +4,12 @@ ghost use Rattle.write_propagation.specs.Plans.{IsSame, Puts};
 ghost use Rattle.write_propagation.specs.Room.{MayCommit};
 ghost use Rattle.write_propagation.specs.Undo.{LeadsTo, Undoes, IsRevertible, Restores};
 
-use crate::exchange::exchange_all;
 use crate::plans::Plan;
 use crate::undo::Undo;
 use db_state::{Db, Parts, put_parts, take_parts};
-use kept_changes::{change_auxes, change_tables, undo_auxes, undo_tables};
+use kept_changes::{
+    change_auxes, change_memories, change_tables, undo_auxes, undo_memories, undo_tables,
+};
 use op_law::Operator;
 use std::alloc::Global;
 
@@ -23,7 +24,7 @@ pub fn commit<O: Operator + Drop>(alloc: Global, db: &mut Db<O>, plan: Plan) -> 
     let parts = take_parts(alloc, db);
     let stored = change_tables(parts.stored, plan.stored);
     let auxes = change_auxes(alloc, parts.aux, plan.auxes);
-    let memories = exchange_all(parts.memories, plan.memories);
+    let memories = change_memories(alloc, parts.memories, plan.memories);
     put_parts(
         db,
         Parts {
@@ -31,14 +32,14 @@ pub fn commit<O: Operator + Drop>(alloc: Global, db: &mut Db<O>, plan: Plan) -> 
             layout: parts.layout,
             stored: stored.tables,
             aux: auxes.auxes,
-            memories: memories.values,
+            memories: memories.memories,
             ids: plan.ids,
         },
     );
     Undo {
         stored: stored.back,
         auxes: auxes.back,
-        memories: memories.older,
+        memories: memories.back,
         ids: parts.ids,
     }
 }
@@ -50,7 +51,7 @@ fn take_back<O: Operator + Drop>(alloc: Global, db: &mut Db<O>, undo: Undo)
     let parts = take_parts(alloc, db);
     let stored = undo_tables(parts.stored, undo.stored);
     let aux = undo_auxes(alloc, parts.aux, undo.auxes);
-    let memories = exchange_all(parts.memories, undo.memories);
+    let memories = undo_memories(parts.memories, undo.memories);
     put_parts(
         db,
         Parts {
@@ -58,14 +59,14 @@ fn take_back<O: Operator + Drop>(alloc: Global, db: &mut Db<O>, undo: Undo)
             layout: parts.layout,
             stored,
             aux,
-            memories: memories.values,
+            memories,
             ids: undo.ids,
         },
     );
 }
 
 /// Takes a plan back that was put in: the database is the one before `commit`, in which only the room
-/// of tables may differ. It takes no memory, and no more time than `commit`.
+/// of tables and memories may differ. It takes no memory, and no more time than `commit`.
 pub fn revert<O: Operator + Drop>(alloc: Global, db: &mut Db<O>, undo: Undo)
     requires { IsRevertible O.meaning db.old undo }
     ensures { Restores O.meaning db.old undo db.new }

@@ -69,18 +69,6 @@ pub fn copy_memories(
     Ok(copies)
 }
 
-/// Those of the memories that stand under these numbers. It takes no memory.
-pub fn memories_of(
-    memories: List<Numbered<PairMemory>>,
-    numbers: &[u32],
-) -> List<Numbered<PairMemory>>
-    ensures { result ≡ filter (λ item. is_in item.number numbers.now) memories }
-{
-    let mut kept = memories.into_vec();
-    kept.retain(|item| holds(numbers, item.number));
-    List::from_vec(kept)
-}
-
 /// The numbers of the tables that are kept, of those that are listed.
 pub fn kept_of(alloc: Global, kept: &[Numbered<Table>], tables: &[u32]) -> Result<List<u32>, Memory>
     ensures { IfOk result (λ made. made

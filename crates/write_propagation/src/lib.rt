@@ -16,10 +16,10 @@
 mod change;
 mod copies;
 mod differing;
-mod exchange;
 mod making;
 mod planning;
 mod plans;
+mod remembering;
 mod room;
 mod tree;
 mod undo;

@@ -14,10 +14,11 @@ ghost use Rattle.write_propagation.specs.Plans.{rows_written, IsSame, Plans};
 ghost use Rattle.write_propagation.specs.Room.{HasOld, IsReadyFor};
 ghost use Rattle.write_propagation.specs.Making.{IsPlanOf, MayChangeAuxes, MayPlan};
 
-use crate::copies::{kept_of, memories_of};
+use crate::copies::kept_of;
 use crate::differing::{table_changes, tree_aux_changes};
 use crate::making::{Making, make_write};
 use crate::plans::{Plan, RowWrite};
+use crate::remembering::memory_changes;
 use crate::room::make_room;
 use crate::tree::{Tree, tree_of};
 use db_state::{Db, Sight, sight_over};
@@ -58,11 +59,17 @@ fn plan_of<O: Operator, L: Ledger>(
     let auxes = tree_aux_changes(alloc, db, tree, &making, sight, steps)?;
     let numbers = kept_of(alloc, db.stored(), tree.tables.as_slice())?;
     let stored = table_changes(alloc, making.made.tables.as_slice(), numbers.as_slice())?;
+    let memories = memory_changes(
+        alloc,
+        db.memories(),
+        making.made.memories.as_slice(),
+        tree.operators.as_slice(),
+    )?;
     let Making { copies: _, made } = making;
     Ok(Plan {
         stored,
         auxes,
-        memories: memories_of(made.memories, tree.operators.as_slice()),
+        memories,
         ids: made.ids,
     })
 }

@@ -1,5 +1,6 @@
 //! What a write puts into a database.
-use id_memory::{IdCounter, PairMemory};
+use id_memory::IdCounter;
+use pair_changes::PairChange;
 use par_base::List;
 use row_changes::SideChanges;
 use row_store::Changes;
@@ -14,12 +15,12 @@ pub struct RowWrite {
     pub ids: IdCounter,
 }
 
-/// What a write puts into a database: the changes of stored tables and of the auxiliary tables of
-/// operators and the newer memories, each under its number, and the counter after all that was drawn.
+/// What a write puts into a database: the changes of stored tables, and of the auxiliary tables and the
+/// memories of operators, each under its number, and the counter after all that was drawn.
 #[derive(Drop)]
 pub struct Plan {
     pub stored: List<Numbered<Changes>>,
     pub auxes: List<Numbered<SideChanges>>,
-    pub memories: List<Numbered<PairMemory>>,
+    pub memories: List<Numbered<List<PairChange>>>,
     pub ids: IdCounter,
 }

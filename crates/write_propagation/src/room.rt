@@ -1,14 +1,15 @@
 //! Room for the changes of a plan.
 ghost use Rattle.std.specs.Prelude.{OnOk};
 ghost use Rattle.write_propagation.specs.Plans.{IsSame};
-ghost use Rattle.kept_changes.specs.Changes.{AreOldAt, AreSidesAt};
-ghost use Rattle.kept_changes.specs.Room.{FitAt, SidesFitAt};
-ghost use Rattle.write_propagation.specs.Calls.{KeepsAuxes, KeepsRows};
+ghost use Rattle.kept_changes.specs.Changes.{AreOldAt, AreSidesAt, AreMemoriesAt};
+ghost use Rattle.kept_changes.specs.Room.{FitAt, SidesFitAt, MemoriesFitAt};
+ghost use Rattle.write_propagation.specs.Calls.{KeepsAuxes, KeepsPairs, KeepsRows};
 ghost use Rattle.write_propagation.specs.Room.{HasOld, HasRoom};
 
 use crate::plans::Plan;
 use db_state::{Db, Parts, put_parts, take_parts};
-use kept_changes::{reserve_auxes, reserve_tables};
+use id_memory::PairMemory;
+use kept_changes::{reserve_auxes, reserve_memories, reserve_tables};
 use op_law::{Aux, Operator};
 use par_base::{List, Memory};
 use row_store::Table;
@@ -19,17 +20,22 @@ fn reserve_all(
     alloc: Global,
     stored: &mut Vec<Numbered<Table>>,
     aux: &mut Vec<Numbered<Aux>>,
+    memories: &mut Vec<Numbered<PairMemory>>,
     plan: &Plan,
 ) -> Result<(), Memory>
     requires stored { AreOldAt stored.old.items plan.now.stored }
     requires aux { AreSidesAt aux.old.items plan.now.auxes }
+    requires memories { AreMemoriesAt memories.old.items plan.now.memories }
     ensures stored { KeepsRows stored.old.items stored.new.items }
     ensures aux { KeepsAuxes aux.old.items aux.new.items }
+    ensures memories { KeepsPairs memories.old.items memories.new.items }
     ensures room { OnOk result (FitAt stored.new.items plan.now.stored
-        × SidesFitAt aux.new.items plan.now.auxes) }
+        × SidesFitAt aux.new.items plan.now.auxes
+        × MemoriesFitAt memories.new.items plan.now.memories) }
 {
     reserve_tables(stored, plan.stored.as_slice())?;
-    reserve_auxes(alloc, aux, plan.auxes.as_slice())
+    reserve_auxes(alloc, aux, plan.auxes.as_slice())?;
+    reserve_memories(memories, plan.memories.as_slice())
 }
 
 /// Makes room for the changes of a plan. Also after an error nothing else has changed.
@@ -52,7 +58,8 @@ pub(crate) fn make_room<O: Operator + Drop>(
     } = take_parts(alloc, db);
     let mut tables = stored.into_vec();
     let mut auxes = aux.into_vec();
-    let made = reserve_all(alloc, &mut tables, &mut auxes, plan);
+    let mut remembered = memories.into_vec();
+    let made = reserve_all(alloc, &mut tables, &mut auxes, &mut remembered, plan);
     put_parts(
         db,
         Parts {
@@ -60,7 +67,7 @@ pub(crate) fn make_room<O: Operator + Drop>(
             layout,
             stored: List::from_vec(tables),
             aux: List::from_vec(auxes),
-            memories,
+            memories: List::from_vec(remembered),
             ids,
         },
     );

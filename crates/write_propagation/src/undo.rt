@@ -1,16 +1,17 @@
 //! What takes a write back.
-use id_memory::{IdCounter, PairMemory};
+use id_memory::IdCounter;
+use pair_changes::PairChange;
 use par_base::List;
 use row_changes::SideChanges;
 use row_store::Changes;
 use version_model::Numbered;
 
-/// What takes a plan back that was put in: the changes that lead stored tables and the auxiliary tables
-/// of operators back, the memories in whose place newer ones came, and the counter as it was.
+/// What takes a plan back that was put in: the changes that lead stored tables, and the auxiliary tables
+/// and the memories of operators back, and the counter as it was.
 #[derive(Drop)]
 pub struct Undo {
     pub stored: List<Numbered<Changes>>,
     pub auxes: List<Numbered<SideChanges>>,
-    pub memories: List<Numbered<PairMemory>>,
+    pub memories: List<Numbered<List<PairChange>>>,
     pub ids: IdCounter,
 }

@@ -1,8 +1,8 @@
 use Rattle.std.proofs.Common.{refl, sym, subst}
 use Rattle.db_state.specs.Fields.{IsDatabase}
 use Rattle.db_state.specs.declared.parts.Parts.{Parts}
-use Rattle.kept_changes.specs.Changes.{AreOldAt, AreSidesAt}
-use Rattle.kept_changes.specs.Room.{FitAt, SidesFitAt}
+use Rattle.kept_changes.specs.Changes.{AreMemoriesAt, AreOldAt, AreSidesAt}
+use Rattle.kept_changes.specs.Room.{FitAt, MemoriesFitAt, SidesFitAt}
 use Rattle.write_propagation.specs.Plans.{Puts}
 use Rattle.write_propagation.specs.Undo.{LeadsTo}
 use Rattle.write_propagation.specs.declared.undo.Undo.{Undo}
@@ -21,24 +21,29 @@ change_auxes-auxes-requires-clause-old g c = subst (λ (x : Parts _). AreSidesAt
 pub change_auxes-auxes-requires-clause-room : goal.change_auxes-auxes-requires-clause-room
 change_auxes-auxes-requires-clause-room g c = subst (λ (x : Parts _). SidesFitAt x.aux c.args.plan.auxes) (sym c.take_parts-parts.ensures.parts) c.requires.ready.1.auxes
 
+pub change_memories-memories-requires-clause-old : goal.change_memories-memories-requires-clause-old
+change_memories-memories-requires-clause-old g c = subst (λ (x : Parts _). AreMemoriesAt x.memories c.args.plan.memories) (sym c.take_parts-parts.ensures.parts) c.requires.ready.0.memories
+
+pub change_memories-memories-requires-clause-room : goal.change_memories-memories-requires-clause-room
+change_memories-memories-requires-clause-room g c = subst (λ (x : Parts _). MemoriesFitAt x.memories c.args.plan.memories) (sym c.take_parts-parts.ensures.parts) c.requires.ready.1.memories
+
 pub put_parts-requires : goal.put_parts-requires
 put_parts-requires g c =
-    c.requires.leaves _ (puts_plan c.args.db.now c.take_parts-parts.result c.args.plan c.change_tables-stored.result.tables c.change_auxes-auxes.result.auxes c.exchange_all-memories.result.values c.take_parts-parts.ensures.parts
+    c.requires.leaves _ (puts_plan c.args.db.now c.take_parts-parts.result c.args.plan c.change_tables-stored.result.tables c.change_auxes-auxes.result.auxes c.change_memories-memories.result.memories c.take_parts-parts.ensures.parts
     (record { rows = c.change_tables-stored.ensures.rows; numbers = c.change_tables-stored.ensures.numbers }) (record { rows = c.change_auxes-auxes.ensures.rows; numbers = c.change_auxes-auxes.ensures.numbers })
-    (record { values = c.exchange_all-memories.ensures.values; numbers = c.exchange_all-memories.ensures.numbers }))
+    (record { pairs = c.change_memories-memories.ensures.pairs; numbers = c.change_memories-memories.ensures.numbers }))
 
 pub returns-clause-puts : goal.returns-clause-puts
 returns-clause-puts g c =
     subst (λ (x : Parts _). Puts c.args.db.now c.args.plan x) (sym c.put_parts.ensures)
-    (puts_plan c.args.db.now c.take_parts-parts.result c.args.plan c.change_tables-stored.result.tables c.change_auxes-auxes.result.auxes c.exchange_all-memories.result.values c.take_parts-parts.ensures.parts
+    (puts_plan c.args.db.now c.take_parts-parts.result c.args.plan c.change_tables-stored.result.tables c.change_auxes-auxes.result.auxes c.change_memories-memories.result.memories c.take_parts-parts.ensures.parts
     (record { rows = c.change_tables-stored.ensures.rows; numbers = c.change_tables-stored.ensures.numbers }) (record { rows = c.change_auxes-auxes.ensures.rows; numbers = c.change_auxes-auxes.ensures.numbers })
-    (record { values = c.exchange_all-memories.ensures.values; numbers = c.exchange_all-memories.ensures.numbers }))
+    (record { pairs = c.change_memories-memories.ensures.pairs; numbers = c.change_memories-memories.ensures.numbers }))
 
 pub returns-clause-undoes : goal.returns-clause-undoes
 returns-clause-undoes g c =
-    let undo : Undo = record { stored = c.change_tables-stored.result.back; auxes = c.change_auxes-auxes.result.back; memories = c.exchange_all-memories.result.older; ids = c.take_parts-parts.result.ids } in
+    let undo : Undo = record { stored = c.change_tables-stored.result.back; auxes = c.change_auxes-auxes.result.back; memories = c.change_memories-memories.result.back; ids = c.take_parts-parts.result.ids } in
     let led = subst (λ (x : Parts _). LeadsTo c.args.db.now x undo) (sym c.put_parts.ensures)
-    (leads_back c.args.db.now c.take_parts-parts.result c.args.plan undo c.change_tables-stored.result.tables c.change_auxes-auxes.result.auxes c.exchange_all-memories.result.values c.take_parts-parts.ensures.parts refl
-    c.change_tables-stored.ensures.back c.change_auxes-auxes.ensures.back
-    (record { values = c.exchange_all-memories.ensures.older; numbers = sym c.exchange_all-memories.ensures.numbers })) in
+    (leads_back c.args.db.now c.take_parts-parts.result c.args.plan undo c.change_tables-stored.result.tables c.change_auxes-auxes.result.auxes c.change_memories-memories.result.memories c.take_parts-parts.ensures.parts refl
+    c.change_tables-stored.ensures.back c.change_auxes-auxes.ensures.back c.change_memories-memories.ensures.back) in
     record { kept = subst (λ (x : Parts _). IsDatabase g.O.Operator.meaning x) c.take_parts-parts.ensures.parts c.take_parts-parts.ensures.kept; leads = led }

@@ -1,16 +1,11 @@
-use Rattle.std.proofs.Common.{◌≡◌, ℕ, List, Some, ap, sym, ◌∙◌, subst}
+use Rattle.std.proofs.Common.{◌≡◌, ℕ, List, ap, sym, ◌∙◌, subst}
 use Rattle.op_law.specs.Local.{only}
 use Rattle.op_law.specs.declared.side.Aux.{Aux}
 use Rattle.version_model.specs.Kept.{auxes_at}
 use Rattle.version_model.specs.declared.numbered.Numbered.{Numbered}
 use Rattle.id_memory.specs.States.{CounterState}
-use Rattle.layout_rules.specs.declared.layout.Layout.{Layout}
-use Rattle.version_graph.specs.Edges.{Drawn}
-use Rattle.version_graph.specs.Forest.{Link, forest}
-use Rattle.version_graph.specs.Sets.{In}
 use Rattle.changes_walk.specs.Auxiliary.{MayChangeAux}
 use Rattle.version_model.specs.Calls.{crossing_of}
-use Rattle.storage_law.specs.Storage.{stored_way}
 use Rattle.db_state.specs.Parts.{passes}
 use Rattle.write_propagation.specs.Making.{copied_state}
 use Rattle.write_propagation.proofs.AuxLemmas.{change_is, change_takes, may_change, told_way}

@@ -1,4 +1,4 @@
-use Rattle.std.proofs.Common.{◌+◌, ◌<◌, ◌≤◌, ℕ, List, [], ◌∷◌, ◌++◌, get_or, length, slice_index_or, take, sym, subst, arith}
+use Rattle.std.proofs.Common.{◌+◌, ◌<◌, ℕ, List, [], ◌∷◌, ◌++◌, get_or, length, slice_index_or, take, sym, subst, arith}
 use Rattle.row_changes.specs.declared.change.SideChanges.{SideChanges}
 use Rattle.version_graph.specs.Sets.{In}
 use Rattle.version_graph.proofs.WalkStepLaws.{in_at}

@@ -1,4 +1,4 @@
-use Rattle.std.proofs.Common.{ℕ, List, Ok, ◌≤◌, ◌+◌, ◌*◌, length, sym, subst}
+use Rattle.std.proofs.Common.{ℕ, Ok, ◌≤◌, ◌+◌, ◌*◌, length, sym, subst}
 use Rattle.version_graph.specs.Edges.{Drawn}
 use Rattle.write_propagation.specs.Plans.{rows_written}
 use Rattle.write_propagation.specs.Trees.{IsTree}

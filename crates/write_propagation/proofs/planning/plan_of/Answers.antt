@@ -6,7 +6,7 @@ use Rattle.row_store.specs.declared.change.Change.{Change}
 use Rattle.version_graph.specs.Edges.{is_in}
 use Rattle.version_model.specs.declared.numbered.Numbered.{Numbered}
 use Rattle.version_model.specs.Kept.{numbers_in}
-use Rattle.write_propagation.specs.Calls.{AreChangesNow}
+use Rattle.write_propagation.specs.Calls.{AreChangesNow, AreMemoryChangesNow}
 use Rattle.write_propagation.proofs.planning.plan_of.Goals as goal
 
 pub returns-clause-plans : goal.returns-clause-plans
@@ -18,6 +18,8 @@ returns-clause-plans g c =
       stored = subst (λ (l : List ℕ). AreChangesNow m.made.tables l c.in_ok-stored.stored) numbers
           (subst (λ (l : List (Numbered (List Change))). AreChangesNow l c.as_slice-3.result.now c.in_ok-stored.stored) c.as_slice-2.ensures c.in_ok-stored.ensures);
       auxes = c.in_ok-auxes.ensures.changes;
-      memories = c.memories_of.ensures ∙ ap (λ (ns : List ℕ). filter (λ (i : Numbered MemoryState). is_in i.number ns) m.made.memories) c.as_slice-4.ensures;
+      memories = subst (λ (l : List ℕ). AreMemoryChangesNow c.args.db.now.memories m.made.memories l c.in_ok-memories.memories) c.as_slice-5.ensures
+          (subst (λ (l : List (Numbered MemoryState)). AreMemoryChangesNow c.args.db.now.memories l c.as_slice-5.result.now c.in_ok-memories.memories) c.as_slice-4.ensures
+          (subst (λ (l : List (Numbered MemoryState)). AreMemoryChangesNow l c.as_slice-4.result.now c.as_slice-5.result.now c.in_ok-memories.memories) c.memories.ensures c.in_ok-memories.ensures));
       ids = refl;
     }

@@ -2,7 +2,7 @@ use Rattle.std.proofs.Common.{ℕ, List, length, sym, ◌∙◌, subst, arith}
 use Rattle.op_law.specs.Identifiers.{IdsRise, has_id}
 use Rattle.row_changes.specs.Touched.{AllPass}
 use Rattle.version_graph.specs.Edges.{Drawn}
-use Rattle.db_state.specs.Parts.{AreLocalAt, Ascends, MaySee, SeenWithin, passes}
+use Rattle.db_state.specs.Parts.{AreLocalAt, MaySee, SeenWithin, passes}
 use Rattle.db_state.specs.declared.sight.Sight.{Sight}
 use Rattle.db_state.specs.declared.sight.Sight.TheVariants.{Of}
 use Rattle.write_propagation.proofs.SeenLemmas.{named_pass, pass_wider, steps_named}
