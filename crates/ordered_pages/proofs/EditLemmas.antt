@@ -8,7 +8,7 @@ use Rattle.ordered_pages.specs.Orders.{Order, IsTotal}
 use Rattle.ordered_pages.specs.Entries.{AreBefore, AreBehind, Rise, entry_of, PutsAt}
 use Rattle.ordered_pages.specs.inner.Places.{StandsAt, IsGap}
 use Rattle.ordered_pages.specs.inner.Pages.{all_entries, Hold, least_among, AreSized, AreSizedBut, HasEntries, IsPage, IsPageOf, EditsPage}
-use Rattle.ordered_pages.proofs.OrderLaws.{before_append, before_first, behind_append, entry_behind, entry_here, entry_past, puts_new, puts_none, puts_over, puts_past, rise_back, rise_front, rise_join, rise_with}
+use Rattle.ordered_pages.proofs.OrderLaws.{before_append, before_first, behind_append, entry_behind, entry_here, entry_past, puts_new, puts_none, puts_over, puts_past, one_list, rise_back, rise_front, rise_join, rise_with}
 use Rattle.ordered_pages.proofs.PagesLemmas.{all_around, all_set, append_assoc, around, around_set, hold_at, hold_count, hold_drop, hold_set, hold_take, length_take, reads_around}
 
 around_remove : {A : Type 0} (xs : List A) (i : ℕ) → i < length xs → remove xs i ≡ take i xs ++ drop (suc i) xs
@@ -20,6 +20,10 @@ around_insert : {A : Type 0} (xs : List A) (i : ℕ) (y : A) → i ≤ length xs
 around_insert xs zero y h = refl
 around_insert [] (suc i) y h = absurd (omega arith)
 around_insert {A = A} (x ∷ xs) (suc i) y h = ap (λ (ys : List A). x ∷ ys) (around_insert xs i y (omega arith))
+
+append_none : {A : Type 0} (xs : List A) → xs ++ [] ≡ xs
+append_none [] = refl
+append_none {A = A} (x ∷ xs) = ap (λ (ys : List A). x ∷ ys) (append_none xs)
 
 take_and_drop : {A : Type 0} (xs : List A) (i : ℕ) → xs ≡ take i xs ++ drop i xs
 take_and_drop xs zero = refl
@@ -155,6 +159,41 @@ module _ {E K : Type 0} (o : Order E K) (l : IsTotal o) where
       all_set ps i q of.0 ∙ ap (λ (r : List E). front ++ (r ++ back)) (made ∙ around_insert p at entry gap.0) ∙ regroup front (take at p) (entry ∷ drop at p) back in
       let edit = inserted_between (front ++ take at p) (drop at p ++ back) entry k (subst (Rise o) before rise) (before_append o l k front (take at p) of.1 gap.1) (behind_append o l k (drop at p) back gap.2 of.2) key in
       subst (λ (es : List E). Inserts o es (all_entries (set ps i q)) k entry) (sym before) (subst (λ (es : List E). Inserts o ((front ++ take at p) ++ (drop at p ++ back)) es k entry) (sym now) edit)
+
+  -- entries that come before a key, in parts
+  before_parts : (k : K) (xs ys : List E) → AreBefore o (xs ++ ys) k → AreBefore o xs k × AreBefore o ys k
+  before_parts k [] ys before = (tt, before)
+  before_parts k (x ∷ xs) ys before = let rest = before_parts k xs ys before.1 in ((before.0, rest.0), rest.1)
+
+  before_page : (k : K) (ps : List (List E)) (i : ℕ) (p : List E) → AreBefore o (all_entries ps) k → IsPage ps i p → AreBefore o p k
+  before_page k [] i p before is = absurd (omega (arith, is.0))
+  before_page k (q ∷ ps) zero p before is = subst (λ (r : List E). AreBefore o r k) (is.1 p) (before_parts k q (all_entries ps) before).0
+  before_page k (q ∷ ps) (suc i) p before is = before_page k ps i p (before_parts k q (all_entries ps) before).1 (omega (arith, is.0), is.1)
+
+  -- a key that comes behind all entries belongs into the last page
+  pub last_page_of : (ps : List (List E)) (k : K) (i : ℕ) → suc i ≡ length ps → AreBefore o (all_entries ps) k → IsPageOf o ps k i
+  last_page_of [] k i last before = absurd (omega (arith, last))
+  last_page_of (p ∷ []) k zero last before = (omega arith, tt, tt)
+  last_page_of (p ∷ q ∷ ps) k zero last before = absurd (omega (arith, last))
+  last_page_of (p ∷ ps) k (suc i) last before =
+      let parts = before_parts k p (all_entries ps) before in
+      let rest = last_page_of ps k i (omega (arith, last)) parts.1 in
+      (omega (arith, last), before_append o l k p (all_entries (take i ps)) parts.0 rest.1, rest.2)
+
+  -- and at the end of any page that is asked for it
+  end_gap : (k : K) (p : List E) → AreBefore o p k → IsGap o p k (length p)
+  end_gap k [] before = (omega arith, tt, tt)
+  end_gap k (x ∷ xs) before = let rest = end_gap k xs before.1 in (omega (arith, rest.0), (before.0, rest.1), rest.2)
+
+  pub page_end : (ps : List (List E)) (k : K) (i at : ℕ) (p : List E) → AreBefore o (all_entries ps) k → IsPage ps i p → at ≡ length p → IsGap o p k at
+  page_end ps k i at p before is end = subst (λ (n : ℕ). IsGap o p k n) (sym end) (end_gap k p (before_page k ps i p before is))
+
+  -- the entries behind which one was put
+  pub pushed : (es fs : List E) (entry : E) → Rise o es → Rise o fs → AreBefore o es (o.key entry) → PutsAt o (o.key entry) (Some entry) es fs → fs ≡ es ++ entry ∷ []
+  pushed es fs entry rise rises before puts =
+      let own : Rise o (es ++ entry ∷ []) = rise_with o l es [] entry rise before tt tt in
+      let same : PutsAt o (o.key entry) (Some entry) (es ++ []) (es ++ entry ∷ []) = puts_past o l es [] (entry ∷ []) (o.key entry) (Some entry) before (puts_new o l [] entry (o.key entry) refl) in
+      one_list o l fs (es ++ entry ∷ []) rises own (λ q. puts q ∙ sym (subst (λ (gs : List E). PutsAt o (o.key entry) (Some entry) gs (es ++ entry ∷ [])) (append_none es) same q))
 
 many : (n : ℕ) → nat_lt 1 (suc (suc n)) ≡ true
 many n = grind (arith, nat_tests)

@@ -1,6 +1,6 @@
 //! One entry put, replaced or taken out, in its page.
 ghost use Rattle.std.specs.Prelude.{◌≡◌, ◌+◌, ◌*◌, ◌<◌, ◌≤◌, [], List, length, vec_len, vec_capacity, Some, None};
-ghost use Rattle.ordered_pages.specs.Entries.{Rise, entry_of, PutsAt, count_of};
+ghost use Rattle.ordered_pages.specs.Entries.{AreBefore, Rise, entry_of, PutsAt, count_of};
 ghost use Rattle.ordered_pages.specs.inner.Places.{StandsAt, IsGap};
 ghost use Rattle.ordered_pages.specs.inner.Pages.{all_entries, AreSized, IsPageOf, IsPage, EditsPage};
 
@@ -135,6 +135,34 @@ pub(crate) fn put_entry<E: Entry>(
             None
         }
     }
+}
+
+/// Puts an entry behind all others. It makes no comparison.
+pub(crate) fn push_entry<E: Entry>(pages: &mut Vec<Page<E>>, spare: &mut Vec<Page<E>>, entry: E)
+    requires rise { Rise E.order (all_entries pages.old.items) }
+    requires sized { AreSized pages.old.items }
+    requires behind { AreBefore E.order (all_entries pages.old.items) (E.order.key entry) }
+    requires room { (vec_len pages.old + vec_len spare.old ≤ vec_capacity pages.old)
+        × (vec_len pages.old + vec_len spare.old ≤ vec_capacity spare.old) }
+    requires place { length (all_entries pages.old.items)
+        < 32 * (vec_len pages.old + vec_len spare.old) }
+    ensures rise { Rise E.order (all_entries pages.new.items) }
+    ensures entries { PutsAt E.order (E.order.key entry) (Some entry)
+        (all_entries pages.old.items) (all_entries pages.new.items) }
+    ensures len { length (all_entries pages.new.items) ≡ length (all_entries pages.old.items) + 1 }
+    ensures sized { AreSized pages.new.items }
+    ensures total { vec_len pages.new + vec_len spare.new ≡ vec_len pages.old + vec_len spare.old }
+    ensures capacity { (vec_capacity pages.old ≤ vec_capacity pages.new)
+        × (vec_capacity spare.old ≤ vec_capacity spare.new) }
+{
+    if pages.is_empty() {
+        open_page(pages, spare, entry);
+        return;
+    }
+    let last = pages.len() - 1;
+    let end = pages[last].len();
+    insert_at(pages, last, end, entry);
+    mend(pages, spare, last);
 }
 
 /// Takes the entry of a key out.

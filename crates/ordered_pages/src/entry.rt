@@ -1,7 +1,9 @@
 //! What pages hold, and what is looked up in them.
-ghost use Rattle.std.specs.Prelude.{◌≡◌};
+ghost use Rattle.std.specs.Prelude.{◌≡◌, IfOk};
 ghost use Rattle.ordered_pages.specs.Orders.{Order, IsTotal};
 
+use par_base::Memory;
+use std::alloc::Global;
 use std::cmp::Ordering;
 
 /// A thing that has a key. The keys are in a total order, and none but itself equals a key.
@@ -18,6 +20,12 @@ pub trait Entry: Drop {
         ensures { result ≡ order.cmp (order.key self.now) (order.key other.now) };
 
     ghost total: { IsTotal order };
+}
+
+/// An entry that can be copied.
+pub trait CopyEntry: Entry {
+    fn copy(&self, alloc: Global) -> Result<Self, Memory>
+        ensures { IfOk result (λ made. made ≡ self.now) };
 }
 
 /// What is looked up: a key, or whatever tells one.

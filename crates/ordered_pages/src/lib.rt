@@ -19,7 +19,7 @@ mod page;
 mod pages;
 mod place;
 
-pub use entry::{Entry, Probe};
+pub use entry::{CopyEntry, Entry, Probe};
 pub use entry_items::EntryItems;
 pub use expr_lang::Steps;
 pub use laws::entries_are_the_list;

@@ -2,6 +2,7 @@
 ghost use Rattle.std.specs.Prelude.{◌≡◌, ◌+◌, ◌<◌, ◌≤◌, [], ◌++◌, length, take, drop, slice_index_or, slice_set, vec_capacity, IfOk};
 ghost use Rattle.std.specs.List.{insert, remove};
 
+use crate::CopyEntry;
 use par_base::Memory;
 use std::alloc::Global;
 use std::marker::Model;
@@ -111,6 +112,17 @@ impl<E: Drop> Page<E> {
     {
         let _ = self.entries.append(&mut other.entries);
     }
+}
+
+/// A page of copies of the entries.
+pub(crate) fn copied_page<E: CopyEntry>(alloc: Global, page: &Page<E>) -> Result<Page<E>, Memory>
+    ensures { IfOk result (λ made. made ≡ page.now) }
+{
+    let mut entries = Vec::with_capacity(alloc, PAGE + 1)?;
+    for entry in page.as_slice() {
+        entries.push(entry.copy(alloc)?)?;
+    }
+    Ok(Page { entries })
 }
 
 /// Moves what stands behind the first 32 entries into the other list, which has room.

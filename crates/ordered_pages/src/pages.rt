@@ -3,16 +3,16 @@
 //! No page is empty, none has more than 64 entries, and one that isn't the only one has at least
 //! 32. So the number of entries bounds the pages that it can need, and there are always as many,
 //! used or spare.
-ghost use Rattle.std.specs.Prelude.{◌≡◌, ◌+◌, ◌*◌, ◌^◌, ◌<◌, ◌≤◌, [], length, IfOk, OnOk, OnErr, Some, None, vec_len, vec_capacity};
+ghost use Rattle.std.specs.Prelude.{◌≡◌, ◌+◌, ◌*◌, ◌^◌, ◌<◌, ◌≤◌, [], ◌∷◌, ◌++◌, length, IfOk, OnOk, OnErr, Some, None, vec_len, vec_capacity};
 ghost use Rattle.std.specs.Option.{option_map};
-ghost use Rattle.ordered_pages.specs.Entries.{Rise, entry_of, entries_from, PutsAt, count_of};
+ghost use Rattle.ordered_pages.specs.Entries.{AreBefore, Rise, entry_of, entries_from, PutsAt, count_of};
 ghost use Rattle.ordered_pages.specs.LookUps.{WithinDigits};
 
-use crate::edit::{put_entry, take_entry};
+use crate::edit::{push_entry, put_entry, take_entry};
 use crate::find::find_in;
-use crate::page::{HALF, Page};
+use crate::page::{HALF, Page, copied_page};
 use crate::place::{behind, found};
-use crate::{Entry, EntryItems, Probe};
+use crate::{CopyEntry, Entry, EntryItems, Probe};
 use expr_lang::Steps;
 use par_base::{Memory, add_counts};
 use std::alloc::Global;
@@ -140,6 +140,18 @@ impl<E: Entry> Pages<E> {
         own
     }
 
+    /// Puts an entry behind all others. It makes no comparison and takes no memory; once in 33 times
+    /// the last page is parted.
+    pub fn push(&mut self, entry: E)
+        requires behind { AreBefore E.order self.old.entries (E.order.key entry) }
+        requires room { length self.old.entries < self.old.capacity }
+        ensures entries { self.new.entries ≡ self.old.entries ++ entry ∷ [] }
+        ensures capacity { self.new.capacity ≡ self.old.capacity }
+    {
+        push_entry(&mut self.pages, &mut self.spare, entry);
+        self.count += 1;
+    }
+
     /// Takes the entry of a key out, and answers it. It takes no memory, and no more time than
     /// `put`.
     pub fn take<P: Probe<E>>(&mut self, probe: &P) -> Option<E>
@@ -167,6 +179,36 @@ impl<E: Entry> Pages<E> {
         let need = pages_for(self.count, more)?;
         add_pages(&mut self.pages, &mut self.spare, need)
     }
+}
+
+impl<E: CopyEntry> Pages<E> {
+    /// Equal entries, in pages of their own, made by one pass and without a comparison. They have
+    /// their own room.
+    pub fn copy(&self, alloc: Global) -> Result<Pages<E>, Memory>
+        ensures { IfOk result (λ made. made.entries ≡ self.now.entries) }
+    {
+        let need = pages_for(self.count, 0)?;
+        let mut pages = copied_pages(alloc, self.pages.as_slice())?;
+        let mut spare = Vec::with_capacity(alloc, pages.len())?;
+        add_pages(&mut pages, &mut spare, need)?;
+        Ok(Pages {
+            pages,
+            spare,
+            count: self.count,
+            hint: Cell::new(0),
+        })
+    }
+}
+
+/// Copies of pages.
+fn copied_pages<E: CopyEntry>(alloc: Global, pages: &[Page<E>]) -> Result<Vec<Page<E>>, Memory>
+    ensures { IfOk result (λ made. made.items ≡ pages.now) }
+{
+    let mut made = Vec::with_capacity(alloc, pages.len())?;
+    for page in pages {
+        made.push(copied_page(alloc, page)?)?;
+    }
+    Ok(made)
 }
 
 /// How many pages so many entries can need.

@@ -3,11 +3,12 @@ use Rattle.std.specs.Option.{option_map}
 use Rattle.std.specs.Ordering.{is_eq, nat_cmp}
 use Rattle.std.proofs.Common.{◌≡◌, ℕ, ◌+◌, ◌==◌, List, [], ◌∷◌, Bool, true, false, Option, Some, None, if◌then◌else◌, Ordering, Less, Equal, Greater, refl, sym, ap, ◌∙◌, arith}
 use Rattle.std.proofs.lemmas.Bool.Decides.{nat_tests}
+use Rattle.std.specs.Cmp.{nat_cmp_is}
 use Rattle.std.proofs.lemmas.Cmp.{ranked}
 use Rattle.par_base.proofs.TestLaws.{apart_below, apart_above}
 use Rattle.par_base.specs.declared.value.Value.{Value}
-use Rattle.ordered_pages.specs.Entries.{AreBehind, Rise, entry_of, PutsAt as PutsEntry}
-use Rattle.row_store.specs.Rows.{Rows, RiseFrom, row_of}
+use Rattle.ordered_pages.specs.Entries.{AreBefore, AreBehind, Rise, entry_of, PutsAt as PutsEntry}
+use Rattle.row_store.specs.Rows.{Rows, AreBelow, RiseFrom, row_of}
 use Rattle.row_store.specs.inner.Entries.{id_order}
 use Rattle.row_store.specs.inner.Passes.{PutsAt}
 
@@ -19,6 +20,11 @@ behind_rises id (r ∷ rs) behind rise = (omega (arith, ranked id r.0 Less (sym 
 pub rises : (rows : Rows) → Rise id_order rows → RiseFrom 0 rows
 rises [] rise = tt
 rises (r ∷ rs) rise = (omega arith, behind_rises r.0 rs rise.0 rise.1)
+
+-- rows below an identifier come before it
+pub come_before : (rows : Rows) (id : ℕ) → AreBelow rows id → AreBefore id_order rows id
+come_before [] id below = tt
+come_before (r ∷ rs) id below = (sym (nat_cmp_is r.0 id Less below.0), come_before rs id below.1)
 
 -- keys are equal where the identifiers are
 same_by : (r : Ordering) (a b : ℕ) → r ≡ nat_cmp a b → is_eq r ≡ (a == b)

@@ -1,12 +1,13 @@
 //! The rows of a table as entries of pages, by their identifiers.
-ghost use Rattle.std.specs.Prelude.{◌≡◌, ◌+◌, ◌<◌, ◌≤◌, length, IsSome, None};
+ghost use Rattle.std.specs.Prelude.{◌≡◌, ◌+◌, ◌<◌, ◌≤◌, [], ◌∷◌, ◌++◌, length, IsSome, None};
 ghost use Rattle.std.specs.Option.{option_map};
 ghost use Rattle.row_store.specs.LookUps.{WithinDigits};
-ghost use Rattle.row_store.specs.Rows.{RiseFrom, row_of};
+ghost use Rattle.row_store.specs.Rows.{AreBelow, RiseFrom, row_of};
 ghost use Rattle.row_store.specs.inner.Passes.{PutsAt};
 
-use ordered_pages::{Entry, Pages, Probe, Steps};
-use par_base::Row;
+use ordered_pages::{CopyEntry, Entry, Pages, Probe, Steps};
+use par_base::{Memory, Row};
+use std::alloc::Global;
 use std::cmp::Ordering;
 use std::marker::Model;
 use std::sync::ledger::Ledger;
@@ -58,6 +59,13 @@ impl Entry for RowEntry {
 
     fn compare(&self, other: &Self) -> Ordering {
         self.pair.0.cmp(&other.pair.0)
+    }
+}
+
+impl CopyEntry for RowEntry {
+    fn copy(&self, alloc: Global) -> Result<RowEntry, Memory> {
+        let row = self.pair.1.copy(alloc)?;
+        Ok(RowEntry::new(self.pair.0, row))
     }
 }
 
@@ -121,6 +129,17 @@ fn row_taken(entry: Option<RowEntry>) -> Option<Row>
         Some(own) => Some(own.into_row()),
         None => None,
     }
+}
+
+/// Puts the row of a greater identifier behind the others. It makes no comparison and takes no
+/// memory.
+pub(crate) fn push_row(rows: &mut Pages<RowEntry>, id: u64, row: Row)
+    requires below { AreBelow rows.old.entries id }
+    requires room { length rows.old.entries < rows.old.capacity }
+    ensures rows { rows.new.entries ≡ rows.old.entries ++ (id, row) ∷ [] }
+    ensures capacity { rows.new.capacity ≡ rows.old.capacity }
+{
+    rows.push(RowEntry::new(id, row));
 }
 
 /// Exchanges the row of an identifier: puts the new one, or none, and answers the old one. It takes

@@ -7,7 +7,7 @@ ghost use Rattle.row_store.specs.LookUps.{WithinDigits};
 ghost use Rattle.row_store.specs.Undo.{IsUndoable, Restores};
 
 use crate::exchange::Which;
-use crate::rows::{RowEntry, find_row, get_row, put_row, rows_fit};
+use crate::rows::{RowEntry, find_row, get_row, push_row, rows_fit};
 use crate::same::are_same;
 use crate::{Changes, RowItems};
 use ordered_pages::{Pages, Steps};
@@ -89,7 +89,7 @@ impl Table {
         are_same(self.iter(), other.iter())
     }
 
-    /// Adds the row of a greater identifier behind the others. It costs what a change does, and a
+    /// Adds the row of a greater identifier behind the others. It makes no comparison, and takes a
     /// page where there is no room.
     pub fn push(&mut self, id: u64, row: Row) -> Result<(), Memory>
         requires { AreBelow self.old.rows id }
@@ -99,7 +99,7 @@ impl Table {
         ensures kept { OnErr result (self.old.spare ≤ self.new.spare) }
     {
         self.pages.reserve(1)?;
-        let _ = put_row(&mut self.pages, id, Some(row));
+        push_row(&mut self.pages, id, row);
         rows_fit(&self.pages);
         Ok(())
     }
@@ -146,22 +146,11 @@ impl Table {
         rows_fit(&self.pages);
     }
 
-    /// An equal table, made by one pass over the rows. It has its own room.
+    /// An equal table, made by one pass over the pages and without a comparison. It has its own room.
     pub fn copy(&self) -> Result<Table, Memory>
         ensures { IfOk result (λ made. made.rows ≡ self.now.rows) }
     {
-        copied(self.pages.allocator(), self.iter())
+        let pages = self.pages.copy(self.pages.allocator())?;
+        Ok(Table { pages })
     }
-}
-
-/// A table of copies of the rows.
-fn copied(alloc: Global, rows: RowItems<'_>) -> Result<Table, Memory>
-    requires { RiseFrom 0 rows }
-    ensures { IfOk result (λ made. made.rows ≡ rows.entry) }
-{
-    let mut made = Table::new(alloc);
-    for row in rows {
-        made.push(row.0, row.1.copy(alloc)?)?;
-    }
-    Ok(made)
 }

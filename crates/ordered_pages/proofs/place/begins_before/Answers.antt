@@ -1,5 +1,5 @@
 use Rattle.std.specs.Ordering.{is_lt}
-use Rattle.std.proofs.Common.{◌∙◌, ap, sym, arith}
+use Rattle.std.proofs.Common.{◌∙◌, ap, sym}
 use Rattle.ordered_pages.proofs.PagesLemmas.{reads_low, reads_some}
 use Rattle.ordered_pages.proofs.place.begins_before.Goals as goal
 
