@@ -7,6 +7,7 @@ mod Faults
 pub mod FoundLaws
 mod Held
 pub mod ListedLaws
+pub mod MovedLaws
 pub mod ReadBackLaws
 mod Runs
 pub mod StableLaws

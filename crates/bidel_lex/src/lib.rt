@@ -13,7 +13,7 @@
 //! are both words here.
 //!
 //! Lemmas that crates above may use stand in proofs/: `BehindLaws`, `FoundLaws`, `ListedLaws`,
-//! `ReadBackLaws`, `StableLaws` and `WithinLaws`.
+//! `MovedLaws`, `ReadBackLaws`, `StableLaws` and `WithinLaws`.
 #![tactic(auto)]
 
 mod classes;
