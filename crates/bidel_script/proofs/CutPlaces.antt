@@ -1,5 +1,5 @@
 -- What more bytes show behind the tokens of some first bytes is shown behind those bytes.
-use Rattle.std.proofs.Common.{◌≡◌, ◌+◌, ◌≤◌, ◌<◌, ◌++◌, ℕ, zero, suc, List, [], ◌∷◌, Bool, true, false, refl, subst, ◌∙◌, take, drop, length, arith, length-append}
+use Rattle.std.proofs.Common.{◌≡◌, ◌≤◌, ◌<◌, ◌++◌, ℕ, zero, suc, List, [], ◌∷◌, Bool, true, false, refl, subst, ◌∙◌, take, drop, length, arith, length-append}
 use Rattle.std.specs.Prelude.{slice_get}
 use Rattle.std.specs.Option.{option_map_or}
 use Rattle.bidel_lex.specs.declared.tokens.Token.{Token}

@@ -5,6 +5,7 @@ pub mod ScriptLaws
 pub mod UniqueLaws
 mod LengthLemmas
 mod PlaceLemmas
+pub mod PlaceLaws
 pub mod ComesLaws
 pub mod TextLimitsLaws
 mod CutTokens
@@ -14,3 +15,6 @@ mod CutPlaces
 mod CutBegins
 pub mod CutLaws
 pub mod LongLaws
+mod MovedTokens
+mod MovedLengths
+pub mod MovedLaws

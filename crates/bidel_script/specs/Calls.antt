@@ -8,6 +8,8 @@ use Rattle.bidel_script.specs.Tails.{is_over}
 use Rattle.bidel_script.specs.Lengths.{IsLong}
 use Rattle.bidel_script.specs.Script.{Outcome, Over, Fault, Long, Open, StandsBehind}
 use Rattle.bidel_script.specs.declared.tokens.Tail.{Tail}
+use Rattle.bidel_script.specs.Places as places
+use Rattle.bidel_script.specs.declared.place.Place.{Place}
 use Rattle.bidel_script.specs.declared.front.Stop.{Stop}
 use Rattle.bidel_script.specs.declared.front.Stop.TheVariants as stop
 use Rattle.bidel_script.specs.declared.front.Found.{Found}
@@ -24,3 +26,7 @@ outcome_of stop.Open = Open
 abbrev pub Finds : List ℕ → Tail → List Token → Found → Type 0
 Finds bytes tail tokens (found.Whole statement used) = IsFront (is_over tail.last) (lexemes bytes tokens) (statement_view statement) used × (¬ IsLong bytes tail tokens)
 Finds bytes tail tokens (found.Stops stop) = StandsBehind bytes tail tokens 0 (outcome_of stop)
+
+-- a place, as the definitions have it
+abbrev pub place_view : Place → places.Place
+place_view place = record { line = place.line; column = place.column }

@@ -1,6 +1,7 @@
 //! Laws of scripts, each the contract of a function that does nothing.
 ghost use Rattle.bidel_script.specs.Script.{FaultIsNoScript, FaultsStay, FrontsComeFirst, LongStays, OneComes, OneScript, OverIsScript};
 ghost use Rattle.bidel_script.specs.Tails.{TokensAreKnown};
+ghost use Rattle.bidel_script.specs.Moved.{UsedBytesGo};
 
 /// Bytes are the script of at most one list of statements.
 pub fn script_is_one()
@@ -40,4 +41,9 @@ pub fn faults_stay()
 /// What is too long in bytes that are cut off is too long in all of them.
 pub fn long_stays()
     ensures { LongStays }
+{}
+
+/// Behind statements that some first bytes fix the other bytes say what they say by themselves.
+pub fn used_bytes_go()
+    ensures { UsedBytesGo }
 {}

@@ -1,7 +1,7 @@
 use Rattle.std.proofs.Common.{arith}
 use Rattle.bidel_script.proofs.PlaceLemmas.{step_feed, step_on, at_end}
-use Rattle.bidel_script.proofs.place.place_behind.Goals.{then-byte-eq10, else-byte-eq10}
-use Rattle.bidel_script.proofs.place.place_behind.Goals as goal
+use Rattle.bidel_script.proofs.place.place_from.Goals.{then-byte-eq10, else-byte-eq10}
+use Rattle.bidel_script.proofs.place.place_from.Goals as goal
 
 pub loop-byte-preserved : goal.loop-byte-preserved
 loop-byte-preserved c =

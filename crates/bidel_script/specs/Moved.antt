@@ -1,0 +1,26 @@
+-- Bytes behind others: each place of them is so many bytes later in all, and the statements before them may go.
+use Rattle.std.specs.Prelude.{◌≡◌, ◌++◌, ◌+◌, ℕ, Bool, false, List, take, drop}
+use Rattle.bidel_lex.specs.declared.tokens.Token.{Token}
+use Rattle.bidel_lex.specs.declared.tokens.Lexed.TheVariants.{More}
+use Rattle.statements.specs.Views.{StatementView}
+use Rattle.bidel_script.specs.declared.tokens.Tail.{Tail}
+use Rattle.bidel_script.specs.Tails.{AreAll, last_end}
+use Rattle.bidel_script.specs.Script.{Leads, Comes, Outcome, Over, Fault, Long, Open}
+
+-- an outcome, with its place so many bytes later
+abbrev pub moved : ℕ → Outcome → Outcome
+moved k Over = Over
+moved k (Fault at) = Fault (k + at)
+moved k Long = Long
+moved k Open = Open
+
+-- the end of so many first tokens
+abbrev pub end_behind : List Token → ℕ → ℕ
+end_behind tokens used = last_end 0 (take used tokens)
+
+-- behind statements whose end some first bytes fix, which may go on, the other bytes say what they say by themselves
+abbrev pub UsedBytesGo : Type 0
+UsedBytesGo = (front more : List ℕ) (tokens : List Token) (tail : Tail) (before : List StatementView) (used : ℕ)
+    → AreAll front false tokens tail → tail.last ≡ More → Leads front tail tokens before used
+    → (ended : Bool) (rest : List StatementView) (outcome : Outcome) → Comes (drop (end_behind tokens used) front ++ more) ended rest outcome
+    → Comes (front ++ more) ended (before ++ rest) (moved (end_behind tokens used) outcome)
