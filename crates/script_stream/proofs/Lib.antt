@@ -1,0 +1,2 @@
+mod HoldLemmas
+pub mod ReadLaws

@@ -1,0 +1,4 @@
+pub mod Holding
+pub mod Giving
+pub mod Reading
+pub mod Calls
