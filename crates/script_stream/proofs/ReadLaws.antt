@@ -1,5 +1,5 @@
 -- The statements of a source.
-use Rattle.std.proofs.Common.{◌≡◌, ◌+◌, ◌-◌, ◌*◌, ◌≤◌, ◌<◌, ◌++◌, ℕ, List, [], Option, None, Some, Bool, true, false, refl, sym, ap, cond, subst, ◌∙◌, take, length, arith, append-nil, length-append}
+use Rattle.std.proofs.Common.{◌≡◌, ◌+◌, ◌-◌, ◌*◌, ◌≤◌, ◌<◌, ◌++◌, ◌∷◌, ℕ, List, [], Option, None, Some, Bool, true, false, refl, sym, ap, cond, subst, ◌∙◌, take, length, arith, append_assoc, append-nil, length-append}
 use Rattle.std.specs.Prelude.{nat_le}
 use Rattle.std.proofs.lemmas.Bool.{le-leb}
 use Rattle.std.proofs.lemmas.List.{take_all, take_at}
@@ -15,7 +15,7 @@ use Rattle.script_stream.specs.declared.stream.Stream.{Stream}
 use Rattle.script_stream.specs.Holding.{Holds, IsStream, limit, place_in}
 use Rattle.script_stream.specs.Giving.{GivesStatement}
 use Rattle.script_stream.specs.Calls.{Refilled}
-use Rattle.script_stream.specs.Reading.{First, Reads, ReachesEnd, ReachesFault, ReachesLong, ReachesNext, ReachesTooMany, ReachesUnread, Reaches, Taken, Turns, Waits, at_first, behind, piece_limit, room_in}
+use Rattle.script_stream.specs.Reading.{First, Reads, ReachesEnd, ReachesFault, ReachesLong, ReachesNext, ReachesTooMany, ReachesUnread, Reaches, SeenSoon, Taken, Turns, Waits, at_first, behind, piece_limit, room_in}
 use Rattle.script_stream.specs.declared.reading.Turn.{Turn}
 use Rattle.script_stream.specs.declared.reading.Given.{Given}
 use Rattle.script_stream.specs.declared.reading.Given.TheVariants as given
@@ -62,6 +62,12 @@ reads_within left left' was is sts s r = let within = r.taken.within in omega (a
 
 -- ---- one turn
 
+-- what was given stays given
+soon_more : (bytes : List ℕ) (sts : List StatementView) (st : StatementView) → SeenSoon bytes sts → SeenSoon bytes (sts ++ st ∷ [])
+soon_more bytes sts st (at_first short) = at_first short
+soon_more bytes sts st (behind front piece before rest split short open' same) =
+    behind front piece before (rest ++ st ∷ []) split short open' (ap (λ (l : List StatementView). l ++ st ∷ []) same ∙ append_assoc before rest (st ∷ []))
+
 -- a statement was given
 pub turns_next : (left left' : Option (List ℕ)) (was is : ℕ) (sts : List StatementView) (old new : Stream) (statement : StatementView) (r : Reads left left' was is sts old) → new.ended ≡ old.ended
     → GivesStatement r.bytes sts old new statement → ReachesNext left left' was is sts old new statement
@@ -70,8 +76,9 @@ turns_next left left' was is sts old new statement r ended g = record {
     bytes = r.bytes;
     taken = subst (λ (b : Bool). Taken left left' was is r.bytes b) (sym ended) r.taken;
     holds = g.holds;
-    soon = r.soon;
+    soon = soon_more r.bytes sts statement r.soon;
   };
+  soon = r.soon;
   written = g.written;
   texts = g.texts;
   on = g.on;
@@ -140,7 +147,7 @@ turns_fed left mid left' was between is sts old new piece w wants taken same sho
         end = λ e. let clash : true ≡ false = sym e ∙ fed.ends in cc;
       };
       holds = fed.holds wants r.bytes sts r.holds;
-      soon = behind r.bytes piece sts refl short w.open';
+      soon = behind r.bytes piece sts [] refl short w.open' (sym (append-nil sts));
     }
 
 -- the end was
@@ -188,7 +195,7 @@ goes_ended old new is wants fed =
 -- a stream that is as far on is the same for what comes of the source
 pub reaches_from : (left left' : Option (List ℕ)) (was is : ℕ) (sts : List StatementView) (one other new : Stream) (g : Given) → place_in one ≡ place_in other
     → Reaches left left' was is sts one new g → Reaches left left' was is sts other new g
-reaches_from left left' was is sts one other new (given.Statement st) e h = record { reads = h.reads; written = h.written; texts = h.texts; on = (let on = h.on in omega (arith, on, e)) }
+reaches_from left left' was is sts one other new (given.Statement st) e h = record { reads = h.reads; soon = h.soon; written = h.written; texts = h.texts; on = (let on = h.on in omega (arith, on, e)) }
 reaches_from left left' was is sts one other new given.Over e h = h
 reaches_from left left' was is sts one other new (given.Fault line column) e h = h
 reaches_from left left' was is sts one other new given.Long e h = h

@@ -19,10 +19,11 @@ use Rattle.script_stream.specs.Giving.{IsWritten}
 abbrev pub piece_limit : ℕ
 piece_limit = 4096
 
--- the bytes are one piece, or all but a last piece of them break no rule
-pub data SeenSoon (bytes : List ℕ) : Type 0 where
-  at_first : length bytes ≤ piece_limit → SeenSoon bytes
-  behind : (front piece : List ℕ) (before : List StatementView) → bytes ≡ front ++ piece → length piece ≤ piece_limit → Comes front false before Open → SeenSoon bytes
+-- the bytes are one piece; or all but a last piece of them break no rule, and the statements that these fix are among those that were given
+pub data SeenSoon (bytes : List ℕ) (given : List StatementView) : Type 0 where
+  at_first : length bytes ≤ piece_limit → SeenSoon bytes given
+  behind : (front piece : List ℕ) (before rest : List StatementView) → bytes ≡ front ++ piece → length piece ≤ piece_limit → Comes front false before Open
+      → given ≡ before ++ rest → SeenSoon bytes given
 
 -- these are the bytes that were taken; no call failed, and `ended` says that the source was read to its end
 pub record Taken (left left' : Option (List ℕ)) (was is : ℕ) (bytes : List ℕ) (ended : Bool) : Type 0 where
@@ -36,7 +37,7 @@ pub record Reads (left left' : Option (List ℕ)) (was is : ℕ) (given : List S
   pub bytes : List ℕ
   pub taken : Taken left left' was is bytes s.ended
   pub holds : Holds bytes given s
-  pub soon : SeenSoon bytes
+  pub soon : SeenSoon bytes given
 
 -- and more bytes are wanted
 pub record Waits (left left' : Option (List ℕ)) (was is : ℕ) (given : List StatementView) (s : Stream) : Type 0 where
@@ -49,9 +50,10 @@ abbrev pub First : Option (List ℕ) → List StatementView → Type 0
 First None sts = ⊤
 First (Some told) sts = (all : List StatementView) (outcome : Outcome) → Comes (take limit told) (nat_le (length told) limit) all outcome → (rest : List StatementView) × (all ≡ sts ++ rest)
 
--- the next statement of the source
+-- the next statement of the source; its last piece was taken where all statements before were given that the bytes before it fix
 pub record ReachesNext (left left' : Option (List ℕ)) (was is : ℕ) (sts : List StatementView) (old new : Stream) (statement : StatementView) : Type 0 where
   pub reads : Reads left left' was is (sts ++ statement ∷ []) new
+  pub soon : SeenSoon reads.bytes sts
   pub written : IsWritten statement
   pub texts : TextsWithin text_limit statement
   pub on : place_in old < place_in new
@@ -70,7 +72,7 @@ pub record ReachesFault (left left' : Option (List ℕ)) (was is : ℕ) (sts : L
   pub taken : Taken left left' was is bytes ended
   pub comes : Comes bytes ended sts (Fault at)
   pub place : place_of bytes at ≡ record { line = line; column = column }
-  pub soon : SeenSoon bytes
+  pub soon : SeenSoon bytes sts
 
 -- behind them stands a statement that is too long
 pub record ReachesLong (left left' : Option (List ℕ)) (was is : ℕ) (sts : List StatementView) : Type 0 where
@@ -78,7 +80,7 @@ pub record ReachesLong (left left' : Option (List ℕ)) (was is : ℕ) (sts : Li
   pub ended : Bool
   pub taken : Taken left left' was is bytes ended
   pub comes : Comes bytes ended sts Long
-  pub soon : SeenSoon bytes
+  pub soon : SeenSoon bytes sts
 
 -- a call of the source failed, and the bytes that were taken fix these statements and break no rule
 pub record ReachesUnread (left left' : Option (List ℕ)) (was is : ℕ) (sts : List StatementView) : Type 0 where
