@@ -1,0 +1,6 @@
+mod FoundLemmas
+mod ToldLemmas
+mod LookLemmas
+mod BroughtLemmas
+mod ClosedLemmas
+mod CallLemmas

@@ -1,0 +1,5 @@
+pub mod Found
+pub mod Told
+pub mod Looking
+pub mod Brought
+pub mod Begins
