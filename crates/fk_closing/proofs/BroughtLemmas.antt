@@ -1,5 +1,5 @@
 -- What an identifier brings, from what is found for it.
-use Rattle.std.proofs.Common.{◌≡◌, ℕ, ◌+◌, ◌<◌, ◌≤◌, List, [], ◌∷◌, ◌++◌, Bool, true, false, Option, Some, None, refl, ap, sym, ◌∙◌, subst, arith}
+use Rattle.std.proofs.Common.{◌≡◌, ℕ, ◌+◌, ◌<◌, List, [], ◌∷◌, ◌++◌, Bool, true, false, Option, Some, None, refl, ap, ◌∙◌, subst, arith}
 use Rattle.std.proofs.lemmas.Bool.{cases_lt}
 use mathlib.Core.Logic.{inl, inr}
 use Rattle.par_base.specs.declared.value.Value.{Value}
@@ -7,12 +7,11 @@ use Rattle.row_store.specs.Rows.{Rows, row_of}
 use Rattle.op_law.specs.Meaning.{PairState}
 use Rattle.op_law.specs.Identifiers.{has_id}
 use Rattle.op_tables.specs.SideTables.{first_table}
-use Rattle.key_index.specs.Found.{IsLeastFrom}
 use Rattle.key_reads.specs.Keys.{keys_of}
 use Rattle.key_reads.specs.declared.keys.Keys.{Keys}
 use Rattle.fk_closing.specs.Found.{added, AreAmong}
-use Rattle.fk_closing.specs.Looking.{goal_at, goal_in, IsNextRef, HasLeast}
-use Rattle.fk_closing.specs.Brought.{Rule, tables_by, rows_by, IsBrought, IsLeastOld, IsWitnessBy, LeastBrought, WitnessBrought, Witnessed}
+use Rattle.fk_closing.specs.Looking.{goal_at, goal_in, IsNextRef}
+use Rattle.fk_closing.specs.Brought.{Rule, tables_by, IsBrought, IsLeastOld, IsWitnessBy, LeastBrought, WitnessBrought}
 use Rattle.fk_closing.proofs.FoundLemmas.{added_has, added_stays, end_has, end_stays}
 use Rattle.fk_closing.proofs.LookLemmas.{least_one}
 

@@ -9,11 +9,9 @@ use Rattle.op_rows.specs.inner.Tabulated.{all_rise}
 use Rattle.op_tables.specs.SideTables.{first_table, second_table}
 use Rattle.row_changes.specs.Changed.{TableChanges}
 use Rattle.operator_changes.specs.Calls.{MayChange}
-use Rattle.foreign_keys.specs.KeyParts.{FkParts}
 use Rattle.op_fk_join.specs.Columns.{join_columns, side_parts}
 use Rattle.op_fk_decompose.specs.Columns.{column_parts, decompose_columns}
-use Rattle.key_reads.specs.Keys.{keys_of, shared_rows}
-use Rattle.key_reads.specs.declared.keys.Keys.{Keys}
+use Rattle.key_reads.specs.Keys.{shared_rows}
 use Rattle.key_reads.specs.declared.keys.Keys.TheVariants.{Values, Shared}
 use Rattle.fk_footprints.specs.JoinForward.{IsClosedJoin}
 use Rattle.fk_footprints.specs.JoinBackward.{IsClosedJoinBack}

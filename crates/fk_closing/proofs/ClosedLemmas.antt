@@ -1,11 +1,11 @@
 -- Identifiers that are closed under the rules are closed.
 use Rattle.std.specs.Prelude.{nat_lt, ◌||◌}
-use Rattle.std.proofs.Common.{◌≡◌, ℕ, ◌+◌, ◌<◌, ◌≤◌, ◌⊎◌, List, [], ◌∷◌, Bool, true, false, not, Option, Some, None, refl, ap, sym, ◌∙◌, subst, arith}
+use Rattle.std.proofs.Common.{◌≡◌, ℕ, ◌<◌, List, [], Bool, true, false, not, Some, refl, ap, sym, ◌∙◌, arith}
 use Rattle.std.proofs.lemmas.Bool.{false≢true}
 use Rattle.std.proofs.lemmas.Bool.Decides.{nat_tests}
 use mathlib.Core.Logic.{inl, inr}
 use Rattle.par_base.specs.declared.value.Value.{Value}
-use Rattle.row_store.specs.Rows.{Rows, RiseFrom, row_of}
+use Rattle.row_store.specs.Rows.{Rows, row_of}
 use Rattle.row_store.specs.Changes.{after}
 use Rattle.op_law.specs.Tables.{Tables, AllRise}
 use Rattle.op_law.specs.Sound.{RowsSound, TablesSound}
@@ -22,9 +22,9 @@ use Rattle.operator_changes.specs.Footprint.{passes}
 use Rattle.foreign_keys.specs.KeyParts.{FkParts}
 use Rattle.foreign_keys.specs.References.{goal_of}
 use Rattle.key_index.specs.Found.{IsLeastFrom}
-use Rattle.fk_footprints.specs.Closed.{BringsGoals, SeesNoChange, BringsWitness, Witness}
+use Rattle.fk_footprints.specs.Closed.{BringsGoals, SeesNoChange, BringsWitness}
 use Rattle.fk_closing.specs.Found.{AreAmong}
-use Rattle.fk_closing.specs.Told.{AllOf, OfNew, changes_at, is_changed}
+use Rattle.fk_closing.specs.Told.{changes_at, is_changed}
 use Rattle.fk_closing.specs.Looking.{goal_at, HasGoal, HasLeast, HasRefs}
 use Rattle.fk_closing.specs.Brought.{Rule, Witnessed}
 use Rattle.fk_closing.specs.Begins.{BeginsAtRows, BeginsAtTables}

@@ -1,13 +1,13 @@
 -- Identifiers that are found: with one more, and with none.
 use Rattle.std.specs.Prelude.{nat_lt}
-use Rattle.std.proofs.Common.{◌≡◌, ℕ, suc, ◌+◌, ◌-◌, ◌*◌, ◌^◌, ◌<◌, ◌≤◌, ◌==◌, ◌⊎◌, List, [], ◌∷◌, ◌++◌, Bool, true, false, cond, length, length-append, Option, Some, None, refl, ap, sym, ◌∙◌, subst, arith}
+use Rattle.std.proofs.Common.{◌≡◌, ℕ, ◌+◌, ◌^◌, ◌<◌, ◌≤◌, ◌==◌, ◌⊎◌, List, [], ◌∷◌, ◌++◌, Bool, true, false, cond, length, length-append, Option, Some, None, refl, ap, sym, ◌∙◌, subst, arith}
 use Rattle.std.proofs.lemmas.Bool.{eqb-true, eq-eqb, false≢true}
 use Rattle.std.proofs.lemmas.Bool.Decides.{nat_tests}
 use mathlib.Core.Logic.{inl, inr}
 use Rattle.op_law.specs.Identifiers.{has_id, put_id, IdsRise}
 use Rattle.op_law.proofs.IdentifierLaws.{has_put, rise_put}
 use Rattle.op_law.proofs.OnlyLaws.{by_test}
-use Rattle.fk_closing.specs.Found.{added, AreAmong, AreIds, FindsMore, work_left}
+use Rattle.fk_closing.specs.Found.{added, AreAmong, AreIds, FindsMore}
 
 -- one of two tests
 pub either : (a b : Bool) → cond a true b ≡ true → (a ≡ true) ⊎ (b ≡ true)

@@ -1,5 +1,5 @@
 -- Look-ups by value: what their answers say of the rows of S and T.
-use Rattle.std.proofs.Common.{◌≡◌, ℕ, zero, suc, ◌+◌, ◌<◌, ◌≤◌, ◌==◌, List, [], ◌∷◌, Bool, true, false, not, ◌&&◌, cond, slice_index_or, slice_get, unwrap_or, Option, Some, None, refl, ap, sym, ◌∙◌, subst, arith}
+use Rattle.std.proofs.Common.{◌≡◌, ℕ, zero, suc, ◌+◌, ◌≤◌, ◌==◌, List, [], ◌∷◌, Bool, true, false, not, ◌&&◌, slice_index_or, Option, Some, None, refl, ap, sym, ◌∙◌, subst, arith}
 use Rattle.std.proofs.lemmas.Bool.{false≢true, eqb-true}
 use Rattle.par_base.specs.declared.value.Value.{Value}
 use Rattle.par_base.specs.declared.value.Value.TheVariants.{Null, Int, Text, Reference}
@@ -19,7 +19,7 @@ use Rattle.op_fk_decompose.specs.Decompose.{alone, least_in}
 use Rattle.key_index.specs.Tables.{key_in, keys_in}
 use Rattle.key_index.specs.Found.{IsLeastFrom}
 use Rattle.key_reads.specs.Keys.{parts_at, shared_rows}
-use Rattle.fk_closing.specs.Looking.{goal_at, Refers, NoneRefers, RefersFirst, IsNextRef}
+use Rattle.fk_closing.specs.Looking.{goal_at, Refers, IsNextRef}
 
 -- the value at a place, and null where there is none
 at_place : (place : ℕ) (row : List Value) → slice_index_or row place Null ≡ value_at place row

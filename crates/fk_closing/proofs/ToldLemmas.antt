@@ -1,12 +1,11 @@
 -- What an identifier has after changes, from what they tell.
-use Rattle.std.specs.Prelude.{nat_lt}
-use Rattle.std.proofs.Common.{◌≡◌, ℕ, zero, suc, ◌+◌, ◌<◌, ◌≤◌, ◌==◌, ◌⊎◌, List, [], ◌∷◌, ◌++◌, Bool, true, false, cond, take, get_or, slice_get, Option, Some, None, length, refl, ap, sym, ◌∙◌, subst, arith}
-use Rattle.std.proofs.lemmas.Bool.{eqb-true, eq-eqb, false≢true}
+use Rattle.std.proofs.Common.{◌≡◌, ℕ, zero, suc, ◌+◌, ◌<◌, ◌≤◌, ◌==◌, ◌⊎◌, List, [], ◌∷◌, ◌++◌, Bool, true, false, cond, take, get_or, slice_get, Option, Some, None, length, refl, sym, subst}
+use Rattle.std.proofs.lemmas.Bool.{eqb-true, false≢true}
 use Rattle.std.proofs.lemmas.List.{take_more, take_all}
 use mathlib.Core.Logic.{inl, inr}
 use Rattle.par_base.specs.declared.value.Value.{Value}
 use Rattle.row_store.specs.declared.change.Change.{Change}
-use Rattle.row_store.specs.Rows.{Rows, row_of}
+use Rattle.row_store.specs.Rows.{row_of}
 use Rattle.row_store.specs.Changes.{after}
 use Rattle.op_law.specs.Tables.{Tables, AllRise}
 use Rattle.op_law.proofs.OnlyLaws.{by_test}
@@ -15,7 +14,6 @@ use Rattle.row_changes.specs.Changed.{TableChanges, changed_tables, AreChangesOf
 use Rattle.row_changes.specs.Touched.{AllPass, EachPass}
 use Rattle.row_changes.proofs.ChangedLaws.{changed_at}
 use Rattle.fk_closing.specs.Told.{AllOf, is_changed, changes_at, OfNew}
-use Rattle.fk_closing.proofs.FoundLemmas.{either}
 
 -- one change more
 pub all_more : (P : Change → Type 0) (cs : List Change) (c : Change) → AllOf P cs → P c → AllOf P (cs ++ c ∷ [])

@@ -3,3 +3,4 @@ pub mod Told
 pub mod Looking
 pub mod Brought
 pub mod Begins
+pub mod Calls

@@ -1,11 +1,8 @@
 //! DECOMPOSE ON FK: the identifiers that a write through it has to see.
-ghost use Rattle.std.specs.Prelude.{◌≡◌, ℕ, IfOk};
+ghost use Rattle.std.specs.Prelude.{◌≡◌, IfOk};
 ghost use Rattle.op_law.specs.Meaning.{exchanged, flip};
-ghost use Rattle.operator_changes.specs.Calls.{MayChange};
-ghost use Rattle.operator_changes.specs.Footprint.{IsFootprint};
-ghost use Rattle.op_fk_decompose.specs.Columns.{column_parts, decompose_columns};
-ghost use Rattle.fk_footprints.specs.DecomposeForward.{IsClosedDecompose};
-ghost use Rattle.fk_footprints.specs.DecomposeBackward.{IsClosedDecomposeBack};
+ghost use Rattle.op_fk_decompose.specs.Columns.{decompose_columns};
+ghost use Rattle.fk_closing.specs.Calls.{AreFootprint, CloseDecompose, CloseDecomposeBack};
 
 use crate::begins::{begin_at_rows, begin_at_tables};
 use crate::close::close;
@@ -29,12 +26,11 @@ pub fn decompose_footprint<V: KeyRead>(
     near: &SideChanges,
     old: &mut V,
 ) -> Result<List<u64>, Memory>
-    ensures closed { let it = operator.now in
-        (n : ℕ) → MayChange (decompose_columns it.first it.second it.place) near.now.tables (V.pair old.old) n
-        → IfOk result (IsClosedDecompose (column_parts it.first it.second it.place) near.now.tables (V.pair old.old) n) }
-    ensures foot { let m = decompose_columns operator.now.first operator.now.second operator.now.place in
-        (n : ℕ) → MayChange m near.now.tables (V.pair old.old) n
-        → IfOk result (IsFootprint m near.now.tables (V.pair old.old) n) }
+    ensures closed { let it = operator.now in IfOk result
+        (CloseDecompose it.first it.second it.place near.now.tables (V.pair old.old)) }
+    ensures foot { let it = operator.now in IfOk result
+        (AreFootprint (decompose_columns it.first it.second it.place) near.now.tables
+        (V.pair old.old)) }
     ensures same { V.pair old.new ≡ V.pair old.old }
 {
     let keys = Keys::Shared(operator.place);
@@ -64,12 +60,12 @@ pub fn decompose_back_footprint<V: KeyRead>(
     near: &SideChanges,
     old: &mut V,
 ) -> Result<List<u64>, Memory>
-    ensures closed { let it = operator.now in
-        (n : ℕ) → MayChange (flip (decompose_columns it.first it.second it.place)) near.now.tables (exchanged (V.pair old.old)) n
-        → IfOk result (IsClosedDecomposeBack (column_parts it.first it.second it.place) near.now.tables (exchanged (V.pair old.old)) n) }
-    ensures foot { let m = flip (decompose_columns operator.now.first operator.now.second operator.now.place) in
-        (n : ℕ) → MayChange m near.now.tables (exchanged (V.pair old.old)) n
-        → IfOk result (IsFootprint m near.now.tables (exchanged (V.pair old.old)) n) }
+    ensures closed { let it = operator.now in IfOk result
+        (CloseDecomposeBack it.first it.second it.place near.now.tables
+        (exchanged (V.pair old.old))) }
+    ensures foot { let it = operator.now in IfOk result
+        (AreFootprint (flip (decompose_columns it.first it.second it.place)) near.now.tables
+        (exchanged (V.pair old.old))) }
     ensures same { V.pair old.new ≡ V.pair old.old }
 {
     let changed = changed_ids(alloc, changes_at(near, 0))?;

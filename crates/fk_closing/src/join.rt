@@ -1,11 +1,8 @@
 //! JOIN ON FK: the identifiers that a write through it has to see.
-ghost use Rattle.std.specs.Prelude.{◌≡◌, ℕ, ◌-◌, IfOk};
+ghost use Rattle.std.specs.Prelude.{◌≡◌, IfOk};
 ghost use Rattle.op_law.specs.Meaning.{exchanged, flip};
-ghost use Rattle.operator_changes.specs.Calls.{MayChange};
-ghost use Rattle.operator_changes.specs.Footprint.{IsFootprint};
-ghost use Rattle.op_fk_join.specs.Columns.{join_columns, side_parts};
-ghost use Rattle.fk_footprints.specs.JoinForward.{IsClosedJoin};
-ghost use Rattle.fk_footprints.specs.JoinBackward.{IsClosedJoinBack};
+ghost use Rattle.op_fk_join.specs.Columns.{join_columns};
+ghost use Rattle.fk_closing.specs.Calls.{AreFootprint, CloseJoin, CloseJoinBack};
 
 use crate::begins::{begin_at_rows, begin_at_tables};
 use crate::close::close;
@@ -27,12 +24,10 @@ pub fn join_footprint<V: KeyRead>(
     near: &SideChanges,
     old: &mut V,
 ) -> Result<List<u64>, Memory>
-    ensures closed { let it = operator.now in
-        (n : ℕ) → MayChange (join_columns it.first it.second it.place) near.now.tables (V.pair old.old) n
-        → IfOk result (IsClosedJoin (side_parts (it.first - 1) it.second it.place) near.now.tables (V.pair old.old) n) }
-    ensures foot { let m = join_columns operator.now.first operator.now.second operator.now.place in
-        (n : ℕ) → MayChange m near.now.tables (V.pair old.old) n
-        → IfOk result (IsFootprint m near.now.tables (V.pair old.old) n) }
+    ensures closed { let it = operator.now in IfOk result
+        (CloseJoin it.first it.second it.place near.now.tables (V.pair old.old)) }
+    ensures foot { let it = operator.now in IfOk result
+        (AreFootprint (join_columns it.first it.second it.place) near.now.tables (V.pair old.old)) }
     ensures same { V.pair old.new ≡ V.pair old.old }
 {
     let changed = changed_ids(alloc, changes_at(near, 0))?;
@@ -59,12 +54,12 @@ pub fn join_back_footprint<V: KeyRead>(
     near: &SideChanges,
     old: &mut V,
 ) -> Result<List<u64>, Memory>
-    ensures closed { let it = operator.now in
-        (n : ℕ) → MayChange (flip (join_columns it.first it.second it.place)) near.now.tables (exchanged (V.pair old.old)) n
-        → IfOk result (IsClosedJoinBack (side_parts (it.first - 1) it.second it.place) near.now.tables (exchanged (V.pair old.old)) n) }
-    ensures foot { let m = flip (join_columns operator.now.first operator.now.second operator.now.place) in
-        (n : ℕ) → MayChange m near.now.tables (exchanged (V.pair old.old)) n
-        → IfOk result (IsFootprint m near.now.tables (exchanged (V.pair old.old)) n) }
+    ensures closed { let it = operator.now in IfOk result
+        (CloseJoinBack it.first it.second it.place near.now.tables
+        (exchanged (V.pair old.old))) }
+    ensures foot { let it = operator.now in IfOk result
+        (AreFootprint (flip (join_columns it.first it.second it.place)) near.now.tables
+        (exchanged (V.pair old.old))) }
     ensures same { V.pair old.new ≡ V.pair old.old }
 {
     let changed = changed_ids(alloc, changes_at(near, 0))?;

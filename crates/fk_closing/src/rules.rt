@@ -94,7 +94,8 @@ impl<'a, P: RowParts> Rules<'a, P> {
     }
 
     /// All that the identifier brings. It takes three look-ups, and one more for each changed row
-    /// that refers to the identifier.
+    /// that refers to the identifier: such a row refers to one alone, so all of them are passed over
+    /// once.
     pub(crate) fn brought<V: KeyRead>(
         &self,
         alloc: Global,

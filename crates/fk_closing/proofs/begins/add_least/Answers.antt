@@ -1,4 +1,4 @@
-use Rattle.std.proofs.Common.{rules, ◌≡◌, ap, sym, subst}
+use Rattle.std.proofs.Common.{rules, ◌≡◌, subst}
 use Rattle.operator_changes.specs.Pairs.{side_at}
 use Rattle.key_reads.specs.Keys.{keys_of}
 use Rattle.key_index.specs.Found.{IsLeastFrom}

@@ -1,4 +1,4 @@
-use Rattle.std.proofs.Common.{◌≡◌, ℕ, List, [], ◌∷◌, ◌++◌, true, Some, ap, sym, ◌∙◌, subst}
+use Rattle.std.proofs.Common.{◌≡◌, ℕ, List, true, ◌∙◌, subst}
 use mathlib.Core.Logic.{inl, inr}
 use Rattle.op_law.specs.Meaning.{PairState}
 use Rattle.op_law.specs.Identifiers.{has_id}

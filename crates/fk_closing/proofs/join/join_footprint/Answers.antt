@@ -1,4 +1,4 @@
-use Rattle.std.proofs.Common.{◌≡◌, ◌-◌, ℕ, List, sym, subst}
+use Rattle.std.proofs.Common.{◌-◌, ℕ, List, sym, subst}
 use Rattle.op_law.specs.Meaning.{PairState}
 use Rattle.op_tables.specs.SideTables.{first_table}
 use Rattle.op_fk_join.specs.Columns.{side_parts}

@@ -1,4 +1,4 @@
-use Rattle.std.proofs.Common.{◌++◌, [], ◌∷◌, Option, Some, ap, sym, ◌∙◌, subst}
+use Rattle.std.proofs.Common.{◌∙◌, subst}
 use Rattle.op_law.specs.Meaning.{PairState}
 use Rattle.op_tables.specs.SideTables.{first_table}
 use Rattle.operator_changes.specs.Pairs.{side_at}

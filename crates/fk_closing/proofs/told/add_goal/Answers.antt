@@ -1,7 +1,4 @@
-use Rattle.std.proofs.Common.{rules, ◌≡◌, ℕ, List, Some, ap, sym, ◌∙◌}
-use Rattle.par_base.specs.declared.value.Value.{Value}
-use Rattle.op_law.specs.Identifiers.{has_id}
-use Rattle.fk_closing.specs.Found.{added}
+use Rattle.std.proofs.Common.{rules, ◌≡◌, ap, ◌∙◌}
 use Rattle.fk_closing.specs.Looking.{goal_at}
 use Rattle.fk_closing.proofs.FoundLemmas.{added_has, added_stays}
 use Rattle.fk_closing.proofs.told.add_goal.Goals as goal

@@ -1,7 +1,6 @@
-use Rattle.std.proofs.Common.{◌≡◌, ◌==◌, ◌+◌, ◌++◌, [], ◌∷◌, List, Bool, true, cond, take, ap, refl, sym, ◌∙◌, arith}
+use Rattle.std.proofs.Common.{◌==◌, ◌++◌, [], ◌∷◌, List, Bool, true, cond, take, ap, refl, sym, ◌∙◌, arith}
 use Rattle.row_store.specs.declared.change.Change.{Change}
 use Rattle.std.proofs.lemmas.List.{take_more, take_all}
-use Rattle.op_law.specs.Identifiers.{has_id}
 use Rattle.op_law.proofs.IdentifierLaws.{has_put}
 use Rattle.fk_closing.specs.Told.{is_changed}
 use Rattle.fk_closing.proofs.ToldLemmas.{named_more}

@@ -1,7 +1,6 @@
-use Rattle.std.proofs.Common.{◌≡◌, List, ℕ, ap, sym, ◌∙◌, subst}
+use Rattle.std.proofs.Common.{◌∙◌, subst}
 use Rattle.op_law.specs.Meaning.{PairState}
-use Rattle.fk_closing.specs.Brought.{rule_of, IsBrought, IsLeastOld, IsWitnessBy}
-use Rattle.fk_closing.specs.Found.{added}
+use Rattle.fk_closing.specs.Brought.{rule_of, IsLeastOld, IsWitnessBy}
 use Rattle.fk_closing.proofs.BroughtLemmas.{found_is_brought}
 use Rattle.fk_closing.proofs.rules.Rules.brought.Goals as goal
 
