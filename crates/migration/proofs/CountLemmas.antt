@@ -15,7 +15,7 @@ use Rattle.migration.specs.Sides.{changes_side, flip_count}
 use Rattle.migration.proofs.SideLemmas.{comes, goes, up_in}
 
 -- two tests that agree on each number of a list keep the same of it
-kept_same : (p q : ℕ → Bool) (xs : List ℕ) → ((m : ℕ) → In m xs → p m ≡ q m) → filter p xs ≡ filter q xs
+pub kept_same : (p q : ℕ → Bool) (xs : List ℕ) → ((m : ℕ) → In m xs → p m ≡ q m) → filter p xs ≡ filter q xs
 kept_same p q [] agree = refl
 kept_same p q (x ∷ xs) agree =
     let rest = kept_same p q xs (λ m i. agree m (inr i)) in
@@ -23,7 +23,7 @@ kept_same p q (x ∷ xs) agree =
     ap (λ (l : List ℕ). cond (p x) (x ∷ l) l) rest ∙ ap (λ (b : Bool). cond b (x ∷ filter q xs) (filter q xs)) same
 
 -- a test that lets one number less pass than another keeps one less of a list that rises and has it
-one_less : (p q : ℕ → Bool) (n least : ℕ) (xs : List ℕ) → Rises least xs → In n xs → p n ≡ true → q n ≡ false
+pub one_less : (p q : ℕ → Bool) (n least : ℕ) (xs : List ℕ) → Rises least xs → In n xs → p n ≡ true → q n ≡ false
     → ((m : ℕ) → (m ≡ n → ⊥) → p m ≡ q m) → length (filter p xs) ≡ suc (length (filter q xs))
 one_less p q n least [] rises i passes fails agree = absurd i
 one_less p q n least (x ∷ xs) rises (inl same) passes fails agree =

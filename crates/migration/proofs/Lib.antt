@@ -8,5 +8,7 @@ mod PrepareLemmas
 mod AdoptLemmas
 mod LeaveLemmas
 mod CutLemmas
-mod CloseLemmas
 mod CountLemmas
+pub mod StepLaws
+pub mod PendingLaws
+mod CloseLemmas

@@ -1,4 +1,5 @@
 pub mod Sides
+pub mod Pending
 pub mod Places
 pub mod Moved
 pub mod MoveAnswers

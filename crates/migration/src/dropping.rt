@@ -43,7 +43,8 @@ fn lives<O>(graph: &Graph<O>, number: u32) -> bool
     graph.edge(number).is_some()
 }
 
-fn keep_live<O>(graph: &Graph<O>, operators: &mut Vec<u32>)
+/// Lets the operators go that don't live. It takes no memory.
+pub fn keep_live<O>(graph: &Graph<O>, operators: &mut Vec<u32>)
     ensures { operators.new.items
         ≡ filter (λ n. is_in n (numbers graph.now.edges)) operators.old.items }
 {
