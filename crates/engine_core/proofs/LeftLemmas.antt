@@ -38,7 +38,7 @@ use Rattle.engine_layouts.specs.Shown.{shown_operators, shown_tables}
 use Rattle.engine_core.specs.Act.{acted, acted_data, planned_write, tells_layout, with_data}
 use Rattle.engine_core.specs.Kept.{Answers}
 use Rattle.engine_core.specs.Spoken.{TextsCome, operators_in}
-use Rattle.engine_core.proofs.LaidLemmas.{acted_beside}
+use Rattle.engine_core.proofs.LaidLaws.{acted_beside}
 
 -- ---- operators stay built
 

@@ -1,7 +1,7 @@
 pub mod TextLaws
 mod PlanLemmas
 mod WriteLemmas
-mod LaidLemmas
+pub mod LaidLaws
 mod LineLemmas
 mod MoveLemmas
 mod BoundLemmas

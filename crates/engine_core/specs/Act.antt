@@ -15,7 +15,7 @@ use Rattle.engine_versions.specs.Evolve.{created, dropped_version}
 use Rattle.engine_layouts.specs.Laid.{Laid, materialized}
 use Rattle.engine_layouts.specs.Shown.{shown_operators, shown_tables}
 
--- the statements that are carried out: a new version of a script has at least one operator
+-- the statements that are carried out here: a new version of a script has at least one operator, and moves in steps are left to the crate above
 abbrev pub is_built : StatementView → Bool
 is_built (CreateVersion name from operators) = not (length operators == 0)
 is_built (DropVersion name) = true

@@ -17,23 +17,23 @@ ghost use Rattle.engine_state.specs.Replies.{IsReply};
 ghost use Rattle.engine_statements.specs.Statements.{Planned, wrote};
 ghost use Rattle.engine_statements.specs.Calls.{planned_view, TakesWrite};
 ghost use Rattle.engine_versions.specs.Evolve.{created};
-ghost use Rattle.engine_layouts.specs.Laid.{materialized};
+ghost use Rattle.engine_layouts.specs.Laid.{flipped_laid, materialized};
 ghost use Rattle.engine_core.specs.Act.{act, acted, acted_data, is_built as is_built_statement, planned_write, IsOrdinary};
 ghost use Rattle.engine_core.specs.Bounds.{InsertTakes, PlansInsert};
-ghost use Rattle.engine_core.specs.Kept.{data_of, empty_state, state_of, Answers, Follows};
+ghost use Rattle.engine_core.specs.Kept.{data_of, empty_state, state_of, Answers, Follows, MayFlip};
 ghost use Rattle.engine_core.specs.Spoken.{TextsCome};
 
 use crate::built::is_built;
 use crate::spent::counter_at;
 use crate::writing::write_through;
 use db_state::{Db, states_are_stored_once};
-use engine_layouts::{materialize, show_layout};
+use engine_layouts::{flip_operator, materialize, show_layout};
 use engine_state::Reply;
 use engine_statements::{WritePlan, plan_delete, plan_insert, plan_update, select_rows};
 use engine_versions::{create_version, drop_version};
 use expr_lang::Steps;
 use op_any::AnyOp;
-use par_base::{Fault, Limits, Name, Refusal, Target};
+use par_base::{Fault, Limits, Memory, Name, Refusal, Target};
 use statements::{OpText, Statement};
 use std::alloc::Global;
 use std::marker::Model;
@@ -68,13 +68,11 @@ impl Engine {
     pub fn new(alloc: Global, limits: Limits) -> Engine
         ensures { state_of result ≡ empty_state limits.max_id }
     {
-        Engine {
-            database: Db::new(alloc, limits.max_id),
-        }
+        let database = Db::new(alloc, limits.max_id);
+        Engine { database }
     }
 
-    /// The engine of a database whose operators are each what its own text builds, as those are that
-    /// an engine has made. It takes no memory.
+    /// The engine of a database whose operators are each what its own text builds. It takes no memory.
     pub fn over(database: Db<AnyOp>) -> Engine
         requires { AreBuiltOn database.ids.next database.graph.edges }
         ensures { result ≡ database }
@@ -95,15 +93,15 @@ impl Engine {
     /// model's reply or refusal. After an error the state is as it was. Whatever brings back a state
     /// with its layout brings back every stored table, auxiliary table and memory. Operators come from
     /// statements alone. Each evaluation of an expression is a step.
-    ///
-    /// Where every operator of its tree treats each identifier by itself, an INSERT takes time in the
-    /// number of its values, for each table of the tree, and an UPDATE or DELETE besides in the number
-    /// of values of its table; else each takes time in the number of values of its table and of the
-    /// tables of its tree. A CREATE SCHEMA VERSION takes time in that of the sources and targets of its operators, a SELECT in
-    /// that of its table and of those on its way to storage, a MATERIALIZE in that of the operators that
-    /// change sides, near and far. Besides, each takes time in the square of the number of live operators
-    /// and tables at most, but MATERIALIZE and DROP SCHEMA VERSION also in that of the operators that
-    /// are stored on their target side, for each table and each live operator.
+    /// Where every operator of its tree treats each identifier by itself, an INSERT takes time in
+    /// the number of its values, for each table of the tree, and an UPDATE or DELETE besides in the
+    /// number of values of its table; else each takes time in the number of values of its table and
+    /// of the tables of its tree. A CREATE SCHEMA VERSION takes time in that of the sources and
+    /// targets of its operators, a SELECT in that of its table and of those on its way to storage,
+    /// a MATERIALIZE in that of the operators that change sides, near and far. Besides, each takes
+    /// time in the square of the number of live operators and tables at most, but MATERIALIZE and
+    /// DROP SCHEMA VERSION also in that of the operators that are stored on their target side, for
+    /// each table and each live operator.
     pub fn event<L: Ledger>(
         &mut self,
         alloc: Global,
@@ -150,9 +148,8 @@ impl Engine {
         let _graph = self.database.graph();
     }
 
-    /// Engines of one state store the same: a move that brings the layout back, and any script that
-    /// brings back state and layout, brings back every stored table, auxiliary table and memory. It
-    /// does nothing: its contract is the law.
+    /// Engines of one state store the same: so whatever brings back state and layout brings back every
+    /// stored table, auxiliary table and memory. It does nothing: its contract is the law.
     pub fn storage_comes_back(&self, other: &Engine)
         ensures { state_of self.now ≡ state_of other.now
             → SameStored (storage_in self.now) (storage_in other.now) }
@@ -160,6 +157,21 @@ impl Engine {
         states_are_stored_once::<AnyOp>();
         let _graph = self.database.graph();
         let _other = other.database.graph();
+    }
+
+    /// Moves the data of one live operator to its other side, into a valid layout, and changes nothing
+    /// else. It takes time in the number of values of this operator, near and far.
+    pub fn flip<L: Ledger>(
+        &mut self,
+        alloc: Global,
+        operator: u32,
+        steps: &mut Steps<L>,
+    ) -> Result<(), Memory>
+        requires { MayFlip self.old operator }
+        ensures flips { OnOk result (state_of self.new ≡ flipped_laid (state_of self.old) operator) }
+        ensures same { OnErr result (self.new ≡ self.old) }
+    {
+        flip_operator(alloc, &mut self.database, operator, steps)
     }
 
     // Carries out a statement of a form that is built.

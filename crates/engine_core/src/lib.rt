@@ -9,11 +9,13 @@
 //! they build; and that `reply_text` and `refusal_text` give the lines of replies and refusals.
 //! By the laws of `specs/Laws.antt` a MATERIALIZE changes no data and stores what it names, moves
 //! there and back restore what was stored, and each answer ends its line.
-//! A statement whose form isn't carried out yet is refused as not built before every other check.
+//! A statement whose form isn't carried out is refused as not built before every other check: so are
+//! MATERIALIZE .. IN STEPS and STEP, which the crate above makes of closing and of `Engine::flip`, the
+//! flip of one operator.
 //! The crate must not know how statements are written, or where their bytes come from and where the
 //! lines go.
 //!
-//! Lemmas that crates above may use stand in proofs/: `TextLaws`.
+//! Lemmas that crates above may use stand in proofs/: `TextLaws` and `LaidLaws`.
 #![tactic(auto)]
 
 mod built;

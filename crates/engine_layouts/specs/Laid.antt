@@ -9,7 +9,7 @@ use Rattle.par_base.specs.Checked.{Checked, ◌then◌}
 use Rattle.engine_state.specs.Operators.{AnyView, any_meaning}
 use Rattle.db_state.specs.Fields.{database_for}
 use Rattle.db_state.specs.declared.parts.Parts.{Parts}
-use Rattle.migration.specs.Sides.{flip_count}
+use Rattle.migration.specs.Sides.{flip_count, flipped_layout}
 use Rattle.engine_state.specs.AnyDatabase.{AnyDatabase}
 
 -- the model's database, which has no layout, and beside it the operators that are stored on their target side
@@ -35,3 +35,7 @@ abbrev pub Materializes : Laid → List Target → Result ℕ (Fault Refusal) �
 Materializes s named (Ok count) new = materialized s named ≡ Ok (count, new)
 Materializes s named (Err (Refused r)) new = (materialized s named ≡ Err r) × (new ≡ s)
 Materializes s named (Err (Memory memory)) new = new ≡ s
+
+-- one operator's data on its other side
+abbrev pub flipped_laid : Laid → ℕ → Laid
+flipped_laid s n = record s { layout = flipped_layout s.database.graph.edges n s.layout }

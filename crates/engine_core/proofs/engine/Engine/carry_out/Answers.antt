@@ -7,7 +7,7 @@ use Rattle.engine_state.specs.declared.reply.Reply.{Reply}
 use Rattle.engine_layouts.specs.Laid.{Laid, materialized}
 use Rattle.engine_core.specs.Act.{acted, acted_data}
 use Rattle.engine_core.specs.Kept.{Answers, data_of, state_of}
-use Rattle.engine_core.proofs.LaidLemmas.{acted_beside, answers_beside, on_data, replied, same_laid}
+use Rattle.engine_core.proofs.LaidLaws.{acted_beside, answers_beside, on_data, replied, same_laid}
 use Rattle.engine_core.proofs.engine.Engine.carry_out.Goals as goal
 
 pub returns-in-Materialize-clause-answers : goal.returns-in-Materialize-clause-answers

@@ -3,7 +3,7 @@ use Rattle.std.proofs.lemmas.Result.{err_from_is_err_and}
 use Rattle.op_any.specs.Operators.{AnyView}
 use Rattle.db_state.specs.declared.parts.Parts.{Parts}
 use Rattle.engine_layouts.specs.Laid.{Materializes, laid_of}
-use Rattle.engine_core.proofs.LaidLemmas.{move_refused}
+use Rattle.engine_core.proofs.LaidLaws.{move_refused}
 use Rattle.engine_core.proofs.engine.Engine.move_data.Goals as goal
 
 pub returns-in_err-count-clause-answers : goal.returns-in_err-count-clause-answers
