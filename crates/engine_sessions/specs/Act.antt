@@ -9,13 +9,13 @@ use Rattle.statements.specs.Views.{StatementView, Use, Session, Advise}
 use Rattle.engine_state.specs.SharedChecks.{known_version}
 use Rattle.engine_state.specs.declared.reply.Reply.{Reply}
 use Rattle.engine_state.specs.declared.reply.Reply.TheVariants.{Done, Rows}
-use Rattle.engine_core.specs.Act.{act as act_in_full}
+use Rattle.engine_moves.specs.Act.{act as act_in_full}
 use Rattle.layout_planner.specs.Best.{best}
 use Rattle.layout_planner.specs.Costs.{costs}
 use Rattle.layout_planner.specs.declared.planning.VersionCost.{VersionCost}
 use Rattle.engine_sessions.specs.declared.answer.Answer.{Answer}
 use Rattle.engine_sessions.specs.declared.answer.Answer.TheVariants.{Plain, Csv, Advice}
-use Rattle.engine_sessions.specs.Standing.{Standing, used_by, with_use}
+use Rattle.engine_sessions.specs.Standing.{Standing, moving_in, used_by, with_use}
 use Rattle.engine_sessions.specs.InFull.{in_full, wants_csv}
 use Rattle.engine_sessions.specs.Accesses.{accessed, raised_by}
 
@@ -43,8 +43,8 @@ advised s name = known_version name (set_named s.laid.database.graph.versions na
 -- a statement in full, and its access is counted
 abbrev pub counted : Standing → Bool → StatementView → Checked (Answer × Standing)
 counted s csv statement =
-    act_in_full s.laid statement then λ answer.
-    Ok (answer_of csv answer.0, record s { laid = answer.1; counts = raised_by s.counts (accessed s.laid.database statement) })
+    act_in_full (moving_in s) statement then λ answer.
+    Ok (answer_of csv answer.0, record s { laid = answer.1.laid; pending = answer.1.pending; counts = raised_by s.counts (accessed s.laid.database statement) })
 
 -- one event: USE, SESSION and ADVISE by what is kept beside the data, and every other statement as it says in full
 abbrev pub act : Standing → StatementView → Checked (Answer × Standing)

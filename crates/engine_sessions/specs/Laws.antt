@@ -1,7 +1,7 @@
 -- Laws of sessions.
 use Rattle.std.specs.Prelude.{◌≡◌, ℕ, List, Some, Ok, Err, IsSome, ⊤}
 use Rattle.par_base.specs.Checked.{Checked}
-use Rattle.statements.specs.Views.{StatementView, Insert, Import, Update, Delete, Select, Advise}
+use Rattle.statements.specs.Views.{StatementView, Insert, Import, Update, Delete, Select, Step, Advise}
 use Rattle.engine_sessions.specs.declared.answer.Answer.{Answer}
 use Rattle.engine_sessions.specs.declared.uses.VersionInUse.{VersionInUse}
 use Rattle.engine_sessions.specs.Standing.{Standing, used_by, with_use}
@@ -12,13 +12,14 @@ pub record UsesAreOwn : Type 0 where
   pub own : (uses : List VersionInUse) (session : ℕ) (version : List ℕ) → used_by (with_use uses session version) session ≡ Some version
   pub others : (uses : List VersionInUse) (session other : ℕ) (version : List ℕ) → (other ≡ session → ⊥) → used_by (with_use uses session version) other ≡ used_by uses other
 
--- a statement that names the version of its table, where it is on one, and asks for no advice
+-- a statement that names the version of its table, where it is on one, asks for no advice and is no STEP
 abbrev pub IsFull : StatementView → Type 0
 IsFull (Insert name rows) = IsSome name.version
 IsFull (Import name text) = IsSome name.version
 IsFull (Update name assignments filter) = IsSome name.version
 IsFull (Delete name filter) = IsSome name.version
 IsFull (Select name items filter csv) = IsSome name.version
+IsFull Step = ⊥
 IsFull (Advise name) = ⊥
 IsFull _ = ⊤
 
@@ -29,6 +30,6 @@ SameBehind (Err r) (Err q) = r ≡ q
 SameBehind (Ok a) (Err r) = ⊥
 SameBehind (Err r) (Ok a) = ⊥
 
--- such a statement is answered by the data alone, whatever is in use and was counted
+-- such a statement is answered by the data alone, whatever is in use, is pending and was counted
 abbrev pub NeedTheDataAlone : Type 0
 NeedTheDataAlone = (s t : Standing) (statement : StatementView) → s.laid ≡ t.laid → IsFull statement → SameBehind (act s statement) (act t statement)

@@ -11,6 +11,10 @@ pub use Rattle.engine_core.specs.Act as EngineCoreAct
 pub use Rattle.engine_core.specs.Kept
 pub use Rattle.engine_core.specs.KeptTexts
 pub use Rattle.engine_core.specs.Laid
+pub use Rattle.engine_moves.specs.Act as EngineMovesAct
+pub use Rattle.engine_moves.specs.Moving
+pub use Rattle.engine_moves.specs.Pending
+pub use Rattle.engine_moves.specs.MigrationSides
 pub use Rattle.engine_state.specs.AnyDatabase
 pub use Rattle.engine_state.specs.SharedChecks
 pub use Rattle.engine_state.specs.declared.reply.Reply

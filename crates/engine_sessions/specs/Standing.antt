@@ -6,6 +6,7 @@ use Rattle.op_any.specs.Operators.{AnyView}
 use Rattle.db_state.specs.declared.parts.Parts.{Parts}
 use Rattle.engine_core.specs.Laid.{Laid}
 use Rattle.engine_core.specs.Kept.{empty_state, state_of}
+use Rattle.engine_moves.specs.Moving.{Moving}
 use Rattle.layout_planner.specs.declared.planning.TableCount.{TableCount}
 use Rattle.engine_sessions.specs.declared.uses.VersionInUse.{VersionInUse}
 use Rattle.engine_sessions.specs.declared.sessions.Sessions.{Sessions}
@@ -13,6 +14,8 @@ use Rattle.engine_sessions.specs.declared.sessions.Sessions.{Sessions}
 pub record Standing : Type 0 where
   -- the data with their layout
   pub laid : Laid
+  -- the operators whose data are still to go to their other side, where a move in steps is pending
+  pub pending : List ℕ
   -- how often each table version was accessed, of those that were
   pub counts : List TableCount
   -- the version in use of each session that has one
@@ -22,14 +25,18 @@ pub record Standing : Type 0 where
 
 -- the database that a value keeps, with its layout
 abbrev pub kept_in : Sessions → Parts AnyView
-kept_in s = s.engine
+kept_in s = s.mover.database
 
 abbrev pub standing_of : Sessions → Standing
-standing_of s = record { laid = state_of s.engine; counts = s.counts; uses = s.uses; session = s.session }
+standing_of s = record { laid = state_of s.mover.database; pending = s.mover.pending; counts = s.counts; uses = s.uses; session = s.session }
 
--- the beginning over a database: nothing was accessed, and session 0 is at hand, which has no version in use
+-- the data with their layout, and what is pending
+abbrev pub moving_in : Standing → Moving
+moving_in s = record { laid = s.laid; pending = s.pending }
+
+-- the beginning over a database: nothing is pending and nothing was accessed, and session 0 is at hand, which has no version in use
 abbrev pub begun : Laid → Standing
-begun laid = record { laid = laid; counts = []; uses = []; session = 0 }
+begun laid = record { laid = laid; pending = []; counts = []; uses = []; session = 0 }
 
 -- the beginning without a version, with the greatest identifier that may be drawn
 abbrev pub empty_standing : ℕ → Standing

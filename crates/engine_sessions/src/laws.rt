@@ -6,8 +6,8 @@ pub fn uses_are_each_sessions_own()
     ensures { UsesAreOwn }
 {}
 
-/// A statement that names the version of its table and asks for no advice is answered by the data
-/// alone, whatever is in use and was counted.
+/// A statement that names the version of its table, asks for no advice and is no STEP is answered by
+/// the data alone, whatever is in use, is pending and was counted.
 pub fn full_statements_need_the_data_alone()
     ensures { NeedTheDataAlone }
 {}

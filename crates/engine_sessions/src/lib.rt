@@ -1,14 +1,15 @@
 //! Sessions: what a statement says in the session in which it is given, and what is kept beside the
 //! data.
 //!
-//! Beside an engine it keeps the version in use of each session, and how often each table version was
-//! accessed (`specs/Standing.antt`). It promises the crates above that `Sessions::event` answers and
-//! leaves exactly what the model does (`specs/Act.antt`): USE and SESSION set what is in use, a table
-//! without a version is one of the version in use, an IMPORT inserts the rows of its text and a
-//! SELECT .. AS CSV gives its rows as CSV (`specs/InFull.antt`), each accepted statement on a table
-//! counts one access of it (`specs/Accesses.antt`), and ADVISE tells the cost of each version of a
-//! tree by these counts. By the laws of `specs/Laws.antt` a statement that names its version is
-//! answered by the data alone. `answer_text` gives the lines of answers. The crate must not know how
+//! Beside an engine and its pending move it keeps the version in use of each session, and how often
+//! each table version was accessed (`specs/Standing.antt`). It promises the crates above that
+//! `Sessions::event` answers and leaves exactly what the model does (`specs/Act.antt`): USE and
+//! SESSION set what is in use, a table without a version is one of the version in use, an IMPORT
+//! inserts the rows of its text and a SELECT .. AS CSV gives its rows as CSV (`specs/InFull.antt`),
+//! each accepted statement on a table counts one access of it (`specs/Accesses.antt`), and ADVISE
+//! tells the cost of each version of a tree by these counts. By the laws of `specs/Laws.antt` a
+//! statement that names its version is answered by the data alone, whatever is in use, is pending
+//! and was counted. `answer_text` gives the lines of answers. The crate must not know how
 //! statements are written, how data is stored, or where lines go.
 #![tactic(auto)]
 

@@ -18,6 +18,7 @@ use crate::counts::count_access;
 use crate::in_full::{in_full, wants_csv};
 use crate::uses::{VersionInUse, find_use, use_version};
 use engine_core::Engine;
+use engine_moves::Mover;
 use engine_state::{Reply, known_set};
 use expr_lang::Steps;
 use layout_planner::{TableCount, VersionCost, best, costs};
@@ -27,11 +28,11 @@ use std::alloc::Global;
 use std::mem;
 use std::sync::ledger::Ledger;
 
-/// An engine, the accesses of its table versions, the versions in use, and the session in which the
-/// next statement is given.
+/// An engine with the move that is pending, the accesses of its table versions, the versions in use,
+/// and the session in which the next statement is given.
 #[derive(Drop)]
 pub struct Sessions {
-    engine: Engine,
+    mover: Mover,
     counts: List<TableCount>,
     uses: List<VersionInUse>,
     session: u8,
@@ -66,14 +67,14 @@ fn best_name(alloc: Global, version: &Name, costs: &[VersionCost]) -> Result<Nam
 }
 
 impl Sessions {
-    /// The beginning over an engine: nothing was accessed, and session 0 is at hand. It takes no
-    /// memory.
+    /// The beginning over an engine: nothing is pending, nothing was accessed, and session 0 is at
+    /// hand. It takes no memory.
     pub fn over(alloc: Global, engine: Engine) -> Sessions
         ensures standing { standing_of result ≡ begun (state_of engine) }
         ensures engine { kept_in result ≡ engine }
     {
         Sessions {
-            engine,
+            mover: Mover::over(alloc, engine),
             counts: List::new(alloc),
             uses: List::new(alloc),
             session: 0,
@@ -84,14 +85,14 @@ impl Sessions {
     pub fn engine(&self) -> &Engine
         ensures { result.now ≡ kept_in self.now }
     {
-        &self.engine
+        self.mover.engine()
     }
 
     /// Carries out one statement, whose texts have at most 65,536 bytes, in the session at hand, and
     /// answers the model's answer or refusal. After an error all is as it was. Each evaluation of an
     /// expression is a step.
     ///
-    /// It takes the time of the engine's event for the statement in full; besides, for an IMPORT, in
+    /// It takes the time of the mover's event for the statement in full; besides, for an IMPORT, in
     /// the length of its text, and for each statement on a table in the number of tables that were
     /// accessed. An ADVISE takes the time of `layout_planner`'s costs.
     pub fn event<L: Ledger>(
@@ -124,7 +125,7 @@ impl Sessions {
         ensures same { OnErr result (standing_of self.new ≡ standing_of self.old) }
         ensures engine { kept_in self.new ≡ kept_in self.old }
     {
-        let _set = known_set(alloc, self.engine.database().graph(), &name)?;
+        let _set = known_set(alloc, self.engine().database().graph(), &name)?;
         self.uses = use_version(alloc, self.uses.as_slice(), self.session, name)?;
         Ok(Answer::Plain(Reply::Done))
     }
@@ -145,7 +146,7 @@ impl Sessions {
             (standing_of self.now) }
         ensures answer { IfOk result IsAnswer }
     {
-        let graph = self.engine.database().graph();
+        let graph = self.engine().database().graph();
         let _set = known_set(alloc, graph, name)?;
         let costs = costs(alloc, graph, self.counts.as_slice(), name)?;
         let best = best_name(alloc, name, costs.as_slice())?;
@@ -173,7 +174,7 @@ impl Sessions {
         let csv = wants_csv(&statement);
         let used = find_use(self.uses.as_slice(), self.session);
         let statement = in_full(alloc, used, statement)?;
-        let database = self.engine.database();
+        let database = self.engine().database();
         let counts = match count_access(alloc, database, self.counts.as_slice(), &statement) {
             Ok(counts) => counts,
             Err(memory) => {
@@ -181,7 +182,7 @@ impl Sessions {
                 return Err(Fault::Memory(memory));
             }
         };
-        let reply = self.engine.event(alloc, self.session, statement, steps)?;
+        let reply = self.mover.event(alloc, self.session, statement, steps)?;
         self.counts = counts;
         Ok(answer_of(reply, csv))
     }

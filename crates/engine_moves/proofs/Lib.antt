@@ -1,0 +1,4 @@
+pub mod ActLaws
+mod GoalLemmas
+mod EndLemmas
+mod MoverLemmas
