@@ -30,14 +30,14 @@ abbrev pub TwoRuns : Type 0
 TwoRuns = (s : Standing) (first second : List StatementView)
     → (out s (first ++ second) ≡ out s first ++ out (state_after s first) second) × (state_after s (first ++ second) ≡ state_after (state_after s first) second)
 
--- statements that name their versions and ask for no advice are answered over the loaded data as they would be without the dump between
+-- statements that name their versions, ask for no advice and are no STEP are answered over the loaded data as without the dump between
 abbrev pub BeginsAgain : Type 0
 BeginsAgain = (s : Standing) (statements : List StatementView) → All IsFull statements
     → (out (begun s.laid) statements ≡ out s statements) × ((state_after (begun s.laid) statements).laid ≡ (state_after s statements).laid)
 
 -- IN ONE SENTENCE: a run was done that dumped to a file, and then one that loaded the file, both with the same greatest identifier, and went
--- on behind what the first had put. Where the statements of the second name their versions and ask for no advice, the two have put what one
--- run of both scripts puts, and have left the same data.
+-- on behind what the first had put. Where the statements of the second name their versions, ask for no advice and are no STEP, the two have
+-- put what one run of both scripts puts, and have left the same data.
 abbrev pub RunsAreOne : Type 0
 RunsAreOne = (words words' : List (List ℕ)) (told mid told' : Told) (left left' more more' held between held' : Option (List ℕ))
     → (first : Ran words told mid left left' held between) (second : Ran words' mid told' more more' between held')

@@ -30,8 +30,8 @@ RunsAreOrdinary = (words : List (List ℕ)) (told : Told) (asked : Asked) (from 
     → act (state_after from before) statement ≡ Ok answer → IsWrite (state_after from before) statement answer
 
 -- TWO RUNS ARE ONE, also where each statement of the second on a table names its version or stands behind an answered USE of its session in
--- the second script: the first run dumped to a file that the second loaded, both with the same greatest identifier, and the second went on
--- behind what the first had put. Then they have put the replies of the first and those of the second, which are, but for those to ADVISE,
+-- the second script, and each STEP behind an answered MATERIALIZE there: the first run dumped to a file that the second loaded, both with the
+-- same greatest identifier, and the second went on behind what the first had put. Then they have put the replies of the first and those of the second, which are, but for those to ADVISE,
 -- as in one run of both scripts, and have left the same data.
 abbrev pub SaidRunsAreOne : Type 0
 SaidRunsAreOne = (words words' : List (List ℕ)) (told mid told' : Told) (left left' more more' held between held' : Option (List ℕ))

@@ -6,8 +6,9 @@ use generated_run::full_statements_need_the_data_alone;
 
 /// A run that loads what another one dumped goes on in the state in which that one ended, where both
 /// have the same greatest identifier: together they put what one run of both scripts puts, where the
-/// statements of the second name their versions and ask for no advice, since what is in use and was
-/// counted isn't dumped. Each state has a dump, and a file that is loaded stands for one state.
+/// statements of the second name their versions, ask for no advice and are no STEP, since what is in
+/// use, was counted and is pending isn't dumped. Each state has a dump, and a file that is loaded
+/// stands for one state.
 pub fn two_runs_are_one()
     ensures dump { EachStateHasADump }
     ensures start { OneStart }

@@ -40,12 +40,15 @@ use Rattle.engine_versions.proofs.ChainLaws.{both_give, ok_is}
 use Rattle.engine_versions.proofs.KeptTextLaws.{dropped_is}
 use Rattle.engine_layouts.specs.Laid.{Laid, materialized, moved_count}
 use Rattle.engine_layouts.specs.Shown.{shown_operators, shown_tables}
-use Rattle.engine_core.specs.Act.{act as act_in_full, acted, acted_data, is_built, with_data}
+use Rattle.engine_core.specs.Act.{act as act_at_once, acted, acted_data, is_built, with_data}
+use Rattle.engine_moves.specs.Act.{act as act_in_full, at_once, is_materialize, pending_behind}
+use Rattle.engine_moves.specs.Moving.{Moving}
+use Rattle.engine_moves.proofs.ActLaws.{kind_of, started_stays, stepped_stays}
 use Rattle.engine_core.proofs.TextLaws.{assignments_fit, operators_fit, rows_fit}
 use Rattle.engine_sessions.specs.Act.{act, advice_on}
 use Rattle.engine_sessions.specs.Accesses.{accessed}
 use Rattle.engine_sessions.specs.InFull.{in_full}
-use Rattle.engine_sessions.specs.Standing.{Standing, used_by, with_use}
+use Rattle.engine_sessions.specs.Standing.{Standing, moving_in, used_by, with_use}
 use Rattle.engine_sessions.specs.declared.answer.Answer.{Answer}
 use Rattle.engine_sessions.specs.declared.answer.Answer.TheVariants.{Plain}
 use Rattle.script_run.specs.Output.{next_state, state_after}
@@ -214,18 +217,36 @@ kept_acted l Begin r texts built kept h = kept_beside l Begin r texts built kept
 kept_acted l Commit r texts built kept h = kept_beside l Commit r texts built kept h
 kept_acted l Rollback r texts built kept h = kept_beside l Rollback r texts built kept h
 
+-- ---- with a move in steps that may be pending
+
+abbrev moving_data : Reply × Moving → AnyDatabase
+moving_data r = r.1.laid.database
+
+kept_once : (s : Moving) (x : StatementView) (r : Reply × Moving) → TextsWithin text_limit x → IsKept s.laid.database → at_once s x ≡ Ok r → IsKept (moving_data r)
+kept_once s x r texts kept h =
+    let a = both_give (act_at_once s.laid x) (λ answer. Ok (answer.0, record { laid = answer.1; pending = pending_behind (is_materialize x) answer.1 s.pending })) r h in
+    let b = built_first (is_built x) (acted s.laid x) a.0 a.1 in
+    subst IsKept (ap moving_data (ok_is _ r a.2)) (kept_acted s.laid x a.0 texts b.0 kept b.1)
+
+kept_moving : (s : Moving) (x : StatementView) (r : Reply × Moving) → TextsWithin text_limit x → IsKept s.laid.database → act_in_full s x ≡ Ok r → IsKept (moving_data r)
+kept_moving s x r texts kept h = elim (kind_of s x) as (λ _. IsKept (moving_data r)) [
+  | inl once ↦ kept_once s x r texts kept (sym once ∙ h)
+  | inr moves ↦ elim moves as (λ _. IsKept (moving_data r)) [
+    | inl starts ↦ subst IsKept (ap (λ (l : Laid). l.database) (sym (started_stays s starts.0 r (sym starts.1 ∙ h)))) kept
+    | inr steps ↦ subst IsKept (sym (stepped_stays s r (sym steps ∙ h))) kept
+  ]
+]
+
 -- ---- in a session
 
-kept_answered : (s : Standing) (csv : Bool) (table : Option ℕ) (m : Checked (Reply × Laid)) → IsKept s.laid.database → ((r : Reply × Laid) → m ≡ Ok r → IsKept (data_in r)) → IsKept (next_state s (answered s csv table m)).laid.database
+kept_answered : (s : Standing) (csv : Bool) (table : Option ℕ) (m : Checked (Reply × Moving)) → IsKept s.laid.database → ((r : Reply × Moving) → m ≡ Ok r → IsKept (moving_data r)) → IsKept (next_state s (answered s csv table m)).laid.database
 kept_answered s csv table (Ok r) kept more = more r refl
 kept_answered s csv table (Err e) kept more = kept
 
 -- a statement in full
-kept_full : (s : Standing) (csv : Bool) (x : StatementView) → TextsWithin text_limit x → IsKept s.laid.database → IsKept (next_state s (answered s csv (accessed s.laid.database x) (act_in_full s.laid x))).laid.database
+kept_full : (s : Standing) (csv : Bool) (x : StatementView) → TextsWithin text_limit x → IsKept s.laid.database → IsKept (next_state s (answered s csv (accessed s.laid.database x) (act_in_full (moving_in s) x))).laid.database
 kept_full s csv x texts kept =
-    kept_answered s csv (accessed s.laid.database x) (act_in_full s.laid x) kept (λ r h.
-    let b = built_first (is_built x) (acted s.laid x) r h in
-    kept_acted s.laid x r texts b.0 kept b.1)
+    kept_answered s csv (accessed s.laid.database x) (act_in_full (moving_in s) x) kept (λ r h. kept_moving (moving_in s) x r texts kept h)
 
 kept_used : (s : Standing) (name : List ℕ) (m : Checked ℕ) → IsKept s.laid.database → IsKept (next_state s (m then λ set. Ok (Plain Done, record s { uses = with_use s.uses s.session name }))).laid.database
 kept_used s name (Ok set) kept = kept

@@ -21,11 +21,13 @@ use Rattle.engine_statements.specs.Laws.{DeletesByIdentifier, DeletesChosen, Ins
 use Rattle.engine_statements.specs.Statements.{Planned, state_with, wrote}
 use Rattle.engine_versions.proofs.ChainLaws.{both_give, ok_is}
 use Rattle.engine_layouts.specs.Laid.{Laid}
-use Rattle.engine_core.specs.Act.{act as act_in_full, acted, acted_data, is_built, planned_write, with_data}
+use Rattle.engine_moves.specs.Act.{act as act_in_full, at_once, is_materialize, pending_behind}
+use Rattle.engine_moves.specs.Moving.{Moving}
+use Rattle.engine_core.specs.Act.{act as act_at_once, acted, acted_data, is_built, planned_write, with_data}
 use Rattle.engine_core.proofs.TextLaws.{assignments_fit, rows_fit}
 use Rattle.engine_sessions.specs.Act.{act, answer_of, counted}
 use Rattle.engine_sessions.specs.InFull.{name_in_full, version_of}
-use Rattle.engine_sessions.specs.Standing.{Standing, used_by}
+use Rattle.engine_sessions.specs.Standing.{Standing, moving_in, used_by}
 use Rattle.engine_sessions.specs.declared.answer.Answer.{Answer}
 use Rattle.engine_sessions.specs.declared.answer.Answer.TheVariants.{Plain}
 use Rattle.run_laws.specs.Kept.{IsKept}
@@ -41,23 +43,25 @@ record Wrote (s : Standing) (x : StatementView) (answer : Answer × Standing) : 
   pub leaves : answer.1.laid.database ≡ state_with s.laid.database plan
   pub reply : answer.0 ≡ answer_of false plan.reply
 
-wrote_of : (s : Standing) (x : StatementView) (answer : Answer × Standing) → acted s.laid x ≡ (acted_data s.laid.database x then λ a. Ok (with_data s.laid a))
+wrote_of : (s : Standing) (x : StatementView) (answer : Answer × Standing) → act_in_full (moving_in s) x ≡ at_once (moving_in s) x → acted s.laid x ≡ (acted_data s.laid.database x then λ a. Ok (with_data s.laid a))
     → acted_data s.laid.database x ≡ (planned_write s.laid.database x then λ p. wrote s.laid.database p) → counted s false x ≡ Ok answer → Wrote s x answer
-wrote_of s x answer beside writes h =
+wrote_of s x answer once beside writes h =
     let d = s.laid.database in
-    let a = both_give (act_in_full s.laid x) _ answer h in
+    let m = both_give (act_in_full (moving_in s) x) _ answer h in
+    let a = both_give (act_at_once s.laid x) (λ r. Ok (r.0, record { laid = r.1; pending = pending_behind (is_materialize x) r.1 s.pending })) m.0 (sym once ∙ m.1) in
     let b = built_first (is_built x) (acted s.laid x) a.0 a.1 in
     let c = both_give (acted_data d x) (λ r. Ok (with_data s.laid r)) a.0 (sym beside ∙ b.1) in
     let e = both_give (planned_write d x) (λ p. wrote d p) c.0 (sym writes ∙ c.1) in
     let f = both_give (enough_ids d (state_with d e.0).state.next) (λ u. Ok (e.0.reply, state_with d e.0)) c.0 e.2 in
     let planned : (e.0.reply, state_with d e.0) ≡ c.0 = ok_is (e.0.reply, state_with d e.0) c.0 f.2 in
     let laid : with_data s.laid c.0 ≡ a.0 = ok_is (with_data s.laid c.0) a.0 c.2 in
-    let whole = ok_is _ answer a.2 in
+    let moving = ok_is _ m.0 a.2 in
+    let whole = ok_is _ answer m.2 in
     record {
       plan = e.0;
       is = e.1;
-      leaves = sym (ap (λ (r : Reply × AnyDatabase). r.1) planned ∙ ap (λ (r : Reply × Laid). r.1.database) laid ∙ ap (λ (r : Answer × Standing). r.1.laid.database) whole);
-      reply = sym (ap (λ (r : Reply × AnyDatabase). answer_of false r.0) planned ∙ ap (λ (r : Reply × Laid). answer_of false r.0) laid ∙ ap (λ (r : Answer × Standing). r.0) whole);
+      leaves = sym (ap (λ (r : Reply × AnyDatabase). r.1) planned ∙ ap (λ (r : Reply × Laid). r.1.database) laid ∙ ap (λ (r : Reply × Moving). r.1.laid.database) moving ∙ ap (λ (r : Answer × Standing). r.1.laid.database) whole);
+      reply = sym (ap (λ (r : Reply × AnyDatabase). answer_of false r.0) planned ∙ ap (λ (r : Reply × Laid). answer_of false r.0) laid ∙ ap (λ (r : Reply × Moving). answer_of false r.0) moving ∙ ap (λ (r : Answer × Standing). r.0) whole);
     }
 
 -- no write is answered as CSV
@@ -100,20 +104,20 @@ module _ (inserts : InsertsByIdentifier) (updates : UpdatesByIdentifier) (delete
   inserted_by : (name : TableName) (rows : List (List Value)) (answer : Answer × Standing) → TextsWithin text_limit (Insert name rows) → counted s false (Insert (full name) rows) ≡ Ok answer
       → Writes s name (InsertsRows d rows) answer.0 answer.1
   inserted_by name rows answer texts h =
-      let w = wrote_of s (Insert (full name) rows) answer refl refl h in
+      let w = wrote_of s (Insert (full name) rows) answer refl refl refl h in
       writes_of s name (Insert (full name) rows) (InsertsRows d rows) answer kept w (insert_taken d kept (full name) rows w.plan (rows_fit rows texts) w.is)
       (inserts d (full name) rows w.plan w.is (below_sound d.state.next (d.state.tables w.plan.found.table.number) (kept.sound.well.rows w.plan.found.table.number)))
 
   updated_by : (name : TableName) (assignments : List AssignmentView) (filter : Option Tree) (answer : Answer × Standing) → TextsWithin text_limit (Update name assignments filter) → counted s false (Update (full name) assignments filter) ≡ Ok answer
       → Writes s name (UpdatesChosen d assignments filter) answer.0 answer.1
   updated_by name assignments filter answer texts h =
-      let w = wrote_of s (Update (full name) assignments filter) answer refl refl h in
+      let w = wrote_of s (Update (full name) assignments filter) answer refl refl refl h in
       writes_of s name (Update (full name) assignments filter) (UpdatesChosen d assignments filter) answer kept w (update_taken d kept (full name) assignments filter w.plan (assignments_fit assignments texts.0) w.is)
       (updates d (full name) assignments filter w.plan w.is)
 
   deleted_by : (name : TableName) (filter : Option Tree) (answer : Answer × Standing) → counted s false (Delete (full name) filter) ≡ Ok answer → Writes s name (DeletesChosen d filter) answer.0 answer.1
   deleted_by name filter answer h =
-      let w = wrote_of s (Delete (full name) filter) answer refl refl h in
+      let w = wrote_of s (Delete (full name) filter) answer refl refl refl h in
       writes_of s name (Delete (full name) filter) (DeletesChosen d filter) answer kept w (delete_taken d kept (full name) filter w.plan w.is)
       (deletes d (full name) filter w.plan w.is (kept.sound.well.tables w.plan.found.table.number).0)
 

@@ -1,7 +1,7 @@
 //! The laws. The functions do nothing: their contracts are the laws.
 ghost use Rattle.run_laws.specs.Kept.{DatabasesAreKept, EmptyIsKept, ScriptsKeep, StatementsKeep};
 ghost use Rattle.run_laws.specs.Lines.{AnswersAreLines, StatementsAreAnswered};
-ghost use Rattle.run_laws.specs.Moves.{MovesStoreNamed};
+ghost use Rattle.run_laws.specs.Moves.{MovesStoreNamed, StartsLeadToNamed};
 ghost use Rattle.run_laws.specs.Said.{SaidNeedTheDataAlone};
 ghost use Rattle.run_laws.specs.Scripts.{ScriptsAreOrdinary, ScriptsFit, ScriptsStayKept};
 ghost use Rattle.run_laws.specs.Written.{WritesAreOrdinary};
@@ -28,8 +28,8 @@ pub fn moves_store_what_they_name()
 }
 
 /// Statements that name the version of their table, or stand behind an answered USE of their session
-/// among them, are answered by the data alone, but for advice, whatever was in use and was counted
-/// before them.
+/// among them, are answered by the data alone, but for advice, whatever was in use, was pending and was
+/// counted before them; so are STEPs behind an answered MATERIALIZE among them.
 pub fn said_statements_need_the_data_alone()
     ensures { SaidNeedTheDataAlone }
 {

@@ -1,37 +1,43 @@
--- What a MATERIALIZE changes for its script: no reply but its own and those of SHOW LAYOUT.
+-- What moves change for their script: no reply but their own and those of SHOW LAYOUT.
 use Rattle.std.specs.Prelude.{◌≡◌, ℕ, Bool, true, false, not, cond, List, [], ◌∷◌, filter, Option}
 use Rattle.std.specs.Io.KnownBytes.{Consumes, Appends}
-use Rattle.statements.specs.Views.{StatementView, Materialize}
+use Rattle.statements.specs.Views.{StatementView, Materialize, Step, ShowLayout}
 use Rattle.bidel_script.specs.Script.{IsScript}
-use Rattle.engine_sessions.specs.EngineCoreAct.{tells_layout}
 use Rattle.engine_sessions.specs.Standing.{Standing}
 use Rattle.script_run.specs.Output.{replies, joined}
 
+-- a MATERIALIZE, be it at once or in steps, and a STEP
 abbrev pub is_move : StatementView → Bool
 is_move (Materialize named in_steps) = true
+is_move Step = true
 is_move _ = false
 
--- of the replies to these statements, those that don't tell of the layout
+-- whether its reply tells what is stored where
+abbrev pub tells_storage : StatementView → Bool
+tells_storage ShowLayout = true
+tells_storage statement = is_move statement
+
+-- of the replies to these statements, those that don't
 unfoldable pub heard : List StatementView → List (List ℕ) → List (List ℕ)
 heard [] texts = []
 heard (statement ∷ statements) [] = []
-heard (statement ∷ statements) (text ∷ texts) = cond (tells_layout statement) (heard statements texts) (text ∷ heard statements texts)
+heard (statement ∷ statements) (text ∷ texts) = cond (tells_storage statement) (heard statements texts) (text ∷ heard statements texts)
 
--- the script with every MATERIALIZE struck out
+-- the script with every MATERIALIZE and every STEP struck out
 abbrev pub without_moves : List StatementView → List StatementView
 without_moves statements = filter (λ statement. not (is_move statement)) statements
 
--- the same data, and all that is kept beside them, under another layout
-abbrev pub with_layout : Standing → List ℕ → Standing
-with_layout s layout = record s { laid = record s.laid { layout = layout } }
+-- the same data, and all that is kept beside them, under another layout and with another move pending
+abbrev pub with_layout : Standing → List ℕ → List ℕ → Standing
+with_layout s layout pending = record s { laid = record s.laid { layout = layout }; pending = pending }
 
--- NOBODY NOTICES: all other statements are answered the same, from any layout of the same data on
+-- NOBODY NOTICES: all other statements are answered the same, from any layout of the same data on, whatever is pending
 abbrev pub MovesChangeNoReply : Type 0
-MovesChangeNoReply = (s : Standing) (layout : List ℕ) (statements : List StatementView)
-    → heard statements (replies s statements) ≡ heard (without_moves statements) (replies (with_layout s layout) (without_moves statements))
+MovesChangeNoReply = (s : Standing) (layout pending : List ℕ) (statements : List StatementView)
+    → heard statements (replies s statements) ≡ heard (without_moves statements) (replies (with_layout s layout pending) (without_moves statements))
 
--- the source gave a script, and the sink was given the replies to its statements; with every MATERIALIZE struck out all statements but
--- SHOW LAYOUT have the same replies
+-- the source gave a script, and the sink was given the replies to its statements; with every MATERIALIZE and every STEP struck out
+-- all statements but SHOW LAYOUT have the same replies
 pub record MovesUnseen (from : Standing) (left left' held held' : Option (List ℕ)) : Type 0 where
   pub bytes : List ℕ
   pub statements : List StatementView

@@ -2,4 +2,4 @@ use Rattle.script_run.proofs.MoveLaws.{same_replies}
 use Rattle.script_run.proofs.laws.moves_change_no_reply.Goals as goal
 
 pub returns : goal.returns
-returns c s layout statements = same_replies statements s layout
+returns c s layout pending statements = same_replies statements s layout pending
