@@ -2,4 +2,4 @@ use Rattle.engine_core.proofs.LeftLemmas.{built_empty}
 use Rattle.engine_core.proofs.engine.Engine.new.Goals as goal
 
 pub invariant_of-result : goal.invariant_of-result
-invariant_of-result c = built_empty c.new.result c.args.limits.max_id c.new.ensures.empty
+invariant_of-result c = built_empty c.new-database.result c.args.limits.max_id c.new-database.ensures.empty
