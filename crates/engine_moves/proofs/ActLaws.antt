@@ -18,7 +18,7 @@ use Rattle.engine_core.specs.KeptTexts.{texts_of}
 use Rattle.engine_core.specs.Laid.{Laid}
 use Rattle.engine_core.specs.Spoken.{TextsCome, operators_in}
 use Rattle.engine_moves.specs.Act.{act, at_once, flipped_by, is_materialize, pending_behind, started, stepped, stepped_at}
-use Rattle.engine_moves.specs.Laws.{PendingIsUnseen, SameLaid, is_step}
+use Rattle.engine_moves.specs.Laws.{SameLaid, is_step}
 use Rattle.engine_moves.specs.Moving.{Moving}
 
 pub goes_at_once : (s : Moving) (st : Statement) → ((named : List Target) (in_steps : Bool) → st ≡ statement.Materialize named in_steps → ⊥) → (st ≡ statement.Step → ⊥) → act s (statement_view st) ≡ at_once s (statement_view st)

@@ -2,25 +2,21 @@
 use Rattle.std.specs.Prelude.{Option, Some, None, Ok, Err}
 use Rattle.std.proofs.Common.{◌≡◌, ℕ, zero, suc, List, refl, sym, ap, ◌∙◌, subst}
 use Rattle.par_base.specs.Checked.{Checked, ◌then◌}
-use Rattle.par_base.specs.declared.limits.Target.{Target}
 use Rattle.par_base.specs.declared.refusal.Refusal.TheVariants.{NothingPending}
 use Rattle.version_graph.specs.Forest.{forest}
 use Rattle.version_graph.proofs.WalkLaws.{is_forest}
 use Rattle.layout_rules.specs.Closed.{IsClosing, closing}
 use Rattle.layout_rules.specs.Closing.{named_tables, named_trees}
 use Rattle.layout_rules.specs.Laws.{ClosingIsRight}
-use Rattle.layout_rules.specs.Layouts.{IsValid}
 use Rattle.layout_rules.proofs.NeededLaws.{closed_valid}
 use Rattle.op_any.specs.Operators.{AnyView}
 use Rattle.migration.specs.Laws.{StepsArrive, StepsTo}
 use Rattle.migration.specs.Pending.{next_flip}
 use Rattle.migration.specs.Sides.{changing}
 use Rattle.migration.proofs.PendingLaws.{closing_up}
-use Rattle.engine_state.specs.AnyDatabase.{AnyDatabase}
 use Rattle.engine_state.specs.declared.reply.Reply.{Reply}
-use Rattle.engine_state.specs.declared.reply.Reply.TheVariants.{Pending}
 use Rattle.engine_versions.proofs.ChainLaws.{both_give, ok_is, then_is}
-use Rattle.engine_core.specs.Laid.{Laid, moved_count}
+use Rattle.engine_core.specs.Laid.{moved_count}
 use Rattle.engine_moves.specs.Act.{flipped_by, stepped_at}
 use Rattle.engine_moves.specs.Laws.{StepsBy, StepsEndAsMoved}
 use Rattle.engine_moves.specs.Moving.{Moving}

@@ -1,8 +1,6 @@
 -- What is pending leads to a valid layout behind every statement.
-use Rattle.std.specs.Prelude.{Option, Result, Ok, Err, if◌then◌else◌}
-use Rattle.std.proofs.Common.{◌≡◌, ℕ, Bool, true, false, List, [], refl, sym, ap, ◌∙◌, subst}
-use Rattle.par_base.specs.declared.fault.Fault.{Fault}
-use Rattle.par_base.specs.declared.refusal.Refusal.{Refusal}
+use Rattle.std.specs.Prelude.{Option, Ok, Err, if◌then◌else◌}
+use Rattle.std.proofs.Common.{◌≡◌, ℕ, Bool, true, false, List, refl, sym, ap, ◌∙◌, subst}
 use Rattle.par_base.specs.declared.refusal.Refusal.TheVariants.{NotBuilt}
 use Rattle.par_base.specs.Checked.{Checked, ◌then◌}
 use Rattle.statements.specs.Views.{Tree, OpView, StatementView, CreateVersion, DropVersion, Insert, Import, Update, Delete, Select, Materialize, Step, ShowLayout, Use, Session, Advise, Watch, Unwatch, Begin, Commit, Rollback}
@@ -10,20 +8,18 @@ use Rattle.statements.specs.declared.statement.TableName.{TableName}
 use Rattle.version_graph.specs.Edges.{Drawn, IsGraph}
 use Rattle.version_graph.specs.Evolve.{evolved}
 use Rattle.version_graph.specs.Forest.{forest}
-use Rattle.layout_rules.specs.Changes.{dropped_layout, evolved_layout, layout_after}
+use Rattle.layout_rules.specs.Changes.{layout_after}
 use Rattle.layout_rules.specs.Layouts.{IsValid}
 use Rattle.layout_rules.proofs.AfterLaws.{layout_dropped, layout_evolved, same_layout}
 use Rattle.layout_rules.proofs.ChangeLaws.{dropped_valid, evolved_valid}
 use Rattle.version_graph.specs.Dropped.{dropped}
-use Rattle.op_any.specs.Operators.{AnyView, any_meaning}
-use Rattle.db_state.specs.Fields.{IsDatabase}
-use Rattle.db_state.specs.declared.parts.Parts.{Parts}
+use Rattle.op_any.specs.Operators.{AnyView}
 use Rattle.migration.specs.Pending.{IsPending, goal_of, pending_in}
-use Rattle.migration.proofs.PendingLaws.{none_pending, pending_after}
+use Rattle.migration.proofs.PendingLaws.{pending_after}
 use Rattle.engine_state.specs.AnyDatabase.{AnyDatabase}
 use Rattle.engine_state.specs.SharedChecks.{enough_ids}
 use Rattle.engine_state.specs.declared.reply.Reply.{Reply}
-use Rattle.engine_state.specs.declared.reply.Reply.TheVariants.{Done, Layout}
+use Rattle.engine_state.specs.declared.reply.Reply.TheVariants.{Done}
 use Rattle.engine_statements.specs.Found.{condition_list, found, known_condition, known_references}
 use Rattle.engine_statements.specs.Statements.{acted_select, columns_of, listed_places, state_with, wrote}
 use Rattle.engine_versions.specs.Evolve.{created, dropped_version}
@@ -31,7 +27,6 @@ use Rattle.engine_versions.proofs.ChainLaws.{both_give, ok_is}
 use Rattle.engine_versions.proofs.KeptTextLaws.{dropped_is, made_of}
 use Rattle.engine_core.specs.Act.{act, acted, acted_data, is_built, planned_write, tells_layout, with_data}
 use Rattle.engine_core.specs.Laid.{Laid}
-use Rattle.engine_core.specs.Kept.{state_of}
 use Rattle.engine_core.proofs.LaidLaws.{acted_beside}
 use Rattle.engine_moves.specs.Act.{is_materialize}
 

@@ -1,6 +1,6 @@
 -- What the calls of a mover answer, keep and leave.
-use Rattle.std.specs.Prelude.{Option, Some, None, Result, Ok, Err, length}
-use Rattle.std.proofs.Common.{◌≡◌, ℕ, Bool, true, false, List, [], refl, sym, ap, ◌∙◌, subst}
+use Rattle.std.specs.Prelude.{Some, None, Ok, Err, length}
+use Rattle.std.proofs.Common.{◌≡◌, ℕ, Bool, true, false, List, [], inl, inr, sym, ap, ◌∙◌, subst}
 use Rattle.par_base.specs.declared.fault.Fault.{Fault}
 use Rattle.par_base.specs.declared.fault.Fault.TheVariants.{Refused, Memory}
 use Rattle.par_base.specs.declared.limits.Target.{Target}
@@ -8,20 +8,21 @@ use Rattle.par_base.specs.declared.refusal.Refusal.{Refusal}
 use Rattle.par_base.specs.declared.refusal.Refusal.TheVariants.{NothingPending}
 use Rattle.par_base.specs.Checked.{Checked, Gives, ◌then◌}
 use Rattle.statements.specs.Views.{StatementView}
+use Rattle.version_graph.specs.Sets.{In}
 use Rattle.op_any.specs.Operators.{AnyView, any_meaning}
-use Rattle.layout_rules.specs.Laws.{MovesStayValid}
 use Rattle.db_state.specs.Fields.{IsDatabase}
 use Rattle.db_state.specs.declared.parts.Parts.{Parts}
 use Rattle.migration.specs.Laws.{StepsAreFlips}
-use Rattle.migration.specs.Pending.{IsPending, next_flip, pending_for, pending_in, pending_without}
+use Rattle.migration.specs.Pending.{next_flip, pending_for, pending_without}
 use Rattle.migration.proofs.PendingLaws.{none_pending}
+use Rattle.migration.proofs.StepLaws.{lives_found, next_told}
 use Rattle.engine_state.specs.declared.reply.Reply.{Reply}
 use Rattle.engine_state.specs.declared.reply.Reply.TheVariants.{Flipped, Pending}
 use Rattle.engine_versions.proofs.ChainLaws.{then_is}
 use Rattle.engine_core.specs.Act.{act as act_at_once}
-use Rattle.engine_core.specs.Kept.{Answers, state_of}
+use Rattle.engine_core.specs.Kept.{Answers, MayFlip, state_of}
 use Rattle.engine_core.specs.Laid.{Laid, flipped_laid}
-use Rattle.engine_moves.specs.Act.{at_once, flipped_by, is_materialize, pending_behind, started, stepped, stepped_at}
+use Rattle.engine_moves.specs.Act.{at_once, is_materialize, pending_behind, started, stepped, stepped_at}
 use Rattle.engine_moves.specs.Moving.{Moving}
 use Rattle.engine_moves.proofs.GoalLemmas.{Leads, leads_behind}
 
@@ -41,6 +42,14 @@ pub flip_leads : StepsAreFlips AnyView → (k : Parts AnyView) (n : Laid) (pendi
 flip_leads law k n pending operator is p next flips =
     same_leads (flipped_laid (state_of k) operator) n (pending_without operator pending) flips
     (law k.graph.edges is.graph.edges k.layout.operators pending is.valid p operator next).left
+
+-- the next flip may be done
+pub flip_may : StepsAreFlips AnyView → (k : Parts AnyView) (pending : List ℕ) (operator : ℕ) → IsDatabase any_meaning k → Leads (state_of k) pending → next_flip k.layout.operators pending ≡ Some operator → MayFlip k operator
+flip_may law k pending operator is p next =
+    let told = next_told k.layout.operators pending operator p.ascending next in (
+      lives_found k.graph.edges operator (p.live operator (elim told as (λ _. In operator pending) [ inl x ↦ x.1 | inr x ↦ x.1 ])),
+      (law k.graph.edges is.graph.edges k.layout.operators pending is.valid p operator next).valid,
+    )
 
 -- behind a statement that is carried out at once
 pub once_leads : (k n : Parts AnyView) (x : StatementView) (b : Bool) (reply : Reply) (pending : List ℕ) → IsDatabase any_meaning k → IsDatabase any_meaning n → Leads (state_of k) pending → is_materialize x ≡ b
