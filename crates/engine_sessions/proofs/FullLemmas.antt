@@ -1,7 +1,6 @@
 -- Statements in full.
 use Rattle.std.specs.Prelude.{Option}
-use Rattle.std.proofs.Common.{◌≡◌, ◌≤◌, ℕ, List, ◌++◌, refl, ap, subst, ◌∙◌}
-use Rattle.par_base.specs.Checked.{◌then◌}
+use Rattle.std.proofs.Common.{◌≡◌, ℕ, List, ◌++◌, refl, ap, subst, ◌∙◌}
 use Rattle.expr_lang.specs.Operations.{text_limit}
 use Rattle.statements.specs.declared.statement.Statement.{Statement}
 use Rattle.statements.specs.declared.statement.Statement.TheVariants as statement
