@@ -1,6 +1,6 @@
 -- Moves change no reply but their own and those of SHOW LAYOUT.
 use Rattle.std.specs.Prelude.{if◌then◌else◌, length, Ok, Err, Option, Some, None}
-use Rattle.std.proofs.Common.{◌≡◌, ℕ, List, [], ◌∷◌, Bool, true, false, not, cond, refl, sym, ap, ◌∙◌, subst}
+use Rattle.std.proofs.Common.{◌≡◌, ℕ, List, [], ◌∷◌, Bool, true, false, cond, refl, sym, ap, ◌∙◌, subst}
 use Rattle.par_base.specs.declared.limits.Target.{Target}
 use Rattle.par_base.specs.declared.refusal.Refusal.TheVariants.{NotBuilt}
 use Rattle.layout_rules.specs.Closed.{closing}
@@ -172,7 +172,9 @@ module _ (xs : List StatementView) (more : (s : Standing) (layout pending : List
   one_more s layout pending (Select table items filter csv) = told s layout pending (Select table items filter csv) refl
   one_more s layout pending (Materialize named in_steps) = gone s layout pending (act s (Materialize named in_steps)) (both_leave s named in_steps)
   one_more s layout pending Step = gone s layout pending (act s Step) (step_leaves s (next_flip s.laid.layout s.pending))
-  one_more s layout pending ShowLayout = more s layout pending
+  one_more s layout pending ShowLayout =
+      let t = with_layout s layout pending in
+      rest_told (next_state s (act s ShowLayout)) (next_state t (act t ShowLayout)) layout (pending_behind false t.laid pending) refl
   one_more s layout pending (Use name) = told s layout pending (Use name) refl
   one_more s layout pending (Session number) = told s layout pending (Session number) refl
   one_more s layout pending (Advise name) = told s layout pending (Advise name) refl

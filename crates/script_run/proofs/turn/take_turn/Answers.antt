@@ -44,7 +44,7 @@ returns-in-Ok-write_all-clause-keeps g c =
     record {
       limit = c.answer.ensures.limit;
       spelled = λ is. stay_spelled (is_over c.args.tail.last) (lexemes c.args.bytes.now c.args.tokens.now) (statement_view c.in-Ok-Whole.statement) c.in-Ok-Whole.used
-          c.args.sessions.now.engine.graph.edges c.answer.new.sessions.engine.graph.edges found.0 c.answer.ensures.texts is;
+          c.args.sessions.now.mover.database.graph.edges c.answer.new.sessions.mover.database.graph.edges found.0 c.answer.ensures.texts is;
     }
 
 pub returns-in-Ok-clause-keeps : goal.returns-in-Ok-clause-keeps
@@ -53,7 +53,7 @@ returns-in-Ok-clause-keeps g c =
     record {
       limit = c.answer.ensures.limit;
       spelled = λ is. stay_spelled (is_over c.args.tail.last) (lexemes c.args.bytes.now c.args.tokens.now) (statement_view c.in-Ok-Whole.statement) c.in-Ok-Whole.used
-          c.args.sessions.now.engine.graph.edges c.answer.new.sessions.engine.graph.edges found.0 c.answer.ensures.texts is;
+          c.args.sessions.now.mover.database.graph.edges c.answer.new.sessions.mover.database.graph.edges found.0 c.answer.ensures.texts is;
     }
 
 pub returns-in-Ok-Whole-clause-keeps : goal.returns-in-Ok-Whole-clause-keeps
@@ -62,5 +62,5 @@ returns-in-Ok-Whole-clause-keeps g c =
     record {
       limit = c.answer.ensures.limit;
       spelled = λ is. stay_spelled (is_over c.args.tail.last) (lexemes c.args.bytes.now c.args.tokens.now) (statement_view c.in-Ok-Whole.statement) c.in-Ok-Whole.used
-          c.args.sessions.now.engine.graph.edges c.answer.new.sessions.engine.graph.edges found.0 c.answer.ensures.texts is;
+          c.args.sessions.now.mover.database.graph.edges c.answer.new.sessions.mover.database.graph.edges found.0 c.answer.ensures.texts is;
     }
