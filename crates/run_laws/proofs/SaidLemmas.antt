@@ -208,12 +208,20 @@ module _ (s t : Standing) (said : Said) (alike : Alike s t said) where
   -- ---- MATERIALIZE
 
   -- what it makes of what closing gives
+  abbrev moved_to : Checked (List ℕ) → Checked (ℕ × Laid)
+  moved_to m = m then λ new. Ok (moved_count s.laid new, record s.laid { layout = new })
+
+  abbrev told_moved : Checked (ℕ × Laid) → Checked (Reply × Laid)
+  told_moved m = m then λ a. Ok (Moved a.0, a.1)
+
+  abbrev at_rest_then : Checked (Reply × Laid) → Checked (Reply × Moving)
+  at_rest_then m = m then λ r. Ok (r.0, record { laid = r.1; pending = [] })
+
+  abbrev started_to : Checked (List ℕ) → Checked (Reply × Moving)
+  started_to m = (m then λ goal. Ok (changing s.laid.database.graph.edges s.laid.layout goal)) then λ flips. Ok (Pending (length flips), record { laid = s.laid; pending = flips })
+
   abbrev by_closing : Standing → Bool → Checked (List ℕ) → Checked (Answer × Standing)
-  by_closing u in_steps m = answered u false None (
-      if in_steps
-      then ((m then λ goal. Ok (changing s.laid.database.graph.edges s.laid.layout goal)) then λ flips. Ok (Pending (length flips), record { laid = s.laid; pending = flips }))
-      else (((m then λ new. Ok (moved_count s.laid new, record s.laid { layout = new })) then λ a. Ok (Moved a.0, a.1)) then λ (r : Reply × Laid). Ok (r.0, record { laid = r.1; pending = [] }))
-      )
+  by_closing u in_steps m = answered u false None (if in_steps then started_to m else at_rest_then (told_moved (moved_to m)))
 
   -- the same is pending then
   same_pending : (in_steps : Bool) (m : Checked (List ℕ)) → (said_move said m).moved ≡ true → (next_state s (by_closing s in_steps m)).pending ≡ (next_state t (by_closing t in_steps m)).pending

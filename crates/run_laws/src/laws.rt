@@ -20,9 +20,11 @@ pub fn answers_are_lines()
 }
 
 /// An answered MATERIALIZE changes no data, and leaves each table stored that it names: the one of
-/// that name in the version, or each table of the version where none is named.
+/// that name in the version, or each table of the version where none is named. One in steps changes
+/// nothing, and what is then pending leads to a layout that stores them.
 pub fn moves_store_what_they_name()
-    ensures { MovesStoreNamed }
+    ensures moved { MovesStoreNamed }
+    ensures started { StartsLeadToNamed }
 {
     moves_store_targets();
 }
