@@ -1,5 +1,5 @@
 -- The bytes of a file, read one piece after the other.
-use Rattle.std.specs.Prelude.{◌<◌, ◌⊎◌, Option, Some, None, ⊤}
+use Rattle.std.specs.Prelude.{Option, Some, None, ⊤}
 use Rattle.std.proofs.Common.{◌≡◌, ℕ, List, [], ◌++◌, length, take, sym, ap, subst, ◌∙◌}
 use Rattle.std.proofs.Math.Seq.{take-add}
 use Rattle.std.proofs.lemmas.List.{length-append}

@@ -1,6 +1,6 @@
 -- The parts of a run, one after the other.
-use Rattle.std.specs.Prelude.{◌⊎◌, Option, Some, None}
-use Rattle.std.proofs.Common.{◌≡◌, ℕ, List, ap, subst, ◌∙◌}
+use Rattle.std.specs.Prelude.{Option, Some, None}
+use Rattle.std.proofs.Common.{◌≡◌, ℕ, List, ap, subst}
 use Rattle.generated_run.specs.Standing.{Standing}
 use Rattle.run_words.specs.Words.{Asked, Says}
 use Rattle.run_words.specs.Laws.{SayOneThing}
@@ -13,7 +13,6 @@ use Rattle.inverda_run.specs.Statuses.{Generates, Starts}
 use Rattle.inverda_run.specs.Calls.{EndStays, Ends, EndsGenerated, Finishes, ended}
 use Rattle.inverda_run.specs.Laws.{OneStart}
 use Rattle.inverda_run.specs.declared.end.End.{End}
-use Rattle.inverda_run.specs.declared.end.End.TheVariants as end
 use Rattle.inverda_run.proofs.EndLemmas.{finish_ends, generated_ends}
 
 -- ---- the sink

@@ -1,6 +1,6 @@
 -- What a run begins from.
-use Rattle.std.specs.Prelude.{◌≤◌, ◌<◌, ◌^◌, Some, Result, Ok, Err}
-use Rattle.std.proofs.Common.{◌≡◌, ℕ, List, refl, inl, inr}
+use Rattle.std.specs.Prelude.{Some, Result, Ok, Err}
+use Rattle.std.proofs.Common.{ℕ, List, refl, inl, inr}
 use Rattle.op_any.specs.Operators.{AnyView}
 use Rattle.db_state.specs.declared.parts.Parts.{Parts}
 use Rattle.run_words.specs.Words.{Asked, Says}
