@@ -49,8 +49,8 @@ module _ {O : Type 0} (es : List (Placed O)) (edges : AreEdges es) where
       same_rising 0 (filter test (numbers_up es)) layout (rises_filter test 0 (numbers_up es) (numbers_rise es edges)) rise
       (λ k i. in_of_test k layout (passes test k (numbers_up es) i))
       (λ k i.
-          let l = live k i in
-          filter_in test k (numbers_up es) (up_in es k (subst (λ (m : ℕ). In m (numbers es)) (sym l.2) (link_number es l.0 l.1))) (is_in_true k layout i))
+      let l = live k i in
+      filter_in test k (numbers_up es) (up_in es k (subst (λ (m : ℕ). In m (numbers es)) (sym l.2) (link_number es l.0 l.1))) (is_in_true k layout i))
 
   module _ (layout goal : List ℕ) (rise : Rises 0 goal) where
     -- the operators that change sides lead to the goal
