@@ -1,41 +1,22 @@
 -- What a stream holds as pieces come.
-use Rattle.std.proofs.Common.{◌≡◌, ◌+◌, ◌-◌, ◌≤◌, ◌<◌, ◌≢◌, ◌++◌, ℕ, zero, suc, List, [], ◌∷◌, Bool, true, false, refl, sym, ap, subst, ◌∙◌, take, drop, length, arith, append_assoc, append-nil, length-append, length-drop}
-use Rattle.std.specs.Prelude.{slice_index_or}
-use Rattle.std.proofs.Math.Seq.{drop-append-add, take-append-add}
+use Rattle.std.proofs.Common.{◌≡◌, ◌+◌, ◌-◌, ◌++◌, ℕ, List, [], Bool, false, refl, sym, ap, subst, ◌∙◌, take, drop, length, arith, append_assoc, append-nil, length-append, length-drop}
 use Rattle.std.proofs.lemmas.List.{length-take-le, take-append-drop}
 use Rattle.bidel_lex.specs.declared.tokens.Token.{Token}
-use Rattle.bidel_lex.specs.declared.tokens.Lexed.{Lexed}
 use Rattle.bidel_lex.specs.declared.tokens.Lexed.TheVariants as lexed
 use Rattle.bidel_lex.specs.Next.{lexed_at, next_of}
-use Rattle.bidel_lex.specs.Tokens.{AreTokens, HasTokens}
-use Rattle.bidel_lex.proofs.WithinLaws.{within_along}
 use Rattle.bidel_script.specs.declared.tokens.Tail.{Tail}
-use Rattle.bidel_expr.specs.Lexemes.{lexemes}
 use Rattle.statements.specs.Views.{StatementView}
-use Rattle.bidel_script.specs.Places.{Place, behind_all, place_of, start}
-use Rattle.bidel_script.specs.Tails.{AreAll, Fits, first_byte, is_open_behind, is_over, last_end}
-use Rattle.bidel_parser.specs.Parsing.{IsFront}
-use Rattle.bidel_script.specs.Lengths.{IsLong}
-use Rattle.bidel_script.specs.Script.{Leads, Comes, Outcome, Over, Fault, Long, Open, StandsBehind}
+use Rattle.bidel_script.specs.Places.{Place, behind_all, start}
+use Rattle.bidel_script.specs.Tails.{AreAll, Fits, first_byte, is_open_behind}
+use Rattle.bidel_script.specs.Script.{Comes, Outcome}
 use Rattle.bidel_script.specs.Moved.{ComesBehind, end_behind, moved}
 use Rattle.bidel_script.specs.Calls.{place_view}
-use Rattle.bidel_script.specs.declared.place.Place as code
-use Rattle.bidel_script.proofs.TokenLaws.{all_are_one, all_are_tokens, are_tokens_drop, ends_not, wants_none}
-use Rattle.bidel_script.proofs.ScriptLaws.{at_within, front_some, front_within, leads_more, leads_within, stands_up}
-use Rattle.bidel_script.proofs.TextLimitsLaws.{texts_within}
-use Rattle.bidel_script.proofs.UniqueLaws.{blocked, leads_first, one_comes}
-use Rattle.bidel_script.proofs.ComesLaws.{something_comes}
-use Rattle.bidel_script.proofs.CutLaws.{fronts_come_first}
-use Rattle.bidel_script.proofs.MovedLaws.{used_bytes_go}
-use Rattle.bidel_script.proofs.BlanksLaws.{blanks_go, comes_behind_blanks, passed_all, passed_front, passed_within}
-use Rattle.bidel_script.proofs.PlaceLaws.{behind_all-append, behind_all-near}
+use Rattle.bidel_script.proofs.BlanksLaws.{blanks_go, passed_all, passed_within}
+use Rattle.bidel_script.proofs.PlaceLaws.{behind_all-append}
 use Rattle.script_stream.specs.declared.stream.Stream.{Stream}
-use Rattle.script_stream.specs.declared.stream.Next.{Next}
-use Rattle.script_stream.specs.declared.stream.Next.TheVariants as next
-use Rattle.script_stream.specs.Holding.{Holds, IsStream, place_in}
+use Rattle.script_stream.specs.Holding.{Holds, IsStream}
 use Rattle.script_stream.specs.declared.stream.Kept.{Kept}
 use Rattle.script_stream.specs.Calls.{IsKept, Refilled}
-use Rattle.script_stream.specs.Giving.{Gives, GivesStatement, Stands}
 use Rattle.script_stream.proofs.PassedLemmas.{comes_passed, moved_again, moved_none}
 use Rattle.script_stream.proofs.HoldLemmas.{comes_used, end_within, going_on}
 
@@ -49,7 +30,7 @@ left_with old piece = drop (end_behind old.tokens.items old.used) old.bytes.item
 pub record Fresh (old : Stream) (piece : List ℕ) (kept : Kept) (new : Stream) : Type 0 where
   pub behind : Place
   pub gone : behind ≡ behind_all (place_view old.place) (take (end_behind old.tokens.items old.used) old.bytes.items)
-  pub kept : IsKept (left_with old piece) old.inside behind kept
+  pub is_kept : IsKept (left_with old piece) old.inside behind kept
   pub bytes : new.bytes.items ≡ kept.bytes.items
   pub inside : new.inside ≡ kept.inside
   pub all : AreAll new.bytes.items new.ended new.tokens.items new.tail
@@ -79,7 +60,7 @@ module _ (fed : List ℕ) (given : List StatementView) (old new : Stream) (piece
   gone = h.before ++ (used ++ blank)
 
   kept_bytes : new.bytes.items ≡ drop n left
-  kept_bytes = f.bytes ∙ f.kept.bytes
+  kept_bytes = f.bytes ∙ f.is_kept.bytes
 
   used_size : length used ≡ k
   used_size = length-take-le k old.bytes.items (end_within fed given old h)
@@ -106,7 +87,7 @@ module _ (fed : List ℕ) (given : List StatementView) (old new : Stream) (piece
       → Comes (gone ++ (new.bytes.items ++ more)) ended (given ++ rest) (moved (length gone) o)
   follow more ended rest o c =
       let b = old.bytes.items in
-      let open' : new.inside ≡ is_open_behind old.inside left = f.inside ∙ f.kept.inside in
+      let open' : new.inside ≡ is_open_behind old.inside left = f.inside ∙ f.is_kept.inside in
       let kept : ComesBehind old.inside (left ++ more) ended rest (moved n o) =
       comes_passed old.inside left new.bytes.items more kept_bytes ended rest o (subst (λ (x : Bool). ComesBehind x (new.bytes.items ++ more) ended rest o) open' c) in
       let one : ComesBehind old.inside (b ++ (piece ++ more)) ended (h.later ++ rest) (moved k (moved n o)) =
@@ -129,9 +110,9 @@ module _ (fed : List ℕ) (given : List StatementView) (old new : Stream) (piece
         ∙ ap (λ (l : List ℕ). h.before ++ (old.bytes.items ++ l)) (sym (append-nil piece)) ∙ parts [] ∙ ap (λ (l : List ℕ). gone ++ l) (append-nil new.bytes.items);
     statements = sym (append-nil given);
     follows = follow;
-    none = λ e. kept_bytes ∙ passed_all old.inside left (sym (f.inside ∙ f.kept.inside) ∙ e);
-    size = omega (arith, f.before, f.kept.passed, h.size, gone_size);
-    place = f.place ∙ f.kept.place ∙ ap (λ (p : Place). behind_all p blank) (f.gone ∙ ap (λ (p : Place). behind_all p used) h.place)
+    none = λ e. kept_bytes ∙ passed_all old.inside left (sym (f.inside ∙ f.is_kept.inside) ∙ e);
+    size = omega (arith, f.before, f.is_kept.passed, h.size, gone_size);
+    place = f.place ∙ f.is_kept.place ∙ ap (λ (p : Place). behind_all p blank) (f.gone ∙ ap (λ (p : Place). behind_all p used) h.place)
         ∙ sym (ap (λ (p : Place). behind_all p blank) (behind_all-append start h.before used)) ∙ sym (behind_all-append start (h.before ++ used) blank)
         ∙ ap (behind_all start) (append_assoc h.before used blank);
     all = f.all;
@@ -144,11 +125,11 @@ refills old new piece kept is f =
     let k = end_behind old.tokens.items old.used in
     let n = first_byte old.inside 0 (left_with old piece) in
     let none : end_behind new.tokens.items new.used ≡ 0 = ap (end_behind new.tokens.items) f.used in
-    let size : length new.bytes.items ≡ length (left_with old piece) - n = ap length (f.bytes ∙ f.kept.bytes) ∙ length-drop n (left_with old piece) in
+    let size : length new.bytes.items ≡ length (left_with old piece) - n = ap length (f.bytes ∙ f.is_kept.bytes) ∙ length-drop n (left_with old piece) in
     record {
       holds = λ wants fed given h. refill fed given old new piece kept f h wants;
       ends = refl;
-      size = omega (arith, f.before, f.kept.passed, size, passed_within old.inside (left_with old piece), length-append (drop k old.bytes.items) piece, length-drop k old.bytes.items, end_within is.0 is.1 old is.2);
+      size = omega (arith, f.before, f.is_kept.passed, size, passed_within old.inside (left_with old piece), length-append (drop k old.bytes.items) piece, length-drop k old.bytes.items, end_within is.0 is.1 old is.2);
       place = omega (arith, f.before, none);
     }
 

@@ -1,19 +1,17 @@
 -- What a stream holds, as pieces come and statements go.
 use Rattle.std.proofs.Common.{◌≡◌, ◌+◌, ◌-◌, ◌≤◌, ◌<◌, ◌≢◌, ◌++◌, ℕ, zero, suc, List, [], ◌∷◌, Bool, true, false, refl, sym, ap, subst, ◌∙◌, take, drop, length, arith, append_assoc, append-nil, length-append, length-drop}
 use Rattle.std.specs.Prelude.{slice_index_or}
-use Rattle.std.proofs.Math.Seq.{drop-append-add, take-append-add}
-use Rattle.std.proofs.lemmas.List.{length-take-le, take-append-drop}
+use Rattle.std.proofs.Math.Seq.{take-append-add}
 use Rattle.bidel_lex.specs.declared.tokens.Token.{Token}
 use Rattle.bidel_lex.specs.declared.tokens.Lexed.{Lexed}
 use Rattle.bidel_lex.specs.declared.tokens.Lexed.TheVariants as lexed
-use Rattle.bidel_lex.specs.Next.{lexed_at, next_of}
 use Rattle.bidel_lex.specs.Tokens.{AreTokens, HasTokens}
 use Rattle.bidel_lex.proofs.WithinLaws.{within_along}
 use Rattle.bidel_script.specs.declared.tokens.Tail.{Tail}
 use Rattle.bidel_expr.specs.Lexemes.{lexemes}
 use Rattle.statements.specs.Views.{StatementView}
 use Rattle.bidel_script.specs.Places.{Place, behind_all, place_of, start}
-use Rattle.bidel_script.specs.Tails.{AreAll, Fits, first_byte, is_open_behind, is_over, last_end}
+use Rattle.bidel_script.specs.Tails.{AreAll, first_byte, is_over, last_end}
 use Rattle.bidel_parser.specs.Parsing.{IsFront}
 use Rattle.bidel_script.specs.Lengths.{IsLong}
 use Rattle.bidel_script.specs.Script.{Leads, Comes, Outcome, Over, Fault, Long, Open, StandsBehind}
@@ -25,16 +23,13 @@ use Rattle.bidel_script.proofs.ScriptLaws.{at_within, front_some, front_within, 
 use Rattle.bidel_script.proofs.TextLimitsLaws.{texts_within}
 use Rattle.bidel_script.proofs.UniqueLaws.{blocked, leads_first, one_comes}
 use Rattle.bidel_script.proofs.ComesLaws.{something_comes}
-use Rattle.bidel_script.proofs.CutLaws.{fronts_come_first}
 use Rattle.bidel_script.proofs.MovedLaws.{used_bytes_go}
-use Rattle.bidel_script.proofs.BlanksLaws.{blanks_go, comes_behind_blanks, passed_all, passed_front, passed_within}
+use Rattle.bidel_script.proofs.BlanksLaws.{blanks_go, comes_behind_blanks}
 use Rattle.bidel_script.proofs.PlaceLaws.{behind_all-append, behind_all-near}
 use Rattle.script_stream.specs.declared.stream.Stream.{Stream}
 use Rattle.script_stream.specs.declared.stream.Next.{Next}
 use Rattle.script_stream.specs.declared.stream.Next.TheVariants as next
-use Rattle.script_stream.specs.Holding.{Holds, IsStream, place_in}
-use Rattle.script_stream.specs.declared.stream.Kept.{Kept}
-use Rattle.script_stream.specs.Calls.{IsKept, Refilled}
+use Rattle.script_stream.specs.Holding.{Holds, place_in}
 use Rattle.script_stream.proofs.PassedLemmas.{comes_here, front_behind, moved_none}
 use Rattle.script_stream.specs.Giving.{Gives, GivesStatement, Stands}
 

@@ -13,12 +13,12 @@ use Rattle.script_stream.specs.Holding.{Holds, IsStream, place_in}
 use Rattle.script_stream.specs.Reading.{room_in}
 
 -- what is kept of bytes at a place, before which a comment is open or isn't: those from the first one on that is neither white space nor of a comment
-pub record IsKept (bytes : List ℕ) (inside : Bool) (from : Place) (kept : Kept) : Type 0 where
-  pub passed : kept.passed ≡ first_byte inside 0 bytes
-  pub within : kept.passed ≤ length bytes
-  pub bytes : kept.bytes.items ≡ drop (first_byte inside 0 bytes) bytes
-  pub inside : kept.inside ≡ is_open_behind inside bytes
-  pub place : place_view kept.place ≡ behind_all from (take (first_byte inside 0 bytes) bytes)
+pub record IsKept (all : List ℕ) (was : Bool) (from : Place) (kept : Kept) : Type 0 where
+  pub passed : kept.passed ≡ first_byte was 0 all
+  pub within : kept.passed ≤ length all
+  pub bytes : kept.bytes.items ≡ drop (first_byte was 0 all) all
+  pub inside : kept.inside ≡ is_open_behind was all
+  pub place : place_view kept.place ≡ behind_all from (take (first_byte was 0 all) all)
 
 -- a piece more was fed where more was wanted; or the end was, where none follows
 pub record Refilled (old : Stream) (piece : List ℕ) (ended : Bool) (new : Stream) : Type 0 where

@@ -1,4 +1,4 @@
-use Rattle.std.proofs.Common.{◌≡◌, ◌≤◌, ℕ, List, Option}
+use Rattle.std.proofs.Common.{◌≤◌, ℕ, List, Option}
 use Rattle.statements.specs.Views.{StatementView}
 use Rattle.script_stream.specs.Holding.{IsStream, place_in}
 use Rattle.script_stream.specs.Reading.{Reads, room_in}
