@@ -1,17 +1,19 @@
 -- A write carried along the walk by its changes.
-use Rattle.std.proofs.Common.{Ok, Err, zero, suc, ◌≡◌, ℕ, ◌+◌, ◌<◌, ◌≤◌, List, [], ◌∷◌, map, length, take, get_or, refl, sym, ap, ◌∙◌, subst, arith}
+use Rattle.std.proofs.Common.{Ok, Err, inl, inr, Bool, false, zero, suc, ◌≡◌, ℕ, ◌+◌, ◌<◌, ◌≤◌, List, [], ◌∷◌, map, length, take, get_or, refl, sym, ap, ◌∙◌, subst, arith}
 use Rattle.version_graph.specs.Forest.{Crossing, step_told}
 use Rattle.version_graph.specs.Laws.{Leaves, Ordered}
 use Rattle.version_graph.specs.declared.parts.Placed.{Placed}
 use Rattle.version_graph.specs.declared.parts.Step.{Step}
-use Rattle.std.proofs.lemmas.List.{take_all, length-map}
+use Rattle.std.proofs.lemmas.Bool.{false≢true}
+use Rattle.std.proofs.lemmas.List.{take_all}
 use Rattle.par_base.specs.declared.fault.Fault.{Fault}
 use Rattle.par_base.specs.declared.fault.Fault.TheVariants.{Refused, Memory as OutOfMemory}
 use Rattle.par_base.specs.declared.refusal.IdsSpent.{IdsSpent}
 use Rattle.id_memory.specs.States.{CounterState}
+use Rattle.version_graph.specs.Edges.{is_in}
 use Rattle.version_graph.specs.Sets.{Each}
 use Rattle.version_graph.specs.Forest.{Link, forest, walk}
-use Rattle.version_graph.proofs.SetLaws.{each_more, each_at}
+use Rattle.version_graph.proofs.SetLaws.{each_more, each_at, is_in_true}
 use Rattle.version_graph.proofs.WalkLaws.{walk_in_order}
 use Rattle.version_graph.proofs.WalkStepLaws.{in_at}
 use Rattle.op_law.specs.Meaning.{Meaning}
@@ -26,6 +28,8 @@ use Rattle.version_model.specs.Calls.{IsCrossing}
 use Rattle.changes_walk.specs.Calls.{CarriesBy, CrossesBy, MayCarryBy, MayStepBy}
 use Rattle.changes_walk.specs.Changing.{AreOfState, changing_state}
 use Rattle.changes_walk.specs.declared.progress.Changing.{Changing}
+use Rattle.changes_walk.proofs.PlaceLaws.{no_more_told, told_at}
+use Rattle.changes_walk.proofs.ReachLaws.{IsOutside, IsParted, Keeps, after_outside, run_keeps, start_keeps, walk_parted}
 use Rattle.version_model.proofs.RunLaws.{IsReady, may_call, run_memory, run_more, run_rises}
 use Rattle.version_model.proofs.CrossingLaws.{walk_each, walk_crosses_edges}
 use Rattle.version_model.proofs.WriteLaws.{write_so_far, write_at, write_rises, walk_is_ready, written_well}
@@ -34,16 +38,6 @@ each_take : {X : Type 0} (P : X → Type 0) (i : ℕ) (xs : List X) → Each P x
 each_take P zero xs h = tt
 each_take P (suc i) [] h = tt
 each_take P (suc i) (x ∷ xs) h = (h.0, each_take P i xs h.1)
-
--- an item of a list that has one at a place
-some_item : {X : Type 0} (xs : List X) (i : ℕ) → i < length xs → X
-some_item [] i h = absurd (omega arith)
-some_item (x ∷ xs) i h = x
-
-get_map : {X Y : Type 0} (f : X → Y) (xs : List X) (i : ℕ) (d : X) (e : Y) → i < length xs → get_or (map f xs) i e ≡ f (get_or xs i d)
-get_map f [] i d e h = absurd (omega arith)
-get_map f (x ∷ xs) zero d e h = refl
-get_map f (x ∷ xs) (suc i) d e h = get_map f xs i d e (omega arith)
 
 -- the crossings before one are over other operators
 others_before : {O : Type 0} (ps : List (Crossing O)) (i : ℕ) (d : Crossing O) → i < length ps → Ordered ps → Each (λ q. (get_or ps i d).number ≡ q.number → ⊥) (take i ps)
@@ -58,7 +52,7 @@ others_before (p ∷ ps) (suc i) d h o = (
 pub same_refused : (old now : CounterState) → old.next ≤ now.next → now.next ≤ first_refused old → now.limit ≡ old.limit → first_refused now ≡ first_refused old
 same_refused old now more within limit = omega (arith, more, within, limit)
 
-module _ {O : Type 0} (meaning : O → Meaning) (laws : (o : O) → Laws (meaning o)) (es : List (Placed O)) (before : State) (made : Changing) (set : ℕ) (may : MayCarryBy meaning es before made set) where
+module _ {O : Type 0} (meaning : O → Meaning) (laws : (o : O) → Laws (meaning o)) (es : List (Placed O)) (before : State) (made : Changing) (set : ℕ) (operators : List ℕ) (may : MayCarryBy meaning es before made set operators) where
   abbrev path : List (Crossing O)
   path = walk (forest es) set
 
@@ -136,6 +130,24 @@ module _ {O : Type 0} (meaning : O → Meaning) (laws : (o : O) → Laws (meanin
         c.2,
       )
 
+  -- the tables and memories that can't be reached are the old ones
+  keeps_so_far : (i : ℕ) → Keeps operators may.tables before (write_so_far meaning es before set may.table may.rows may.next i)
+  keeps_so_far i =
+      run_keeps meaning operators may.tables before laws (headings es) may.sound.well (take i path) (written before may.table may.rows may.next) (start_keeps es set may.table operators may.tables may.reach meaning before may.rows may.next)
+      (written_well meaning es before may.sound set may.table may.rows may.next may.may) may.may.more
+      (each_take (IsReady meaning (headings es) before) i path (walk_is_ready meaning es before may.sound set)) (each_take (IsParted operators may.tables) i path (walk_parted es set may.table operators may.tables may.reach))
+
+  -- a step over another operator changes nothing
+  pub step_passed : (now : Changing) (i : ℕ) (d : Crossing O) → i < length path → is_in (get_or path i d).number operators ≡ false → changing_state before now ≡ carried i → changing_state before now ≡ carried (i + 1)
+  step_passed now i d within other so_far =
+      let p = get_or path i d in
+      let here = each_at (IsParted operators may.tables) path p (in_at path i d within) (walk_parted es set may.table operators may.tables may.reach) in
+      let out : IsOutside operators may.tables p = elim here as (λ _. IsOutside operators may.tables p) [ inl inside ↦ absurd (false≢true (sym other ∙ is_in_true p.number operators inside.number)) | inr out ↦ out ] in
+      let may_cross = write_at meaning es before may.sound set may.table may.rows may.next may.may laws may.edges i d within in
+      so_far ∙ written_so_far i
+      ∙ sym (after_outside meaning operators may.tables before laws (headings es) (write_so_far meaning es before set may.table may.rows may.next i) p (keeps_so_far i) out may_cross)
+      ∙ ap (λ (s : State). after meaning before s p) (sym (written_so_far i)) ∙ sym (one_more i d within)
+
   -- a step is refused, and so is the write
   pub step_refused : (now new : Changing) (i : ℕ) (d : Crossing O) (fault : Fault IdsSpent) → i < length path → changing_state before now ≡ carried i → now.ids.next ≤ first_refused made.ids → now.ids.limit ≡ made.ids.limit
       → CrossesBy meaning before (get_or path i d) now new (Err fault)
@@ -159,14 +171,14 @@ module _ {O : Type 0} (meaning : O → Meaning) (laws : (o : O) → Laws (meanin
 
   -- the step at a place tells of the crossing there
   pub step_at : (shown steps : List Step) (i : ℕ) (e : Step) → shown ≡ steps → steps ≡ map step_told path → i < length shown → (d : Crossing O) × (i < length path) × (get_or shown i e ≡ step_told (get_or path i d))
-  step_at shown steps i e same is within =
-      let all = same ∙ is in
-      let inside : i < length path = omega (arith, within, ap (λ (l : List Step). length l) all, length-map path step_told) in
-      let d = some_item path i inside in
-      (d, inside, ap (λ (l : List Step). get_or l i e) all ∙ get_map step_told path i d e inside)
+  step_at shown steps i e same is within = told_at shown path i e (same ∙ is) within
+
+  -- a step is over an operator of these exactly where its crossing is
+  pub own_at : (shown : List Step) (i : ℕ) (e : Step) (d : Crossing O) (b : Bool) → get_or shown i e ≡ step_told (get_or path i d) → is_in (get_or shown i e).operator operators ≡ b → is_in (get_or path i d).number operators ≡ b
+  own_at shown i e d b is h = sym (ap (λ (s : Step). is_in s.operator operators) is) ∙ h
 
   pub crosses_at : (i : ℕ) (d : Crossing O) → i < length path → IsCrossing es (get_or path i d)
   crosses_at i d inside = each_at (IsCrossing es) path (get_or path i d) (in_at path i d inside) (walk_crosses_edges es may.edges set)
 
   pub no_more : (shown steps : List Step) (i : ℕ) → shown ≡ steps → steps ≡ map step_told path → length shown ≤ i → length path ≤ i
-  no_more shown steps i same is all = omega (arith, all, ap (λ (l : List Step). length l) (same ∙ is), length-map path step_told)
+  no_more shown steps i same is all = no_more_told shown path i (same ∙ is) all

@@ -1,7 +1,8 @@
 -- Over operators that treat each identifier by itself the changes name no identifier more, and take few steps.
-use Rattle.std.proofs.Common.{◌≡◌, ℕ, ◌+◌, ◌*◌, ◌<◌, ◌≤◌, ◌==◌, List, [], ◌∷◌, Bool, true, false, not, cond, length, map, get_or, Option, refl, ap, sym, ◌∙◌, subst, arith}
+use Rattle.std.proofs.Common.{◌≡◌, ℕ, ◌+◌, ◌*◌, ◌<◌, ◌≤◌, ◌==◌, List, [], ◌∷◌, Bool, true, false, not, cond, length, map, get_or, take, Option, refl, ap, sym, ◌∙◌, subst, arith}
 use Rattle.std.proofs.lemmas.Bool.{eqb-true, false≢true, not-true}
 use Rattle.std.proofs.lemmas.Bool.Decides.{nat_tests}
+use Rattle.std.proofs.lemmas.List.{length_push}
 use Rattle.par_base.specs.declared.value.Value.{Value}
 use Rattle.row_store.specs.declared.change.Change.{Change}
 use Rattle.row_store.specs.Rows.{Rows, RiseFrom, row_of}
@@ -26,6 +27,7 @@ use Rattle.operator_changes.specs.Calls.{toward, mapped_changes, ChangesWithin, 
 use Rattle.version_graph.specs.Forest.{Crossing}
 use Rattle.version_graph.proofs.SetLaws.{each_at}
 use Rattle.version_graph.proofs.WalkStepLaws.{in_at}
+use Rattle.version_graph.specs.Edges.{is_in}
 use Rattle.version_model.specs.Bounds.{AreLocal}
 use Rattle.version_model.specs.Put.{put}
 use Rattle.version_model.specs.States.{State}
@@ -37,7 +39,9 @@ use Rattle.version_model.proofs.RunLaws.{way_laws}
 use Rattle.changes_walk.specs.Bounds.{CarriesWithinBy, CrossesOnly, CrossesWithin, NamesOnly}
 use Rattle.changes_walk.specs.Calls.{MayCrossBy}
 use Rattle.changes_walk.specs.Changing.{latest_changes}
+use Rattle.changes_walk.specs.Reach.{reached}
 use Rattle.changes_walk.specs.declared.progress.Changing.{Changing}
+use Rattle.changes_walk.proofs.ReachLaws.{in_reached, reached_first, reached_more, reached_rises}
 use Rattle.changes_walk.proofs.StepLemmas.{may_change, to, way_half}
 
 -- ---- which identifiers a difference names
@@ -188,27 +192,38 @@ local_names meaning old made new p may laws cs side puts ids local named =
 
 -- ---- along a walk
 
--- after some crossings of a path the changes name these identifiers alone, and each crossing took few steps
-abbrev pub NamedSoFar : {O : Type 0} → (O → Meaning) → List (Crossing O) → Changing → Changing → ℕ → ℕ → ℕ → Type 0
-NamedSoFar meaning path start now i old s =
-    ((ids : List ℕ) → AreLocal meaning path → NamesOnly ids start.tables → NamesOnly ids now.tables)
-    × ((ids : List ℕ) → IdsRise 0 ids → AreLocal meaning path → NamesOnly ids start.tables → s ≤ old + 6 * (length ids * i))
+-- after some crossings of a path the changes name these identifiers alone, and each crossing that is reached took few steps
+abbrev pub NamedSoFar : {O : Type 0} → (O → Meaning) → List ℕ → List (Crossing O) → Changing → Changing → ℕ → ℕ → ℕ → Type 0
+NamedSoFar meaning operators path start now i old s =
+    ((ids : List ℕ) → AreLocal meaning (reached operators path) → NamesOnly ids start.tables → NamesOnly ids now.tables)
+    × ((ids : List ℕ) → IdsRise 0 ids → AreLocal meaning (reached operators path) → NamesOnly ids start.tables → s ≤ old + 6 * (length ids * length (reached operators (take i path))))
 
-module _ {O : Type 0} (meaning : O → Meaning) (path : List (Crossing O)) (start now : Changing) (i : ℕ) (d : Crossing O) (inside : i < length path) (old s e : ℕ) (so_far : NamedSoFar meaning path start now i old s) (took : CrossesWithin meaning (get_or path i d) now s e) where
-  local_at : AreLocal meaning path → (meaning (get_or path i d).operator).is_local ≡ true
-  local_at local = each_at (λ (q : Crossing O). (meaning q.operator).is_local ≡ true) path (get_or path i d) (in_at path i d inside) local
+module _ {O : Type 0} (meaning : O → Meaning) (operators : List ℕ) (path : List (Crossing O)) (start now : Changing) (i : ℕ) (old s : ℕ) (so_far : NamedSoFar meaning operators path start now i old s) where
+  -- a crossing that is passed by
+  pub named_passed : NamedSoFar meaning operators path start now (i + 1) old s
+  named_passed = (so_far.0, λ ids rise local first. some_steps old (length ids) (length (reached operators (take i path))) (length (reached operators (take (i + 1) path))) s (so_far.1 ids rise local first) (reached_rises operators path i (i + 1) (omega arith)))
 
-  steps_more : (ids : List ℕ) → IdsRise 0 ids → AreLocal meaning path → NamesOnly ids start.tables → e ≤ old + 6 * (length ids * (i + 1))
-  steps_more ids rise local first = one_step_more old (length ids) i s e (took ids rise (local_at local) (so_far.0 ids local first)) (so_far.1 ids rise local first)
+  -- all crossings
+  pub all_within : CarriesWithinBy meaning (reached operators path) start old s
+  all_within ids rise local first = some_steps old (length ids) (length (reached operators (take i path))) (length (reached operators path)) s (so_far.1 ids rise local first) (reached_first operators path i)
 
-  -- one crossing more
-  pub named_more : (new : Changing) → CrossesOnly meaning (get_or path i d) now new → NamedSoFar meaning path start new (i + 1) old e
-  named_more new names = (λ ids local first. names ids (local_at local) (so_far.0 ids local first), steps_more)
+  module _ (d : Crossing O) (inside : i < length path) (own : is_in (get_or path i d).number operators ≡ true) (e : ℕ) (took : CrossesWithin meaning (get_or path i d) now s e) where
+    local_at : AreLocal meaning (reached operators path) → (meaning (get_or path i d).operator).is_local ≡ true
+    local_at local =
+        each_at (λ (q : Crossing O). (meaning q.operator).is_local ≡ true) (reached operators path) (get_or path i d) (in_reached operators (get_or path i d) path (in_at path i d inside) own) local
 
-  -- a crossing that is refused is the last
-  pub named_within : CarriesWithinBy meaning path start old e
-  named_within ids rise local first = some_steps old (length ids) (i + 1) (length path) e (steps_more ids rise local first) (omega (arith, inside))
+    one_longer : length (reached operators (take (i + 1) path)) ≡ length (reached operators (take i path)) + 1
+    one_longer = ap (λ (l : List (Crossing O)). length l) (reached_more operators path i d inside own) ∙ length_push (reached operators (take i path)) (get_or path i d)
 
--- all crossings
-pub all_within : {O : Type 0} (meaning : O → Meaning) (path : List (Crossing O)) (start now : Changing) (i old s : ℕ) → i ≤ length path → NamedSoFar meaning path start now i old s → CarriesWithinBy meaning path start old s
-all_within meaning path start now i old s inside so_far ids rise local first = some_steps old (length ids) i (length path) s (so_far.1 ids rise local first) inside
+    steps_more : (ids : List ℕ) → IdsRise 0 ids → AreLocal meaning (reached operators path) → NamesOnly ids start.tables → e ≤ old + 6 * (length ids * length (reached operators (take (i + 1) path)))
+    steps_more ids rise local first =
+        subst (λ (n : ℕ). e ≤ old + 6 * (length ids * n)) (sym one_longer)
+        (one_step_more old (length ids) (length (reached operators (take i path))) s e (took ids rise (local_at local) (so_far.0 ids local first)) (so_far.1 ids rise local first))
+
+    -- one crossing more
+    pub named_more : (new : Changing) → CrossesOnly meaning (get_or path i d) now new → NamedSoFar meaning operators path start new (i + 1) old e
+    named_more new names = (λ ids local first. names ids (local_at local) (so_far.0 ids local first), steps_more)
+
+    -- a crossing that is refused is the last
+    pub named_within : CarriesWithinBy meaning (reached operators path) start old e
+    named_within ids rise local first = some_steps old (length ids) (length (reached operators (take (i + 1) path))) (length (reached operators path)) e (steps_more ids rise local first) (reached_first operators path (i + 1))

@@ -9,20 +9,18 @@ use Rattle.row_store.specs.declared.change.Change.{Change}
 use Rattle.row_store.specs.Changes.{ChangesRise, AreOld}
 use Rattle.row_store.specs.Rows.{Rows}
 use Rattle.id_memory.specs.Pairs.{Pairs}
-use Rattle.id_memory.specs.States.{MemoryState}
 use Rattle.op_law.specs.Tables.{Tables}
 use Rattle.row_changes.specs.Changed.{TableChanges, AreChangesOf, changed, changed_tables}
 use Rattle.row_changes.specs.Differences.{AreDifferences}
-use Rattle.operator_changes.specs.Pairs.{side_at, table_at}
-use Rattle.version_model.specs.Kept.{latest_of, newer_pairs}
+use Rattle.operator_changes.specs.Pairs.{table_at}
+use Rattle.version_model.specs.Kept.{latest_of}
 use Rattle.version_model.specs.Put.{put}
 use Rattle.version_model.specs.States.{State}
 use Rattle.version_model.specs.declared.numbered.Numbered.{Numbered}
 use Rattle.version_model.proofs.NowLaws.{latest_push}
 use Rattle.version_model.proofs.NumberedLaws.{looked}
 use Rattle.version_model.proofs.PutLaws.{EachAt, put_holds}
-use Rattle.changes_walk.specs.Reading.{numbers_at, read_pair}
-use Rattle.changes_walk.specs.Changing.{AreOfState, latest_changes, latest_pairs}
+use Rattle.changes_walk.specs.Changing.{AreOfState, latest_changes}
 
 -- a side changed table by table
 pub changed_map : (f : ℕ → Rows) (g : ℕ → List Change) (ns : List ℕ) → changed_tables (map f ns) (map g ns) ≡ map (λ t. changed (f t) (g t)) ns

@@ -19,6 +19,7 @@ use Rattle.version_model.specs.Steps.{after, directed, mapped, pair_in, run}
 use Rattle.version_model.specs.Writes.{MayWrite, written}
 use Rattle.version_model.specs.Calls.{IsCrossing}
 use Rattle.changes_walk.specs.Changing.{AreOfState, changing_state}
+use Rattle.changes_walk.specs.Reach.{IsReach}
 use Rattle.changes_walk.specs.declared.progress.Changing.{Changing}
 
 -- ---- a crossing
@@ -54,8 +55,8 @@ pub record MayStepBy {O : Type 0} (meaning : O → Meaning) (es : List (Placed O
 
 -- ---- a whole walk
 
--- the changes so far are those of the written table alone
-pub record MayCarryBy {O : Type 0} (meaning : O → Meaning) (es : List (Placed O)) (old : State) (made : Changing) (set : ℕ) : Type 0 where
+-- the changes so far are those of the written table alone, and these are the operators that they can reach
+pub record MayCarryBy {O : Type 0} (meaning : O → Meaning) (es : List (Placed O)) (old : State) (made : Changing) (set : ℕ) (operators : List ℕ) : Type 0 where
   pub edges : AreEdges es
   pub sides : Each HasSides (forest es)
   pub sound : IsSound meaning es old
@@ -66,6 +67,8 @@ pub record MayCarryBy {O : Type 0} (meaning : O → Meaning) (es : List (Placed 
   pub may : MayWrite es old set table rows next
   pub fit : AreOfState old made.tables
   pub start : changing_state old made ≡ written old table rows next
+  pub tables : List ℕ
+  pub reach : IsReach es set table operators tables
 
 -- THE CHANGES OF THE WHOLE WRITE: those that make of the old state the one after the model's write, or it needs an identifier that the counter doesn't give
 abbrev pub CarriesBy : {O : Type 0} → (O → Meaning) → List (Placed O) → State → ℕ → Changing → Changing → Result (Unit {0}) (Fault IdsSpent) → Type 0

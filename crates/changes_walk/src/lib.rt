@@ -9,7 +9,7 @@
 //! each operator, and eight more for the auxiliary tables. It asks a reader for the old state and
 //! keeps none, and knows operators by their laws alone, and nothing of layouts.
 //!
-//! Lemmas that crates above may use stand in proofs/: `StartLaws`.
+//! Lemmas that crates above may use stand in proofs/: `StartLaws`, `PlaceLaws` and `ReachLaws`.
 #![tactic(auto)]
 
 mod auxiliary;

@@ -19,7 +19,8 @@ use Rattle.write_propagation.specs.Calls.{CopiesTree, beside, told_pairs, told_r
 use Rattle.db_state.specs.Parts.{passes, seen_of}
 use Rattle.db_state.specs.declared.sight.Sight.{Sight}
 use Rattle.version_model.specs.States.{State}
-use Rattle.write_propagation.specs.Trees.{IsBeside, IsWhole, part}
+use Rattle.changes_walk.specs.Reach.{IsBeside, IsWhole}
+use Rattle.write_propagation.specs.Trees.{part}
 use Rattle.write_propagation.specs.declared.tree.Tree.{Tree}
 use Rattle.write_propagation.proofs.ItemLemmas.{seen_told, seen_untold}
 use Rattle.write_propagation.proofs.TreeLemmas.{no_memory, no_table, part_memory, part_table}
@@ -29,7 +30,7 @@ read_beside : {O : Type 0} (es : List (Link O)) (layout : List ℕ) (t : ℕ) (e
 read_beside es layout t e (inl up) = inr up.0
 read_beside es layout t e (inr down) = inl down.1
 
-module _ {O : Type 0} (meaning : O → Meaning) (d : Parts O) (tree : Tree) (whole : IsWhole d.graph.edges tree) where
+module _ {O : Type 0} (meaning : O → Meaning) (d : Parts O) (tree : Tree) (whole : IsWhole d.graph.edges tree.operators tree.tables) where
   -- so a table of the tree is read over its operators
   covers : (t : ℕ) → In t tree.tables → Covers (forest d.graph.edges) d.layout.operators tree.operators t
   covers t i e j over = whole.operators e j t i (read_beside (forest d.graph.edges) d.layout.operators t e over)

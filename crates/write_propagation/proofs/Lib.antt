@@ -1,5 +1,6 @@
 mod ItemLemmas
 mod WholeLemmas
+mod SpreadLemmas
 mod PartLemmas
 mod TreeLemmas
 mod CopyLemmas

@@ -19,7 +19,7 @@ use Rattle.version_model.proofs.PutLaws.{map_same}
 use Rattle.version_model.proofs.RunLaws.{IsReady, after_rises, after_well, may_cross, way_laws}
 use Rattle.db_state.proofs.PartLaws.{only_map}
 use Rattle.write_propagation.specs.declared.tree.Tree.{Tree}
-use Rattle.write_propagation.proofs.WholeLemmas.{IsInside}
+use Rattle.changes_walk.proofs.ReachLaws.{IsInside}
 
 -- ---- tables of some identifiers
 
@@ -79,7 +79,7 @@ module _ {O : Type 0} (meaning : O → Meaning) (laws : (o : O) → Laws (meanin
 
   -- a crossing inside the tree, over an operator that treats each identifier by itself
   pub record IsLocalInside (p : Crossing O) : Type 0 where
-    pub inside : IsInside tree p
+    pub inside : IsInside tree.operators tree.tables p
     pub local : HalfLocal (at p)
 
   half : (p : Crossing O) → HalfLaws (at p)
@@ -95,17 +95,17 @@ module _ {O : Type 0} (meaning : O → Meaning) (laws : (o : O) → Laws (meanin
     -- ---- the part of a run
 
     module _ (P : ℕ → Bool) (other : State) (before : IsPartOf P tree old other) where
-      near_is : (a b : State) (p : Crossing O) → IsPartOf P tree a b → IsInside tree p → map b.tables p.near ≡ only P (map a.tables p.near)
+      near_is : (a b : State) (p : Crossing O) → IsPartOf P tree a b → IsInside tree.operators tree.tables p → map b.tables p.near ≡ only P (map a.tables p.near)
       near_is a b p now inside = map_same b.tables (λ t. rows_only P (a.tables t)) p.near (λ t i. sym (now.tables t (inside.near t i))) ∙ only_map P a.tables p.near
 
-      pair_is : (p : Crossing O) → IsInside tree p → pair_in other p ≡ pair_only P (pair_in old p)
+      pair_is : (p : Crossing O) → IsInside tree.operators tree.tables p → pair_in other p ≡ pair_only P (pair_in old p)
       pair_is p inside =
           let n : map other.tables p.near ≡ only P (map old.tables p.near) = near_is old other p before inside in
           let f : map other.tables p.far ≡ only P (map old.tables p.far) = map_same other.tables (λ t. rows_only P (old.tables t)) p.far (λ t i. sym (before.tables t (inside.far t i))) ∙ only_map P old.tables p.far in
           let m : other.memory p.number ≡ old.memory p.number = sym (before.memory p.number inside.number) in
           cc
 
-      small_is : (a b : State) (p : Crossing O) → IsPartOf P tree a b → IsInside tree p → mapped meaning other b p ≡ (at p).forward (only P (map a.tables p.near)) (pair_only P (pair_in old p)) a.next
+      small_is : (a b : State) (p : Crossing O) → IsPartOf P tree a b → IsInside tree.operators tree.tables p → mapped meaning other b p ≡ (at p).forward (only P (map a.tables p.near)) (pair_only P (pair_in old p)) a.next
       small_is a b p now inside =
           ap (λ (x : Tables). (at p).forward x (pair_in other p) b.next) (near_is a b p now inside)
           ∙ ap (λ (x : PairState). (at p).forward (only P (map a.tables p.near)) x b.next) (pair_is p inside)

@@ -8,7 +8,7 @@ use Rattle.row_store.specs.Rows.{Rows}
 use Rattle.row_store.specs.Changes.{AreOld}
 use Rattle.row_store.specs.declared.change.Change.{Change}
 use Rattle.version_graph.specs.Sets.{Distinct, Each, In}
-use Rattle.version_graph.specs.Forest.{Crossing, Link, crossing, forest, walk}
+use Rattle.version_graph.specs.Forest.{Crossing, Link, crossing, forest}
 use Rattle.version_graph.specs.declared.parts.Placed.{Placed}
 use Rattle.version_graph.proofs.SetLaws.{each_at, each_of, in_map, is_in_true}
 use Rattle.version_graph.proofs.TableLaws.{in_filter}
@@ -31,8 +31,8 @@ use Rattle.changes_walk.specs.Changing.{latest_changes}
 use Rattle.version_model.specs.Kept.{latest_of, newer_pairs, pairs_at, pairs_now, rows_at, auxes_at, numbers_in}
 use Rattle.version_model.specs.Sound.{IsSound}
 use Rattle.version_model.specs.States.{State, headings}
-use Rattle.version_model.specs.Steps.{directed, pair_in}
-use Rattle.version_model.specs.Writes.{write}
+use Rattle.version_model.specs.Steps.{directed, pair_in, run}
+use Rattle.version_model.specs.Writes.{write, written}
 use Rattle.version_model.specs.declared.numbered.Numbered.{Numbered}
 use Rattle.version_model.proofs.ToldLaws.{same_refused}
 use Rattle.version_model.proofs.HeadingLaws.{in_or_not}
@@ -48,14 +48,16 @@ use Rattle.write_propagation.specs.Calls.{stored_in}
 use Rattle.write_propagation.specs.Making.{IsMaking, IsPlanOf, MakesWrite, MayPlan, made_over, seen_write}
 use Rattle.write_propagation.specs.Plans.{Plans, rows_written}
 use Rattle.write_propagation.specs.Room.{HasOld}
-use Rattle.write_propagation.specs.Trees.{IsWhole, part}
+use Rattle.changes_walk.specs.Reach.{IsWhole}
+use Rattle.changes_walk.proofs.ReachLaws.{IsInside, write_reached}
+use Rattle.write_propagation.specs.Trees.{part}
 use Rattle.write_propagation.specs.declared.making.Making.{Making}
 use Rattle.write_propagation.specs.declared.plans.RowWrite.{RowWrite}
 use Rattle.write_propagation.specs.declared.tree.Tree.{Tree}
 use Rattle.write_propagation.proofs.ItemLemmas.{item_at, stored_apart, stored_beside}
 use Rattle.write_propagation.proofs.LeadLemmas.{IsPlanTo, leads, no_changes}
 use Rattle.write_propagation.proofs.TreeLemmas.{outside_memory, outside_table, part_memory, part_table, same_pair}
-use Rattle.write_propagation.proofs.WholeLemmas.{IsInside, has_held, lives, operators_apart, walk_inside, whole}
+use Rattle.write_propagation.proofs.WholeLemmas.{lives, operators_apart, path, path_inside}
 use Rattle.id_memory.specs.Pairs.{Pairs}
 use Rattle.write_propagation.specs.declared.plans.Plan.{Plan}
 use Rattle.write_propagation.proofs.ShownLemmas.{Shows, end_sound, related_in}
@@ -78,23 +80,27 @@ module _ {O : Type 0} (meaning : O → Meaning) (laws : (o : O) → Laws (meanin
   abbrev small : State
   small = seen_write meaning d tree w test
 
-  of_tree : IsWhole es tree
-  of_tree = whole es good.graph.edges w.set tree plans.walked
+  of_tree : IsWhole es tree.operators tree.tables
+  of_tree = plans.walked.whole
 
-  in_tree : In w.table tree.tables
-  in_tree = has_held es good.graph.edges w.set tree plans.walked w.table plans.may.held
+  -- the crossings that the write can reach make it
+  abbrev ps : List (Crossing O)
+  ps = path es w.set w.table tree plans.walked
 
-  inside : Each (IsInside tree) (walk (forest es) w.set)
-  inside = walk_inside es good.graph.edges w.set tree plans.walked
+  inside : Each (IsInside tree.operators tree.tables) ps
+  inside = path_inside es w.set w.table tree plans.walked
+
+  end_is : end ≡ run meaning s (written s w.table rows w.ids.next) ps
+  end_is = write_reached es w.set w.table tree.operators tree.tables plans.walked meaning s laws good.sound rows w.ids.next plans.may
 
   sound_end : IsSound meaning es end
   sound_end = end_sound meaning laws d good tree w plans
 
   same_table : (t : ℕ) → (In t tree.tables → ⊥) → end.tables t ≡ s.tables t
-  same_table = outside_table meaning tree es s w.set w.table rows w.ids.next inside in_tree
+  same_table t none = ap (λ (x : State). x.tables t) end_is ∙ outside_table meaning tree s ps w.table rows w.ids.next inside plans.walked.held t none
 
   same_memory : (n : ℕ) → (In n tree.operators → ⊥) → end.memory n ≡ s.memory n
-  same_memory = outside_memory meaning tree es s w.set w.table rows w.ids.next inside
+  same_memory n none = ap (λ (x : State). x.memory n) end_is ∙ outside_memory meaning tree s ps w.table rows w.ids.next inside n none
 
   -- ---- stored tables
 
@@ -259,17 +265,17 @@ module _ {O : Type 0} (meaning : O → Meaning) (laws : (o : O) → Laws (meanin
               (kept, subst (λ (x : Rows). AreOld x i.value) (sym rows_are) (stored_old i j))),
         );
         auxes = (
-          subst (λ (l : List ℕ). Distinct l) (sym aux_listed) (operators_apart es good.graph.edges w.set tree plans.walked),
+          subst (λ (l : List ℕ). Distinct l) (sym aux_listed) (operators_apart es w.set w.table tree plans.walked good.graph.edges),
           each_of (λ (i : Numbered SideChanges). IsSideAt d.aux i) plan.auxes (λ i j.
               let own : In i.number tree.operators = subst (λ (l : List ℕ). In i.number l) aux_listed (in_map (λ (x : Numbered SideChanges). x.number) i plan.auxes j) in
-              let l = lives es good.graph.edges w.set tree plans.walked i.number own in
+              let l = lives es w.set w.table tree plans.walked i.number own in
               subst (λ (x : Tables). AreChangesOf x i.value.tables) (sym (ap (auxes_at d.aux) l.2 ∙ stood l.0 l.1))
               (differences_fit (aux_of meaning s (over l.0)) (aux_of meaning end (over l.0)) i.value.tables (side_difference i j l.0 l.1 (sym l.2)))),
         );
         memories = (
-          subst (λ (l : List ℕ). Distinct l) (sym for.memories.listed) (operators_apart es good.graph.edges w.set tree plans.walked),
+          subst (λ (l : List ℕ). Distinct l) (sym for.memories.listed) (operators_apart es w.set w.table tree plans.walked good.graph.edges),
           each_of (λ (i : Numbered (List PairChange)). IsMemoryAt d.memories i) plan.memories (λ i j.
-              let l = lives es good.graph.edges w.set tree plans.walked i.number (memory_own i j) in
+              let l = lives es w.set w.table tree plans.walked i.number (memory_own i j) in
               let live : In i.number (numbers es) = subst (λ (n : ℕ). In n (numbers es)) (sym l.2) (link_number es l.0 l.1) in
               let kept : In i.number (numbers_in d.memories) = subst (λ (ns : List ℕ). In i.number ns) (sym good.memories) (in_reverse i.number (numbers es) live) in
               (kept, (pairs_now d.memories making.made.memories i.number, (for.memories.values i j).lead))),

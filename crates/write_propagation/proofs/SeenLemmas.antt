@@ -45,14 +45,15 @@ use Rattle.db_state.specs.declared.sight.Sight.TheVariants.{All, Of}
 use Rattle.write_propagation.specs.Calls.{CopiesTree}
 use Rattle.write_propagation.specs.Making.{CarriesWrite, CarriesWriteWithin, IsMaking, MakesWrite, MayChangeAuxAt, MayChangeAuxes, MayPlan, copied_state, first_changes, seen_write}
 use Rattle.write_propagation.specs.Plans.{rows_written}
-use Rattle.write_propagation.specs.Trees.{IsWhole, part}
+use Rattle.changes_walk.specs.Reach.{IsWhole}
+use Rattle.write_propagation.specs.Trees.{part}
 use Rattle.write_propagation.specs.declared.copies.Copies.{Copies}
 use Rattle.write_propagation.specs.declared.making.Making.{Making}
 use Rattle.write_propagation.specs.declared.plans.RowWrite.{RowWrite}
 use Rattle.write_propagation.specs.declared.tree.Tree.{Tree}
 use Rattle.write_propagation.proofs.ShownLemmas.{shown}
 use Rattle.write_propagation.proofs.TreeLemmas.{all_sound, local_sound, part_may, part_table}
-use Rattle.write_propagation.proofs.WholeLemmas.{has_held, lives, path_long, walk_local, whole}
+use Rattle.write_propagation.proofs.WholeLemmas.{lives, path, path_local, path_long}
 
 -- the identifiers that changes name pass where the rows of these are seen
 abbrev pub ids_of : List Change → List ℕ
@@ -98,11 +99,12 @@ module _ {O : Type 0} (meaning : O → Meaning) (laws : (o : O) → Laws (meanin
   abbrev rows : Rows
   rows = rows_written meaning d w
 
-  pub of_tree : IsWhole es tree
-  of_tree = whole es good.graph.edges w.set tree plans.walked
+  pub of_tree : IsWhole es tree.operators tree.tables
+  of_tree = plans.walked.whole
 
-  pub in_tree : In w.table tree.tables
-  in_tree = has_held es good.graph.edges w.set tree plans.walked w.table plans.may.held
+  -- the crossings that the write can reach
+  abbrev ps : List (Crossing O)
+  ps = path es w.set w.table tree plans.walked
 
   seen_sound : (sight : Sight) → MaySee meaning es tree.operators sight → IsSound meaning es (part (passes sight) tree s)
   seen_sound All sees = all_sound meaning laws es s good.sound tree of_tree (passes All) (λ q. refl)
@@ -111,7 +113,7 @@ module _ {O : Type 0} (meaning : O → Meaning) (laws : (o : O) → Laws (meanin
   -- each operator of the tree relates its sides in a sound state
   related_at : (x : State) → IsSound meaning es x → (n : ℕ) → In n tree.operators → IsRelatedAt meaning es x n
   related_at x sound n i =
-      let l = lives es good.graph.edges w.set tree plans.walked n i in
+      let l = lives es w.set w.table tree plans.walked n i in
       record {
         over = l.0;
         lives = l.1;
@@ -139,7 +141,7 @@ module _ {O : Type 0} (meaning : O → Meaning) (laws : (o : O) → Laws (meanin
     module _ (copies : Copies) (copied : CopiesTree meaning d tree sight copies) where
       -- the old rows are among those that were copied
       copied_rows : rows_at copies.tables w.table ≡ rows_only test (s.tables w.table)
-      copied_rows = copied.tables w.table ∙ part_table test tree s w.table in_tree
+      copied_rows = copied.tables w.table ∙ part_table test tree s w.table plans.walked.held
 
       copied_old : AreOld (rows_at copies.tables w.table) w.changes
       copied_old = subst (λ (x : Rows). AreOld x w.changes) (sym copied_rows) (only_old test (s.tables w.table) w.changes named plans.old)
@@ -158,7 +160,7 @@ module _ {O : Type 0} (meaning : O → Meaning) (laws : (o : O) → Laws (meanin
         first_is = first_state old w.table w.changes w.ids ∙ ap (λ (x : Rows). written old w.table x w.ids.next) rows_are
 
         -- THE CHANGES OF THE WRITE MAY BE CARRIED
-        pub may_carry : ChangesRise 0 w.changes → MayCarryBy meaning es old (first_changes w) w.set
+        pub may_carry : ChangesRise 0 w.changes → MayCarryBy meaning es old (first_changes w) w.set tree.operators
         may_carry rise = record {
           edges = good.graph.edges;
           sides = good.sides;
@@ -170,13 +172,15 @@ module _ {O : Type 0} (meaning : O → Meaning) (laws : (o : O) → Laws (meanin
           may = subst (λ (y : State). MayWrite es y w.set w.table (rows_only test rows) w.ids.next) (sym copied_is) small_may;
           fit = first_fit old w.table w.changes rise copied_old;
           start = first_is;
+          tables = tree.tables;
+          reach = plans.walked;
         }
 
         carried_is : run meaning old (changing_state old (first_changes w)) (walk (forest es) w.set) ≡ end
         carried_is = ap (λ (y : State). run meaning old y (walk (forest es) w.set)) first_is ∙ ap (λ (y : State). write meaning es y w.set w.table (rows_only test rows) w.ids.next) copied_is
 
         -- where it was carried
-        pub making_is : (made : Changing) → CarriesWrite meaning es old w (Ok made) → IsMaking meaning d tree w (passes sight) (record { copies = copies; made = made })
+        pub making_is : (made : Changing) → CarriesWrite meaning es old w tree.operators (Ok made) → IsMaking meaning d tree w (passes sight) (record { copies = copies; made = made })
         making_is made was = record {
           tables = copied.tables;
           memories = copied.memories;
@@ -188,24 +192,24 @@ module _ {O : Type 0} (meaning : O → Meaning) (laws : (o : O) → Laws (meanin
         }
           where
             all_named : (sight : Sight) → MaySee meaning es tree.operators sight → AllPass (passes sight) w.changes → (made : Changing)
-                → ((ids : List ℕ) → AreLocal meaning (walk (forest es) w.set) → AllPass (has_id ids) w.changes → (t : ℕ) → AllPass (has_id ids) (latest_changes made.tables t)) → (t : ℕ) → AllPass (passes sight) (latest_changes made.tables t)
+                → ((ids : List ℕ) → AreLocal meaning ps → AllPass (has_id ids) w.changes → (t : ℕ) → AllPass (has_id ids) (latest_changes made.tables t)) → (t : ℕ) → AllPass (passes sight) (latest_changes made.tables t)
             all_named All sees named made only t = all_pass (latest_changes made.tables t)
-            all_named (Of ids) sees named made only t = only ids.now (walk_local es good.graph.edges w.set tree plans.walked meaning sees.1) named t
+            all_named (Of ids) sees named made only t = only ids.now (path_local es w.set w.table tree plans.walked meaning sees.1) named t
 
         -- and where it was refused
-        pub making_refused : (fault : Fault IdsSpent) → CarriesWrite meaning es old w (Err fault) → MakesWrite meaning d tree w (passes sight) (Err fault)
+        pub making_refused : (fault : Fault IdsSpent) → CarriesWrite meaning es old w tree.operators (Err fault) → MakesWrite meaning d tree w (passes sight) (Err fault)
         making_refused (Refused spent) h = subst (λ (n : ℕ). IsSpent n w.ids w.ids spent) (ap (λ (y : State). y.next) carried_is) h
         making_refused (OutOfMemory memory) h = tt
 
     -- what it takes
-    pub carry_within : (s t : ℕ) → CarriesWriteWithin meaning es w s t → SeenWithin 6 sight (length tree.operators) s t
+    pub carry_within : (s t : ℕ) → CarriesWriteWithin meaning es w tree.operators s t → SeenWithin 6 sight (length tree.operators) s t
     carry_within s t within = of_sight sight sees named
       where
         of_sight : (sight : Sight) → MaySee meaning es tree.operators sight → AllPass (passes sight) w.changes → SeenWithin 6 sight (length tree.operators) s t
         of_sight All sees named = tt
         of_sight (Of ids) sees named =
-            let own = within ids.now sees.0 (walk_local es good.graph.edges w.set tree plans.walked meaning sees.1) named in
-            subst (λ (n : ℕ). t ≤ s + 6 * (length ids.now * n)) (path_long es good.graph.edges w.set tree plans.walked) own
+            let own = within ids.now sees.0 (path_local es w.set w.table tree plans.walked meaning sees.1) named in
+            subst (λ (n : ℕ). t ≤ s + 6 * (length ids.now * n)) (path_long es w.set w.table tree plans.walked) own
 
     -- THE CHANGES OF AUXILIARY TABLES MAY BE TAKEN of what was made
     module _ (making : Making) (is : IsMaking meaning d tree w (passes sight) making) where

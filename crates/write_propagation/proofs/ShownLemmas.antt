@@ -15,7 +15,7 @@ use Rattle.row_changes.specs.Touched.{AllPass}
 use Rattle.row_changes.proofs.ChangedLaws.{other_changed}
 use Rattle.version_model.specs.Sound.{IsSound}
 use Rattle.version_model.specs.States.{State, headings}
-use Rattle.version_model.specs.Steps.{IsRelated, directed, pair_in}
+use Rattle.version_model.specs.Steps.{IsRelated, directed, pair_in, run}
 use Rattle.version_model.specs.Writes.{write, written}
 use Rattle.version_model.proofs.CrossingLaws.{GoesOver, walk_goes_over}
 use Rattle.version_model.specs.Put.{put}
@@ -30,13 +30,15 @@ use Rattle.db_state.specs.Parts.{AreLocalAt, MaySee, passes}
 use Rattle.db_state.specs.declared.parts.Parts.{Parts}
 use Rattle.write_propagation.specs.Making.{MayPlan, seen_write}
 use Rattle.write_propagation.specs.Plans.{rows_written}
-use Rattle.write_propagation.specs.Trees.{IsWhole, part}
+use Rattle.changes_walk.specs.Reach.{IsWhole}
+use Rattle.changes_walk.proofs.ReachLaws.{IsInside, each_reached, write_reached}
+use Rattle.write_propagation.specs.Trees.{part}
 use Rattle.write_propagation.specs.declared.plans.RowWrite.{RowWrite}
 use Rattle.write_propagation.specs.declared.tree.Tree.{Tree}
 use Rattle.write_propagation.proofs.PartLemmas.{IsLocalInside, IsPartOf, Rests, put_only, put_own, run_part, run_rests}
 use Rattle.db_state.proofs.PartLaws.{only_map}
-use Rattle.write_propagation.proofs.TreeLemmas.{Agrees, all_agrees, all_rows, part_memory, part_table, same_pair, write_agrees}
-use Rattle.write_propagation.proofs.WholeLemmas.{IsInside, walk_inside, whole}
+use Rattle.write_propagation.proofs.TreeLemmas.{Agrees, all_agrees, all_rows, all_sound, local_sound, part_may, part_memory, part_table, same_pair, write_agrees}
+use Rattle.write_propagation.proofs.WholeLemmas.{path, path_inside}
 use Rattle.db_state.specs.declared.sight.Sight.{Sight}
 use Rattle.db_state.specs.declared.sight.Sight.TheVariants.{All, Of}
 
@@ -93,11 +95,25 @@ module _ {O : Type 0} (meaning : O → Meaning) (laws : (o : O) → Laws (meanin
   abbrev end : State
   end = write meaning es s w.set w.table rows w.ids.next
 
-  of_tree : IsWhole es tree
-  of_tree = whole es good.graph.edges w.set tree plans.walked
+  of_tree : IsWhole es tree.operators tree.tables
+  of_tree = plans.walked.whole
 
-  inside : Each (IsInside tree) (walk (forest es) w.set)
-  inside = walk_inside es good.graph.edges w.set tree plans.walked
+  -- the crossings that the write can reach
+  abbrev ps : List (Crossing O)
+  ps = path es w.set w.table tree plans.walked
+
+  inside : Each (IsInside tree.operators tree.tables) ps
+  inside = path_inside es w.set w.table tree plans.walked
+
+  -- they make the whole write
+  end_is : end ≡ run meaning s start ps
+  end_is = write_reached es w.set w.table tree.operators tree.tables plans.walked meaning s laws good.sound rows w.ids.next plans.may
+
+  -- and that of a part that is sound
+  small_is : (test : ℕ → Bool) → IsSound meaning es (part test tree s) → seen_write meaning d tree w test ≡ run meaning (part test tree s) (written (part test tree s) w.table (rows_only test rows) w.ids.next) ps
+  small_is test sound =
+      write_reached es w.set w.table tree.operators tree.tables plans.walked meaning (part test tree s) laws sound (rows_only test rows) w.ids.next
+      (part_may meaning laws es s good.sound tree of_tree test w.set w.table rows w.ids.next plans.may)
 
   pub end_sound : IsSound meaning es end
   end_sound = (write_is_ordinary meaning es s good.sound w.set w.table rows w.ids.next plans.may laws good.graph.edges).sound
@@ -129,8 +145,10 @@ module _ {O : Type 0} (meaning : O → Meaning) (laws : (o : O) → Laws (meanin
 
     agree : Agrees tree end all_small
     agree =
-        subst (λ (x : Rows). Agrees tree end (write meaning es (part test tree s) w.set w.table x w.ids.next)) (sym (all_rows test all rows))
-        (write_agrees meaning tree es s w.set w.table rows w.ids.next inside (part test tree s) (all_agrees test all tree s))
+        subst (λ (x : State). Agrees tree x all_small) (sym end_is)
+        (subst (λ (x : State). Agrees tree (run meaning s start ps) x) (sym (small_is test (all_sound meaning laws es s good.sound tree of_tree test all)))
+        (subst (λ (x : Rows). Agrees tree (run meaning s start ps) (run meaning (part test tree s) (written (part test tree s) w.table x w.ids.next) ps)) (sym (all_rows test all rows))
+        (write_agrees meaning tree s ps w.table rows w.ids.next inside (part test tree s) (all_agrees test all tree s))))
 
     -- THE WRITE OF THE TREE IS THE WRITE THERE
     pub all_shown : Shows meaning d tree w test
@@ -165,11 +183,11 @@ module _ {O : Type 0} (meaning : O → Meaning) (laws : (o : O) → Laws (meanin
     over_local e true i own = (way_laws true (meaning e.operator) (laws e.operator)).local (local e i own)
     over_local e false i own = (way_laws false (meaning e.operator) (laws e.operator)).local (local e i own)
 
-    here : Each (IsLocalInside meaning laws tree) (walk (forest es) w.set)
+    here : Each (IsLocalInside meaning laws tree) ps
     here =
-        each_of (IsLocalInside meaning laws tree) (walk (forest es) w.set) (λ p i.
-        let at = each_at (IsInside tree) (walk (forest es) w.set) p i inside in
-        let over = each_at (GoesOver (forest es)) (walk (forest es) w.set) p i (walk_goes_over (forest es) w.set) in
+        each_of (IsLocalInside meaning laws tree) ps (λ p i.
+        let at = each_at (IsInside tree.operators tree.tables) ps p i inside in
+        let over = each_at (GoesOver (forest es)) ps p i (each_reached tree.operators (GoesOver (forest es)) (walk (forest es) w.set) (walk_goes_over (forest es) w.set)) in
         let own : In over.over.number tree.operators = subst (λ (q : Crossing O). In q.number tree.operators) over.is at.number in
         record {
           inside = at;
@@ -180,8 +198,8 @@ module _ {O : Type 0} (meaning : O → Meaning) (laws : (o : O) → Laws (meanin
         local_of e true i own = over_local e true i own
         local_of e false i own = over_local e false i own
 
-    ready : Each (IsReady meaning (headings es) s) (walk (forest es) w.set)
-    ready = walk_is_ready meaning es s good.sound w.set
+    ready : Each (IsReady meaning (headings es) s) ps
+    ready = each_reached tree.operators (IsReady meaning (headings es) s) (walk (forest es) w.set) (walk_is_ready meaning es s good.sound w.set)
 
     rise_before : (t : ℕ) → RiseFrom 0 (s.tables t)
     rise_before t = (good.sound.well.tables t).0
@@ -203,8 +221,10 @@ module _ {O : Type 0} (meaning : O → Meaning) (laws : (o : O) → Laws (meanin
 
     of_end : IsPartOf test tree end small
     of_end =
-        run_part meaning laws tree (headings es) s good.sound.well test (part test tree s) small_old (walk (forest es) w.set) start (written (part test tree s) w.table (rows_only test rows) w.ids.next)
-        small_start (written_well meaning es s good.sound w.set w.table rows w.ids.next plans.may) plans.may.more ready here
+        subst (λ (x : State). IsPartOf test tree x small) (sym end_is)
+        (subst (λ (x : State). IsPartOf test tree (run meaning s start ps) x) (sym (small_is test (local_sound meaning laws es s good.sound tree of_tree test local)))
+        (run_part meaning laws tree (headings es) s good.sound.well test (part test tree s) small_old ps start (written (part test tree s) w.table (rows_only test rows) w.ids.next)
+        small_start (written_well meaning es s good.sound w.set w.table rows w.ids.next plans.may) plans.may.more ready here))
 
     -- elsewhere nothing changes
 
@@ -217,7 +237,9 @@ module _ {O : Type 0} (meaning : O → Meaning) (laws : (o : O) → Laws (meanin
         put_same_at t same = ap (λ (x : Rows). put (λ u. rows_only fails (s.tables u)) (w.table ∷ []) (x ∷ []) t) same ∙ put_own (λ u. rows_only fails (s.tables u)) (λ u. rows_only fails (s.tables u)) (w.table ∷ []) t refl
 
     rests : Rests fails tree s end
-    rests = run_rests meaning laws tree (headings es) s good.sound.well fails (walk (forest es) w.set) start rests_start (written_well meaning es s good.sound w.set w.table rows w.ids.next plans.may) plans.may.more ready here
+    rests =
+        subst (λ (x : State). Rests fails tree s x) (sym end_is)
+        (run_rests meaning laws tree (headings es) s good.sound.well fails ps start rests_start (written_well meaning es s good.sound w.set w.table rows w.ids.next plans.may) plans.may.more ready here)
 
     -- no operator of the tree has a memory
     none_before : (e : Link O) → In e (forest es) → In e.number tree.operators → s.memory e.number ≡ []

@@ -5,7 +5,7 @@ use Rattle.std.proofs.lemmas.Bool.{cond-false, cond-true}
 use Rattle.row_store.specs.Rows.{RiseFrom, Rows}
 use Rattle.version_graph.specs.Sets.{In, Each}
 use Rattle.version_graph.specs.Edges.{is_in}
-use Rattle.version_graph.specs.Forest.{Crossing, Link, crossing, forest, walk}
+use Rattle.version_graph.specs.Forest.{Crossing, Link, crossing, forest}
 use Rattle.version_graph.specs.declared.parts.Placed.{Placed}
 use Rattle.version_graph.proofs.SetLaws.{each_at, each_more, each_of, is_in_true}
 use Rattle.op_law.specs.Tables.{Heading, RowsWide, Tables, empty_tables}
@@ -17,7 +17,7 @@ use Rattle.version_model.specs.Put.{put}
 use Rattle.version_model.specs.Sound.{IsSound}
 use Rattle.version_model.specs.States.{State, empty_at, headings}
 use Rattle.version_model.specs.Steps.{IsRelated, after, mapped, pair_in, run, directed}
-use Rattle.version_model.specs.Writes.{write, written}
+use Rattle.version_model.specs.Writes.{written}
 use Rattle.version_model.proofs.EvolveLaws.{empty_are, empty_map}
 use Rattle.version_model.proofs.HeadingLaws.{in_or_not}
 use Rattle.version_model.proofs.PutLaws.{map_same, put_else}
@@ -26,11 +26,12 @@ use Rattle.storage_law.proofs.LinkLaws.{not_in_false}
 use Rattle.op_law.specs.Local.{only, pair_only, rows_only}
 use Rattle.op_rows.specs.inner.RowwiseLocal.{well_only}
 use Rattle.version_model.specs.Writes.{MayWrite}
-use Rattle.write_propagation.specs.Trees.{IsWhole, part}
+use Rattle.changes_walk.specs.Reach.{IsWhole}
+use Rattle.write_propagation.specs.Trees.{part}
 use Rattle.write_propagation.specs.declared.tree.Tree.{Tree}
 use Rattle.write_propagation.proofs.PartLemmas.{rows_sound}
 use Rattle.db_state.proofs.PartLaws.{only_map}
-use Rattle.write_propagation.proofs.WholeLemmas.{IsInside}
+use Rattle.changes_walk.proofs.ReachLaws.{IsInside}
 
 -- a new value that both functions get
 put_same : {A : Type 0} (f g : ℕ → A) (ks : List ℕ) (vs : List A) (t : ℕ) → f t ≡ g t → put f ks vs t ≡ put g ks vs t
@@ -80,10 +81,10 @@ all_agrees test all tree s = record {
 -- ---- a write inside the tree
 
 module _ {O : Type 0} (meaning : O → Meaning) (tree : Tree) where
-  pub pair_inside : (a b : State) (p : Crossing O) → Agrees tree a b → IsInside tree p → pair_in a p ≡ pair_in b p
+  pub pair_inside : (a b : State) (p : Crossing O) → Agrees tree a b → IsInside tree.operators tree.tables p → pair_in a p ≡ pair_in b p
   pair_inside a b p agree inside = same_pair a b p (λ t i. agree.tables t (inside.near t i)) (λ t i. agree.tables t (inside.far t i)) (agree.memory p.number inside.number)
 
-  same_mapped : (old other a b : State) (p : Crossing O) → Agrees tree old other → Agrees tree a b → IsInside tree p → mapped meaning old a p ≡ mapped meaning other b p
+  same_mapped : (old other a b : State) (p : Crossing O) → Agrees tree old other → Agrees tree a b → IsInside tree.operators tree.tables p → mapped meaning old a p ≡ mapped meaning other b p
   same_mapped old other a b p before now inside =
       let m = directed p.backward (meaning p.operator) in
       let near : map a.tables p.near ≡ map b.tables p.near = map_same a.tables b.tables p.near (λ t i. now.tables t (inside.near t i)) in
@@ -91,7 +92,7 @@ module _ {O : Type 0} (meaning : O → Meaning) (tree : Tree) where
       ∙ ap (λ (x : PairState). m.forward (map b.tables p.near) x a.next) (pair_inside old other p before inside)
       ∙ ap (λ (n : ℕ). m.forward (map b.tables p.near) (pair_in other p) n) now.next
 
-  after_agrees : (old other a b : State) (p : Crossing O) → Agrees tree old other → Agrees tree a b → IsInside tree p → Agrees tree (after meaning old a p) (after meaning other b p)
+  after_agrees : (old other a b : State) (p : Crossing O) → Agrees tree old other → Agrees tree a b → IsInside tree.operators tree.tables p → Agrees tree (after meaning old a p) (after meaning other b p)
   after_agrees old other a b p before now inside =
       let same = same_mapped old other a b p before now inside in
       record {
@@ -100,26 +101,26 @@ module _ {O : Type 0} (meaning : O → Meaning) (tree : Tree) where
         next = ap (λ (x : Mapped). x.next) same;
       }
 
-  run_agrees : (old other : State) → Agrees tree old other → (ps : List (Crossing O)) (a b : State) → Agrees tree a b → Each (IsInside tree) ps → Agrees tree (run meaning old a ps) (run meaning other b ps)
+  run_agrees : (old other : State) → Agrees tree old other → (ps : List (Crossing O)) (a b : State) → Agrees tree a b → Each (IsInside tree.operators tree.tables) ps → Agrees tree (run meaning old a ps) (run meaning other b ps)
   run_agrees old other before [] a b now inside = now
   run_agrees old other before (p ∷ ps) a b now inside = run_agrees old other before ps (after meaning old a p) (after meaning other b p) (after_agrees old other a b p before now inside.0) inside.1
 
-  module _ (es : List (Placed O)) (s : State) (set t : ℕ) (rows : Rows) (next : ℕ) (inside : Each (IsInside tree) (walk (forest es) set)) where
-    -- A WRITE MAKES THE SAME OF STATES THAT AGREE
-    pub write_agrees : (c : State) → Agrees tree s c → Agrees tree (write meaning es s set t rows next) (write meaning es c set t rows next)
+  module _ (s : State) (ps : List (Crossing O)) (t : ℕ) (rows : Rows) (next : ℕ) (inside : Each (IsInside tree.operators tree.tables) ps) where
+    -- CROSSINGS INSIDE MAKE THE SAME OF STATES THAT AGREE
+    pub write_agrees : (c : State) → Agrees tree s c → Agrees tree (run meaning s (written s t rows next) ps) (run meaning c (written c t rows next) ps)
     write_agrees c agree =
-        run_agrees s c agree (walk (forest es) set) (written s t rows next) (written c t rows next)
+        run_agrees s c agree ps (written s t rows next) (written c t rows next)
         (record { tables = λ u i. put_same s.tables c.tables (t ∷ []) (rows ∷ []) u (agree.tables u i); memory = agree.memory; next = refl }) inside
 
-    -- and leaves what is outside
-    pub outside_table : In t tree.tables → (u : ℕ) → (In u tree.tables → ⊥) → (write meaning es s set t rows next).tables u ≡ s.tables u
+    -- and leave what is outside
+    pub outside_table : In t tree.tables → (u : ℕ) → (In u tree.tables → ⊥) → (run meaning s (written s t rows next) ps).tables u ≡ s.tables u
     outside_table held u none =
-        run_table meaning s (walk (forest es) set) (written s t rows next) u (each_more (IsInside tree) (λ (q : Crossing O). In u q.far → ⊥) (λ q in_tree k. none (in_tree.far u k)) (walk (forest es) set) inside)
+        run_table meaning s ps (written s t rows next) u (each_more (IsInside tree.operators tree.tables) (λ (q : Crossing O). In u q.far → ⊥) (λ q in_tree k. none (in_tree.far u k)) ps inside)
         ∙ put_else s.tables t rows u (λ same. none (subst (λ (k : ℕ). In k tree.tables) (sym same) held))
 
-    pub outside_memory : (n : ℕ) → (In n tree.operators → ⊥) → (write meaning es s set t rows next).memory n ≡ s.memory n
+    pub outside_memory : (n : ℕ) → (In n tree.operators → ⊥) → (run meaning s (written s t rows next) ps).memory n ≡ s.memory n
     outside_memory n none =
-        run_memory meaning s (walk (forest es) set) (written s t rows next) n (each_more (IsInside tree) (λ (q : Crossing O). n ≡ q.number → ⊥) (λ q in_tree same. none (subst (λ (k : ℕ). In k tree.operators) (sym same) in_tree.number)) (walk (forest es) set) inside)
+        run_memory meaning s ps (written s t rows next) n (each_more (IsInside tree.operators tree.tables) (λ (q : Crossing O). n ≡ q.number → ⊥) (λ q in_tree same. none (subst (λ (k : ℕ). In k tree.operators) (sym same) in_tree.number)) ps inside)
 
 -- ---- a part of a tree is sound
 
@@ -141,7 +142,7 @@ empty_related meaning laws heading n e fits =
 part_well : (test : ℕ → Bool) (h : Heading) (rows : Rows) → RiseFrom 0 rows → RowsWide (length h.columns) rows → RiseFrom 0 (rows_only test rows) × RowsWide (length h.columns) (rows_only test rows)
 part_well test h rows rise wide = (well_only test (h ∷ []) (rows ∷ []) ((rise, wide), tt)).0
 
-module _ {O : Type 0} (meaning : O → Meaning) (laws : (o : O) → Laws (meaning o)) (es : List (Placed O)) (s : State) (sound : IsSound meaning es s) (tree : Tree) (whole : IsWhole es tree) (test : ℕ → Bool) where
+module _ {O : Type 0} (meaning : O → Meaning) (laws : (o : O) → Laws (meaning o)) (es : List (Placed O)) (s : State) (sound : IsSound meaning es s) (tree : Tree) (whole : IsWhole es tree.operators tree.tables) (test : ℕ → Bool) where
   abbrev small : State
   small = part test tree s
 

@@ -18,6 +18,7 @@ use Rattle.row_changes.specs.Differences.{AreDifferences}
 use Rattle.row_changes.specs.Touched.{AllPass}
 use Rattle.row_changes.specs.declared.change.SideChanges.{SideChanges}
 use Rattle.changes_walk.specs.Calls.{CarriesBy}
+use Rattle.changes_walk.specs.Reach.{reached}
 use Rattle.changes_walk.specs.Changing.{AreOfState, changing_state, latest_changes}
 use Rattle.changes_walk.specs.declared.progress.Changing.{Changing}
 use Rattle.version_model.specs.Bounds.{AreLocal}
@@ -41,7 +42,7 @@ use Rattle.write_propagation.specs.declared.tree.Tree.{Tree}
 -- the write of a tree may be planned
 pub record MayPlan {O : Type 0} (meaning : O → Meaning) (d : Parts O) (tree : Tree) (w : RowWrite) : Type 0 where
   pub kept : IsDatabase meaning d
-  pub walked : IsTree d.graph.edges w.set tree
+  pub walked : IsTree d.graph.edges w.set w.table tree
   pub lives : In w.set (numbers d.graph.edges)
   pub may : MayWrite d.graph.edges (state_for meaning d) w.set w.table (rows_written meaning d w) w.ids.next
   pub old : AreOld ((state_for meaning d).tables w.table) w.changes
@@ -62,14 +63,17 @@ copied_state copies next = record { tables = rows_at copies.tables; memory = pai
 abbrev pub first_changes : RowWrite → Changing
 first_changes w = record { tables = record { number = w.table; value = w.changes } ∷ []; memories = []; ids = w.ids }
 
--- they were carried along the tree, or an identifier is needed that the counter doesn't give
-abbrev pub CarriesWrite : {O : Type 0} → (O → Meaning) → List (Placed O) → State → RowWrite → Result Changing (Fault IdsSpent) → Type 0
-CarriesWrite meaning es old w (Ok made) = CarriesBy meaning es old w.set (first_changes w) made (Ok tt) × ((ids : List ℕ) → AreLocal meaning (walk (forest es) w.set) → AllPass (has_id ids) w.changes → (t : ℕ) → AllPass (has_id ids) (latest_changes made.tables t))
-CarriesWrite meaning es old w (Err fault) = CarriesBy meaning es old w.set (first_changes w) (first_changes w) (Err fault)
+-- they were carried along the walk over these operators, or an identifier is needed that the counter doesn't give
+abbrev pub CarriesWrite : {O : Type 0} → (O → Meaning) → List (Placed O) → State → RowWrite → List ℕ → Result Changing (Fault IdsSpent) → Type 0
+CarriesWrite meaning es old w operators (Ok made) =
+    CarriesBy meaning es old w.set (first_changes w) made (Ok tt) × ((ids : List ℕ) → AreLocal meaning (reached operators (walk (forest es) w.set)) → AllPass (has_id ids) w.changes → (t : ℕ) → AllPass (has_id ids) (latest_changes made.tables t))
+CarriesWrite meaning es old w operators (Err fault) = CarriesBy meaning es old w.set (first_changes w) (first_changes w) (Err fault)
 
 -- with at most six steps for each operator and each identifier that the changes name, where each operator treats each identifier by itself
-abbrev pub CarriesWriteWithin : {O : Type 0} → (O → Meaning) → List (Placed O) → RowWrite → ℕ → ℕ → Type 0
-CarriesWriteWithin meaning es w old new = (ids : List ℕ) → IdsRise 0 ids → AreLocal meaning (walk (forest es) w.set) → AllPass (has_id ids) w.changes → new ≤ old + 6 * (length ids * length (walk (forest es) w.set))
+abbrev pub CarriesWriteWithin : {O : Type 0} → (O → Meaning) → List (Placed O) → RowWrite → List ℕ → ℕ → ℕ → Type 0
+CarriesWriteWithin meaning es w operators old new =
+    let path = reached operators (walk (forest es) w.set) in
+    (ids : List ℕ) → IdsRise 0 ids → AreLocal meaning path → AllPass (has_id ids) w.changes → new ≤ old + 6 * (length ids * length path)
 
 -- ---- making
 

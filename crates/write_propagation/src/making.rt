@@ -73,13 +73,15 @@ fn carry_write<O: Operator, L: Ledger>(
     graph: &Graph<O>,
     rows: Seen<'_>,
     written: RowWrite,
+    operators: &[u32],
     steps: &mut Steps<L>,
 ) -> Result<Changing, Fault<IdsSpent>>
     requires { MayCarryBy O.meaning graph.now.edges (copied_state rows.copies.now rows.next)
-        (first_changes written) written.set }
+        (first_changes written) written.set operators.now }
     ensures carries { CarriesWrite O.meaning graph.now.edges
-        (copied_state rows.entry.copies.now rows.entry.next) written result }
-    ensures steps { CarriesWriteWithin O.meaning graph.now.edges written steps.old steps.new }
+        (copied_state rows.entry.copies.now rows.entry.next) written operators.now result }
+    ensures steps { CarriesWriteWithin O.meaning graph.now.edges written operators.now steps.old
+        steps.new }
 {
     let RowWrite {
         set,
@@ -96,7 +98,7 @@ fn carry_write<O: Operator, L: Ledger>(
         number: table,
         value: changes,
     })?;
-    carry_changes(alloc, graph, &rows, &mut made, set, steps)?;
+    carry_changes(alloc, graph, &rows, &mut made, set, operators, steps)?;
     Ok(made)
 }
 
@@ -121,6 +123,7 @@ pub(crate) fn make_write<O: Operator, L: Ledger>(
         copies: &copies,
         next: db.ids().next(),
     };
-    let made = carry_write(alloc, db.graph(), rows, written, steps)?;
+    let operators = tree.operators.as_slice();
+    let made = carry_write(alloc, db.graph(), rows, written, operators, steps)?;
     Ok(Making { copies, made })
 }

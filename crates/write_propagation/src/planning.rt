@@ -119,14 +119,14 @@ fn plan_tree<O: Operator, L: Ledger>(
     plan_seen(alloc, db, tree, written, sight, steps)
 }
 
-/// What it takes to make changes in a table of a live working set, and to carry them over the whole
-/// tree. It changes no contents, and makes room for all that is to be put in.
+/// What it takes to make changes in a table of a live working set, and to carry them to all tables that
+/// hang together with it. It changes no contents, and makes room for all that is to be put in.
 ///
-/// Where every operator of the tree treats each identifier by itself, it reads and makes the rows of
-/// the identifiers that the changes name, in each table of the tree, and no others. Of the at most
+/// Where every operator between these tables treats each identifier by itself, it reads and makes the
+/// rows of the identifiers that the changes name, in each of the tables, and no others. Of the at most
 /// sixteen steps for each operator and identifier two are for reading, six for the mapping, and eight
-/// for the auxiliary tables. Else it reads and copies the tables of the tree, near and far for each
-/// operator.
+/// for the auxiliary tables. Else it reads and copies these tables, near and far for each operator. Of
+/// the other operators of the working set's tree it only looks at the numbers of their tables.
 pub fn plan<O: Operator + Drop, L: Ledger>(
     alloc: Global,
     db: &mut Db<O>,
@@ -147,7 +147,7 @@ pub fn plan<O: Operator + Drop, L: Ledger>(
     ensures steps { PlansWithin O.meaning db.old.graph.edges written.set written.changes steps.old
         steps.new }
 {
-    let tree = tree_of(alloc, db.graph(), written.set)?;
+    let tree = tree_of(alloc, db.graph(), written.set, written.table)?;
     let plan = plan_tree(alloc, db, &tree, written, steps)?;
     make_room(alloc, db, &plan)?;
     Ok(plan)

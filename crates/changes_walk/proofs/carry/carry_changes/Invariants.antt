@@ -1,4 +1,4 @@
-use Rattle.std.proofs.Common.{◌≡◌, ◌≤◌, length, take}
+use Rattle.std.proofs.Common.{◌≡◌, ◌≤◌, take}
 use Rattle.version_graph.specs.Forest.{forest, walk}
 use Rattle.op_law.specs.Calls.{first_refused}
 use Rattle.version_model.specs.Steps.{run}
@@ -12,6 +12,5 @@ invariant-loop-step g l = record {
   within : l.made.ids.next ≤ first_refused l.fn.made.ids;
   limit : l.made.ids.limit ≡ l.fn.made.ids.limit;
   fit : AreOfState (g.D.StateRead.state l.rows) l.made.tables;
-  inside : l.step-index ≤ length (walk (forest l.graph.edges) l.set);
-  named : NamedSoFar g.O.Operator.meaning (walk (forest l.graph.edges) l.set) l.fn.made l.made l.step-index l.fn.steps l.steps;
+  named : NamedSoFar g.O.Operator.meaning l.operators (walk (forest l.graph.edges) l.set) l.fn.made l.made l.step-index l.fn.steps l.steps;
 }

@@ -1,8 +1,8 @@
-use Rattle.std.proofs.Common.{ℕ, Ok, ◌≤◌, ◌+◌, ◌*◌, length, sym, subst}
+use Rattle.std.proofs.Common.{Ok, length, subst}
 use Rattle.version_graph.specs.Edges.{Drawn}
 use Rattle.write_propagation.specs.Plans.{rows_written}
 use Rattle.write_propagation.specs.Trees.{IsTree}
-use Rattle.write_propagation.proofs.WholeLemmas.{path_long, tree_local}
+use Rattle.write_propagation.proofs.WholeLemmas.{fewer_operators, path_few, tree_local}
 use Rattle.write_propagation.proofs.LeadLemmas.{changes_same, plans_same, same_database, same_self}
 use Rattle.write_propagation.proofs.planning.plan.Goals as goal
 
@@ -31,22 +31,22 @@ pub returns-in_err-plan-clause-steps : goal.returns-in_err-plan-clause-steps
 returns-in_err-plan-clause-steps g c local =
     let d = c.args.db.now in
     let tree = c.in_ok-tree.tree in
-    let is = subst (λ (x : Drawn _). IsTree x.edges c.args.written.set tree) c.graph.ensures.graph c.in_ok-tree.ensures in
-    let at = tree_local d.graph.edges c.graph.ensures.kept.graph.edges c.args.written.set tree is g.O.Operator.meaning local in
-    subst (λ (n : ℕ). c.plan_tree.new.steps ≤ c.args.steps.now + 16 * (length c.args.written.changes * n)) (sym (path_long d.graph.edges c.graph.ensures.kept.graph.edges c.args.written.set tree is)) (c.in_err-plan.ensures.steps at)
+    let is = subst (λ (x : Drawn _). IsTree x.edges c.args.written.set c.args.written.table tree) c.graph.ensures.graph c.in_ok-tree.ensures in
+    let at = tree_local d.graph.edges c.args.written.set c.args.written.table tree is c.graph.ensures.kept.graph.edges g.O.Operator.meaning local in
+    fewer_operators (length c.args.written.changes) _ _ _ _ (path_few d.graph.edges c.args.written.set c.args.written.table tree is) (c.in_err-plan.ensures.steps at)
 
 pub returns-in_err-make_room-clause-steps : goal.returns-in_err-make_room-clause-steps
 returns-in_err-make_room-clause-steps g c local =
     let d = c.args.db.now in
     let tree = c.in_ok-tree.tree in
-    let is = subst (λ (x : Drawn _). IsTree x.edges c.args.written.set tree) c.graph.ensures.graph c.in_ok-tree.ensures in
-    let at = tree_local d.graph.edges c.graph.ensures.kept.graph.edges c.args.written.set tree is g.O.Operator.meaning local in
-    subst (λ (n : ℕ). c.plan_tree.new.steps ≤ c.args.steps.now + 16 * (length c.args.written.changes * n)) (sym (path_long d.graph.edges c.graph.ensures.kept.graph.edges c.args.written.set tree is)) (c.in_ok-plan.ensures.steps at)
+    let is = subst (λ (x : Drawn _). IsTree x.edges c.args.written.set c.args.written.table tree) c.graph.ensures.graph c.in_ok-tree.ensures in
+    let at = tree_local d.graph.edges c.args.written.set c.args.written.table tree is c.graph.ensures.kept.graph.edges g.O.Operator.meaning local in
+    fewer_operators (length c.args.written.changes) _ _ _ _ (path_few d.graph.edges c.args.written.set c.args.written.table tree is) (c.in_ok-plan.ensures.steps at)
 
 pub returns-clause-steps : goal.returns-clause-steps
 returns-clause-steps g c local =
     let d = c.args.db.now in
     let tree = c.in_ok-tree.tree in
-    let is = subst (λ (x : Drawn _). IsTree x.edges c.args.written.set tree) c.graph.ensures.graph c.in_ok-tree.ensures in
-    let at = tree_local d.graph.edges c.graph.ensures.kept.graph.edges c.args.written.set tree is g.O.Operator.meaning local in
-    subst (λ (n : ℕ). c.plan_tree.new.steps ≤ c.args.steps.now + 16 * (length c.args.written.changes * n)) (sym (path_long d.graph.edges c.graph.ensures.kept.graph.edges c.args.written.set tree is)) (c.in_ok-plan.ensures.steps at)
+    let is = subst (λ (x : Drawn _). IsTree x.edges c.args.written.set c.args.written.table tree) c.graph.ensures.graph c.in_ok-tree.ensures in
+    let at = tree_local d.graph.edges c.args.written.set c.args.written.table tree is c.graph.ensures.kept.graph.edges g.O.Operator.meaning local in
+    fewer_operators (length c.args.written.changes) _ _ _ _ (path_few d.graph.edges c.args.written.set c.args.written.table tree is) (c.in_ok-plan.ensures.steps at)
