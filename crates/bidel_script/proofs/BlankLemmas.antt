@@ -4,7 +4,7 @@ use Rattle.std.proofs.lemmas.List.{take_all}
 use Rattle.std.proofs.Math.Seq.{drop-cons}
 use Rattle.std.proofs.Math.ListN.{drop_of_length-le}
 use Rattle.bidel_lex.specs.Classes.{is_space}
-use Rattle.bidel_script.specs.Tails.{first_byte, begins_comment}
+use Rattle.bidel_script.specs.Tails.{first_byte, begins_comment, is_open_behind}
 
 -- the byte at a place, and those behind it
 pub byte_at : (bytes : List ℕ) (at : ℕ) → at < length bytes → drop at bytes ≡ get_or bytes at 0 ∷ drop (at + 1) bytes
@@ -51,6 +51,44 @@ pub byte_stops : (bytes : List ℕ) (at : ℕ) → at < length bytes → begins_
 byte_stops bytes at h k s = ap (first_byte false at) (byte_at bytes at h) ∙ outside (get_or bytes at 0) (drop (at + 1) bytes) at
     ∙ chosen_no (begins_comment (get_or bytes at 0) (drop (at + 1) bytes)) _ _ k ∙ chosen_no (is_space (get_or bytes at 0)) _ _ s
 
+-- ---- whether a comment is open behind them
+
+inside_opens : (b : ℕ) (rest : List ℕ) → is_open_behind true (b ∷ rest) ≡ is_open_behind (not (b == 10)) rest
+unfolding is_open_behind
+inside_opens b rest = refl
+
+outside_opens : (b : ℕ) (rest : List ℕ) → is_open_behind false (b ∷ rest) ≡ cond (begins_comment b rest) (is_open_behind true rest) (cond (is_space b) (is_open_behind false rest) false)
+unfolding is_open_behind
+outside_opens b rest = refl
+
+pub inside_opens_on : (bytes : List ℕ) (at : ℕ) → at < length bytes → is_open_behind true (drop at bytes) ≡ is_open_behind (not (get_or bytes at 0 == 10)) (drop (at + 1) bytes)
+inside_opens_on bytes at h = ap (is_open_behind true) (byte_at bytes at h) ∙ inside_opens (get_or bytes at 0) (drop (at + 1) bytes)
+
+pub comment_opens : (bytes : List ℕ) (at : ℕ) → at < length bytes → begins_comment (get_or bytes at 0) (drop (at + 1) bytes) ≡ true
+    → is_open_behind false (drop at bytes) ≡ is_open_behind true (drop (at + 1) bytes)
+comment_opens bytes at h k = ap (is_open_behind false) (byte_at bytes at h) ∙ outside_opens (get_or bytes at 0) (drop (at + 1) bytes)
+    ∙ chosen_yes (begins_comment (get_or bytes at 0) (drop (at + 1) bytes)) _ _ k
+
+pub space_opens : (bytes : List ℕ) (at : ℕ) → at < length bytes → begins_comment (get_or bytes at 0) (drop (at + 1) bytes) ≡ false → is_space (get_or bytes at 0) ≡ true
+    → is_open_behind false (drop at bytes) ≡ is_open_behind false (drop (at + 1) bytes)
+space_opens bytes at h k s = ap (is_open_behind false) (byte_at bytes at h) ∙ outside_opens (get_or bytes at 0) (drop (at + 1) bytes)
+    ∙ chosen_no (begins_comment (get_or bytes at 0) (drop (at + 1) bytes)) _ _ k ∙ chosen_yes (is_space (get_or bytes at 0)) _ _ s
+
+pub byte_shuts : (bytes : List ℕ) (at : ℕ) → at < length bytes → begins_comment (get_or bytes at 0) (drop (at + 1) bytes) ≡ false → is_space (get_or bytes at 0) ≡ false
+    → is_open_behind false (drop at bytes) ≡ false
+byte_shuts bytes at h k s = ap (is_open_behind false) (byte_at bytes at h) ∙ outside_opens (get_or bytes at 0) (drop (at + 1) bytes)
+    ∙ chosen_no (begins_comment (get_or bytes at 0) (drop (at + 1) bytes)) _ _ k ∙ chosen_no (is_space (get_or bytes at 0)) _ _ s
+
+pub end_opens : (inside : Bool) (bytes : List ℕ) (at : ℕ) → length bytes ≤ at → is_open_behind inside (drop at bytes) ≡ inside
+unfolding is_open_behind
+end_opens inside bytes at h = ap (is_open_behind inside) (drop_of_length-le bytes h) ∙ none inside
+  where
+    none : (inside : Bool) → is_open_behind inside [] ≡ inside
+    none true = refl
+    none false = refl
+
+-- ---- past the last byte
+
 nothing_left : (inside : Bool) (at : ℕ) (bytes : List ℕ) → bytes ≡ [] → first_byte inside at bytes ≡ at
 unfolding first_byte
 nothing_left inside at bytes e = ap (first_byte inside at) e ∙ none inside
@@ -59,6 +97,5 @@ nothing_left inside at bytes e = ap (first_byte inside at) e ∙ none inside
     none true = refl
     none false = refl
 
--- past the last byte
 pub end_stops : (inside : Bool) (bytes : List ℕ) (at : ℕ) → length bytes ≤ at → first_byte inside at (drop at bytes) ≡ at
 end_stops inside bytes at h = nothing_left inside at (drop at bytes) (drop_of_length-le bytes h)

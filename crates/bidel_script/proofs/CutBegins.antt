@@ -64,7 +64,7 @@ inner_first at (b ∷ inner) rest all =
     comment_passed at b (inner ++ rest) ∙ ap (λ (x : Bool). first_byte x (at + 1) (inner ++ rest)) inside
     ∙ inner_first (at + 1) inner rest (λ k d lt. all (suc k) d (omega (arith, lt))) ∙ ap (λ (n : ℕ). first_byte true n rest) e
 
-space_other : (b : ℕ) → is_space b ≡ true → (b == 45) ≡ false
+pub space_other : (b : ℕ) → is_space b ≡ true → (b == 45) ≡ false
 space_other b h = grind arith
 
 blanks_first : (at : ℕ) (gap rest : List ℕ) → Blanks gap → first_byte false at (gap ++ rest) ≡ first_byte false (at + length gap) rest

@@ -18,3 +18,4 @@ pub mod LongLaws
 mod MovedTokens
 mod MovedLengths
 pub mod MovedLaws
+pub mod BlanksLaws

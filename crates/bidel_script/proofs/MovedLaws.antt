@@ -39,7 +39,7 @@ byte_moved k at bytes next true blank = next true
 byte_moved k at bytes next false true = next false
 byte_moved k at bytes next false false = refl
 
-first_byte_moved : (inside : Bool) (k at : ℕ) (bytes : List ℕ) → first_byte inside (k + at) bytes ≡ k + first_byte inside at bytes
+pub first_byte_moved : (inside : Bool) (k at : ℕ) (bytes : List ℕ) → first_byte inside (k + at) bytes ≡ k + first_byte inside at bytes
 unfolding first_byte
 first_byte_moved inside k at [] = refl
 first_byte_moved true k at (b ∷ bytes) =
@@ -48,7 +48,7 @@ first_byte_moved false k at (b ∷ bytes) =
     let e : k + at + 1 ≡ k + (at + 1) = omega arith in
     byte_moved k at bytes (λ inside. ap (λ (n : ℕ). first_byte inside n bytes) e ∙ first_byte_moved inside k (at + 1) bytes) (begins_comment b bytes) (is_space b)
 
-begun_moved : (u y : List ℕ) (from : ℕ) (last : Lexed) → begun_at (u ++ y) (length u + from) (moved_last (length u) last) ≡ length u + begun_at y from last
+pub begun_moved : (u y : List ℕ) (from : ℕ) (last : Lexed) → begun_at (u ++ y) (length u + from) (moved_last (length u) last) ≡ length u + begun_at y from last
 begun_moved u y from (lexed.Token t) = ap (first_byte false (length u + from)) (drop-append-add u y from) ∙ first_byte_moved false (length u) from (drop from y)
 begun_moved u y from lexed.More = ap (first_byte false (length u + from)) (drop-append-add u y from) ∙ first_byte_moved false (length u) from (drop from y)
 begun_moved u y from lexed.End = length-append u y
@@ -73,7 +73,7 @@ leads_both bytes tail ts (st ∷ one) other m n h k = (
 
 module _ (u y : List ℕ) (tail : Tail) where
   -- statements of the bytes alone, in all bytes
-  leads_moved : (ts : List Token) (sts : List StatementView) (used : ℕ) → Leads y tail ts sts used → Leads (u ++ y) (moved_tail (length u) tail) (all_moved (length u) ts) sts used
+  pub leads_moved : (ts : List Token) (sts : List StatementView) (used : ℕ) → Leads y tail ts sts used → Leads (u ++ y) (moved_tail (length u) tail) (all_moved (length u) ts) sts used
   leads_moved ts [] used h = h
   leads_moved ts (st ∷ sts) used h =
       let k = length u in (
@@ -106,7 +106,7 @@ module _ (u y : List ℕ) (tail : Tail) where
     short_moved : (used : ℕ) → ¬ IsLong y tail (drop used ts) → ¬ IsLong (u ++ y) (moved_tail (length u) tail) (drop (n + used) all)
     short_moved used h long = h (long_behind_down u y tail (drop used ts) (subst (IsLong (u ++ y) (moved_tail (length u) tail)) (behind_is used) long))
 
-    stands_moved : (used : ℕ) (o : Outcome) → StandsBehind y tail ts used o → StandsBehind (u ++ y) (moved_tail (length u) tail) all (n + used) (moved (length u) o)
+    pub stands_moved : (used : ℕ) (o : Outcome) → StandsBehind y tail ts used o → StandsBehind (u ++ y) (moved_tail (length u) tail) all (n + used) (moved (length u) o)
     stands_moved used Over h = (behind_is used ∙ ap (all_moved (length u)) h.0, ap (moved_last (length u)) h.1)
     stands_moved used (Fault at) h =
         let k = length u in

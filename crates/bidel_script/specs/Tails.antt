@@ -21,6 +21,13 @@ first_byte true at (b ∷ bytes) = first_byte (not (b == 10)) (at + 1) bytes
 first_byte false at (b ∷ bytes) =
     if begins_comment b bytes then first_byte true (at + 1) bytes else (if is_space b then first_byte false (at + 1) bytes else at)
 
+-- whether a comment is open behind the white space and comments in front, where one is open before them or isn't
+unfoldable pub is_open_behind : Bool → List ℕ → Bool
+is_open_behind inside [] = inside
+is_open_behind true (b ∷ bytes) = is_open_behind (not (b == 10)) bytes
+is_open_behind false (b ∷ bytes) =
+    if begins_comment b bytes then is_open_behind true bytes else (if is_space b then is_open_behind false bytes else false)
+
 -- the end of the last token
 abbrev pub last_end : ℕ → List Token → ℕ
 last_end from [] = from

@@ -1,7 +1,7 @@
 //! Laws of scripts, each the contract of a function that does nothing.
 ghost use Rattle.bidel_script.specs.Script.{FaultIsNoScript, FaultsStay, FrontsComeFirst, LongStays, OneComes, OneScript, OverIsScript};
 ghost use Rattle.bidel_script.specs.Tails.{TokensAreKnown};
-ghost use Rattle.bidel_script.specs.Moved.{UsedBytesGo};
+ghost use Rattle.bidel_script.specs.Moved.{BlanksGo, UsedBytesGo};
 
 /// Bytes are the script of at most one list of statements.
 pub fn script_is_one()
@@ -46,4 +46,9 @@ pub fn long_stays()
 /// Behind statements that some first bytes fix the other bytes say what they say by themselves.
 pub fn used_bytes_go()
     ensures { UsedBytesGo }
+{}
+
+/// White space and comments before the first statement change nothing but places.
+pub fn blanks_go()
+    ensures { BlanksGo }
 {}

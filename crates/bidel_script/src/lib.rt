@@ -11,25 +11,28 @@
 //! bytes are the script of at most one list of statements, that whole statements with nothing behind them are a script and bytes with
 //! a fault are none, that any bytes fix one list of statements with one outcome behind them, which first bytes show a token, that bytes that are cut off fix the
 //! first of the statements that all of them fix, that a fault in them is that of all, that what is too long in them is too long in all, and that
-//! behind statements that first bytes fix the other bytes say what they say by themselves (`specs/Moved.antt`), so that used bytes may go. Its
+//! behind statements that first bytes fix, and behind white space and comments, the other bytes say what they say by themselves
+//! (`specs/Moved.antt`), so that used bytes may go. Its
 //! lemmas for the crates above are on tokens (`TokenLemmas`), on the statements in front of others (`ScriptLemmas`, `UniqueLemmas`,
 //! `ComesLemmas`), and on the texts of a statement, which are within the limit of texts (`TextLimits`). It knows nothing of what
 //! statements mean, where bytes come from, or what is put for them.
 //!
 //! Lemmas that crates above may use stand in proofs/: `TokenLaws`, `ScriptLaws`, `UniqueLaws`,
-//! `ComesLaws`, `CutLaws`, `LongLaws`, `MovedLaws`, `PlaceLaws` and `TextLimitsLaws`.
+//! `ComesLaws`, `CutLaws`, `LongLaws`, `MovedLaws`, `BlanksLaws`, `PlaceLaws` and `TextLimitsLaws`.
 #![tactic(auto)]
 
+mod blanks;
 mod front;
 mod laws;
 mod lengths;
 mod place;
 mod tokens;
 
+pub use blanks::{Blanks, pass_blanks};
 pub use front::{Found, Stop, find_front};
 pub use laws::{
-    fault_is_no_script, faults_stay, fronts_come_first, long_stays, over_is_script, run_is_one,
-    script_is_one, tokens_are_known, used_bytes_go,
+    blanks_go, fault_is_no_script, faults_stay, fronts_come_first, long_stays, over_is_script,
+    run_is_one, script_is_one, tokens_are_known, used_bytes_go,
 };
 pub use place::{Place, place_behind, place_from};
 pub use tokens::{Tail, Tokens, all_tokens};

@@ -10,7 +10,7 @@ use Rattle.run_words.specs.Words.{Asked}
 use Rattle.run_words.specs.Laws.{SayOneThing}
 use Rattle.generated_run.specs.Moves.{MovesUnseen}
 use Rattle.generated_run.specs.Output.{state_after}
-use Rattle.generated_run.specs.Statuses.{AnswersScript, Done, FirstReplies, Had, Passed, Stopped, StoppedOfAll, Taken, Unread, above, failed, limit, whole}
+use Rattle.generated_run.specs.Statuses.{AnswersScript, Done, FirstReplies, Had, Passed, Stopped, StoppedOfAll, Taken, Unread, above, early, failed, limit, whole}
 use Rattle.generated_run.proofs.EndLaws.{done_answers, done_told, had_done, had_passed, had_stopped}
 use Rattle.generated_run.proofs.CutLaws.{passed_first, stopped_of_all, unread_first}
 use Rattle.generated_run.proofs.MoveLaws.{moves_unseen}
@@ -184,6 +184,7 @@ stays_for f stays file = elim (stays file) [ inl same ↦ inl same | inr dumped 
 
 taken_once : {left left' : Option (List ℕ)} {read read' : ℕ} {bytes : List ℕ} {ended : Bool} → Taken left left' read read' bytes ended → RoseOnce read read'
 taken_once (whole consumed end within same fixed) = inl same
+taken_once (early consumed within same fixed) = inl same
 taken_once (failed consumed within rose fixed) = inr rose
 taken_once (above taken consumed over is same fixed) = inl same
 

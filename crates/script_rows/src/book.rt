@@ -9,7 +9,7 @@ use std::test::Fail;
 
 // The names of all options.
 const OPTIONS: &str =
-    " words status file vacant left kept take put cut room rooms everywhere unnoticed dumped ";
+    " words status file vacant left kept gives spaces take put cut room rooms everywhere unnoticed dumped ";
 
 /// What the paragraphs so far say: the named texts, the test, what stands before all its cases, how many of
 /// these there were, how many cases in all, and what is reported.

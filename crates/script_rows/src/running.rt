@@ -1,16 +1,20 @@
 //! One run of a script through the top call, over files in memory.
 use crate::case::{Case, words_of};
 use crate::marked::unmarked;
+use crate::spaces::Spaces;
 use inverda_run::inverda;
-use outside::{MemoryFiles, MemorySink, MemorySource};
+use outside::{MemoryFiles, MemorySink, MemorySource, Source};
 use std::alloc::Global;
 use std::test::Fail;
 
 /// The most bytes that a sink takes in all, and that a file has room for.
 pub const ROOM: usize = 1_048_576;
 
-// The most bytes that the source gives at once, and a file.
+// The most bytes that a file gives at once, and the source where the case says no other number and the script is short.
 const PIECE: usize = 7;
+
+// In about so many pieces a long script comes.
+const PIECES: usize = 100;
 
 // The most bytes that the sink takes at once.
 const TAKEN: usize = 5;
@@ -47,16 +51,36 @@ pub fn run(
     room: usize,
     files: &mut MemoryFiles,
 ) -> Result<Told, Fail> {
+    if case.has("spaces") {
+        let mut source = Spaces {
+            left: case.number("spaces", 0)?,
+        };
+        return run_source(alloc, case, words, &mut source, room, files);
+    }
     let script = unmarked(alloc, script)?;
+    let piece = PIECE.max(script.len() / PIECES);
+    let piece = case.number("gives", piece as u64)?.max(1) as usize;
     let mut takes = vec![in alloc; case.number("take", NEVER)?]?;
     if case.has("cut") {
-        takes.push(script.len().div_ceil(PIECE) as u64)?;
+        takes.push(script.len().div_ceil(piece) as u64)?;
     }
+    let mut source = MemorySource::new(script, piece, takes);
+    run_source(alloc, case, words, &mut source, room, files)
+}
+
+// Runs what a source gives.
+fn run_source<S: Source>(
+    alloc: Global,
+    case: &Case,
+    words: &str,
+    source: &mut S,
+    room: usize,
+    files: &mut MemoryFiles,
+) -> Result<Told, Fail> {
     let puts = vec![in alloc; case.number("put", NEVER)?]?;
     let words = words_of(alloc, words)?;
-    let mut source = MemorySource::new(script, PIECE, takes);
     let mut sink = MemorySink::new(alloc, room, TAKEN, puts).map_err(ran_out)?;
-    let status = inverda(alloc, words.as_slice(), &mut source, &mut sink, files) as u64;
+    let status = inverda(alloc, words.as_slice(), source, &mut sink, files) as u64;
     Told::new(alloc, status, sink.bytes())
 }
 

@@ -1,10 +1,10 @@
 -- How a run ends, said of all bytes that the source told.
-use Rattle.std.proofs.Common.{◌≡◌, ◌+◌, ◌-◌, ◌⊎◌, ℕ, List, [], ◌++◌, Option, None, Some, Bool, false, inl, inr, refl, sym, ap, subst, ◌∙◌, append-nil, take, length, arith}
+use Rattle.std.proofs.Common.{◌≡◌, ◌+◌, ◌-◌, ◌≤◌, ◌⊎◌, ℕ, List, [], ◌++◌, Option, None, Some, Bool, false, inl, inr, refl, sym, ap, subst, ◌∙◌, append-nil, take, length, arith}
 use Rattle.std.specs.Prelude.{nat_le, codes}
 use Rattle.std.proofs.lemmas.List.{take_all, take-append-le}
 use Rattle.std.proofs.lemmas.Bool.{le-leb, lt-leb}
 use Rattle.std.proofs.Math.Seq.{take-append-add}
-use Rattle.std.specs.Io.KnownBytes.{Appends}
+use Rattle.std.specs.Io.KnownBytes.{Appends, Consumes}
 use Rattle.statements.specs.Views.{StatementView}
 use Rattle.bidel_script.specs.Places.{Place, behind_all, place_of, start}
 use Rattle.bidel_script.specs.Script.{Comes, Outcome, Fault, Long, Open}
@@ -12,19 +12,30 @@ use Rattle.bidel_script.proofs.TokenLaws.{all_are_tokens}
 use Rattle.bidel_script.proofs.ScriptLaws.{at_within}
 use Rattle.bidel_script.proofs.ComesLaws.{something_comes}
 use Rattle.bidel_script.proofs.CutLaws.{faults_stay, fronts_come_first}
+use Rattle.bidel_script.proofs.LongLaws.{long_stays}
 use Rattle.engine_sessions.specs.EngineCoreTexts.{line}
 use Rattle.engine_sessions.specs.Standing.{Standing}
 use Rattle.script_run.specs.Output.{out}
-use Rattle.script_run.specs.Statuses.{limit, Taken, whole, failed, above, Stopped, Unread, Passed, StoppedOfAll, FirstReplies, fault_line}
+use Rattle.script_run.specs.Statuses.{limit, Taken, whole, early, failed, above, Stopped, Unread, Passed, StoppedOfAll, FirstReplies, fault_line}
 use Rattle.script_run.proofs.ToldLemmas.{whole_told, above_told}
 
 -- the bytes that were taken are the first of those that the source told and that count: they are all, or the input may go on behind them
-record Cut (told bytes : List ℕ) (ended : Bool) : Type 0 where
-  more : List ℕ
-  same : take limit told ≡ bytes ++ more
-  rest : ((more ≡ []) × (nat_le (length told) limit ≡ ended)) ⊎ (ended ≡ false)
+pub record Cut (told bytes : List ℕ) (ended : Bool) : Type 0 where
+  pub more : List ℕ
+  pub same : take limit told ≡ bytes ++ more
+  pub rest : ((more ≡ []) × (nat_le (length told) limit ≡ ended)) ⊎ (ended ≡ false)
 
-taken_cut : (told : List ℕ) (left' : Option (List ℕ)) (was is : ℕ) (bytes : List ℕ) (ended : Bool) → Taken (Some told) left' was is bytes ended → Cut told bytes ended
+front_cut : (told : List ℕ) (left' : Option (List ℕ)) (bytes : List ℕ) (ended : Bool) → Consumes (Some told) left' bytes → length bytes ≤ limit → ended ≡ false → Cut told bytes ended
+front_cut told None bytes ended c le fixed = absurd c
+front_cut told (Some left) bytes ended c le fixed =
+    let count : limit ≡ length bytes + (limit - length bytes) = omega (arith, le) in
+    record {
+      more = take (limit - length bytes) left;
+      same = ap (take limit) c ∙ ap (λ (n : ℕ). take n (bytes ++ left)) count ∙ take-append-add bytes left (limit - length bytes);
+      rest = inr fixed;
+    }
+
+pub taken_cut : (told : List ℕ) (left' : Option (List ℕ)) (was is : ℕ) (bytes : List ℕ) (ended : Bool) → Taken (Some told) left' was is bytes ended → Cut told bytes ended
 taken_cut told left' was is bytes ended (whole c e le stay fixed) =
     let same = whole_told (Some told) left' told bytes refl c e in
     record {
@@ -32,14 +43,8 @@ taken_cut told left' was is bytes ended (whole c e le stay fixed) =
       same = ap (take limit) same ∙ take_all limit bytes le ∙ sym (append-nil bytes);
       rest = inl (refl, le-leb (length told) limit (omega (arith, ap length same, le)) ∙ sym fixed);
     }
-taken_cut told None was is bytes ended (failed c le rose fixed) = absurd c
-taken_cut told (Some left) was is bytes ended (failed c le rose fixed) =
-    let count : limit ≡ length bytes + (limit - length bytes) = omega (arith, le) in
-    record {
-      more = take (limit - length bytes) left;
-      same = ap (take limit) c ∙ ap (λ (n : ℕ). take n (bytes ++ left)) count ∙ take-append-add bytes left (limit - length bytes);
-      rest = inr fixed;
-    }
+taken_cut told left' was is bytes ended (early c le stay fixed) = front_cut told left' bytes ended c le fixed
+taken_cut told left' was is bytes ended (failed c le rose fixed) = front_cut told left' bytes ended c le fixed
 taken_cut told left' was is bytes ended (above taken c lt same stay fixed) =
     let a = above_told (Some told) left' told taken refl c lt in
     record {
@@ -55,7 +60,7 @@ all_come told bytes more ended sts o same none fixed c =
     let all : take limit told ≡ bytes = same ∙ ap (λ (l : List ℕ). bytes ++ l) none ∙ append-nil bytes in
     subst (λ (l : List ℕ). Comes l (nat_le (length told) limit) sts o) (sym all) (subst (λ (b : Bool). Comes bytes b sts o) (sym fixed) c)
 
-fault_comes : (told bytes : List ℕ) (ended : Bool) (before : List StatementView) (at : ℕ) → Cut told bytes ended → Comes bytes ended before (Fault at)
+pub fault_comes : (told bytes : List ℕ) (ended : Bool) (before : List StatementView) (at : ℕ) → Cut told bytes ended → Comes bytes ended before (Fault at)
     → Comes (take limit told) (nat_le (length told) limit) before (Fault at)
 fault_comes told bytes ended before at cut c = elim cut.rest [
   | inl all ↦ all_come told bytes cut.more ended before (Fault at) cut.same all.0 all.1 c
@@ -63,8 +68,16 @@ fault_comes told bytes ended before at cut c = elim cut.rest [
       (faults_stay bytes cut.more (nat_le (length told) limit) before at (subst (λ (b : Bool). Comes bytes b before (Fault at)) open' c))
 ]
 
+pub long_comes : (told bytes : List ℕ) (ended : Bool) (before : List StatementView) → Cut told bytes ended → Comes bytes ended before Long
+    → Comes (take limit told) (nat_le (length told) limit) before Long
+long_comes told bytes ended before cut c = elim cut.rest [
+  | inl all ↦ all_come told bytes cut.more ended before Long cut.same all.0 all.1 c
+  | inr open' ↦ subst (λ (l : List ℕ). Comes l (nat_le (length told) limit) before Long) (sym cut.same)
+      (long_stays bytes cut.more (nat_le (length told) limit) before (subst (λ (b : Bool). Comes bytes b before Long) open' c))
+]
+
 -- a byte stands where it stands, whatever comes behind it
-place_stays : (told bytes : List ℕ) (ended : Bool) (before : List StatementView) (at : ℕ) → Cut told bytes ended → Comes bytes ended before (Fault at)
+pub place_stays : (told bytes : List ℕ) (ended : Bool) (before : List StatementView) (at : ℕ) → Cut told bytes ended → Comes bytes ended before (Fault at)
     → place_of (take limit told) at ≡ place_of bytes at
 place_stays told bytes ended before at cut c =
     let within = at_within bytes c.tail c.tokens c.used at (all_are_tokens bytes ended c.tokens c.tail c.all) c.behind in
@@ -109,7 +122,7 @@ module _ (from : Standing) where
   pub passed_first : (left left' held held' : Option (List ℕ)) (was is : ℕ) → Passed from left left' was is held held' → FirstReplies from left held held' (codes "too long")
   passed_first None left' held held' was is p = tt
   passed_first (Some told) left' held held' was is p = elim p.long [
-    | inl long ↦ replies_first told p.bytes p.ended p.before Long held held' (codes "too long") (taken_cut told left' was is p.bytes p.ended p.taken) long p.put
+    | inl long ↦ replies_first told p.bytes p.ended p.before Long held held' (codes "too long") (taken_cut told left' was is p.bytes p.ended p.taken) long.0 p.put
     | inr open' ↦ replies_first told p.bytes false p.before Open held held' (codes "too long")
-        (taken_cut told left' was is p.bytes false (above open'.1 open'.2 open'.3 open'.4 open'.5 refl)) open'.0 p.put
+        (taken_cut told left' was is p.bytes false (above open'.1 open'.2 (omega (arith, open'.3)) open'.4 open'.5 refl)) open'.0 p.put
   ]

@@ -5,17 +5,10 @@ use Rattle.std.proofs.lemmas.List.{take-append-le, take_all, take_at}
 use Rattle.std.proofs.Math.Seq.{take-append-add}
 use Rattle.std.specs.Io.KnownBytes.{Appends}
 use Rattle.std.proofs.KnownBytes.{Appends-nil, Appends-trans}
-use Rattle.bidel_lex.specs.declared.tokens.Token.{Token}
 use Rattle.statements.specs.Views.{StatementView}
-use Rattle.bidel_script.specs.declared.tokens.Tail.{Tail}
-use Rattle.bidel_script.specs.Tails.{AreAll}
-use Rattle.bidel_script.specs.Script.{Leads, StandsBehind}
-use Rattle.bidel_script.proofs.TokenLaws.{all_are_one}
-use Rattle.bidel_script.proofs.UniqueLaws.{leads_first, blocked}
 use Rattle.engine_sessions.specs.Standing.{Standing}
 use Rattle.script_run.specs.Output.{out, state_after}
-use Rattle.script_run.specs.Statuses.{PutsFront, last_line}
-use Rattle.script_run.specs.Calls.{RunsFront, BeginsRun}
+use Rattle.script_run.specs.Statuses.{PutsFront}
 use Rattle.script_run.proofs.OutputLaws.{out-append}
 
 -- ---- fronts of bytes
@@ -40,22 +33,7 @@ puts_all held held' xs p = (length xs, subst (Appends held held') (sym (take_all
 pub puts_none : (held held' : Option (List ℕ)) (xs : List ℕ) → held' ≡ held → PutsFront held held' xs
 puts_none held held' xs same = (0, subst (λ (h : Option (List ℕ)). Appends held h []) (sym same) (Appends-nil held))
 
--- ---- fronts of runs
-
-module _ (from : Standing) where
-  -- what the statements put begins what those put that begin with them
-  out_more : (held held' : Option (List ℕ)) (sts all rest : List StatementView) → all ≡ sts ++ rest → PutsFront held held' (out from sts) → PutsFront held held' (out from all)
-  out_more held held' sts all rest same p =
-      subst (PutsFront held held') (sym (ap (out from) same ∙ out-append from sts rest)) (puts_more held held' (out from sts) (out (state_after from sts) rest) p)
-
-  -- what was put for the statements begins what the run puts where nothing fails
-  pub begins_run : (bytes : List ℕ) (ended : Bool) (tokens : List Token) (tail : Tail) (stopped : List ℕ) (held held' : Option (List ℕ)) → AreAll bytes ended tokens tail
-      → RunsFront from bytes tail tokens held held' → BeginsRun from bytes ended stopped held held'
-  begins_run bytes ended tokens tail stopped held held' all r text w =
-      let c = w.comes in
-      let same = all_are_one bytes ended c.tokens tokens c.tail tail c.all all in
-      let leads = subst (λ (t : Tail). Leads bytes t tokens w.statements c.used) same.1 (subst (λ (l : List Token). Leads bytes c.tail l w.statements c.used) same.0 c.leads) in
-      let behind = subst (λ (t : Tail). StandsBehind bytes t tokens c.used w.outcome) same.1 (subst (λ (l : List Token). StandsBehind bytes c.tail l c.used w.outcome) same.0 c.behind) in
-      let first = leads_first bytes tail tokens r.statements w.statements r.used c.used r.leads leads (blocked bytes tail tokens c.used w.outcome behind) in
-      subst (PutsFront held held') (sym w.same) (puts_more held held' (out from w.statements) (last_line bytes stopped w.outcome)
-      (out_more held held' r.statements w.statements first.0 first.1 r.put))
+-- what the statements put begins what those put that begin with them
+pub out_more : (from : Standing) (held held' : Option (List ℕ)) (sts all rest : List StatementView) → all ≡ sts ++ rest → PutsFront held held' (out from sts) → PutsFront held held' (out from all)
+out_more from held held' sts all rest same p =
+    subst (PutsFront held held') (sym (ap (out from) same ∙ out-append from sts rest)) (puts_more held held' (out from sts) (out (state_after from sts) rest) p)

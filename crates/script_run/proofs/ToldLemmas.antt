@@ -5,8 +5,7 @@ use Rattle.std.proofs.lemmas.List.{take_all, take-append-le}
 use Rattle.std.proofs.lemmas.Bool.{le-leb, lt-leb}
 use Rattle.std.proofs.lemmas.Bool.Decides.{leb_tells}
 use Rattle.std.specs.Io.KnownBytes.{Consumes, IsAtEnd}
-use Rattle.outside.specs.Causes.{Rose}
-use Rattle.script_run.specs.Statuses.{limit, Taken, whole, failed, above}
+use Rattle.script_run.specs.Statuses.{limit}
 
 some_same : (one other : List ℕ) → Some one ≡ Some other → one ≡ other
 some_same one other h = cc
@@ -48,13 +47,6 @@ above_counts left left' told taken bytes ended h c lt same fixed =
       a.1 ∙ sym same,
       lt-leb (length told) limit a.0 ∙ sym fixed,
     )
-
--- what was taken, where no call failed
-pub counts_told : (left left' : Option (List ℕ)) (was is : ℕ) (told bytes : List ℕ) (ended : Bool) → left ≡ Some told → ¬ Rose was is → Taken left left' was is bytes ended
-    → CountsAll told bytes ended
-counts_told left left' was is told bytes ended h safe (whole c e le stay fixed) = whole_counts left left' told bytes ended h c e le fixed
-counts_told left left' was is told bytes ended h safe (failed c le rose fixed) = absurd (safe rose)
-counts_told left left' was is told bytes ended h safe (above taken c lt same stay fixed) = above_counts left left' told taken bytes ended h c lt same fixed
 
 -- the first bytes, so many where there are as many
 pub take_min : (n : ℕ) (xs : List ℕ) (m : ℕ) → m ≡ min (length xs) n → take m xs ≡ take n xs

@@ -1,10 +1,11 @@
 -- How the run of a script ends, from a database on. Source and sink tell their bytes before and now, where they know them.
-use Rattle.std.specs.Prelude.{◌≡◌, ◌++◌, ◌≤◌, ◌<◌, ◌⊎◌, ℕ, nat_le, Bool, true, false, List, [], length, take, Option, Some, None, codes, decimal, ⊤}
+use Rattle.std.specs.Prelude.{◌≡◌, ◌++◌, ◌≤◌, ◌<◌, ◌+◌, ◌⊎◌, ℕ, nat_le, Bool, true, false, List, [], length, take, Option, Some, None, codes, decimal, ⊤}
 use Rattle.std.specs.Io.KnownBytes.{Consumes, Appends, IsAtEnd}
 use Rattle.outside.specs.Causes.{Rose}
 use Rattle.statements.specs.Views.{StatementView}
 use Rattle.bidel_script.specs.Places.{Place, place_of}
 use Rattle.bidel_script.specs.Script.{IsScript, Comes, Outcome, Over, Fault, Long, Open}
+use Rattle.script_stream.specs.Reading.{SeenSoon}
 use Rattle.engine_sessions.specs.EngineCoreTexts.{line}
 use Rattle.engine_sessions.specs.Standing.{Standing}
 use Rattle.script_run.specs.Output.{out, state_after}
@@ -16,9 +17,10 @@ limit = 268435456
 -- ---- what was taken from the source
 
 -- the bytes that were taken and count, and whether the input ended behind them, by the source's count of faults before and now: it was
--- read to its end, or a call failed, or the limit was passed, whose first bytes count; only the failed call is counted
+-- read to its end, or not so far, or a call failed, or the limit was passed, whose first bytes count; only the failed call is counted
 pub data Taken (left left' : Option (List ℕ)) (was is : ℕ) (bytes : List ℕ) (ended : Bool) : Type 0 where
   whole : Consumes left left' bytes → IsAtEnd left' → length bytes ≤ limit → is ≡ was → ended ≡ true → Taken left left' was is bytes ended
+  early : Consumes left left' bytes → length bytes ≤ limit → is ≡ was → ended ≡ false → Taken left left' was is bytes ended
   failed : Consumes left left' bytes → length bytes ≤ limit → Rose was is → ended ≡ false → Taken left left' was is bytes ended
   above : (taken : List ℕ) → Consumes left left' taken → limit < length taken → bytes ≡ take limit taken → is ≡ was → ended ≡ false
       → Taken left left' was is bytes ended
@@ -60,14 +62,15 @@ abbrev pub AnswersScript : Standing → Option (List ℕ) → Option (List ℕ) 
 AnswersScript from None held held' = ⊤
 AnswersScript from (Some bytes) held held' = (statements : List StatementView) × IsScript bytes statements × Appends held held' (out from statements)
 
--- the bytes that were taken have a fault, and the sink was given the lines that answer the statements before it, and the line
--- with its place
+-- the bytes that were taken have a fault, all of them but the last piece break no rule, and the sink was given the lines that answer
+-- the statements before the fault, and the line with its place
 pub record Stopped (from : Standing) (left left' : Option (List ℕ)) (was is : ℕ) (held held' : Option (List ℕ)) : Type 0 where
   pub bytes : List ℕ
   pub ended : Bool
   pub before : List StatementView
   pub at : ℕ
   pub taken : Taken left left' was is bytes ended
+  pub soon : SeenSoon bytes before
   pub fault : Comes bytes ended before (Fault at)
   pub put : Appends held held' (out from before ++ fault_line (place_of bytes at))
 
@@ -82,15 +85,15 @@ pub record Unread (from : Standing) (left left' : Option (List ℕ)) (was is : �
   pub rest : Comes bytes false before Open
   pub put : Appends held held' (out from before ++ line (codes "read fault"))
 
--- a statement is too long, or more bytes than the limit were taken and those within it have no fault; the sink was given the lines that
--- answer the statements before, and this line
+-- a statement is too long, and all bytes that were taken but the last piece break no rule; or more bytes than the limit were taken, by
+-- one, and those within it have no fault; the sink was given the lines that answer the statements before, and this line
 pub record Passed (from : Standing) (left left' : Option (List ℕ)) (was is : ℕ) (held held' : Option (List ℕ)) : Type 0 where
   pub bytes : List ℕ
   pub ended : Bool
   pub before : List StatementView
   pub taken : Taken left left' was is bytes ended
-  pub long : Comes bytes ended before Long
-      ⊎ (Comes bytes false before Open × (more : List ℕ) × Consumes left left' more × (limit < length more) × (bytes ≡ take limit more) × (is ≡ was))
+  pub long : (Comes bytes ended before Long × SeenSoon bytes before)
+      ⊎ (Comes bytes false before Open × (more : List ℕ) × Consumes left left' more × (length more ≡ limit + 1) × (bytes ≡ take limit more) × (is ≡ was))
   pub put : Appends held held' (out from before ++ line (codes "too long"))
 
 -- ---- what a source told

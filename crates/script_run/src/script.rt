@@ -1,110 +1,71 @@
-//! The bytes of a script, and the last line.
-ghost use Rattle.std.specs.Prelude.{◌≡◌, ◌≤◌};
-ghost use Rattle.bidel_script.specs.Calls.{outcome_of};
+//! The statements of a source, and the last line.
+ghost use Rattle.std.specs.Prelude.{◌≡◌, ◌≤◌, []};
+ghost use Rattle.script_stream.specs.Holding.{Holds};
 ghost use Rattle.engine_sessions.specs.Standing.{kept_in, standing_of};
-ghost use Rattle.script_run.specs.Statuses.{last_line};
 ghost use Rattle.script_run.specs.Kept.{Keeps};
-ghost use Rattle.script_run.specs.Calls.{EndsScript, AtWithin, PutsLine, RunStays, RunsScript};
+ghost use Rattle.script_run.specs.Calls.{PutsLine, RunStays, Runs, last_text};
 
 use crate::lines::syntax_line;
-use crate::run::{Ran, run_tokens};
-use bidel_script::{Stop, all_tokens};
+use crate::run::{Ran, run_statements};
+use crate::turn::Last;
 use engine_sessions::Sessions;
 use expr_lang::Steps;
-use outside::{Failed, Sink, write_all};
-use par_base::Memory;
+use outside::{Failed, Sink, Source, write_all};
+use script_stream::Stream;
 use std::alloc::Global;
 use std::sync::ledger::{Blank, Ledger};
 
-/// Carries out and answers each statement that the bytes fix; `ended` says that the input ended
-/// behind them.
-pub fn run_script<K: Sink, L: Ledger>(
+/// Carries out and answers each statement of the source.
+pub fn run_script<S: Source, K: Sink, L: Ledger>(
     alloc: Global,
     sessions: &mut Sessions,
-    bytes: &[u8],
-    ended: bool,
+    script: &mut S,
     out: &mut K,
     blank: Blank,
 ) -> Ran
     requires name { blank.name ≡ L.name }
     requires parts { blank.parts ≡ L.parts }
     requires one { blank.parts ≡ 1 }
-    ensures runs { RunsScript (standing_of sessions.old) (standing_of sessions.new) bytes.now ended
-        (K.held out.old) (K.held out.new) (K.faults out.old) (K.faults out.new) result }
+    ensures runs { Runs (standing_of sessions.old) (standing_of sessions.new) (S.left script.old)
+        (S.left script.new) (S.faults script.old) (S.faults script.new) (K.held out.old)
+        (K.held out.new) (K.faults out.old) (K.faults out.new) result }
     ensures stays { RunStays (K.faults out.old) (K.faults out.new) result }
     ensures keeps { Keeps (kept_in sessions.old) (kept_in sessions.new) }
-    ensures later { K.faults out.old ≤ K.faults out.new }
+    ensures later_read { S.faults script.old ≤ S.faults script.new }
+    ensures later_write { K.faults out.old ≤ K.faults out.new }
 {
     let mut steps = Steps::<L>::new(blank);
-    match all_tokens(alloc, bytes, ended) {
-        Ok(all) => run_tokens(
-            alloc,
-            sessions,
-            bytes,
-            all.tail,
-            all.tokens.as_slice(),
-            out,
-            &mut steps,
-        ),
-        Err(_) => Ran::Memory,
-    }
+    let mut stream = Stream::new(alloc);
+    run_statements(alloc, sessions, &mut stream, script, out, &mut steps)
 }
 
 // Puts a line.
-fn put_line<K: Sink>(stop: Stop, text: &[u8], out: &mut K) -> Ran
-    ensures puts { PutsLine stop text.now (K.held out.old) (K.held out.new) (K.faults out.old)
+fn put_line<K: Sink>(last: Last, text: &[u8], out: &mut K) -> Ran
+    ensures puts { PutsLine last text.now (K.held out.old) (K.held out.new) (K.faults out.old)
         (K.faults out.new) result }
     ensures stays { RunStays (K.faults out.old) (K.faults out.new) result }
     ensures later { K.faults out.old ≤ K.faults out.new }
 {
     match write_all(out, text) {
-        Ok(()) => Ran::Stops(stop),
+        Ok(()) => Ran::Stops(last),
         Err(Failed) => Ran::Unwritten,
     }
 }
 
-// Puts the last line; `stopped` is the line of what stopped the reading.
-fn put_last<K: Sink>(alloc: Global, bytes: &[u8], stopped: &[u8], stop: Stop, out: &mut K) -> Ran
-    requires { AtWithin bytes.now stop }
-    ensures puts { PutsLine stop (last_line bytes.now stopped.now (outcome_of stop))
-        (K.held out.old) (K.held out.new)
+/// Puts the last line of what stands behind the statements.
+pub fn put_last<K: Sink>(alloc: Global, last: Last, out: &mut K) -> Ran
+    ensures puts { PutsLine last (last_text last) (K.held out.old) (K.held out.new)
         (K.faults out.old) (K.faults out.new) result }
     ensures stays { RunStays (K.faults out.old) (K.faults out.new) result }
     ensures later { K.faults out.old ≤ K.faults out.new }
 {
-    match stop {
-        Stop::Over => Ran::Stops(stop),
-        Stop::Fault { at } => match syntax_line(alloc, bytes, at) {
-            Ok(text) => put_line(stop, text.as_str().as_bytes(), out),
+    match last {
+        Last::Over => Ran::Stops(last),
+        Last::Fault { line, column } => match syntax_line(alloc, line, column) {
+            Ok(text) => put_line(last, text.as_str().as_bytes(), out),
             Err(_) => Ran::Memory,
         },
-        Stop::Long => put_line(stop, b"too long\n", out),
-        Stop::Open => put_line(stop, stopped, out),
-    }
-}
-
-/// Carries out and answers each statement that the bytes fix, and puts the last line; `stopped` is the
-/// line where a statement is still open.
-pub fn end_script<K: Sink, L: Ledger>(
-    alloc: Global,
-    sessions: &mut Sessions,
-    bytes: &[u8],
-    ended: bool,
-    stopped: &[u8],
-    out: &mut K,
-    blank: Blank,
-) -> Ran
-    requires name { blank.name ≡ L.name }
-    requires parts { blank.parts ≡ L.parts }
-    requires one { blank.parts ≡ 1 }
-    ensures ends { EndsScript (standing_of sessions.old) (standing_of sessions.new) bytes.now ended
-        stopped.now (K.held out.old) (K.held out.new) (K.faults out.old) (K.faults out.new) result }
-    ensures stays { RunStays (K.faults out.old) (K.faults out.new) result }
-    ensures keeps { Keeps (kept_in sessions.old) (kept_in sessions.new) }
-    ensures later { K.faults out.old ≤ K.faults out.new }
-{
-    match run_script::<K, L>(alloc, sessions, bytes, ended, out, blank) {
-        Ran::Stops(stop) => put_last(alloc, bytes, stopped, stop, out),
-        ran => ran,
+        Last::Long | Last::TooMany => put_line(last, b"too long\n", out),
+        Last::Unread => put_line(last, b"read fault\n", out),
     }
 }

@@ -1,83 +1,40 @@
 //! The run of a source.
-ghost use Rattle.std.specs.Prelude.{◌≡◌, ◌≤◌, take};
+ghost use Rattle.std.specs.Prelude.{◌≡◌, ◌≤◌};
 ghost use Rattle.engine_sessions.specs.Standing.{kept_in, standing_of};
-ghost use Rattle.script_run.specs.Statuses.{limit};
 ghost use Rattle.script_run.specs.Kept.{Keeps};
-ghost use Rattle.script_run.specs.Calls.{Counts, EndStays, Ends, ended_by};
+ghost use Rattle.script_run.specs.Calls.{EndStays, Ends, end_of};
 
 use crate::end::End;
 use crate::run::Ran;
-use crate::script::end_script;
-use bidel_script::Stop;
+use crate::script::{put_last, run_script};
+use crate::turn::Last;
 use engine_sessions::Sessions;
-use outside::{ReadAll, Sink, Source, read_all};
+use outside::{Sink, Source};
 use std::alloc::Global;
 use std::marker::Brand;
 use std::sync::ledger::Blank;
 
-// The greatest number of bytes of a script.
-const LIMIT: u32 = 268_435_456;
-
-/// The bytes that were taken and count, and what ends the run where they leave a statement open.
-#[derive(Clone, Copy)]
-struct Counted<'a> {
-    bytes: &'a [u8],
-    ended: bool,
-    stopped: &'a [u8],
-    end: End,
-}
-
-// The bytes that are within the limit.
-fn first_bytes(bytes: &[u8]) -> &[u8]
-    ensures { result.now ≡ take limit bytes.now }
-{
-    &bytes[..bytes.len().min(LIMIT as usize)]
-}
-
-fn what_counts(read: &ReadAll) -> Counted<'_>
-    ensures { Counts read.now result }
-{
-    match read {
-        ReadAll::Whole(bytes) => Counted {
-            bytes: bytes.as_slice(),
-            ended: true,
-            stopped: b"",
-            end: End::Done,
-        },
-        ReadAll::TooLong(bytes) => Counted {
-            bytes: first_bytes(bytes.as_slice()),
-            ended: false,
-            stopped: b"too long\n",
-            end: End::TooLong,
-        },
-        ReadAll::Fault(bytes) => Counted {
-            bytes: bytes.as_slice(),
-            ended: false,
-            stopped: b"read fault\n",
-            end: End::Unread,
-        },
-    }
-}
-
-// How the run ends, where `stopped` ends it when a statement is still open.
-fn end_of(ran: Ran, stopped: End) -> End
-    ensures { result ≡ ended_by stopped ran }
+// How the run ends.
+fn end(ran: Ran) -> End
+    ensures { result ≡ end_of ran }
 {
     match ran {
-        Ran::Stops(Stop::Over) => End::Done,
-        Ran::Stops(Stop::Fault { .. }) => End::Syntax,
-        Ran::Stops(Stop::Long) => End::TooLong,
-        Ran::Stops(Stop::Open) => stopped,
+        Ran::Stops(Last::Over) => End::Done,
+        Ran::Stops(Last::Fault { .. }) => End::Syntax,
+        Ran::Stops(Last::Long | Last::TooMany) => End::TooLong,
+        Ran::Stops(Last::Unread) => End::Unread,
         Ran::Memory => End::Memory,
         Ran::Unwritten => End::Unwritten,
     }
 }
 
-/// Reads the source to its end, and carries out and answers each statement of it, from the sessions'
-/// database on; then the last line is put, where there is one. Before the last line of a fault, a
-/// failed read or too many bytes stand the replies to the statements that were known to end.
+/// Carries out and answers each statement of the source, from the sessions' database on; then the last line is put, where there is one.
+/// Bytes are taken in pieces of at most 4,096, and each statement is answered before more bytes are taken than show that it ends.
+/// Before the last line of a fault, a failed read or too many bytes stand the replies to the statements that were known to end; and
+/// where a fault or a statement that is too long ends the run, no more than its last piece was taken beyond it.
 ///
-/// The whole script is in memory, with its tokens. Besides, it takes the time of its statements.
+/// In memory is the statement that isn't known to end, and a piece. Besides the time of its statements a run takes that of cutting
+/// each piece, with the unfinished statement before it, into tokens.
 pub fn run_source<S: Source, K: Sink>(
     alloc: Global,
     sessions: &mut Sessions,
@@ -92,19 +49,9 @@ pub fn run_source<S: Source, K: Sink>(
     ensures later_read { S.faults script.old ≤ S.faults script.new }
     ensures later_write { K.faults out.old ≤ K.faults out.new }
 {
-    let read = match read_all(alloc, script, LIMIT) {
-        Ok(read) => read,
-        Err(_) => return End::Memory,
-    };
-    let taken = what_counts(&read);
-    let ran = end_script::<K, Brand>(
-        alloc,
-        sessions,
-        taken.bytes,
-        taken.ended,
-        taken.stopped,
-        out,
-        Blank::new(1),
-    );
-    end_of(ran, taken.end)
+    match run_script::<S, K, Brand>(alloc, sessions, script, out, Blank::new(1)) {
+        Ran::Stops(last) => end(put_last(alloc, last, out)),
+        Ran::Memory => End::Memory,
+        Ran::Unwritten => End::Unwritten,
+    }
 }

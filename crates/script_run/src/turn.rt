@@ -1,34 +1,48 @@
-//! One statement: parsed, carried out and answered.
-ghost use Rattle.std.specs.Prelude.{◌≡◌, ◌≤◌, IfOk, OnOk};
-ghost use Rattle.bidel_lex.specs.Tokens.{AreTokens};
+//! One statement: taken from the source, carried out and answered.
+ghost use Rattle.std.specs.Prelude.{◌≡◌, ◌≤◌, ℕ, List, Option, IfOk, OnOk};
 ghost use Rattle.expr_lang.specs.Operations.{text_limit};
-ghost use Rattle.statements.specs.Views.{statement_view};
+ghost use Rattle.statements.specs.Views.{StatementView, statement_view};
 ghost use Rattle.statements.specs.Texts.{TextsWithin};
-ghost use Rattle.bidel_script.specs.Tails.{Fits};
+ghost use Rattle.script_stream.specs.Giving.{IsWritten};
+ghost use Rattle.script_stream.specs.Reading.{Reads};
 ghost use Rattle.engine_sessions.specs.Spoken.{TextsCome};
 ghost use Rattle.engine_sessions.specs.Standing.{kept_in, standing_of};
 ghost use Rattle.engine_sessions.specs.Act.{act};
 ghost use Rattle.script_run.specs.Output.{next_state, text_of};
 ghost use Rattle.script_run.specs.Kept.{Keeps};
-ghost use Rattle.script_run.specs.Calls.{TurnStays, Turns};
+ghost use Rattle.script_run.specs.Calls.{Answers, IsReading, Turns, TurnStays};
 
-use bidel_lex::Token;
-use bidel_script::{Found, Stop, Tail, find_front};
 use engine_sessions::{Sessions, answer_text, refusal_text};
 use expr_lang::Steps;
-use outside::{Failed, Sink, write_all};
+use outside::{Failed, Sink, Source, write_all};
 use par_base::{Fault, Memory, Text};
+use script_stream::{Given, Stream, next_statement};
 use statements::Statement;
 use std::alloc::Global;
 use std::sync::ledger::Ledger;
 
-/// What became of the tokens that are left.
+/// What stands behind the statements of a source.
+#[derive(Clone, Copy)]
+pub enum Last {
+    /// The end.
+    Over,
+    /// The first fault.
+    Fault { line: usize, column: usize },
+    /// A statement that is too long.
+    Long,
+    /// A failed call of the source.
+    Unread,
+    /// More bytes than the limit.
+    TooMany,
+}
+
+/// What became of the next statement.
 #[derive(Clone, Copy)]
 pub enum Turn {
-    /// The statement of so many first tokens was carried out and answered.
-    Ran { used: usize },
-    /// No statement that is known to end stands there, but this.
-    Stops(Stop),
+    /// It was carried out and answered.
+    Ran,
+    /// None comes, but this.
+    Stops(Last),
     /// Memory ran out.
     Memory,
     /// The sink failed.
@@ -58,35 +72,60 @@ fn answer<L: Ledger>(
     }
 }
 
-/// Takes the statement at the front of the tokens, carries it out, and puts the lines that answer
-/// it.
-pub fn take_turn<K: Sink, L: Ledger>(
+// Carries out a statement, and puts the lines that answer it.
+fn answer_one<K: Sink, L: Ledger>(
     alloc: Global,
     sessions: &mut Sessions,
-    bytes: &[u8],
-    tail: Tail,
-    tokens: &[Token],
+    statement: Statement,
     out: &mut K,
     steps: &mut Steps<L>,
 ) -> Turn
-    requires tokens { AreTokens bytes.now tokens.now }
-    requires fits { Fits bytes.now tail }
-    ensures turns { Turns bytes.now tail tokens.now (K.held out.old) (K.held out.new)
-        (K.faults out.old)
-        (K.faults out.new) (standing_of sessions.old) (standing_of sessions.new) result }
+    requires texts { TextsWithin text_limit (statement_view statement) }
+    requires written { IsWritten (statement_view statement) }
+    ensures answers { Answers (statement_view statement) (K.held out.old) (K.held out.new)
+        (K.faults out.old) (K.faults out.new) (standing_of sessions.old) (standing_of sessions.new)
+        result }
     ensures stays { TurnStays (K.faults out.old) (K.faults out.new) result }
     ensures keeps { Keeps (kept_in sessions.old) (kept_in sessions.new) }
     ensures later { K.faults out.old ≤ K.faults out.new }
 {
-    match find_front(alloc, bytes, tail, tokens) {
-        Ok(Found::Whole { statement, used }) => match answer(alloc, sessions, statement, steps) {
-            Ok(text) => match write_all(out, text.as_str().as_bytes()) {
-                Ok(()) => Turn::Ran { used },
-                Err(Failed) => Turn::Unwritten,
-            },
-            Err(_) => Turn::Memory,
+    match answer(alloc, sessions, statement, steps) {
+        Ok(text) => match write_all(out, text.as_str().as_bytes()) {
+            Ok(()) => Turn::Ran,
+            Err(Failed) => Turn::Unwritten,
         },
-        Ok(Found::Stops(stop)) => Turn::Stops(stop),
         Err(_) => Turn::Memory,
+    }
+}
+
+/// Takes the next statement from the source, carries it out, and puts the lines that answer it. Bytes are taken only where all
+/// statements were answered that those before fix.
+pub fn take_turn<S: Source, K: Sink, L: Ledger>(
+    alloc: Global,
+    sessions: &mut Sessions,
+    stream: &mut Stream,
+    script: &mut S,
+    out: &mut K,
+    steps: &mut Steps<L>,
+) -> Turn
+    requires { IsReading (S.left script.old) (S.faults script.old) stream.old }
+    ensures turns { (left : Option (List ℕ)) (was : ℕ) (sts : List StatementView)
+        → Reads left (S.left script.old) was (S.faults script.old) sts stream.old
+        → Turns left (S.left script.new) was (S.faults script.new) sts stream.old stream.new
+        (K.held out.old) (K.held out.new) (K.faults out.old) (K.faults out.new)
+        (standing_of sessions.old) (standing_of sessions.new) result }
+    ensures stays { TurnStays (K.faults out.old) (K.faults out.new) result }
+    ensures keeps { Keeps (kept_in sessions.old) (kept_in sessions.new) }
+    ensures later_read { S.faults script.old ≤ S.faults script.new }
+    ensures later_write { K.faults out.old ≤ K.faults out.new }
+{
+    match next_statement(alloc, stream, script) {
+        Given::Statement(statement) => answer_one(alloc, sessions, statement, out, steps),
+        Given::Over => Turn::Stops(Last::Over),
+        Given::Fault { line, column } => Turn::Stops(Last::Fault { line, column }),
+        Given::Long => Turn::Stops(Last::Long),
+        Given::Unread => Turn::Stops(Last::Unread),
+        Given::TooMany => Turn::Stops(Last::TooMany),
+        Given::Memory => Turn::Memory,
     }
 }

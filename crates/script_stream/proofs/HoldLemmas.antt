@@ -2,22 +2,20 @@
 use Rattle.std.proofs.Common.{◌≡◌, ◌+◌, ◌-◌, ◌≤◌, ◌<◌, ◌≢◌, ◌++◌, ℕ, zero, suc, List, [], ◌∷◌, Bool, true, false, refl, sym, ap, subst, ◌∙◌, take, drop, length, arith, append_assoc, append-nil, length-append, length-drop}
 use Rattle.std.specs.Prelude.{slice_index_or}
 use Rattle.std.proofs.Math.Seq.{take-append-add}
-use Rattle.std.proofs.lemmas.List.{length-take-le, take-append-drop}
 use Rattle.bidel_lex.specs.declared.tokens.Token.{Token}
 use Rattle.bidel_lex.specs.declared.tokens.Lexed.{Lexed}
 use Rattle.bidel_lex.specs.declared.tokens.Lexed.TheVariants as lexed
-use Rattle.bidel_lex.specs.Next.{lexed_at, next_of}
 use Rattle.bidel_lex.specs.Tokens.{AreTokens, HasTokens}
 use Rattle.bidel_lex.proofs.WithinLaws.{within_along}
 use Rattle.bidel_script.specs.declared.tokens.Tail.{Tail}
 use Rattle.bidel_expr.specs.Lexemes.{lexemes}
 use Rattle.statements.specs.Views.{StatementView}
 use Rattle.bidel_script.specs.Places.{Place, behind_all, place_of, start}
-use Rattle.bidel_script.specs.Tails.{AreAll, Fits, first_byte, is_over, last_end}
+use Rattle.bidel_script.specs.Tails.{AreAll, first_byte, is_over, last_end}
 use Rattle.bidel_parser.specs.Parsing.{IsFront}
 use Rattle.bidel_script.specs.Lengths.{IsLong}
 use Rattle.bidel_script.specs.Script.{Leads, Comes, Outcome, Over, Fault, Long, Open, StandsBehind}
-use Rattle.bidel_script.specs.Moved.{end_behind, moved}
+use Rattle.bidel_script.specs.Moved.{ComesBehind, end_behind, moved}
 use Rattle.bidel_script.specs.Calls.{place_view}
 use Rattle.bidel_script.specs.declared.place.Place as code
 use Rattle.bidel_script.proofs.TokenLaws.{all_are_one, all_are_tokens, are_tokens_drop, ends_not, wants_none}
@@ -25,27 +23,22 @@ use Rattle.bidel_script.proofs.ScriptLaws.{at_within, front_some, front_within, 
 use Rattle.bidel_script.proofs.TextLimitsLaws.{texts_within}
 use Rattle.bidel_script.proofs.UniqueLaws.{blocked, leads_first, one_comes}
 use Rattle.bidel_script.proofs.ComesLaws.{something_comes}
-use Rattle.bidel_script.proofs.CutLaws.{fronts_come_first}
 use Rattle.bidel_script.proofs.MovedLaws.{used_bytes_go}
+use Rattle.bidel_script.proofs.BlanksLaws.{blanks_go, comes_behind_blanks}
 use Rattle.bidel_script.proofs.PlaceLaws.{behind_all-append, behind_all-near}
 use Rattle.script_stream.specs.declared.stream.Stream.{Stream}
 use Rattle.script_stream.specs.declared.stream.Next.{Next}
 use Rattle.script_stream.specs.declared.stream.Next.TheVariants as next
-use Rattle.script_stream.specs.Holding.{Holds, IsStream, place_in}
-use Rattle.script_stream.specs.Calls.{Refilled}
+use Rattle.script_stream.specs.Holding.{Holds, place_in}
+use Rattle.script_stream.proofs.PassedLemmas.{comes_here, front_behind, moved_none}
 use Rattle.script_stream.specs.Giving.{Gives, GivesStatement, Stands}
 
-moved_again : (a b c : ℕ) (o : Outcome) → a + b ≡ c → moved a (moved b o) ≡ moved c o
-moved_again a b c Over e = refl
-moved_again a b c (Fault at) e = let f : a + (b + at) ≡ c + at = omega (arith, e) in ap (λ (n : ℕ). Fault n) f
-moved_again a b c Long e = refl
-moved_again a b c Open e = refl
+-- ---- tokens
 
-moved_none : (o : Outcome) → moved 0 o ≡ o
-moved_none Over = refl
-moved_none (Fault at) = let e : 0 + at ≡ at = omega arith in ap (λ (n : ℕ). Fault n) e
-moved_none Long = refl
-moved_none Open = refl
+-- no bytes have no tokens
+no_tokens : (ended : Bool) (ts : List Token) (last : Lexed) → HasTokens ended [] 0 ts last → ts ≡ []
+no_tokens ended [] last h = refl
+no_tokens ended (t ∷ ts) last h = let w = within_along [] 0 ended (lexed.Token t) h.0 in absurd (omega (arith, w.0, w.1, w.2))
 
 -- so many first tokens end within the bytes
 ends_inside : (ended : Bool) (bytes : List ℕ) (from : ℕ) (ts : List Token) (last : Lexed) (n : ℕ) → from ≤ length bytes → HasTokens ended bytes from ts last → last_end from (take n ts) ≤ length bytes
@@ -95,11 +88,49 @@ module _ (fed : List ℕ) (given : List StatementView) (s : Stream) (h : Holds f
       go false f = refl
       go true f = absurd (wants_none s.bytes.items 0 s.tokens.items s.tail.last (subst (λ (b : Bool). HasTokens b s.bytes.items 0 s.tokens.items s.tail.last) f h.all.found) e)
 
+  -- where a comment is open nothing is left, and no statement of it was given
+  none_later : s.inside ≡ true → h.later ≡ []
+  none_later e = by h.later h.leads
+    where
+      none : s.tokens.items ≡ []
+      none = no_tokens s.ended s.tokens.items s.tail.last (subst (λ (l : List ℕ). HasTokens s.ended l 0 s.tokens.items s.tail.last) (h.none e) h.all.found)
+
+      by : (sts : List StatementView) → Leads s.bytes.items s.tail s.tokens.items sts s.used → sts ≡ []
+      by [] l = refl
+      by (st ∷ sts) l =
+          let over = is_over s.tail.last in
+          absurd (omega (arith, front_some over (lexemes s.bytes.items s.tokens.items) st l.0 l.3, front_within s.bytes.items over s.tokens.items st l.0 l.3, ap length none))
+
   -- what comes of the bytes that are left comes of all
   pub comes_fed : (ended : Bool) (rest : List StatementView) (o : Outcome) → Comes s.bytes.items ended rest o → Comes fed ended (h.early ++ rest) (moved (length h.before) o)
   comes_fed ended rest o c =
-      subst (λ (l : List ℕ). Comes l ended (h.early ++ rest) (moved (length h.before) o)) (ap (λ (l : List ℕ). h.before ++ l) (append-nil s.bytes.items) ∙ sym h.bytes)
-      (h.follows [] ended rest o (subst (λ (l : List ℕ). Comes l ended rest o) (sym (append-nil s.bytes.items)) c))
+      let none = append-nil s.bytes.items in
+      subst (λ (l : List ℕ). Comes l ended (h.early ++ rest) (moved (length h.before) o)) (ap (λ (l : List ℕ). h.before ++ l) none ∙ sym h.bytes)
+      (h.follows [] ended rest o (subst (λ (l : List ℕ). ComesBehind s.inside l ended rest o) (sym none) (comes_here s.inside s.bytes.items h.none ended rest o c)))
+
+  -- what comes of the bytes behind the statements that were given comes of all that are left
+  pub comes_used : (more : List ℕ) → s.ended ≡ false → s.tail.last ≡ lexed.More → (ended : Bool) (rest : List StatementView) (o : Outcome)
+      → ComesBehind s.inside (drop (end_behind s.tokens.items s.used) s.bytes.items ++ more) ended rest o
+      → ComesBehind s.inside (s.bytes.items ++ more) ended (h.later ++ rest) (moved (end_behind s.tokens.items s.used) o)
+  comes_used more open' wants ended rest o = by s.inside refl
+    where
+      b : List ℕ
+      b = s.bytes.items
+
+      k : ℕ
+      k = end_behind s.tokens.items s.used
+
+      by : (i : Bool) → s.inside ≡ i → ComesBehind s.inside (drop k b ++ more) ended rest o → ComesBehind s.inside (b ++ more) ended (h.later ++ rest) (moved k o)
+      by false e c =
+          let own = blanks_go (drop k b ++ more) ended rest o (subst (λ (x : Bool). ComesBehind x (drop k b ++ more) ended rest o) e c) in
+          let all = used_bytes_go b more s.tokens.items s.tail h.later s.used (subst (λ (x : Bool). AreAll b x s.tokens.items s.tail) open' h.all) wants h.leads ended rest o own in
+          subst (λ (x : Bool). ComesBehind x (b ++ more) ended (h.later ++ rest) (moved k o)) (sym e) (comes_behind_blanks (b ++ more) ended (h.later ++ rest) (moved k o) all)
+      by true e c =
+          let none = h.none e in
+          let n : k ≡ 0 = omega (arith, ends_inside s.ended b 0 s.tokens.items s.tail.last s.used (omega arith) h.all.found, ap length none) in
+          subst (λ (l : List StatementView). ComesBehind s.inside (b ++ more) ended (l ++ rest) (moved k o)) (sym (none_later e))
+          (subst (λ (x : Outcome). ComesBehind s.inside (b ++ more) ended rest x) (sym (ap (λ (i : ℕ). moved i o) n ∙ moved_none o))
+          (subst (λ (i : ℕ). ComesBehind s.inside (drop i b ++ more) ended rest o) n c))
 
   -- what stands behind the statements that were given
   pub comes_behind : (o : Outcome) → StandsBehind s.bytes.items s.tail (drop s.used s.tokens.items) 0 o → Comes fed s.ended given (moved (length h.before) o)
@@ -146,88 +177,20 @@ pub first_going : (fed : List ℕ) (given : List StatementView) (s : Stream) →
     → Comes (fed ++ more) ended all o → (rest : List StatementView) × (all ≡ given ++ rest)
 first_going fed given s h open' more ended all o c =
     let b = s.bytes.items in
+    let n = first_byte s.inside 0 (b ++ more) in
     let own = something_comes b s.ended in
     let first = own_first fed given s h own.0 own.1 own.2 in
-    let on = something_comes (b ++ more) ended in
-    let front = fronts_come_first b more ended own.0 on.0 own.1 on.1 (subst (λ (x : Bool). Comes b x own.0 own.1) open' own.2) on.2 in
+    let on = something_comes (drop n (b ++ more)) ended in
+    let on_behind : ComesBehind s.inside (b ++ more) ended on.0 (moved n on.1) = (on.1, refl, on.2) in
+    let front = front_behind s.inside b more h.none ended own.0 on.0 own.1 (moved n on.1) (subst (λ (x : Bool). Comes b x own.0 own.1) open' own.2) on_behind in
     let split : fed ++ more ≡ h.before ++ (b ++ more) = ap (λ (l : List ℕ). l ++ more) h.bytes ∙ append_assoc h.before b more in
-    let same = one_comes (h.before ++ (b ++ more)) ended all (h.early ++ on.0) o (moved (length h.before) on.1)
-    (subst (λ (l : List ℕ). Comes l ended all o) split c) (h.follows more ended on.0 on.1 on.2) in
+    let same = one_comes (h.before ++ (b ++ more)) ended all (h.early ++ on.0) o (moved (length h.before) (moved n on.1))
+    (subst (λ (l : List ℕ). Comes l ended all o) split c) (h.follows more ended on.0 (moved n on.1) on_behind) in
     let rest : List StatementView = first.0 ++ front.0 in (
       rest,
       same.0 ∙ ap (λ (l : List StatementView). h.early ++ l) (front.1 ∙ ap (λ (l : List StatementView). l ++ front.0) first.1 ∙ append_assoc h.later first.0 front.0)
           ∙ sym (append_assoc h.early h.later rest) ∙ ap (λ (l : List StatementView). l ++ rest) (sym h.statements),
     )
-
--- ---- pieces
-
--- used bytes go, and a piece comes
-pub refill : (fed : List ℕ) (given : List StatementView) (old new : Stream) (piece : List ℕ) → Holds fed given old → old.tail.last ≡ lexed.More
-    → new.bytes.items ≡ drop (end_behind old.tokens.items old.used) old.bytes.items ++ piece → AreAll new.bytes.items new.ended new.tokens.items new.tail
-    → Fits new.bytes.items new.tail → new.used ≡ 0 → new.before ≡ old.before + end_behind old.tokens.items old.used
-    → place_view new.place ≡ behind_all (place_view old.place) (take (end_behind old.tokens.items old.used) old.bytes.items) → Holds (fed ++ piece) given new
-refill fed given old new piece h wants bytes all fits used before place = record {
-  before = h.before ++ gone;
-  early = given;
-  later = [];
-  bytes = ap (λ (l : List ℕ). l ++ piece) h.bytes ∙ append_assoc h.before b piece ∙ ap (λ (l : List ℕ). h.before ++ l) (ap (λ (l : List ℕ). l ++ piece) (sym split) ∙ append_assoc gone kept piece)
-      ∙ sym (append_assoc h.before gone (kept ++ piece)) ∙ ap (λ (l : List ℕ). (h.before ++ gone) ++ l) (sym bytes);
-  statements = sym (append-nil given);
-  follows = λ more ended rest o c. follow more ended rest o (subst (λ (l : List ℕ). Comes l ended rest o) (ap (λ (l : List ℕ). l ++ more) bytes ∙ append_assoc kept piece more) c);
-  size = before ∙ omega (arith, h.size, size, length-append h.before gone);
-  place = place ∙ ap (λ (p : Place). behind_all p gone) h.place ∙ sym (behind_all-append start h.before gone);
-  all = all;
-  fits = fits;
-  leads = used;
-}
-  where
-    b : List ℕ
-    b = old.bytes.items
-
-    k : ℕ
-    k = end_behind old.tokens.items old.used
-
-    gone : List ℕ
-    gone = take k b
-
-    kept : List ℕ
-    kept = drop k b
-
-    split : gone ++ kept ≡ b
-    split = take-append-drop k b
-
-    size : length gone ≡ k
-    size = length-take-le k b (end_within fed given old h)
-
-    open' : old.ended ≡ false
-    open' = going_on fed given old h wants
-
-    follow : (more : List ℕ) (ended : Bool) (rest : List StatementView) (o : Outcome) → Comes (kept ++ (piece ++ more)) ended rest o
-        → Comes ((h.before ++ gone) ++ (new.bytes.items ++ more)) ended (given ++ rest) (moved (length (h.before ++ gone)) o)
-    follow more ended rest o c =
-        let one = used_bytes_go b (piece ++ more) old.tokens.items old.tail h.later old.used (subst (λ (x : Bool). AreAll b x old.tokens.items old.tail) open' h.all) wants h.leads ended rest o c in
-        let two = h.follows (piece ++ more) ended (h.later ++ rest) (moved k o) one in
-        let there : h.before ++ (b ++ (piece ++ more)) ≡ (h.before ++ gone) ++ (new.bytes.items ++ more) =
-        ap (λ (l : List ℕ). h.before ++ (l ++ (piece ++ more))) (sym split) ∙ ap (λ (l : List ℕ). h.before ++ l) (append_assoc gone kept (piece ++ more)) ∙ sym (append_assoc h.before gone (kept ++ (piece ++ more)))
-        ∙ ap (λ (l : List ℕ). (h.before ++ gone) ++ l) (sym (ap (λ (l : List ℕ). l ++ more) bytes ∙ append_assoc kept piece more)) in
-        let sts : h.early ++ (h.later ++ rest) ≡ given ++ rest = sym (append_assoc h.early h.later rest) ∙ ap (λ (l : List StatementView). l ++ rest) (sym h.statements) in
-        let out : moved (length h.before) (moved k o) ≡ moved (length (h.before ++ gone)) o = moved_again (length h.before) k (length (h.before ++ gone)) o (omega (arith, size, length-append h.before gone)) in
-        subst (λ (x : Outcome). Comes ((h.before ++ gone) ++ (new.bytes.items ++ more)) ended (given ++ rest) x) out
-        (subst (λ (l : List StatementView). Comes ((h.before ++ gone) ++ (new.bytes.items ++ more)) ended l (moved (length h.before) (moved k o))) sts
-        (subst (λ (l : List ℕ). Comes l ended (h.early ++ (h.later ++ rest)) (moved (length h.before) (moved k o))) there two))
-
-pub refills : (old new : Stream) (piece : List ℕ) → IsStream old → new.bytes.items ≡ drop (end_behind old.tokens.items old.used) old.bytes.items ++ piece
-    → AreAll new.bytes.items new.ended new.tokens.items new.tail → Fits new.bytes.items new.tail → new.used ≡ 0 → new.before ≡ old.before + end_behind old.tokens.items old.used
-    → place_view new.place ≡ behind_all (place_view old.place) (take (end_behind old.tokens.items old.used) old.bytes.items) → Refilled old piece new.ended new
-refills old new piece is bytes all fits used before place =
-    let k = end_behind old.tokens.items old.used in
-    let none : end_behind new.tokens.items new.used ≡ 0 = ap (end_behind new.tokens.items) used in
-    record {
-      holds = λ wants fed given h. refill fed given old new piece h wants bytes all fits used before place;
-      ends = refl;
-      size = omega (arith, before, ap length bytes, length-append (drop k old.bytes.items) piece, length-drop k old.bytes.items, end_within is.0 is.1 old is.2);
-      place = omega (arith, before, none);
-    }
 
 -- ---- the first statement that wasn't given
 
@@ -241,27 +204,6 @@ end_of_first d ts zero le some = absurd (some refl)
 end_of_first d ts (suc n) le some =
     let e : suc n - 1 ≡ n = omega arith in
     ap (λ (i : ℕ). (slice_index_or ts i d).end) e ∙ end_of_one d 0 ts n (omega (arith, le))
-
--- ---- nothing was fed
-
--- the stream to which nothing was fed
-pub holds_none : (s : Stream) → s.bytes.items ≡ [] → s.tokens.items ≡ [] → s.tail ≡ record { last = lexed.More; begun = 0 } → s.used ≡ 0 → s.before ≡ 0 → s.ended ≡ false
-    → place_view s.place ≡ start → Holds [] [] s
-unfolding next_of lexed_at first_byte behind_all
-holds_none s bytes tokens tail used before ended place = record {
-  before = [];
-  early = [];
-  later = [];
-  bytes = sym bytes;
-  statements = refl;
-  follows = λ more e rest o c. subst (λ (x : Outcome). Comes (s.bytes.items ++ more) e rest x) (sym (moved_none o)) c;
-  size = before;
-  place = place;
-  all = subst (λ (l : List ℕ). AreAll l s.ended s.tokens.items s.tail) (sym bytes) (subst (λ (b : Bool). AreAll [] b s.tokens.items s.tail) (sym ended)
-      (subst (λ (l : List Token). AreAll [] false l s.tail) (sym tokens) (subst (λ (t : Tail). AreAll [] false [] t) (sym tail) (record { found = (refl, refl); begun = refl }))));
-  fits = subst (λ (t : Tail). Fits s.bytes.items t) (sym tail) (record { none = refl; within = λ at e. let bad : lexed.More ≡ lexed.BadToken at = e in cc });
-  leads = used;
-}
 
 -- ---- answers of the calls
 
@@ -321,6 +263,7 @@ module _ (fed : List ℕ) (given : List StatementView) (s : Stream) (h : Holds f
           bytes = h.bytes;
           statements = ap (λ (l : List StatementView). l ++ st ∷ []) h.statements ∙ append_assoc h.early h.later (st ∷ []);
           follows = h.follows;
+          none = h.none;
           size = h.size;
           place = h.place;
           all = h.all;

@@ -1,2 +1,4 @@
+mod PassedLemmas
 mod HoldLemmas
+mod FeedLemmas
 pub mod ReadLaws

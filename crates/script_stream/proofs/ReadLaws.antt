@@ -170,7 +170,7 @@ turns_ended left mid left' was between is sts old new w wants taken end same fed
 
 -- a stream to which a piece was fed, or the end, is one, and less may come
 pub goes_fed : (old new : Stream) (piece : List ℕ) → IsStream old → old.tail.last ≡ lexed.More → 0 < length piece → old.before + length old.bytes.items + length piece ≤ limit → Refilled old piece false new
-    → IsStream new × (room_in new < room_in old) × (place_in new ≡ place_in old)
+    → IsStream new × (room_in new < room_in old) × (place_in old ≤ place_in new)
 goes_fed old new piece is wants some room fed =
     let old_going = going_on is.0 is.1 old is.2 wants in
     ((is.0 ++ piece, is.1, fed.holds wants is.0 is.1 is.2, omega (arith, room, length-append is.0 piece, fed_size is.0 is.1 old is.2)), room_less, fed.place)
@@ -182,7 +182,7 @@ goes_fed old new piece is wants some room fed =
     room_less = less new.ended old.ended fed.ends (going_on is.0 is.1 old is.2 wants)
 
 pub goes_ended : (old new : Stream) → IsStream old → old.tail.last ≡ lexed.More → Refilled old [] true new
-    → IsStream new × (room_in new < room_in old) × (place_in new ≡ place_in old)
+    → IsStream new × (room_in new < room_in old) × (place_in old ≤ place_in new)
 goes_ended old new is wants fed =
     ((is.0, is.1, subst (λ (l : List ℕ). Holds l is.1 new) (append-nil is.0) (fed.holds wants is.0 is.1 is.2), is.3), room_less, fed.place)
   where
@@ -192,8 +192,8 @@ goes_ended old new is wants fed =
     room_less : room_in new < room_in old
     room_less = less new.ended old.ended fed.ends (going_on is.0 is.1 old is.2 wants)
 
--- a stream that is as far on is the same for what comes of the source
-pub reaches_from : (left left' : Option (List ℕ)) (was is : ℕ) (sts : List StatementView) (one other new : Stream) (g : Given) → place_in one ≡ place_in other
+-- what comes of a source for a stream comes for one that was no further on
+pub reaches_from : (left left' : Option (List ℕ)) (was is : ℕ) (sts : List StatementView) (one other new : Stream) (g : Given) → place_in other ≤ place_in one
     → Reaches left left' was is sts one new g → Reaches left left' was is sts other new g
 reaches_from left left' was is sts one other new (given.Statement st) e h = record { reads = h.reads; soon = h.soon; written = h.written; texts = h.texts; on = (let on = h.on in omega (arith, on, e)) }
 reaches_from left left' was is sts one other new given.Over e h = h

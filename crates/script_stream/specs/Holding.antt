@@ -1,10 +1,10 @@
 -- What a stream holds of the bytes that were fed to it.
-use Rattle.std.specs.Prelude.{◌≡◌, ◌≤◌, ◌+◌, ◌++◌, ℕ, Bool, List, length}
+use Rattle.std.specs.Prelude.{◌≡◌, ◌≤◌, ◌+◌, ◌++◌, ℕ, Bool, true, List, [], length}
 use Rattle.statements.specs.Views.{StatementView}
 use Rattle.bidel_script.specs.Places.{behind_all, start}
 use Rattle.bidel_script.specs.Tails.{AreAll, Fits}
 use Rattle.bidel_script.specs.Script.{Leads, Comes, Outcome}
-use Rattle.bidel_script.specs.Moved.{end_behind, moved}
+use Rattle.bidel_script.specs.Moved.{ComesBehind, end_behind, moved}
 use Rattle.bidel_script.specs.Calls.{place_view}
 use Rattle.script_stream.specs.declared.stream.Stream.{Stream}
 
@@ -12,19 +12,21 @@ use Rattle.script_stream.specs.declared.stream.Stream.{Stream}
 abbrev pub limit : ℕ
 limit = 268435456
 
--- behind bytes that are these statements, the others say what they say by themselves, however they go on
-abbrev pub Follows : List ℕ → List StatementView → List ℕ → Type 0
-Follows before early bytes = (more : List ℕ) (ended : Bool) (rest : List StatementView) (outcome : Outcome)
-    → Comes (bytes ++ more) ended rest outcome → Comes (before ++ (bytes ++ more)) ended (early ++ rest) (moved (length before) outcome)
+-- behind bytes that are these statements, and behind which a comment is open or isn't, the others say what they say by themselves, however they go on
+abbrev pub Follows : List ℕ → List StatementView → Bool → List ℕ → Type 0
+Follows before early inside bytes = (more : List ℕ) (ended : Bool) (rest : List StatementView) (outcome : Outcome)
+    → ComesBehind inside (bytes ++ more) ended rest outcome → Comes (before ++ (bytes ++ more)) ended (early ++ rest) (moved (length before) outcome)
 
--- these bytes were fed, and these of their statements were given; the bytes of the early ones are gone
+-- these bytes were fed, and these of their statements were given; the bytes of the early ones are gone, with the white space and comments
+-- behind them; no bytes are left where a comment is open
 pub record Holds (fed : List ℕ) (given : List StatementView) (s : Stream) : Type 0 where
   pub before : List ℕ
   pub early : List StatementView
   pub later : List StatementView
   pub bytes : fed ≡ before ++ s.bytes.items
   pub statements : given ≡ early ++ later
-  pub follows : Follows before early s.bytes.items
+  pub follows : Follows before early s.inside s.bytes.items
+  pub none : s.inside ≡ true → s.bytes.items ≡ []
   pub size : s.before ≡ length before
   pub place : place_view s.place ≡ behind_all start before
   pub all : AreAll s.bytes.items s.ended s.tokens.items s.tail

@@ -1,6 +1,8 @@
 //! The bytes of a script that were fed and whose statements weren't all given.
 //!
-//! Bytes are cut into tokens once for each piece that comes before their statement is known to end.
+//! White space and comments before the first statement that wasn't given go with their piece, and of a comment that is still open no
+//! byte is kept. The other bytes are cut into tokens once for each piece that comes before their statement is known to end; they are
+//! no more than a statement may have, and a piece.
 ghost use Rattle.std.specs.Prelude.{◌≡◌, ◌≤◌, ◌<◌, ◌+◌, ◌^◌, ◌++◌, ℕ, List, [], true, false, length, take, drop, IfOk, OnOk, OnErr};
 ghost use Rattle.bidel_lex.specs.declared.tokens.Lexed.TheVariants.{More as WantsMore};
 ghost use Rattle.statements.specs.Views.{StatementView};
@@ -12,10 +14,10 @@ ghost use Rattle.bidel_script.specs.Script.{StandsBehind};
 ghost use Rattle.bidel_script.specs.Moved.{end_behind};
 ghost use Rattle.script_stream.specs.Holding.{Holds, IsStream, limit};
 ghost use Rattle.script_stream.specs.Giving.{Gives, Stands};
-ghost use Rattle.script_stream.specs.Calls.{Refilled};
+ghost use Rattle.script_stream.specs.Calls.{IsKept, Refilled};
 
 use bidel_lex::{Lexed, Token};
-use bidel_script::{Found, Place, Stop, Tail, all_tokens, find_front, place_from};
+use bidel_script::{Found, Place, Stop, Tail, all_tokens, find_front, pass_blanks, place_from};
 use par_base::Memory;
 use statements::Statement;
 use std::alloc::Global;
@@ -34,6 +36,17 @@ pub struct Stream {
     pub before: usize,
     /// Whether no bytes follow.
     pub ended: bool,
+    /// Whether a comment is open before the bytes; then there are none.
+    pub inside: bool,
+}
+
+// What is kept of some bytes: those behind so many of white space and comments, with their place.
+#[derive(Drop)]
+struct Kept {
+    bytes: Vec<u8>,
+    passed: usize,
+    inside: bool,
+    place: Place,
 }
 
 /// What comes of the bytes that were fed.
@@ -59,13 +72,22 @@ fn end_of_first(tokens: &[Token], used: usize) -> usize
     if used == 0 { 0 } else { tokens[used - 1].end }
 }
 
-// The bytes behind so many first ones, and a piece more.
-fn kept_and(alloc: Global, bytes: &[u8], used: usize, piece: &[u8]) -> Result<Vec<u8>, Memory>
+// The bytes behind so many first ones.
+fn bytes_from(alloc: Global, bytes: &[u8], used: usize) -> Result<Vec<u8>, Memory>
     requires { used ≤ length bytes.now }
-    ensures { IfOk result (λ kept. kept.items ≡ drop used bytes.now ++ piece.now) }
+    ensures { IfOk result (λ kept. kept.items ≡ drop used bytes.now) }
 {
     let mut kept = Vec::new(alloc);
     kept.extend_from_slice(&bytes[used..])?;
+    Ok(kept)
+}
+
+// The same, and a piece more.
+fn bytes_and(alloc: Global, bytes: &[u8], used: usize, piece: &[u8]) -> Result<Vec<u8>, Memory>
+    requires { used ≤ length bytes.now }
+    ensures { IfOk result (λ kept. kept.items ≡ drop used bytes.now ++ piece.now) }
+{
+    let mut kept = bytes_from(alloc, bytes, used)?;
     kept.extend_from_slice(piece)?;
     Ok(kept)
 }
@@ -96,23 +118,40 @@ fn find_behind(
     find_front(alloc, bytes, tail, &tokens[used..])
 }
 
-// The stream without the bytes of the statements that were given, and with a piece more.
+// What is kept of bytes that begin at a place; `inside` says that a comment is open before them.
+fn without_blanks(alloc: Global, bytes: &[u8], inside: bool, from: Place) -> Result<Kept, Memory>
+    requires line { from.line + length bytes.now < 2 ^ 64 }
+    requires column { from.column + length bytes.now + 1 < 2 ^ 64 }
+    ensures { IfOk result (IsKept bytes.now inside (place_view from)) }
+{
+    let blanks = pass_blanks(bytes, 0, inside);
+    Ok(Kept {
+        bytes: bytes_from(alloc, bytes, blanks.upto)?,
+        passed: blanks.upto,
+        inside: blanks.inside,
+        place: place_after(from, bytes, blanks.upto),
+    })
+}
+
+// The stream without the bytes of the statements that were given and what is blank behind them, and with a piece more.
 fn refilled(alloc: Global, old: &Stream, piece: &[u8], ended: bool) -> Result<Stream, Memory>
     requires { IsStream old.now }
     ensures { IfOk result (Refilled old.now piece.now ended) }
 {
     let used = end_of_first(old.tokens.as_slice(), old.used);
-    let place = place_after(old.place, old.bytes.as_slice(), used);
-    let bytes = kept_and(alloc, old.bytes.as_slice(), used, piece)?;
-    let all = all_tokens(alloc, bytes.as_slice(), ended)?;
+    let behind = place_after(old.place, old.bytes.as_slice(), used);
+    let bytes = bytes_and(alloc, old.bytes.as_slice(), used, piece)?;
+    let kept = without_blanks(alloc, bytes.as_slice(), old.inside, behind)?;
+    let all = all_tokens(alloc, kept.bytes.as_slice(), ended)?;
     Ok(Stream {
-        bytes,
+        bytes: kept.bytes,
         tokens: all.tokens,
         tail: all.tail,
         used: 0,
-        place,
-        before: old.before + used,
+        place: kept.place,
+        before: old.before + used + kept.passed,
         ended,
+        inside: kept.inside,
     })
 }
 
@@ -133,6 +172,7 @@ impl Stream {
             place: Place { line: 1, column: 1 },
             before: 0,
             ended: false,
+            inside: false,
         }
     }
 

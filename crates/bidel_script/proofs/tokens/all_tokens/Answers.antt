@@ -31,7 +31,7 @@ returns-in_default c =
             (c.loop-token.invariant.found [] last (sym c.next_token.ensures.value, none));
         begun = elim c.match-last.branch [
           | in-End w ↦ w.begun-is ∙ sym (ap (begun_at bytes (last_end 0 c.loop-token.tokens.items)) w.in-End.is)
-          | in_default-last w ↦ w.begun-is ∙ w.skip_blanks-begun.ensures ∙ begun_other bytes c.loop-token.from (last_end 0 c.loop-token.tokens.items) last c.loop-token.invariant.end
+          | in_default-last w ↦ w.begun-is ∙ w.pass_blanks.ensures.upto ∙ begun_other bytes c.loop-token.from (last_end 0 c.loop-token.tokens.items) last c.loop-token.invariant.end
               (λ e. w.in_default-last.not-End e)
         ];
       };

@@ -1,20 +1,21 @@
-use Rattle.std.proofs.Common.{sym, subst}
-use Rattle.script_run.specs.declared.end.End.{End}
-use Rattle.script_run.specs.Calls.{Ends, EndStays}
-use Rattle.script_run.proofs.EndLaws.{ends_run, ends_stay}
+use Rattle.std.proofs.Common.{subst, sym}
 use Rattle.engine_sessions.specs.Standing.{standing_of}
+use Rattle.script_run.specs.Calls.{Ends}
+use Rattle.script_run.proofs.EndLaws.{cut_front, ends_line}
 use Rattle.script_run.proofs.source.run_source.Goals as goal
 
-pub returns-clause-ends : goal.returns-clause-ends
-returns-clause-ends g c =
-    subst (λ (e : End). Ends (standing_of c.args.sessions.now) (standing_of c.end_script-ran.new.sessions) (g.S.Source.left c.args.script.now) (g.S.Source.left c.read_all.new.source) (g.S.Source.faults c.args.script.now) (g.S.Source.faults c.read_all.new.source)
-    (g.K.Sink.held c.args.out.now) (g.K.Sink.held c.end_script-ran.new.out) (g.K.Sink.faults c.args.out.now) (g.K.Sink.faults c.end_script-ran.new.out) e) (sym c.end_of.ensures)
-    (ends_run (standing_of c.args.sessions.now) (standing_of c.end_script-ran.new.sessions) (g.S.Source.left c.args.script.now) (g.S.Source.left c.read_all.new.source) (g.S.Source.faults c.args.script.now) (g.S.Source.faults c.read_all.new.source)
-    (g.K.Sink.held c.args.out.now) (g.K.Sink.held c.end_script-ran.new.out) (g.K.Sink.faults c.args.out.now) (g.K.Sink.faults c.end_script-ran.new.out)
-    c.in-Ok.read c.what_counts-taken.result c.end_script-ran.result
-    c.in-Ok.ensures.reads c.what_counts-taken.ensures c.end_script-ran.ensures.ends)
+pub returns-in-Stops-clause-ends : goal.returns-in-Stops-clause-ends
+returns-in-Stops-clause-ends g c =
+    subst (Ends (standing_of c.args.sessions.now) (standing_of c.run_script.new.sessions) (g.S.Source.left c.args.script.now) (g.S.Source.left c.run_script.new.script) (g.S.Source.faults c.args.script.now) (g.S.Source.faults c.run_script.new.script) (g.K.Sink.held c.args.out.now) (g.K.Sink.held c.put_last.new.out) (g.K.Sink.faults c.args.out.now) (g.K.Sink.faults c.put_last.new.out)) (sym c.end.ensures)
+    (ends_line (standing_of c.args.sessions.now) (standing_of c.run_script.new.sessions) (g.S.Source.left c.args.script.now) (g.S.Source.left c.run_script.new.script) (g.S.Source.faults c.args.script.now) (g.S.Source.faults c.run_script.new.script) (g.K.Sink.held c.args.out.now) (g.K.Sink.held c.run_script.new.out) (g.K.Sink.held c.put_last.new.out)
+    (g.K.Sink.faults c.args.out.now) (g.K.Sink.faults c.run_script.new.out) (g.K.Sink.faults c.put_last.new.out) c.in-Stops.last c.put_last.result c.in-Stops.ensures.runs c.in-Stops.ensures.stays c.put_last.ensures.puts)
 
-pub returns-clause-stays : goal.returns-clause-stays
-returns-clause-stays g c =
-    subst (EndStays (g.K.Sink.faults c.args.out.now) (g.K.Sink.faults c.end_script-ran.new.out)) (sym c.end_of.ensures)
-    (ends_stay (standing_of c.args.sessions.now) (standing_of c.end_script-ran.new.sessions) (g.K.Sink.faults c.args.out.now) (g.K.Sink.faults c.end_script-ran.new.out) c.what_counts-taken.result.end c.end_script-ran.result c.end_script-ran.ensures.stays)
+pub returns-in-Memory-clause-ends : goal.returns-in-Memory-clause-ends
+returns-in-Memory-clause-ends g c =
+    let x = c.in-Memory.ensures.runs in
+    cut_front (standing_of c.args.sessions.now) (standing_of c.run_script.new.sessions) (g.S.Source.left c.args.script.now) (g.S.Source.left c.run_script.new.script) (g.S.Source.faults c.args.script.now) (g.S.Source.faults c.run_script.new.script) (g.K.Sink.held c.args.out.now) (g.K.Sink.held c.run_script.new.out) x.0 x.1
+
+pub returns-in-Unwritten-clause-ends : goal.returns-in-Unwritten-clause-ends
+returns-in-Unwritten-clause-ends g c =
+    let x = c.in-Unwritten.ensures.runs in
+    (x.0, cut_front (standing_of c.args.sessions.now) (standing_of c.run_script.new.sessions) (g.S.Source.left c.args.script.now) (g.S.Source.left c.run_script.new.script) (g.S.Source.faults c.args.script.now) (g.S.Source.faults c.run_script.new.script) (g.K.Sink.held c.args.out.now) (g.K.Sink.held c.run_script.new.out) x.1 x.2)

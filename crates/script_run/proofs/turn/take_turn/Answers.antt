@@ -1,66 +1,27 @@
-use Rattle.std.proofs.Common.{◌∙◌, subst}
-use Rattle.std.specs.Io.KnownBytes.{Appends}
+use Rattle.std.proofs.Common.{refl}
+use Rattle.engine_sessions.specs.Standing.{standing_of}
 use Rattle.statements.specs.Views.{statement_view}
-use Rattle.bidel_script.proofs.TextLimitsLaws.{texts_within}
-use Rattle.bidel_expr.specs.Lexemes.{lexemes}
-use Rattle.bidel_script.specs.Tails.{is_over}
-use Rattle.script_run.specs.Statuses.{PutsFront}
-use Rattle.script_run.proofs.SpelledLaws.{stay_spelled}
+use Rattle.script_stream.proofs.ReadLaws.{reads_stream}
+use Rattle.script_run.proofs.RunLemmas.{turn_next}
 use Rattle.script_run.proofs.turn.take_turn.Goals as goal
 
-pub answer-requires : goal.answer-requires
-answer-requires g c =
-    let found = rw c.in-Ok-Whole.field-0-is at c.in-Ok-Whole.ensures in
-    texts_within c.args.bytes.now c.args.tail c.args.tokens.now (statement_view c.in-Ok-Whole.statement) c.in-Ok-Whole.used found.0 c.requires.tokens found.1
+pub next_statement-requires : goal.next_statement-requires
+next_statement-requires g c = reads_stream c.requires.0 (g.S.Source.left c.args.script.now) c.requires.1 (g.S.Source.faults c.args.script.now) c.requires.2 c.args.stream.now c.requires.3
 
-pub returns-in-Ok-write_all-clause-turns : goal.returns-in-Ok-write_all-clause-turns
-returns-in-Ok-write_all-clause-turns g c =
-    let found = rw c.in-Ok-Whole.field-0-is at c.in-Ok-Whole.ensures in
-    record {
-      statement = statement_view c.in-Ok-Whole.statement;
-      front = found.0;
-      short = found.1;
-      put = subst (Appends (g.K.Sink.held c.args.out.now) (g.K.Sink.held c.write_all.new.sink)) (c.as_bytes.ensures.value ∙ c.as_str.ensures ∙ c.in-Ok.ensures.text) c.in-Ok-write_all.ensures.ok;
-      next = c.in-Ok.ensures.next;
-    }
+pub answer_one-requires-clause-texts : goal.answer_one-requires-clause-texts
+answer_one-requires-clause-texts g c = (c.in-Statement.ensures.reaches c.requires.0 c.requires.1 c.requires.2 c.requires.3).texts
 
-pub returns-in-Ok-clause-turns : goal.returns-in-Ok-clause-turns
-returns-in-Ok-clause-turns g c =
-    let found = rw c.in-Ok-Whole.field-0-is at c.in-Ok-Whole.ensures in
-    let part = c.in-Err-write_all.ensures.err in (
-      c.in-Err-write_all.ensures.cause.failed,
-      record {
-        statement = statement_view c.in-Ok-Whole.statement;
-        used = c.in-Ok-Whole.used;
-        front = found.0;
-        short = found.1;
-        put = subst (PutsFront (g.K.Sink.held c.args.out.now) (g.K.Sink.held c.write_all.new.sink)) (c.as_bytes.ensures.value ∙ c.as_str.ensures ∙ c.in-Ok.ensures.text) part;
-      },
-    )
+pub answer_one-requires-clause-written : goal.answer_one-requires-clause-written
+answer_one-requires-clause-written g c = (c.in-Statement.ensures.reaches c.requires.0 c.requires.1 c.requires.2 c.requires.3).written
 
-pub returns-in-Ok-write_all-clause-keeps : goal.returns-in-Ok-write_all-clause-keeps
-returns-in-Ok-write_all-clause-keeps g c =
-    let found = rw c.in-Ok-Whole.field-0-is at c.in-Ok-Whole.ensures in
-    record {
-      limit = c.answer.ensures.limit;
-      spelled = λ is. stay_spelled (is_over c.args.tail.last) (lexemes c.args.bytes.now c.args.tokens.now) (statement_view c.in-Ok-Whole.statement) c.in-Ok-Whole.used
-          c.args.sessions.now.mover.database.graph.edges c.answer.new.sessions.mover.database.graph.edges found.0 c.answer.ensures.texts is;
-    }
+pub returns-in-Statement-clause-turns : goal.returns-in-Statement-clause-turns
+returns-in-Statement-clause-turns g c = λ left was sts reads.
+    turn_next left (g.S.Source.left c.next_statement.new.source) was (g.S.Source.faults c.args.script.now) (g.S.Source.faults c.next_statement.new.source) sts c.args.stream.now c.next_statement.new.stream
+    (g.K.Sink.held c.args.out.now) (g.K.Sink.held c.answer_one.new.out) (g.K.Sink.faults c.args.out.now) (g.K.Sink.faults c.answer_one.new.out) (standing_of c.args.sessions.now) (standing_of c.answer_one.new.sessions)
+    (statement_view c.in-Statement.statement) c.answer_one.result (g.S.Source.left c.args.script.now) reads (c.in-Statement.ensures.reaches left was sts reads) c.answer_one.ensures.answers
 
-pub returns-in-Ok-clause-keeps : goal.returns-in-Ok-clause-keeps
-returns-in-Ok-clause-keeps g c =
-    let found = rw c.in-Ok-Whole.field-0-is at c.in-Ok-Whole.ensures in
-    record {
-      limit = c.answer.ensures.limit;
-      spelled = λ is. stay_spelled (is_over c.args.tail.last) (lexemes c.args.bytes.now c.args.tokens.now) (statement_view c.in-Ok-Whole.statement) c.in-Ok-Whole.used
-          c.args.sessions.now.mover.database.graph.edges c.answer.new.sessions.mover.database.graph.edges found.0 c.answer.ensures.texts is;
-    }
+pub returns-in-TooMany-clause-turns : goal.returns-in-TooMany-clause-turns
+returns-in-TooMany-clause-turns g c = λ left was sts reads. (c.in-TooMany.ensures.reaches left was sts reads, refl, refl)
 
-pub returns-in-Ok-Whole-clause-keeps : goal.returns-in-Ok-Whole-clause-keeps
-returns-in-Ok-Whole-clause-keeps g c =
-    let found = rw c.in-Ok-Whole.field-0-is at c.in-Ok-Whole.ensures in
-    record {
-      limit = c.answer.ensures.limit;
-      spelled = λ is. stay_spelled (is_over c.args.tail.last) (lexemes c.args.bytes.now c.args.tokens.now) (statement_view c.in-Ok-Whole.statement) c.in-Ok-Whole.used
-          c.args.sessions.now.mover.database.graph.edges c.answer.new.sessions.mover.database.graph.edges found.0 c.answer.ensures.texts is;
-    }
+pub returns-in-Memory-clause-turns : goal.returns-in-Memory-clause-turns
+returns-in-Memory-clause-turns g c = λ left was sts reads. let x = c.in-Memory.ensures.reaches left was sts reads in (x.0, x.1, refl)
