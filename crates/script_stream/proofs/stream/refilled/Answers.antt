@@ -45,8 +45,21 @@ without_blanks-requires-clause-line c =
     let e : c.end_of_first-used.result ≡ end_behind c.args.old.now.tokens.items c.args.old.now.used = c.end_of_first-used.ensures ∙ ap (λ (l : List Token). end_behind l c.args.old.now.used) c.as_slice.ensures.value in
     let within : used ≤ length c.as_slice-2.result.now = omega (arith, end_within s.0 s.1 old s.2, e, ap length c.as_slice-2.ensures.value) in
     let near = behind_all-near (place_view old.place) (take used c.as_slice-2.result.now) in
-    omega (arith, near.0, ap (λ (p : Place). p.line) c.place_after-behind.ensures, length-take-le used c.as_slice-2.result.now within, within, ap length c.as_slice-2.ensures.value, (place_near s.0 s.1 old s.2).0,
-    fed_size s.0 s.1 old s.2, s.3, ap length c.as_slice-4.ensures.value, c.in_ok-bytes.bytes.ok.0, c.in_ok-bytes.bytes.ok.1, c.in_ok-bytes.bytes.small)
+    omega (
+      arith,
+      near.0,
+      ap (λ (p : Place). p.line) c.place_after-behind.ensures,
+      length-take-le used c.as_slice-2.result.now within,
+      within,
+      ap length c.as_slice-2.ensures.value,
+      (place_near s.0 s.1 old s.2).0,
+      fed_size s.0 s.1 old s.2,
+      s.3,
+      ap length c.as_slice-4.ensures.value,
+      c.in_ok-bytes.bytes.ok.0,
+      c.in_ok-bytes.bytes.ok.1,
+      c.in_ok-bytes.bytes.small,
+    )
 
 pub without_blanks-requires-clause-column : goal.without_blanks-requires-clause-column
 without_blanks-requires-clause-column c =
@@ -56,8 +69,21 @@ without_blanks-requires-clause-column c =
     let e : c.end_of_first-used.result ≡ end_behind c.args.old.now.tokens.items c.args.old.now.used = c.end_of_first-used.ensures ∙ ap (λ (l : List Token). end_behind l c.args.old.now.used) c.as_slice.ensures.value in
     let within : used ≤ length c.as_slice-2.result.now = omega (arith, end_within s.0 s.1 old s.2, e, ap length c.as_slice-2.ensures.value) in
     let near = behind_all-near (place_view old.place) (take used c.as_slice-2.result.now) in
-    omega (arith, near.1, ap (λ (p : Place). p.column) c.place_after-behind.ensures, length-take-le used c.as_slice-2.result.now within, within, ap length c.as_slice-2.ensures.value, (place_near s.0 s.1 old s.2).1,
-    fed_size s.0 s.1 old s.2, s.3, ap length c.as_slice-4.ensures.value, c.in_ok-bytes.bytes.ok.0, c.in_ok-bytes.bytes.ok.1, c.in_ok-bytes.bytes.small)
+    omega (
+      arith,
+      near.1,
+      ap (λ (p : Place). p.column) c.place_after-behind.ensures,
+      length-take-le used c.as_slice-2.result.now within,
+      within,
+      ap length c.as_slice-2.ensures.value,
+      (place_near s.0 s.1 old s.2).1,
+      fed_size s.0 s.1 old s.2,
+      s.3,
+      ap length c.as_slice-4.ensures.value,
+      c.in_ok-bytes.bytes.ok.0,
+      c.in_ok-bytes.bytes.ok.1,
+      c.in_ok-bytes.bytes.small,
+    )
 
 pub overflow_add-result : goal.overflow_add-result
 overflow_add-result c =
