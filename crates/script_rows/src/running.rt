@@ -13,8 +13,8 @@ pub const ROOM: usize = 1_048_576;
 // The most bytes that a file gives at once, and the source where the case says no other number and the script is short.
 const PIECE: usize = 7;
 
-// In about so many pieces a long script comes.
-const PIECES: usize = 100;
+// A longer script comes in pieces of so many bytes.
+const LONG: usize = 4096;
 
 // The most bytes that the sink takes at once.
 const TAKEN: usize = 5;
@@ -58,7 +58,7 @@ pub fn run(
         return run_source(alloc, case, words, &mut source, room, files);
     }
     let script = unmarked(alloc, script)?;
-    let piece = PIECE.max(script.len() / PIECES);
+    let piece = if script.len() > LONG { LONG } else { PIECE };
     let piece = case.number("gives", piece as u64)?.max(1) as usize;
     let mut takes = vec![in alloc; case.number("take", NEVER)?]?;
     if case.has("cut") {
