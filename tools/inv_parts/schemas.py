@@ -90,8 +90,8 @@ def read_schema(path):
     try:
         with open(path, "rb") as file:
             dump = json.load(file)
-        if dump["format"] != 1:
-            raise Trouble(f"{path} has the format {dump['format']}, and inv reads format 1")
+        if dump["format"] not in (1, 2):
+            raise Trouble(f"{path} has the format {dump['format']}, and inv reads the formats 1 and 2")
         return Schema(dump)
     except OSError as error:
         raise Trouble(f"{path} can't be read: {error.strerror}") from error

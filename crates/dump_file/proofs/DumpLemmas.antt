@@ -1,6 +1,5 @@
 -- A database stands for its own dump.
-use Rattle.std.proofs.Common.{◌≡◌, ℕ, List, [], false, ap, ◌∙◌, subst, sym}
-use Rattle.serde_json.specs.Data.{Data}
+use Rattle.std.proofs.Common.{◌≡◌, [], false, ap, ◌∙◌, sym}
 use Rattle.version_graph.specs.Forest.{Link, crossing, forest}
 use Rattle.version_graph.proofs.SetLaws.{each_at, each_of}
 use Rattle.id_memory.specs.States.{MemoryState}
@@ -12,12 +11,9 @@ use Rattle.version_model.specs.Steps.{IsRelated}
 use Rattle.version_model.specs.declared.numbered.Numbered.{Numbered}
 use Rattle.db_state.specs.Fields.{IsDatabase, state_for}
 use Rattle.db_state.specs.declared.parts.Parts.{Parts}
-use Rattle.dump_graph.specs.Graphs.{AreNames}
-use Rattle.dump_graph.specs.Texts.{AreFromTexts}
-use Rattle.dump_values.specs.Laws.{DumpFits, DumpsReadBack}
+use Rattle.dump_values.specs.Laws.{DumpsReadBack}
 use Rattle.dump_file.specs.Laws.{DumpStands, OthersForget}
-use Rattle.dump_file.specs.Stands.{IsDumpOf, Spells}
-use Rattle.dump_file.specs.Told.{database_json, dump_told, remembers}
+use Rattle.dump_file.specs.Told.{dump_told, remembers}
 use Rattle.dump_file.proofs.StateLemmas.{memory_lives, memory_there}
 use Rattle.dump_file.proofs.MemoryLemmas.{link_unkept, no_pairs}
 
@@ -39,11 +35,3 @@ dump_stands back p is = record {
   others = others_forget p is.database is.texts.1;
   database = is.database;
 }
-
--- bytes that spell what is dumped, said of equal ones
-pub spelled : (bytes text : List ℕ) (d e : Data) → bytes ≡ text → d ≡ e → Spells text d → Spells bytes e
-spelled bytes text d e same is spells = subst (λ (b : List ℕ). Spells b e) (sym same) (subst (λ (x : Data). Spells text x) is spells)
-
--- what spells the dump of a database is a dump of it
-pub is_dump : DumpStands → (p : Parts AnyView) (bytes : List ℕ) → IsDatabase any_meaning p → AreNames p.graph.versions → DumpFits (dump_told p) → Spells bytes (database_json p) → AreFromTexts p.ids.next p.graph.edges → IsDumpOf bytes p
-is_dump stands p bytes database names fits spells texts = (database_json p, spells, stands p (record { database = database; texts = texts; names = names; fits = fits }))

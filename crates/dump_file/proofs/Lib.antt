@@ -13,5 +13,4 @@ mod FillLemmas
 mod KeptLemmas
 mod LoadLemmas
 mod NumberLemmas
-mod ReadLemmas
 mod SameLemmas

@@ -22,9 +22,9 @@ use Rattle.dump_graph.specs.Laws.{ToldGraphsAreOne}
 use Rattle.dump_graph.specs.Texts.{AreFromTexts}
 use Rattle.dump_graph.specs.Told.{graph_told}
 use Rattle.dump_graph.specs.declared.refused.DumpRefused.{DumpRefused}
-use Rattle.dump_file.specs.Stands.{HasNoOther, IsDumpOf, Loads, Stands}
+use Rattle.dump_file.specs.Stands.{HasNoOther, Loads, Stands}
 use Rattle.dump_file.specs.Told.{aux_line, dump_told, has_tables, kept_told, memory_line}
-use Rattle.dump_file.specs.inner.Loading.{AreFields, AreKept, AreMemories, AreOnly, Keeps, MakesFields, ReadsLines, Tells, is_told}
+use Rattle.dump_file.specs.inner.Loading.{AreFields, AreKept, AreMemories, AreOnly, Keeps, MakesFields, ReadsLines, is_told}
 use Rattle.dump_file.proofs.BuiltLemmas.{IsBuiltFor, all_built}
 use Rattle.dump_file.proofs.FillLemmas.{one_filling}
 use Rattle.dump_file.proofs.KeptLemmas.{aux_entries, memory_entries}
@@ -158,56 +158,45 @@ no_graph lines kept limit (Memory memory) none = tt
 
 -- ---- the whole
 
--- bytes tell one thing
-one_told : (bytes : List ℕ) (dump other : Dump) → Tells bytes dump → Tells bytes other → dump ≡ other
-one_told bytes dump other a b =
-    let same : a.0 ≡ b.0 = some_is a.0 b.0 (sym a.1.1 ∙ b.1.1) in
-    dump_is dump other (sym a.2 ∙ ap dump_of same ∙ b.2)
+-- the database that stands for JSON has the fields of which that tells
+stood_fields : (d : Data) (dump : Dump) (p : Parts AnyView) → dump_of d ≡ Some dump → Stands d p → AreFields dump p
+stood_fields d dump p tells stands = record {
+  told = dump_is (dump_told p) dump (sym stands.told ∙ tells);
+  texts = stands.texts;
+  names = stands.names;
+  others = stands.others;
+  graph = stands.database.graph;
+  finished = stands.database.finished;
+  auxes = stands.database.auxes;
+  memories = stands.database.memories;
+}
   where
-    some_is : (x y : Data) → Some x ≡ Some y → x ≡ y
-    some_is x y e = cc
-
     dump_is : (x y : Dump) → Some x ≡ Some y → x ≡ y
     dump_is x y e = cc
 
--- the database of a dump has the fields of which the dump tells
-dump_fields : (bytes : List ℕ) (dump : Dump) (p : Parts AnyView) → Tells bytes dump → IsDumpOf bytes p → AreFields dump p
-dump_fields bytes dump p tells is =
-    let stands = is.2 in
-    record {
-      told = one_told bytes (dump_told p) dump (is.0, is.1, stands.told) tells;
-      texts = stands.texts;
-      names = stands.names;
-      others = stands.others;
-      graph = stands.database.graph;
-      finished = stands.database.finished;
-      auxes = stands.database.auxes;
-      memories = stands.database.memories;
-    }
-
--- the bytes that tell of the fields of a database are a dump of it
-pub is_loaded : (bytes : List ℕ) (dump : Dump) (limit : ℕ) (p db : Parts AnyView) → Tells bytes dump → MakesFields dump limit (Ok p) → IsDatabase any_meaning p × (db ≡ p) → Loads bytes limit (Ok db)
-is_loaded bytes dump limit p db tells makes checks =
+-- where the fields are a database it stands for what tells of them
+pub is_loaded : (d : Data) (dump : Dump) (limit : ℕ) (p db : Parts AnyView) → dump_of d ≡ Some dump → MakesFields dump limit (Ok p) → IsDatabase any_meaning p × (db ≡ p) → Loads d limit (Ok db)
+is_loaded d dump limit p db tells makes checks =
     let are = makes.0 in
-    let stands : Stands tells.0 p = record {
-      told = tells.2 ∙ ap (λ d. Some d) (sym are.told);
+    let stands : Stands d p = record {
+      told = tells ∙ ap (λ d. Some d) (sym are.told);
       texts = are.texts;
       names = are.names;
       others = are.others;
       database = checks.0;
     } in
-    subst (λ (x : Parts AnyView). IsDumpOf bytes x × (x.ids.limit ≡ limit)) (sym checks.1) ((tells.0, tells.1, stands), makes.2)
+    subst (λ (x : Parts AnyView). Stands d x × (x.ids.limit ≡ limit)) (sym checks.1) (stands, makes.2)
 
--- where their fields are no database they are a dump of none
-pub not_loaded : (bytes : List ℕ) (dump : Dump) (limit : ℕ) (p : Parts AnyView) → Tells bytes dump → MakesFields dump limit (Ok p) → (IsDatabase any_meaning p → ⊥) → (q : Parts AnyView) → IsDumpOf bytes q → ⊥
-not_loaded bytes dump limit p tells makes none q is = none (same_database q p (makes.1 q (dump_fields bytes dump q tells is)) is.2.database)
+-- where they are none nothing stands for it
+pub not_loaded : (d : Data) (dump : Dump) (limit : ℕ) (p : Parts AnyView) → dump_of d ≡ Some dump → MakesFields dump limit (Ok p) → (IsDatabase any_meaning p → ⊥) → (q : Parts AnyView) → Stands d q → ⊥
+not_loaded d dump limit p tells makes none q stands = none (same_database q p (makes.1 q (stood_fields d dump q tells stands)) stands.database)
 
--- bytes that tell of no fields are a dump of nothing
-pub none_made : (bytes : List ℕ) (dump : Dump) (limit : ℕ) (fault : Fault DumpRefused) → Tells bytes dump → MakesFields dump limit (Err fault) → Loads bytes limit (Err fault)
-none_made bytes dump limit (Refused r) tells none = λ q is. none q (dump_fields bytes dump q tells is)
-none_made bytes dump limit (Memory memory) tells none = tt
+-- nothing stands for what tells of no fields
+pub none_made : (d : Data) (dump : Dump) (limit : ℕ) (fault : Fault DumpRefused) → dump_of d ≡ Some dump → MakesFields dump limit (Err fault) → Loads d limit (Err fault)
+none_made d dump limit (Refused r) tells none = λ q stands. none q (stood_fields d dump q tells stands)
+none_made d dump limit (Memory memory) tells none = tt
 
--- nor are bytes that tell nothing
-pub none_read : (bytes : List ℕ) (limit : ℕ) (fault : Fault DumpRefused) → ReadsLines bytes (Err fault) → Loads bytes limit (Err fault)
-none_read bytes limit (Refused r) none = λ q is. none (dump_told q) (is.0, is.1, is.2.told)
-none_read bytes limit (Memory memory) none = tt
+-- nor for what tells nothing
+pub none_read : (d : Data) (limit : ℕ) (fault : Fault DumpRefused) → ReadsLines d (Err fault) → Loads d limit (Err fault)
+none_read d limit (Refused r) none = λ q stands. none (dump_told q) stands.told
+none_read d limit (Memory memory) none = tt

@@ -9,6 +9,7 @@ use Rattle.row_store.specs.Rows.{Rows}
 use Rattle.row_store.specs.States.{TableState}
 use Rattle.id_memory.specs.Pairs.{Pairs}
 use Rattle.id_memory.specs.States.{MemoryState}
+use Rattle.serde_json.specs.Data.{Data}
 use Rattle.version_graph.specs.Edges.{is_in, made}
 use Rattle.version_graph.specs.Forest.{forest}
 use Rattle.version_graph.specs.Sets.{Distinct, In}
@@ -26,8 +27,8 @@ use Rattle.dump_values.specs.Dumps.{Dump}
 use Rattle.dump_graph.specs.Texts.{AreFromTexts}
 use Rattle.dump_graph.specs.Laws.{ToldGraphsAreOne}
 use Rattle.dump_graph.specs.Told.{graph_told}
-use Rattle.dump_file.specs.Laws.{DumpsAreOfOneDatabase}
-use Rattle.dump_file.specs.Stands.{HasNoOther}
+use Rattle.dump_file.specs.Laws.{DumpsAreOfOneDatabase, DumpsAreOfOneGraph}
+use Rattle.dump_file.specs.Stands.{HasNoOther, Stands}
 use Rattle.dump_file.specs.Told.{aux_line, dump_told, has_tables, is_some_table, memory_line, remembers}
 use Rattle.dump_file.proofs.ListedLemmas.{numbers_once}
 
@@ -150,11 +151,14 @@ module _ (p q : Parts AnyView) (first : IsDatabase any_meaning p) (second : IsDa
   pub same_database : database_for any_meaning p ≡ database_for any_meaning q
   same_database = λ i. record { graph = graph i; state = same_state i; limit = limit i }
 
-pub one_database : ToldGraphsAreOne → DumpsAreOfOneDatabase
-one_database one d p q first second limit =
-    let told : dump_told p ≡ dump_told q = some_is (dump_told p) (dump_told q) (sym first.told ∙ second.told) in
+-- what is told of them is the same, and so is their graph
+same_told : (d : Data) (p q : Parts AnyView) → Stands d p → Stands d q → dump_told p ≡ dump_told q
+same_told d p q first second = some_is (dump_told p) (dump_told q) (sym first.told ∙ second.told)
+
+same_graph : ToldGraphsAreOne → (d : Data) (p q : Parts AnyView) → Stands d p → Stands d q → p.graph ≡ q.graph
+same_graph one d p q first second =
+    let told = same_told d p q first second in
     let next : q.ids.next ≡ p.ids.next = sym (ap (λ (x : Dump). x.kept.next) told) in
-    let graph : p.graph ≡ q.graph =
     one p.ids.next (graph_told p.graph) p.graph q.graph
     (record { told = refl; texts = first.texts; names = first.names; finished = first.database.finished })
     (record {
@@ -162,7 +166,18 @@ one_database one d p q first second limit =
       texts = subst (λ (n : ℕ). AreFromTexts n q.graph.edges) next second.texts;
       names = second.names;
       finished = second.database.finished;
-    }) in
+    })
+
+pub one_graph : ToldGraphsAreOne → DumpsAreOfOneGraph
+one_graph one d p q first second = record {
+  graph = same_graph one d p q first second;
+  layout = ap (λ (x : Dump). x.kept.layout) (same_told d p q first second);
+}
+
+pub one_database : ToldGraphsAreOne → DumpsAreOfOneDatabase
+one_database one d p q first second limit =
+    let told = same_told d p q first second in
+    let graph = same_graph one d p q first second in
     record {
       model = same_database p q first.database second.database first.others second.others told graph limit;
       layout = same_layout p q first.database second.database first.others second.others told graph limit;

@@ -39,3 +39,11 @@ pub record AreOneDatabase (p q : Parts AnyView) : Type 0 where
 -- A DUMP IS OF ONE DATABASE, but for the greatest identifier that may be drawn, and for room
 abbrev pub DumpsAreOfOneDatabase : Type 0
 DumpsAreOfOneDatabase = (d : Data) (p q : Parts AnyView) → Stands d p → Stands d q → p.ids.limit ≡ q.ids.limit → AreOneDatabase p q
+
+-- with one graph, whatever may be drawn
+pub record AreOneGraph (p q : Parts AnyView) : Type 0 where
+  pub graph : p.graph ≡ q.graph
+  pub layout : p.layout.operators ≡ q.layout.operators
+
+abbrev pub DumpsAreOfOneGraph : Type 0
+DumpsAreOfOneGraph = (d : Data) (p q : Parts AnyView) → Stands d p → Stands d q → AreOneGraph p q

@@ -1,10 +1,9 @@
 -- When a database stands for a dump.
-use Rattle.std.specs.Prelude.{◌≡◌, ℕ, List, [], false, Some, Result, Ok, Err, ⊤, IsUtf8}
+use Rattle.std.specs.Prelude.{◌≡◌, ℕ, List, [], false, Some, Result, Ok, Err, ⊤}
 use Rattle.par_base.specs.declared.fault.Fault.{Fault}
 use Rattle.par_base.specs.declared.fault.Fault.TheVariants.{Refused, Memory}
 use Rattle.id_memory.specs.States.{MemoryState}
 use Rattle.serde_json.specs.Data.{Data}
-use Rattle.serde_json.specs.Read.{read}
 use Rattle.version_graph.specs.Sets.{Each}
 use Rattle.version_graph.specs.declared.parts.Placed.{Placed}
 use Rattle.op_any.specs.Operators.{AnyView, any_meaning}
@@ -29,16 +28,8 @@ pub record Stands (d : Data) (p : Parts AnyView) : Type 0 where
   pub others : HasNoOther p.graph.edges p.memories
   pub database : IsDatabase any_meaning p
 
--- the bytes are some spelling of this JSON
-abbrev pub Spells : List ℕ → Data → Type 0
-Spells bytes d = IsUtf8 bytes × (read bytes ≡ Some d)
-
--- the bytes are a dump of the database
-abbrev pub IsDumpOf : List ℕ → Parts AnyView → Type 0
-IsDumpOf bytes p = (d : Data) × Spells bytes d × Stands d p
-
--- what loading answers: the database of the dump, with the limit that was given, or a refusal exactly where the bytes are no dump of one
-abbrev pub Loads : List ℕ → ℕ → Result (Parts AnyView) (Fault DumpRefused) → Type 0
-Loads bytes limit (Ok db) = IsDumpOf bytes db × (db.ids.limit ≡ limit)
-Loads bytes limit (Err (Refused r)) = (p : Parts AnyView) → IsDumpOf bytes p → ⊥
-Loads bytes limit (Err (Memory memory)) = ⊤
+-- what loading answers: the database that stands for the JSON, with the limit that was given, or a refusal exactly where there is none
+abbrev pub Loads : Data → ℕ → Result (Parts AnyView) (Fault DumpRefused) → Type 0
+Loads d limit (Ok db) = Stands d db × (db.ids.limit ≡ limit)
+Loads d limit (Err (Refused r)) = (p : Parts AnyView) → Stands d p → ⊥
+Loads d limit (Err (Memory memory)) = ⊤

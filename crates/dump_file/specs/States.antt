@@ -1,9 +1,9 @@
--- What the dump of a state tells under a layout, and its text.
+-- What the dump of a state tells under a layout, and its JSON.
 use Rattle.std.specs.Prelude.{ℕ, List, filter, map}
 use mathlib.Core.List.{reverse}
 use Rattle.row_store.specs.Rows.{Rows}
 use Rattle.id_memory.specs.Pairs.{Pairs}
-use Rattle.serde_json.specs.Written.{compact_text}
+use Rattle.serde_json.specs.Data.{Data}
 use Rattle.version_graph.specs.Edges.{numbers}
 use Rattle.version_graph.specs.Forest.{Link, forest}
 use Rattle.op_any.specs.Operators.{AnyView, any_meaning}
@@ -39,6 +39,6 @@ kept_stored d layout = record {
 abbrev pub state_told : Database AnyView → List ℕ → Dump
 state_told d layout = record { graph = graph_told d.graph; kept = kept_stored d layout }
 
--- its text: each state has one
-abbrev pub dump_text : Database AnyView → List ℕ → List ℕ
-dump_text d layout = compact_text (dump_json (state_told d layout))
+-- its JSON: each state has one
+abbrev pub state_json : Database AnyView → List ℕ → Data
+state_json d layout = dump_json (state_told d layout)

@@ -1,16 +1,16 @@
 //! Dumping a database.
-ghost use Rattle.std.specs.Prelude.{◌≡◌, ◌≤◌, false, string_bytes, IfOk};
+ghost use Rattle.std.specs.Prelude.{◌≡◌, ◌≤◌, false, IfOk};
 ghost use Rattle.serde_json.specs.Data.{depth};
 ghost use Rattle.serde_json.specs.Read.{max_depth};
 ghost use Rattle.serde_json.specs.View.{view};
-ghost use Rattle.serde_json.specs.Written.{compact_text, has_float};
+ghost use Rattle.serde_json.specs.Written.{has_float};
 ghost use Rattle.dump_values.specs.Laws.{DumpFits};
 ghost use Rattle.dump_graph.specs.Graphs.{AreNames};
 ghost use Rattle.dump_graph.specs.Texts.{AreFromTexts};
 ghost use Rattle.op_any.specs.Operators.{any_meaning};
 ghost use Rattle.db_state.specs.Fields.{database_for};
-ghost use Rattle.dump_file.specs.Stands.{IsDumpOf, Spells};
-ghost use Rattle.dump_file.specs.States.{dump_text};
+ghost use Rattle.dump_file.specs.Stands.{Stands};
+ghost use Rattle.dump_file.specs.States.{state_json};
 ghost use Rattle.dump_file.specs.Told.{database_json, dump_told};
 ghost use Rattle.dump_file.specs.inner.Calls.{HasWords};
 
@@ -21,12 +21,12 @@ use crate::writing::{
 use db_state::Db;
 use dump_values::{WrittenLines, write_dump, write_numbers};
 use op_any::AnyOp;
-use par_base::{Memory, Text};
+use par_base::Memory;
 use serde_json::Value as Json;
 use std::alloc::Global;
 
-/// The dump as JSON.
-fn write_database(alloc: Global, db: &Db<AnyOp>) -> Result<Json, Memory>
+// The fields as JSON.
+fn write_fields(alloc: Global, db: &Db<AnyOp>) -> Result<Json, Memory>
     ensures value { IfOk result (λ json. view json ≡ database_json db.now) }
     ensures names { IfOk result (λ _. AreNames db.now.graph.versions) }
 {
@@ -46,17 +46,6 @@ fn write_database(alloc: Global, db: &Db<AnyOp>) -> Result<Json, Memory>
     write_dump(alloc, lines)
 }
 
-/// The compact text of JSON without floats, which nests no deeper than may be read.
-fn text_of(alloc: Global, json: &Json) -> Result<String, Memory>
-    requires whole { has_float (view json.now) ≡ false }
-    requires shallow { depth (view json.now) ≤ max_depth }
-    ensures text { IfOk result (λ text. string_bytes text ≡ compact_text (view json.now)) }
-    ensures read { IfOk result (λ text. Spells (string_bytes text) (view json.now)) }
-{
-    let text = json.to_string(alloc)?;
-    Ok(text)
-}
-
 // That they have the bits of their types is known where they are read.
 fn look_at_numbers(db: &Db<AnyOp>)
     ensures { HasWords db.now }
@@ -74,25 +63,22 @@ fn look_at(db: &Db<AnyOp>)
     look_at_numbers(db);
 }
 
-/// The text of a database's dump: compact JSON with sorted keys, and no line feed at the end. It
-/// takes time in the number of stored values, and in the logarithm of the number of live operators
-/// for each of them.
-pub fn dump(alloc: Global, db: &Db<AnyOp>) -> Result<Text, Memory>
-    ensures text { IfOk result (λ text. text
-        ≡ dump_text (database_for any_meaning db.now) db.now.layout.operators) }
-    ensures read { IfOk result (λ text. Spells text (database_json db.now)) }
-    ensures fits { DumpFits (dump_told db.now) }
-    ensures names { IfOk result (λ _. AreNames db.now.graph.versions) }
-    ensures stands { IfOk result (λ text. AreFromTexts db.now.ids.next db.now.graph.edges
-        → IsDumpOf text db.now) }
+/// A database as JSON: objects with sorted keys. It takes time in the number of stored values, and in
+/// the logarithm of the number of live operators for each of them.
+pub fn write_database(alloc: Global, db: &Db<AnyOp>) -> Result<Json, Memory>
+    ensures value { IfOk result (λ json. view json
+        ≡ state_json (database_for any_meaning db.now) db.now.layout.operators) }
+    ensures whole { IfOk result (λ json. has_float (view json) ≡ false) }
+    ensures shallow { IfOk result (λ json. depth (view json) ≤ max_depth) }
+    ensures stands { IfOk result (λ json. AreFromTexts db.now.ids.next db.now.graph.edges
+        → Stands (view json) db.now) }
 {
     look_at(db);
-    // That it is a dump of the database, and of its state, rests on these laws, and on what the fields
-    // promise.
+    // That the database stands for it, and that it tells of its state, rests on these laws, and on what
+    // the fields promise.
     databases_stand_for_their_dumps();
     dumps_tell_the_state();
     let _graph = db.graph();
-    let json = write_database(alloc, db)?;
-    let text = text_of(alloc, &json)?;
-    Ok(Text::from_string(text))
+    let json = write_fields(alloc, db)?;
+    Ok(json)
 }

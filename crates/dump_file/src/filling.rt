@@ -34,7 +34,7 @@ fn push_number(graph: &Graph<AnyOp>, place: usize, numbers: &mut List<u32>) -> R
 }
 
 /// The numbers of the live operators, in ascending order.
-pub(crate) fn live_numbers(alloc: Global, graph: &Graph<AnyOp>) -> Result<List<u32>, Memory>
+pub fn live_numbers(alloc: Global, graph: &Graph<AnyOp>) -> Result<List<u32>, Memory>
     ensures numbers { IfOk result (λ made. made ≡ reverse (numbers_lem graph.now.edges)) }
     ensures once { IfOk result Distinct }
     ensures graph { IsGraph graph.now }

@@ -1,5 +1,5 @@
 //! The laws of dumps. The functions do nothing: their contracts are the laws.
-ghost use Rattle.dump_file.specs.Laws.{DumpStands, DumpsAreOfOneDatabase, DumpsTellTheState, OthersForget};
+ghost use Rattle.dump_file.specs.Laws.{DumpStands, DumpsAreOfOneDatabase, DumpsAreOfOneGraph, DumpsTellTheState, OthersForget};
 
 use dump_graph::told_graphs_are_one;
 use dump_values::dumps_are_read_back;
@@ -23,10 +23,11 @@ pub fn dumps_tell_the_state()
     ensures { DumpsTellTheState }
 {}
 
-/// Two databases that stand for one dump are one database of the model, with one layout, where the
-/// same greatest identifier may be drawn.
+/// Two databases that stand for one dump have one graph and one layout, and are one database of the
+/// model where the same greatest identifier may be drawn.
 pub fn dumps_are_of_one_database()
-    ensures { DumpsAreOfOneDatabase }
+    ensures graph { DumpsAreOfOneGraph }
+    ensures whole { DumpsAreOfOneDatabase }
 {
     told_graphs_are_one();
 }

@@ -1,9 +1,10 @@
 //! Loading a database.
 ghost use Rattle.std.specs.Prelude.{◌≡◌, ◌≤◌, ◌<◌, ◌^◌, map, IfOk};
+ghost use Rattle.serde_json.specs.View.{view};
 ghost use Rattle.dump_values.specs.Dumps.{dump_seen, kept_seen, stored_seen};
 ghost use Rattle.dump_file.specs.Stands.{Loads};
 ghost use Rattle.dump_file.specs.Told.{stored_line};
-ghost use Rattle.dump_file.specs.inner.Loading.{Keeps, MakesFields, ReadsJson, ReadsLines};
+ghost use Rattle.dump_file.specs.inner.Loading.{Keeps, MakesFields, ReadsLines};
 
 use crate::filling::{fill_auxes, fill_memories, live_numbers};
 use db_check::check;
@@ -22,31 +23,13 @@ use std::sync::ledger::Ledger;
 use version_graph::Graph;
 use version_model::Numbered;
 
-/// The JSON that the bytes spell.
-fn read_json(alloc: Global, bytes: &[u8]) -> Result<Json, Fault<DumpRefused>>
-    ensures { ReadsJson bytes.now result }
-{
-    match Json::from_slice(alloc, bytes) {
-        Ok(json) => Ok(json),
-        Err(error) => {
-            if error.is_memory() {
-                Err(Fault::Memory(Memory::meant_by(error)))
-            } else {
-                Err(Fault::Refused(DumpRefused))
-            }
-        }
-    }
-}
-
-/// What the dump tells that the bytes spell.
-#[tactic(auto, using(crate::proofs::ReadLemmas::no_json))]
-fn read_lines(alloc: Global, bytes: &[u8]) -> Result<DumpLines, Fault<DumpRefused>>
-    ensures told { ReadsLines bytes.now result }
+/// What the JSON tells, where it spells a database.
+fn read_lines(alloc: Global, json: &Json) -> Result<DumpLines, Fault<DumpRefused>>
+    ensures told { ReadsLines (view json.now) result }
     ensures within { IfOk result
         (λ lines. (1 ≤ lines.kept.next) × (lines.kept.next ≤ 2 ^ 63)) }
 {
-    let json = read_json(alloc, bytes)?;
-    match read_dump(alloc, &json)? {
+    match read_dump(alloc, json)? {
         Some(lines) => Ok(lines),
         None => Err(Fault::Refused(DumpRefused)),
     }
@@ -115,19 +98,19 @@ fn make_fields(
     keep(alloc, built, kept, limit)
 }
 
-/// The database of which the bytes are a dump, with this limit of identifiers. It is refused exactly
-/// where they are a dump of none. It takes time in the number of bytes, that of building the graph,
-/// and that of `check`, which asks each operator once.
+/// The database for which the JSON stands, with this limit of identifiers. It is refused exactly where
+/// it stands for none. It takes time in the size of the JSON, that of building the graph, and that of
+/// `check`, which asks each operator once.
 #[tactic(auto, using(crate::proofs::LoadLemmas::is_loaded, crate::proofs::LoadLemmas::none_made))]
-pub fn load<L: Ledger>(
+pub fn load_database<L: Ledger>(
     alloc: Global,
-    bytes: &[u8],
+    json: &Json,
     limits: Limits,
     steps: &mut Steps<L>,
 ) -> Result<Db<AnyOp>, Fault<DumpRefused>>
-    ensures { Loads bytes.now limits.max_id result }
+    ensures { Loads (view json.now) limits.max_id result }
 {
-    let lines = read_lines(alloc, bytes)?;
+    let lines = read_lines(alloc, json)?;
     let fields = make_fields(alloc, lines, limits.max_id)?;
     match check(alloc, fields, steps) {
         Ok(db) => Ok(db),

@@ -6,6 +6,7 @@ ghost use Rattle.statements.specs.Texts.{TextsWithin};
 ghost use Rattle.engine_core.specs.Kept.{data_of, Answers};
 ghost use Rattle.engine_core.specs.Spoken.{TextsCome};
 ghost use Rattle.engine_state.specs.Replies.{IsReply};
+ghost use Rattle.migration.specs.Pending.{IsPending};
 ghost use Rattle.engine_moves.specs.Act.{act, at_once, is_materialize as is_materialize_lem, moved, started, stepped};
 ghost use Rattle.engine_moves.specs.Moving.{moving_of};
 
@@ -65,6 +66,24 @@ impl Mover {
             engine,
             pending: List::new(alloc),
         }
+    }
+
+    /// The beginning over an engine with a pending move. It takes no memory.
+    pub fn resume(engine: Engine, pending: List<u32>) -> Mover
+        requires { IsPending engine.graph.edges engine.layout.operators pending }
+        ensures { result ≡ record { database = engine; pending = pending } }
+    {
+        Mover { engine, pending }
+    }
+
+    /// The operators whose data are still to go to their other side, ascending: they lead to a valid
+    /// layout. It does no work.
+    pub fn pending(&self) -> &[u32]
+        ensures value { result.now ≡ self.now.pending }
+        ensures leads { IsPending self.now.database.graph.edges self.now.database.layout.operators
+            result.now }
+    {
+        self.pending.as_slice()
     }
 
     /// The engine. It does no work.

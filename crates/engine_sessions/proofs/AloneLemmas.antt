@@ -17,8 +17,8 @@ use Rattle.engine_moves.proofs.ActLaws.{unseen}
 use Rattle.engine_sessions.specs.declared.answer.Answer.TheVariants.{Plain}
 use Rattle.engine_sessions.specs.Standing.{Standing, moving_in, used_by, with_use}
 use Rattle.engine_sessions.specs.InFull.{in_full, name_in_full, version_of}
-use Rattle.engine_sessions.specs.Accesses.{accessed, raised_by}
-use Rattle.engine_sessions.specs.Act.{act, answer_of, counted}
+use Rattle.engine_sessions.specs.Accesses.{accessed, is_move}
+use Rattle.engine_sessions.specs.Act.{act, answer_of, behind, counted}
 use Rattle.engine_sessions.specs.Laws.{IsFull, NeedTheDataAlone, SameBehind}
 
 -- the name of a table with its version says the same whatever is in use
@@ -26,22 +26,21 @@ same_version : (used other named : Option (List ℕ)) → IsSome named → versi
 same_version used other (Some name) is = refl
 same_version used other None is = absurd (let no : ⊥ = cc in no)
 
-same_name : (used other : Option (List ℕ)) (name : TableName) → IsSome name.version → name_in_full used name ≡ name_in_full other name
+pub same_name : (used other : Option (List ℕ)) (name : TableName) → IsSome name.version → name_in_full used name ≡ name_in_full other name
 same_name used other name is = ap (λ (v : Option (List ℕ)). record { version = v; table = name.table }) (same_version used other name.version is)
 
 module _ (s t : Standing) (is : s.laid ≡ t.laid) where
   -- what the data answer
-  same_answer : (csv : Bool) (table other : Option ℕ) (m n : Checked (Reply × Moving)) → SameLaid m n
-      → SameBehind (m then λ answer. Ok (answer_of csv answer.0, record s { laid = answer.1.laid; pending = answer.1.pending; counts = raised_by s.counts table }))
-      (n then λ answer. Ok (answer_of csv answer.0, record t { laid = answer.1.laid; pending = answer.1.pending; counts = raised_by t.counts other }))
-  same_answer csv table other (Ok a) (Ok b) same = (ap (λ (r : Reply). answer_of csv r) same.0, same.1)
-  same_answer csv table other (Ok a) (Err r) same = absurd same
-  same_answer csv table other (Err r) (Ok a) same = absurd same
-  same_answer csv table other (Err r) (Err q) same = same
+  same_answer : (csv move move' : Bool) (table other : Option ℕ) (m n : Checked (Reply × Moving)) → SameLaid m n
+      → SameBehind (m then λ answer. Ok (answer_of csv answer.0, behind s move table answer.1)) (n then λ answer. Ok (answer_of csv answer.0, behind t move' other answer.1))
+  same_answer csv move move' table other (Ok a) (Ok b) same = (ap (λ (r : Reply). answer_of csv r) same.0, same.1)
+  same_answer csv move move' table other (Ok a) (Err r) same = absurd same
+  same_answer csv move move' table other (Err r) (Ok a) same = absurd same
+  same_answer csv move move' table other (Err r) (Err q) same = same
 
   same_counted : (csv : Bool) (x y : StatementView) → x ≡ y → is_step x ≡ false → SameBehind (counted s csv x) (counted t csv y)
   same_counted csv x y same off =
-      same_answer csv (accessed s.laid.database x) (accessed t.laid.database y) (act_in_full (moving_in s) x) (act_in_full (moving_in t) y)
+      same_answer csv (is_move x) (is_move y) (accessed s.laid.database x) (accessed t.laid.database y) (act_in_full (moving_in s) x) (act_in_full (moving_in t) y)
       (subst (λ (m : Checked (Reply × Moving)). SameLaid (act_in_full (moving_in s) x) m) (λ i. act_in_full (record { laid = is i; pending = t.pending }) (same i))
       (unseen s.laid s.pending t.pending x off))
 

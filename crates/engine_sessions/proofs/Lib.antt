@@ -1,4 +1,6 @@
 pub mod TextLaws
 mod UseLemmas
 mod AloneLemmas
+mod SessionLemmas
+mod CountLemmas
 mod FullLemmas

@@ -1,5 +1,5 @@
 -- One event in a session: the answer or refusal of a statement, and what stands behind it.
-use Rattle.std.specs.Prelude.{ℕ, Bool, true, List, Result, Ok}
+use Rattle.std.specs.Prelude.{ℕ, Bool, true, List, Option, Result, Ok}
 use Rattle.std.specs.Option.{option_map_or}
 use Rattle.par_base.specs.declared.fault.Fault.{Fault}
 use Rattle.par_base.specs.declared.refusal.Refusal.{Refusal}
@@ -10,6 +10,7 @@ use Rattle.engine_state.specs.SharedChecks.{known_version}
 use Rattle.engine_state.specs.declared.reply.Reply.{Reply}
 use Rattle.engine_state.specs.declared.reply.Reply.TheVariants.{Done, Rows}
 use Rattle.engine_moves.specs.Act.{act as act_in_full}
+use Rattle.engine_moves.specs.Moving.{Moving}
 use Rattle.layout_planner.specs.Best.{best}
 use Rattle.layout_planner.specs.Costs.{costs}
 use Rattle.layout_planner.specs.declared.planning.VersionCost.{VersionCost}
@@ -17,7 +18,7 @@ use Rattle.engine_sessions.specs.declared.answer.Answer.{Answer}
 use Rattle.engine_sessions.specs.declared.answer.Answer.TheVariants.{Plain, Csv, Advice}
 use Rattle.engine_sessions.specs.Standing.{Standing, moving_in, used_by, with_use}
 use Rattle.engine_sessions.specs.InFull.{in_full, wants_csv}
-use Rattle.engine_sessions.specs.Accesses.{accessed, raised_by}
+use Rattle.engine_sessions.specs.Accesses.{accessed, is_move, kept_behind, raised_by}
 
 -- the rows of a reply as CSV, where they are asked for so
 abbrev pub answer_of : Bool → Reply → Answer
@@ -40,11 +41,15 @@ advice_on s name = let all = costs s.laid.database.graph s.counts name in Advice
 abbrev pub advised : Standing → List ℕ → Checked (Answer × Standing)
 advised s name = known_version name (set_named s.laid.database.graph.versions name) then λ set. Ok (advice_on s name, s)
 
+-- what stands behind a statement in full, be it a move or not, that accesses this table
+abbrev pub behind : Standing → Bool → Option ℕ → Moving → Standing
+behind s move table next = record s { laid = next.laid; pending = next.pending; counts = kept_behind move next.laid.database.graph.edges (raised_by s.counts table) }
+
 -- a statement in full, and its access is counted
 abbrev pub counted : Standing → Bool → StatementView → Checked (Answer × Standing)
 counted s csv statement =
     act_in_full (moving_in s) statement then λ answer.
-    Ok (answer_of csv answer.0, record s { laid = answer.1.laid; pending = answer.1.pending; counts = raised_by s.counts (accessed s.laid.database statement) })
+    Ok (answer_of csv answer.0, behind s (is_move statement) (accessed s.laid.database statement) answer.1)
 
 -- one event: USE, SESSION and ADVISE by what is kept beside the data, and every other statement as it says in full
 abbrev pub act : Standing → StatementView → Checked (Answer × Standing)

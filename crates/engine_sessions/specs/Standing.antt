@@ -1,5 +1,5 @@
 -- Where the statements of a script stand: the data with their layout, and what is kept beside them.
-use Rattle.std.specs.Prelude.{◌==◌, ℕ, not, List, [], ◌∷◌, ◌++◌, filter, Option}
+use Rattle.std.specs.Prelude.{◌≡◌, ◌==◌, ℕ, not, List, [], ◌∷◌, ◌++◌, filter, Option}
 use Rattle.std.specs.Option.{option_map}
 use Rattle.std.specs.List.{find}
 use Rattle.op_any.specs.Operators.{AnyView}
@@ -34,13 +34,27 @@ standing_of s = record { laid = state_of s.mover.database; pending = s.mover.pen
 abbrev pub moving_in : Standing → Moving
 moving_in s = record { laid = s.laid; pending = s.pending }
 
--- the beginning over a database: nothing is pending and nothing was accessed, and session 0 is at hand, which has no version in use
+-- the beginning over a database beside which this was counted and is pending: session 0 is at hand, which has no version in use
+abbrev pub begun_with : Laid → List TableCount → List ℕ → Standing
+begun_with laid counts pending = record { laid = laid; pending = pending; counts = counts; uses = []; session = 0 }
+
+-- where nothing is pending and nothing was accessed
 abbrev pub begun : Laid → Standing
-begun laid = record { laid = laid; pending = []; counts = []; uses = []; session = 0 }
+begun laid = begun_with laid [] []
 
 -- the beginning without a version, with the greatest identifier that may be drawn
 abbrev pub empty_standing : ℕ → Standing
 empty_standing limit = begun (empty_state limit)
+
+-- the beginning over what stands
+abbrev pub begun_again : Standing → Standing
+begun_again s = begun_with s.laid s.counts s.pending
+
+-- two standings are one but for sessions: over the same data in the same layout, with the same pending and the same counts
+pub record DifferInSessions (s t : Standing) : Type 0 where
+  pub laid : s.laid ≡ t.laid
+  pub pending : s.pending ≡ t.pending
+  pub counts : s.counts ≡ t.counts
 
 -- ---- versions in use
 

@@ -1,10 +1,11 @@
 //! The counts of accesses.
-ghost use Rattle.std.specs.Prelude.{◌≡◌, IfOk};
+ghost use Rattle.std.specs.Prelude.{◌≡◌, ◌++◌, filter, nat_lt, IfOk, OnOk};
 ghost use Rattle.op_any.specs.Operators.{any_meaning};
 ghost use Rattle.statements.specs.Views.{statement_view};
 ghost use Rattle.db_state.specs.Fields.{database_for};
 ghost use Rattle.engine_statements.specs.Found.{found};
-ghost use Rattle.engine_sessions.specs.Accesses.{accessed, one_more as one_more_lem, raised, raised_by, table_found};
+ghost use Rattle.layout_planner.specs.Counts.{counts_in, is_living};
+ghost use Rattle.engine_sessions.specs.Accesses.{accessed, is_move as is_move_lem, kept_behind, one_more as one_more_lem, raised, raised_by, table_found};
 
 use db_state::Db;
 use engine_statements::find_table;
@@ -13,6 +14,7 @@ use op_any::AnyOp;
 use par_base::{Fault, List, Memory};
 use statements::{Statement, TableName};
 use std::alloc::Global;
+use version_graph::Graph;
 
 fn one_more(count: u64) -> u64
     ensures { result ≡ one_more_lem count }
@@ -30,18 +32,41 @@ fn copy(alloc: Global, counts: &[TableCount]) -> Result<List<TableCount>, Memory
     Ok(made)
 }
 
+// Puts those of the tables below this one.
+fn push_below(counts: &[TableCount], table: u32, made: &mut List<TableCount>) -> Result<(), Memory>
+    ensures { OnOk result (made.new
+        ≡ made.old ++ filter (λ c. nat_lt c.table table) counts.now) }
+{
+    for count in counts {
+        if count.table < table {
+            made.push(*count)?;
+        }
+    }
+    Ok(())
+}
+
+// Puts those of the tables above this one.
+fn push_above(counts: &[TableCount], table: u32, made: &mut List<TableCount>) -> Result<(), Memory>
+    ensures { OnOk result (made.new
+        ≡ made.old ++ filter (λ c. nat_lt table c.table) counts.now) }
+{
+    for count in counts {
+        if table < count.table {
+            made.push(*count)?;
+        }
+    }
+    Ok(())
+}
+
 // The counts with one access more of a table.
 fn raise(alloc: Global, counts: &[TableCount], table: u32) -> Result<List<TableCount>, Memory>
     ensures { IfOk result (λ made. made ≡ raised counts.now table) }
 {
     let mut made = List::new(alloc);
-    for count in counts {
-        if count.table != table {
-            made.push(*count)?;
-        }
-    }
     let count = one_more(count_of(counts, table));
+    push_below(counts, table, &mut made)?;
     made.push(TableCount { table, count })?;
+    push_above(counts, table, &mut made)?;
     Ok(made)
 }
 
@@ -74,8 +99,8 @@ fn find_accessed(
     }
 }
 
-/// The counts behind a statement in full, where it is accepted. It takes time in the number of tables
-/// that were accessed, and in that of the version's tables.
+/// The counts with the access of a statement in full. It takes time in the number of tables that were
+/// accessed, and in that of the version's tables.
 pub fn count_access(
     alloc: Global,
     database: &Db<AnyOp>,
@@ -89,4 +114,37 @@ pub fn count_access(
         Some(table) => raise(alloc, counts, table),
         None => copy(alloc, counts),
     }
+}
+
+fn lives(graph: &Graph<AnyOp>, count: &TableCount) -> bool
+    ensures { result ≡ is_living graph.now.edges count.now }
+{
+    graph.made_by(count.table).is_some()
+}
+
+// Lets the counts of tables go that don't live.
+fn keep_living(graph: &Graph<AnyOp>, counts: &mut Vec<TableCount>)
+    ensures { counts.new.items ≡ counts_in graph.now.edges counts.old.items }
+{
+    counts.retain(|count| lives(graph, count));
+}
+
+/// The counts that are kept behind a statement, be it a move or not, that left this graph. It takes no
+/// memory, and looks each table up where it is none.
+pub fn keep_behind(moves: bool, graph: &Graph<AnyOp>, counts: List<TableCount>) -> List<TableCount>
+    ensures { result ≡ kept_behind moves graph.now.edges counts }
+{
+    if moves {
+        return counts;
+    }
+    let mut kept = counts.into_vec();
+    keep_living(graph, &mut kept);
+    List::from_vec(kept)
+}
+
+/// Whether a statement moves data alone.
+pub fn is_move(statement: &Statement) -> bool
+    ensures { result ≡ is_move_lem (statement_view statement.now) }
+{
+    matches!(statement, Statement::Materialize { .. } | Statement::Step)
 }

@@ -9,7 +9,8 @@
 //! each accepted statement on a table counts one access of it (`specs/Accesses.antt`), and ADVISE
 //! tells the cost of each version of a tree by these counts. By the laws of `specs/Laws.antt` a
 //! statement that names its version is answered by the data alone, whatever is in use, is pending
-//! and was counted. `answer_text` gives the lines of answers. The crate must not know how
+//! and was counted, sessions change nothing else of what stands, and what is counted are tables that
+//! live. `Sessions::resume` goes on from counts and a pending move that were kept. `answer_text` gives the lines of answers. The crate must not know how
 //! statements are written, how data is stored, or where lines go.
 #![tactic(auto)]
 
@@ -24,6 +25,9 @@ mod uses;
 pub use answer::Answer;
 pub use answer_lines::answer_text;
 pub use engine_core::{Engine, refusal_text};
-pub use laws::{full_statements_need_the_data_alone, uses_are_each_sessions_own};
+pub use laws::{
+    counts_stay_beside_the_graph, full_statements_need_the_data_alone,
+    named_statements_need_no_session, uses_are_each_sessions_own,
+};
 pub use sessions::Sessions;
 pub use uses::VersionInUse;

@@ -9,12 +9,13 @@ ghost use Rattle.engine_core.specs.Kept.{state_of};
 ghost use Rattle.engine_state.specs.Replies.{IsReply};
 ghost use Rattle.engine_core.specs.Spoken.{TextsCome};
 ghost use Rattle.engine_sessions.specs.InFull.{in_full as in_full_lem, wants_csv as wants_csv_lem};
-ghost use Rattle.engine_sessions.specs.Standing.{begun, kept_in, standing_of, used_by};
+ghost use Rattle.engine_moves.specs.Pending.{IsPending};
+ghost use Rattle.engine_sessions.specs.Standing.{begun, begun_with, kept_in, standing_of, used_by};
 ghost use Rattle.engine_sessions.specs.Act.{act, advised, answer_of as answer_of_lem, best_name as best_name_lem, counted, used, Answers};
 ghost use Rattle.engine_sessions.specs.Calls.{IsAnswer};
 
 use crate::Answer;
-use crate::counts::count_access;
+use crate::counts::{count_access, is_move, keep_behind};
 use crate::in_full::{in_full, wants_csv};
 use crate::uses::{VersionInUse, find_use, use_version};
 use engine_core::Engine;
@@ -81,6 +82,43 @@ impl Sessions {
         }
     }
 
+    /// The beginning over an engine with what was counted and is pending beside it; session 0 is at
+    /// hand. It takes no memory.
+    pub fn resume(
+        alloc: Global,
+        engine: Engine,
+        counts: List<TableCount>,
+        pending: List<u32>,
+    ) -> Sessions
+        requires { IsPending engine.graph.edges engine.layout.operators pending }
+        ensures standing { standing_of result ≡ begun_with (state_of engine) counts pending }
+        ensures engine { kept_in result ≡ engine }
+    {
+        Sessions {
+            mover: Mover::resume(engine, pending),
+            counts,
+            uses: List::new(alloc),
+            session: 0,
+        }
+    }
+
+    /// How often each table version was accessed, of those that were. It does no work.
+    pub fn counts(&self) -> &[TableCount]
+        ensures { result.now ≡ (standing_of self.now).counts }
+    {
+        self.counts.as_slice()
+    }
+
+    /// The operators whose data are still to go to their other side, ascending: they lead to a valid
+    /// layout. Where there are none, no move is pending. It does no work.
+    pub fn pending(&self) -> &[u32]
+        ensures value { result.now ≡ (standing_of self.now).pending }
+        ensures leads { IsPending (kept_in self.now).graph.edges
+            (kept_in self.now).layout.operators result.now }
+    {
+        self.mover.pending()
+    }
+
     /// The engine. It does no work.
     pub fn engine(&self) -> &Engine
         ensures { result.now ≡ kept_in self.now }
@@ -94,7 +132,7 @@ impl Sessions {
     ///
     /// It takes the time of the mover's event for the statement in full; besides, for an IMPORT, in
     /// the length of its text, and for each statement on a table in the number of tables that were
-    /// accessed. An ADVISE takes the time of `layout_planner`'s costs.
+    /// accessed, each of which is looked up. An ADVISE takes the time of `layout_planner`'s costs.
     pub fn event<L: Ledger>(
         &mut self,
         alloc: Global,
@@ -174,6 +212,7 @@ impl Sessions {
         let csv = wants_csv(&statement);
         let used = find_use(self.uses.as_slice(), self.session);
         let statement = in_full(alloc, used, statement)?;
+        let moves = is_move(&statement);
         let database = self.engine().database();
         let counts = match count_access(alloc, database, self.counts.as_slice(), &statement) {
             Ok(counts) => counts,
@@ -183,7 +222,7 @@ impl Sessions {
             }
         };
         let reply = self.mover.event(alloc, self.session, statement, steps)?;
-        self.counts = counts;
+        self.counts = keep_behind(moves, self.engine().database().graph(), counts);
         Ok(answer_of(reply, csv))
     }
 }

@@ -11,6 +11,7 @@ pub use Rattle.script_run.specs.Laws
 pub use Rattle.script_run.specs.Act
 pub use Rattle.script_run.specs.Texts
 pub use Rattle.script_run.specs.Answer
+pub use Rattle.script_run.specs.Sessions
 pub use Rattle.script_run.specs.EngineCoreKept
 pub use Rattle.script_run.specs.EngineCoreTexts
 pub use Rattle.script_run.specs.Laid

@@ -5,7 +5,6 @@ use Rattle.std.specs.Io.KnownBytes.{Appends}
 use Rattle.bidel_script.specs.Script.{Over}
 use Rattle.bidel_script.proofs.UniqueLaws.{one_comes}
 use Rattle.generated_run.specs.EngineCoreTexts.{line}
-use Rattle.generated_run.specs.Laid.{Laid}
 use Rattle.generated_run.specs.Standing.{Standing, empty_standing}
 use Rattle.script_generator.specs.Summary.{summary_lines}
 use Rattle.generated_run.specs.Summed.{generated_end, generated_summary}
@@ -25,7 +24,7 @@ use Rattle.inverda_run.specs.Laws.{OneStart}
 use Rattle.inverda_run.proofs.StartLemmas.{loads_none, longer_no_start, longer_not_refused, nothing_longer, nothing_refused, nothing_starts, one_start, refused_no_start, refused_not_longer, start_not_longer, start_not_refused, starts_empty}
 
 -- behind a dump that is too long stands the line that says so
-long_last : (to : Laid) (name : List ℕ) → IsLongDump to → (dump : Option (List ℕ)) (other : Laid) (last : List ℕ) → dump ≡ Some name → Behind dump other last → to ≡ other → last ≡ line (codes "too long")
+long_last : (to : Standing) (name : List ℕ) → IsLongDump to → (dump : Option (List ℕ)) (other : Standing) (last : List ℕ) → dump ≡ Some name → Behind dump other last → to ≡ other → last ≡ line (codes "too long")
 long_last to name long None other last is behind same = absurd (let no : ⊥ = cc in no)
 long_last to name long (Some file) other last is behind same = elim behind [
   | inr above ↦ above.1
@@ -126,14 +125,14 @@ module _ (words : List (List ℕ)) (told : Told) (left held held' : Option (List
               (puts_all held held' (out from done.statements) (subst (λ (h : Option (List ℕ)). Appends held h (out from done.statements)) (sym same) done.put))))
 
       -- a front was put of the line that says that the dump is too long
-      pub long_begun : (name : List ℕ) → asked.dump ≡ Some name → IsLongDump to.laid → PutsFront between held' (line (codes "too long")) → Begun words told left held held'
+      pub long_begun : (name : List ℕ) → asked.dump ≡ Some name → IsLongDump to → PutsFront between held' (line (codes "too long")) → Begun words told left held held'
       long_begun name is long put = by_script go
         where
           go : (text : List ℕ) → PutsScript words told left text → PutsFront held held' text
           go text p =
               let w = whole text p in
               let d : p.asked.dump ≡ Some name = ap (λ (a : Asked). a.dump) (one words p.asked asked p.starts.says starts.says) ∙ is in
-              let last = long_last to.laid name long p.asked.dump (state_after p.from p.writes.statements).laid p.last d (p.behind w.0) (ap (λ (s : Standing). s.laid) w.2) in
+              let last = long_last to name long p.asked.dump (state_after p.from p.writes.statements) p.last d (p.behind w.0) w.2 in
               subst (PutsFront held held') (sym (p.text_is ∙ ap (λ (s : List ℕ). s ++ p.last) w.1 ∙ ap (λ (l : List ℕ). out from done.statements ++ l) last))
               (puts_behind held between held' (out from done.statements) (line (codes "too long")) done.put put)
 
@@ -179,12 +178,12 @@ module _ (words : List (List ℕ)) (told : Told) (left held held' : Option (List
           summary_begun (puts_all held held' text (subst (λ (h : Option (List ℕ)). Appends held h text) (sym same) put))
 
       -- a front was put of the line that says that the dump is too long
-      pub summed_long : (name : List ℕ) → asked.dump ≡ Some name → IsLongDump (generated_end from n).laid → PutsFront between held' (line (codes "too long")) → Begun words told left held held'
+      pub summed_long : (name : List ℕ) → asked.dump ≡ Some name → IsLongDump (generated_end from n) → PutsFront between held' (line (codes "too long")) → Begun words told left held held'
       summed_long name dumps long more = by_summary go
         where
           go : (text : List ℕ) → PutsSummary words text → PutsFront held held' text
           go text p =
               let d : p.asked.dump ≡ Some name = ap (λ (a : Asked). a.dump) (same_asked text p) ∙ dumps in
-              let last = long_last (generated_end from n).laid name long p.asked.dump (generated_end (empty_standing p.asked.max_id) p.n).laid p.last d p.behind (ap (λ (s : Standing). s.laid) (same_end text p)) in
+              let last = long_last (generated_end from n) name long p.asked.dump (generated_end (empty_standing p.asked.max_id) p.n) p.last d p.behind (same_end text p) in
               subst (PutsFront held held') (sym (summary_is text p ∙ ap (λ (l : List ℕ). summary_lines (generated_summary from n) ++ l) last))
               (puts_behind held between held' (summary_lines (generated_summary from n)) (line (codes "too long")) put more)

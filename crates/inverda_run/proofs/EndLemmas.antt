@@ -67,11 +67,11 @@ module _ (words : List (List ℕ)) (told told' : Told) (left left' : Option (Lis
   -- it came to its end: by what the sink was given of it, and what is known where nothing more was put, or the line on a long dump
   module _ (between held' : Option (List ℕ)) (put' : ℕ) (carried : Carried asked from to left left' held between) (limit_stays : to.laid.database.limit ≡ asked.max_id) (same : read' ≡ read)
       (none : held' ≡ between → Begun words told left held held')
-      (long : (name : List ℕ) → asked.dump ≡ Some name → IsLongDump to.laid → PutsFront between held' (line (codes "too long")) → Begun words told left held held') where
+      (long : (name : List ℕ) → asked.dump ≡ Some name → IsLongDump to → PutsFront between held' (line (codes "too long")) → Begun words told left held held') where
     abbrev There : End → Type 0
     There e = Ends words told told' left left' read read' held held' put put' filed filed' e
 
-    ran : held' ≡ between → Written asked.dump told' to.laid → filed' ≡ filed → There end.Done
+    ran : held' ≡ between → Written asked.dump told' to → filed' ≡ filed → There end.Done
     ran is written files = (
       record {
         asked = asked;
@@ -86,9 +86,9 @@ module _ (words : List (List ℕ)) (told told' : Told) (left left' : Option (Lis
       files,
     )
 
-    dumped : (name : List ℕ) → asked.dump ≡ Some name → (e : End) → DumpsTo to.laid (told' name) between held' put put' filed filed' e → There e
+    dumped : (name : List ℕ) → asked.dump ≡ Some name → (e : End) → DumpsTo to (told' name) between held' put put' filed filed' e → There e
     dumped name is end.Done h =
-        ran h.1 (subst (λ (d : Option (List ℕ)). Written d told' to.laid) (sym is) (h.0.text, h.0.dump, h.0.within, h.0.holds)) h.3
+        ran h.1 (subst (λ (d : Option (List ℕ)). Written d told' to) (sym is) (h.0.text, h.0.dump, h.0.within, h.0.holds)) h.3
     dumped name is end.Memory h = (no_fault same h.2 (none h.0), h.2)
     dumped name is end.LongDump h = (
       record {
@@ -126,11 +126,11 @@ module _ (words : List (List ℕ)) (told told' : Told) (left left' : Option (Lis
     dumped name is end.LongLoad h = absurd h
     dumped name is end.UnreadLoad h = absurd h
 
-    finishes_so : (e : End) → Finishes to.laid asked.dump told' between held' put put' filed filed' e → There e
+    finishes_so : (e : End) → Finishes to asked.dump told' between held' put put' filed filed' e → There e
     finishes_so e h = go asked.dump refl h
       where
-        go : (d : Option (List ℕ)) → asked.dump ≡ d → Finishes to.laid d told' between held' put put' filed filed' e → There e
-        go None is f = subst There (sym f.0) (ran f.1 (subst (λ (d : Option (List ℕ)). Written d told' to.laid) (sym is) tt) f.3)
+        go : (d : Option (List ℕ)) → asked.dump ≡ d → Finishes to d told' between held' put put' filed filed' e → There e
+        go None is f = subst There (sym f.0) (ran f.1 (subst (λ (d : Option (List ℕ)). Written d told' to) (sym is) tt) f.3)
         go (Some name) is f = dumped name is e f
 
 -- that of the source
@@ -155,7 +155,7 @@ module _ (words : List (List ℕ)) (told told' : Told) (left left' : Option (Lis
   script_ends held' put' files script.TooLong n h = (ofStart h, files)
 
   -- it came to its end
-  pub finish_ends : (between held' : Option (List ℕ)) (put' : ℕ) → Done from to left left' held between → to.laid.database.limit ≡ asked.max_id → read' ≡ read → (e : End) → Finishes to.laid asked.dump told' between held' put put' filed filed' e
+  pub finish_ends : (between held' : Option (List ℕ)) (put' : ℕ) → Done from to left left' held between → to.laid.database.limit ≡ asked.max_id → read' ≡ read → (e : End) → Finishes to asked.dump told' between held' put put' filed filed' e
       → Ends words told told' left left' read read' held held' put put' filed filed' e
   finish_ends between held' put' done limit_stays same e h =
       finishes_so words told told' left left' read read' held put filed filed' asked from to starts between held' put' (source own done) limit_stays same

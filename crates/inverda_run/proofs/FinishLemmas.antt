@@ -9,29 +9,36 @@ use Rattle.outside.specs.Causes.{Rose}
 use Rattle.op_any.specs.Operators.{AnyView}
 use Rattle.op_any.specs.BuiltOn.{AreBuiltOn}
 use Rattle.db_state.specs.declared.parts.Parts.{Parts}
-use Rattle.generated_run.specs.Laid.{Laid}
+use Rattle.layout_planner.specs.declared.planning.TableCount.{TableCount}
 use Rattle.generated_run.specs.EngineCoreKept.{state_of}
+use Rattle.generated_run.specs.Sessions.{Sessions}
+use Rattle.generated_run.specs.Standing.{Standing, begun_with, kept_in, standing_of}
 use Rattle.generated_run.specs.EngineCoreTexts.{line}
-use Rattle.dump_file.specs.Texts.{AreFromTexts, AreSpelled}
-use Rattle.dump_file.specs.Stands.{IsDumpOf}
-use Rattle.inverda_run.specs.Starts.{IsDumpText, Told, dump_of}
+use Rattle.dump_formats.specs.Formats.{dump_text}
+use Rattle.dump_formats.specs.Texts.{AreFromTexts, AreSpelled}
+use Rattle.dump_formats.specs.Stands.{IsDumpOf}
+use Rattle.dump_formats.specs.declared.loaded.Loaded.{Loaded as Kept}
+use Rattle.inverda_run.specs.Starts.{IsDumpText, Told}
 use Rattle.inverda_run.specs.Calls.{DumpsTo, EndStays, Finishes, IsLongDump, PutsLast, WritesBut}
 use Rattle.inverda_run.specs.declared.end.End.{End}
 use Rattle.inverda_run.specs.declared.end.End.TheVariants as end
 
--- the bytes that are written are the dump of the engine's state
-pub is_dumped : (k found : Parts AnyView) (bytes text : List ℕ) → found ≡ k → bytes ≡ text → text ≡ dump_of (state_of found)
-    → (AreFromTexts found.ids.next found.graph.edges → IsDumpOf text found) → AreSpelled k.graph.edges → AreBuiltOn k.ids.next k.graph.edges → IsDumpText (state_of k) bytes
-is_dumped k found bytes text same is written stands spelled built =
+-- the bytes that are written are the dump of where the sessions stand
+pub is_dumped : (s : Sessions) (found : Parts AnyView) (counts : List TableCount) (pending bytes text : List ℕ) → found ≡ kept_in s → counts ≡ (standing_of s).counts → pending ≡ (standing_of s).pending → bytes ≡ text
+    → text ≡ dump_text (state_of found).database found.layout.operators counts pending
+    → (AreFromTexts found.ids.next found.graph.edges → IsDumpOf text (record { database = found; counts = counts; pending = pending }))
+    → AreSpelled (kept_in s).graph.edges → AreBuiltOn (kept_in s).ids.next (kept_in s).graph.edges → IsDumpText (standing_of s) bytes
+is_dumped s found counts pending bytes text same counted left is written stands spelled built =
     let texts : AreFromTexts found.ids.next found.graph.edges = subst (λ (p : Parts AnyView). AreFromTexts p.ids.next p.graph.edges) (sym same) (spelled, built) in
+    let kept : Kept = record { database = found; counts = counts; pending = pending } in
     record {
-      parts = found;
-      state = ap (λ (p : Parts AnyView). state_of p) (sym same);
-      written = is ∙ written ∙ ap (λ (p : Parts AnyView). dump_of (state_of p)) same;
-      dump = subst (λ (b : List ℕ). IsDumpOf b found) (sym is) (stands texts);
+      kept = kept;
+      state = λ i. begun_with (state_of (sym same i)) (sym counted i) (sym left i);
+      written = is ∙ written ∙ (λ i. dump_text (state_of (same i)).database (same i).layout.operators (counted i) (left i));
+      dump = subst (λ (b : List ℕ). IsDumpOf b kept) (sym is) (stands texts);
     }
 
-module _ (to : Laid) (file : Option (Option (List ℕ))) (held held' : Option (List ℕ)) (put put' filed filed' : ℕ) where
+module _ (to : Standing) (file : Option (Option (List ℕ))) (held held' : Option (List ℕ)) (put put' filed filed' : ℕ) where
   -- it is too long
   pub long_dumped : IsLongDump to → filed' ≡ filed → (e : End) → PutsLast end.LongDump (line (codes "too long")) held held' put put' e → DumpsTo to file held held' put put' filed filed' e
   long_dumped long same e (inl p) = subst (DumpsTo to file held held' put put' filed filed') (sym p.0) (long, p.1, p.2, same)
@@ -52,7 +59,7 @@ module _ (to : Laid) (file : Option (Option (List ℕ))) (held held' : Option (L
   dump_stays end.LongLoad h = absurd h
   dump_stays end.UnreadLoad h = absurd h
 
-pub finish_stays : (to : Laid) (dump : Option (List ℕ)) (told : Told) (held held' : Option (List ℕ)) (put put' filed filed' : ℕ) (e : End)
+pub finish_stays : (to : Standing) (dump : Option (List ℕ)) (told : Told) (held held' : Option (List ℕ)) (put put' filed filed' : ℕ) (e : End)
     → Finishes to dump told held held' put put' filed filed' e → EndStays put put' e
 finish_stays to None told held held' put put' filed filed' e f = subst (EndStays put put') (sym f.0) f.2
 finish_stays to (Some name) told held held' put put' filed filed' e f = dump_stays to (told name) held held' put put' filed filed' e f

@@ -1,3 +1,4 @@
+mod LoadedLemmas
 mod DumpLemmas
 mod TwoRunLemmas
 mod ScriptLawLemmas

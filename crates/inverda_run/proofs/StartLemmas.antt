@@ -2,7 +2,7 @@
 use Rattle.std.specs.Prelude.{◌<◌, Option, Some, None, IsSome}
 use Rattle.std.proofs.Common.{◌≡◌, ℕ, List, length, refl, sym, ap, subst, ◌∙◌, arith}
 use Rattle.outside.specs.FileTold.{ToldAs}
-use Rattle.dump_file.specs.Stands.{IsDumpOf}
+use Rattle.dump_formats.specs.Stands.{IsDumpOf}
 use Rattle.generated_run.specs.Standing.{Standing, empty_standing}
 use Rattle.run_words.specs.Words.{Asked, Says}
 use Rattle.run_words.specs.Laws.{SayOneThing}
@@ -32,7 +32,7 @@ told_longer (Some (Some other)) file is longer = let same : other ≡ file = cc 
 
 -- a loaded dump is a dump within the limit
 no_loaded : (told : Option (Option (List ℕ))) (file : List ℕ) (max_id : ℕ) (from : Standing) → told ≡ Some (Some file) → NoDump file → Loaded told max_id from → ⊥
-no_loaded told file max_id from is none l = none l.parts (subst (λ (b : List ℕ). IsDumpOf b l.parts) (sym (told_bytes told file l.bytes is l.holds)) l.dump)
+no_loaded told file max_id from is none l = none l.kept (subst (λ (b : List ℕ). IsDumpOf b l.kept) (sym (told_bytes told file l.bytes is l.holds)) l.dump)
 
 not_longer : (told : Option (Option (List ℕ))) (file : List ℕ) (max_id : ℕ) (from : Standing) → told ≡ Some (Some file) → limit < length file → Loaded told max_id from → ⊥
 not_longer told file max_id from is above l = let same = told_bytes told file l.bytes is l.holds in let within = l.within in omega (arith, ap length same)

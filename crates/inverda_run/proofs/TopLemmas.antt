@@ -122,12 +122,12 @@ module _ (one : SayOneThing) where
       let comes = done_told r.ran.from r.to left left' held r.ran.between had.bytes had.told done in
       let same = one_comes (take limit had.bytes) (nat_le (length had.bytes) limit) had.statements done.statements Over Over had.comes comes in
       let asked : r.ran.asked ≡ w.script.asked = one words r.ran.asked w.script.asked r.ran.starts.says w.script.starts.says in
-      let fits : DumpFits w.script.asked.dump (state_after r.ran.from had.statements).laid =
+      let fits : DumpFits w.script.asked.dump (state_after r.ran.from had.statements) =
       w.fits r.ran.from (subst (λ (a : Asked). Starts words told a r.ran.from) asked r.ran.starts) in
       let dump_is : w.script.asked.dump ≡ Some r.name = ap (λ (a : Asked). a.dump) (one words w.script.asked r.dumps.asked w.script.starts.says r.dumps.says) ∙ r.dumps.dump in
       let to_is : r.to ≡ state_after r.ran.from had.statements = done.next ∙ ap (state_after r.ran.from) (sym same.0) in
-      let least : length (dump_of (state_after r.ran.from had.statements).laid) ≤ limit = subst (λ (d : Option (List ℕ)). DumpFits d (state_after r.ran.from had.statements).laid) dump_is fits in
-      let text_is : r.text ≡ dump_of (state_after r.ran.from had.statements).laid = r.dump.written ∙ ap (λ (s : Standing). dump_of s.laid) to_is in
+      let least : length (dump_of (state_after r.ran.from had.statements)) ≤ limit = subst (λ (d : Option (List ℕ)). DumpFits d (state_after r.ran.from had.statements)) dump_is fits in
+      let text_is : r.text ≡ dump_of (state_after r.ran.from had.statements) = r.dump.written ∙ ap dump_of to_is in
       let above = r.above in
       omega (arith, least, above, ap length text_is)
 
@@ -164,8 +164,8 @@ module _ (one : SayOneThing) where
           let begin : r.ran.from ≡ empty_standing d.asked.max_id = starts_empty words told r.ran.asked r.ran.from n r.ran.starts is ∙ ap (λ (a : Asked). empty_standing a.max_id) asked in
           let to_is : r.to ≡ generated_end (empty_standing d.asked.max_id) d.n = next ∙ (λ i. generated_end (begin i) (number i)) in
           let dump_is : d.asked.dump ≡ Some r.name = ap (λ (a : Asked). a.dump) (one words d.asked r.dumps.asked d.says r.dumps.says) ∙ r.dumps.dump in
-          let fits : DumpFits (Some r.name) (generated_end (empty_standing d.asked.max_id) d.n).laid = subst (λ (f : Option (List ℕ)). DumpFits f (generated_end (empty_standing d.asked.max_id) d.n).laid) dump_is d.fits in
-          let text_is : r.text ≡ dump_of (generated_end (empty_standing d.asked.max_id) d.n).laid = r.dump.written ∙ ap (λ (s : Standing). dump_of s.laid) to_is in
+          let fits : DumpFits (Some r.name) (generated_end (empty_standing d.asked.max_id) d.n) = subst (λ (f : Option (List ℕ)). DumpFits f (generated_end (empty_standing d.asked.max_id) d.n)) dump_is d.fits in
+          let text_is : r.text ≡ dump_of (generated_end (empty_standing d.asked.max_id) d.n) = r.dump.written ∙ ap dump_of to_is in
           let above = r.above in
           omega (arith, fits, above, ap length text_is)
 

@@ -3,21 +3,20 @@ use Rattle.std.specs.Prelude.{◌≡◌, ◌⊎◌, ◌≤◌, ◌<◌, ℕ, Lis
 use Rattle.std.specs.Io.KnownBytes.{Appends}
 use Rattle.outside.specs.Causes.{Rose}
 use Rattle.outside.specs.FileTold.{IsMissing, ToldAs}
-use Rattle.op_any.specs.Operators.{AnyView}
-use Rattle.db_state.specs.declared.parts.Parts.{Parts}
-use Rattle.generated_run.specs.Laid.{Laid}
-use Rattle.generated_run.specs.Standing.{Standing, begun}
-use Rattle.generated_run.specs.EngineCoreKept.{state_of}
+use Rattle.generated_run.specs.Laws.{HasCounts}
+use Rattle.generated_run.specs.Sessions.{Sessions}
+use Rattle.generated_run.specs.Standing.{Standing, kept_in, standing_of}
 use Rattle.generated_run.specs.EngineCoreTexts.{line}
-use Rattle.dump_file.specs.Texts.{AreSpelled}
-use Rattle.dump_file.specs.Stands.{IsDumpOf}
+use Rattle.dump_formats.specs.Texts.{AreSpelled}
 use Rattle.script_generator.specs.Summary.{summary_lines}
 use Rattle.generated_run.specs.Summed.{generated_end, generated_summary}
 use Rattle.generated_run.specs.Statuses.{Passed, PutsFront, Stopped, Unread, limit}
 use Rattle.generated_run.specs.End.{End as ScriptEnd}
 use Rattle.generated_run.specs.End.TheVariants as script
 use Rattle.inverda_run.specs.Files.{IsLonger}
-use Rattle.inverda_run.specs.Starts.{IsDumpText, Loaded, StartsBy, Told}
+use Rattle.dump_formats.specs.Stands.{IsDumpOf}
+use Rattle.dump_formats.specs.declared.loaded.Loaded.{Loaded as Kept}
+use Rattle.inverda_run.specs.Starts.{IsDumpText, Loaded, StartsBy, Told, begun_from}
 use Rattle.inverda_run.specs.Statuses.{LongDump, LongLoad, NoDump, OfStart, Ran, RefusedDump, SayNothing, UnreadLoad, UnwrittenDump, Untouched}
 use Rattle.inverda_run.specs.Decided.{Early}
 use Rattle.inverda_run.specs.declared.begin.NotBegun.{NotBegun}
@@ -34,24 +33,36 @@ pub record HoldsNoDump (file : Option (Option (List ℕ))) : Type 0 where
   pub holds : ToldAs file bytes
   pub none : NoDump bytes
 
--- the engine with which a run starts, or why there is none: the file that is loaded holds no dump, is too long, or couldn't be read
-abbrev pub Begins : Told → Option (List ℕ) → ℕ → ℕ → ℕ → Result (Parts AnyView) NotBegun → Type 0
-Begins told load max_id was is (Ok engine) = StartsBy told load max_id (begun (state_of engine)) × AreSpelled engine.graph.edges × (is ≡ was)
+-- what a run starts with: its operators are spelled, and its counts are those beside its graph
+pub record IsStart (sessions : Sessions) : Type 0 where
+  pub spelled : AreSpelled (kept_in sessions).graph.edges
+  pub counted : HasCounts (standing_of sessions)
+
+-- what a run starts with, or why there is nothing: the file that is loaded holds no dump, is too long, or couldn't be read
+abbrev pub Begins : Told → Option (List ℕ) → ℕ → ℕ → ℕ → Result Sessions NotBegun → Type 0
+Begins told load max_id was is (Ok sessions) = StartsBy told load max_id (standing_of sessions) × IsStart sessions × (is ≡ was)
 Begins told load max_id was is (Err begins.Memory) = is ≡ was
 Begins told load max_id was is (Err begins.Refused) = (name : List ℕ) × (load ≡ Some name) × HoldsNoDump (told name) × (is ≡ was)
 Begins told load max_id was is (Err begins.TooLong) = (name : List ℕ) × (load ≡ Some name) × IsLonger limit (told name) × (is ≡ was)
 Begins told load max_id was is (Err begins.Fault) = (name : List ℕ) × (load ≡ Some name) × Rose was is
 
--- the engine over the database whose dump the bytes are, or that they are none
-abbrev pub LoadsEngine : List ℕ → ℕ → Result (Parts AnyView) NotBegun → Type 0
-LoadsEngine bytes max_id (Ok engine) = IsDumpOf bytes engine × (engine.ids.limit ≡ max_id)
-LoadsEngine bytes max_id (Err begins.Memory) = ⊤
-LoadsEngine bytes max_id (Err begins.Refused) = NoDump bytes
-LoadsEngine bytes max_id (Err _) = ⊥
+-- what is read from bytes stands for them
+pub record IsLoaded (bytes : List ℕ) (max_id : ℕ) (sessions : Sessions) : Type 0 where
+  pub kept : Kept
+  pub dump : IsDumpOf bytes kept
+  pub limit_is : kept.database.ids.limit ≡ max_id
+  pub state : standing_of sessions ≡ begun_from kept
 
--- the engine over the database whose dump the file holds, or why there is none
-abbrev pub BeginsLoaded : Option (Option (List ℕ)) → ℕ → ℕ → ℕ → Result (Parts AnyView) NotBegun → Type 0
-BeginsLoaded file max_id was is (Ok engine) = Loaded file max_id (begun (state_of engine)) × AreSpelled engine.graph.edges × (is ≡ was)
+-- what a run starts with over the database whose dump the bytes are, or that they are none
+abbrev pub LoadsSessions : List ℕ → ℕ → Result Sessions NotBegun → Type 0
+LoadsSessions bytes max_id (Ok sessions) = IsLoaded bytes max_id sessions × IsStart sessions
+LoadsSessions bytes max_id (Err begins.Memory) = ⊤
+LoadsSessions bytes max_id (Err begins.Refused) = NoDump bytes
+LoadsSessions bytes max_id (Err _) = ⊥
+
+-- what a run starts with over the database whose dump the file holds, or why there is nothing
+abbrev pub BeginsLoaded : Option (Option (List ℕ)) → ℕ → ℕ → ℕ → Result Sessions NotBegun → Type 0
+BeginsLoaded file max_id was is (Ok sessions) = Loaded file max_id (standing_of sessions) × IsStart sessions × (is ≡ was)
 BeginsLoaded file max_id was is (Err begins.Memory) = is ≡ was
 BeginsLoaded file max_id was is (Err begins.Refused) = HoldsNoDump file × (is ≡ was)
 BeginsLoaded file max_id was is (Err begins.TooLong) = IsLonger limit file × (is ≡ was)
@@ -79,21 +90,21 @@ ended script.Unread = end.Unread
 ended script.Unwritten = end.Unwritten
 ended script.TooLong = end.LongScript
 
--- the dump of this state has more bytes than the limit
-pub record IsLongDump (to : Laid) : Type 0 where
+-- the dump of where a run stands has more bytes than the limit
+pub record IsLongDump (to : Standing) : Type 0 where
   pub text : List ℕ
   pub dump : IsDumpText to text
   pub above : limit < length text
 
--- the file holds the dump of this state, within the limit
-pub record HoldsDump (file : Option (Option (List ℕ))) (to : Laid) : Type 0 where
+-- the file holds the dump of where a run stands, within the limit
+pub record HoldsDump (file : Option (Option (List ℕ))) (to : Standing) : Type 0 where
   pub text : List ℕ
   pub dump : IsDumpText to text
   pub within : length text ≤ limit
   pub holds : ToldAs file text
 
--- how a run ends that dumps the state to a file
-abbrev pub DumpsTo : Laid → Option (Option (List ℕ)) → Option (List ℕ) → Option (List ℕ) → ℕ → ℕ → ℕ → ℕ → End → Type 0
+-- how a run ends that dumps where it stands to a file
+abbrev pub DumpsTo : Standing → Option (Option (List ℕ)) → Option (List ℕ) → Option (List ℕ) → ℕ → ℕ → ℕ → ℕ → End → Type 0
 DumpsTo to file held held' put put' filed filed' end.Done = HoldsDump file to × (held' ≡ held) × (put' ≡ put) × (filed' ≡ filed)
 DumpsTo to file held held' put put' filed filed' end.Memory = (held' ≡ held) × (put' ≡ put) × (filed' ≡ filed)
 DumpsTo to file held held' put put' filed filed' end.LongDump = IsLongDump to × Appends held held' (line (codes "too long")) × (put' ≡ put) × (filed' ≡ filed)
@@ -104,7 +115,7 @@ DumpsTo to file held held' put put' filed filed' end.Unwritten =
 DumpsTo to file held held' put put' filed filed' _ = ⊥
 
 -- how a run ends that has carried out its script
-abbrev pub Finishes : Laid → Option (List ℕ) → Told → Option (List ℕ) → Option (List ℕ) → ℕ → ℕ → ℕ → ℕ → End → Type 0
+abbrev pub Finishes : Standing → Option (List ℕ) → Told → Option (List ℕ) → Option (List ℕ) → ℕ → ℕ → ℕ → ℕ → End → Type 0
 Finishes to None told held held' put put' filed filed' e = (e ≡ end.Done) × (held' ≡ held) × (put' ≡ put) × (filed' ≡ filed)
 Finishes to (Some name) told held held' put put' filed filed' e = DumpsTo to (told name) held held' put put' filed filed' e
 
@@ -116,7 +127,7 @@ EndsGenerated from n dump told held held' put put' filed filed' e =
     ⊎ ((e ≡ end.Unwritten) × Rose put put' × PutsFront held held' (summary_lines (generated_summary from n)) × (filed' ≡ filed))
     ⊎ ((between : Option (List ℕ)) × Appends held between (summary_lines (generated_summary from n))
     × ((generated_end from n).laid.database.limit ≡ from.laid.database.limit)
-    × Finishes (generated_end from n).laid dump told between held' put put' filed filed' e)
+    × Finishes (generated_end from n) dump told between held' put put' filed filed' e)
 
 -- a file is as it was, or it is the one that is written, and the run is done or a call on the files failed
 abbrev pub WritesBut : List ℕ → Told → Told → ℕ → ℕ → End → List ℕ → Type 0

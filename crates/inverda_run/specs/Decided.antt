@@ -2,7 +2,6 @@
 use Rattle.std.specs.Prelude.{◌≡◌, ◌++◌, ◌≤◌, ◌<◌, ◌⊎◌, ℕ, nat_le, List, [], take, length, Option, Some, None, codes, ⊤}
 use Rattle.outside.specs.Causes.{Rose}
 use Rattle.bidel_script.specs.Script.{Outcome, Over}
-use Rattle.generated_run.specs.Laid.{Laid}
 use Rattle.generated_run.specs.Standing.{Standing, empty_standing}
 use Rattle.generated_run.specs.EngineCoreTexts.{line}
 use Rattle.run_words.specs.Words.{Asked, Says}
@@ -28,14 +27,14 @@ pub record Told' (words : List (List ℕ)) (told : Told) (left : Option (List �
   pub had : Had left outcome
 
 -- the dump at the end is within the limit, where there is one
-abbrev pub DumpFits : Option (List ℕ) → Laid → Type 0
+abbrev pub DumpFits : Option (List ℕ) → Standing → Type 0
 DumpFits None to = ⊤
 DumpFits (Some name) to = length (dump_of to) ≤ limit
 
 -- a script within the limits, and a dump within them
 pub record ToldWhole (words : List (List ℕ)) (told : Told) (left : Option (List ℕ)) : Type 0 where
   pub script : Told' words told left Over
-  pub fits : (from : Standing) → Starts words told script.asked from → DumpFits script.asked.dump (state_after from script.had.statements).laid
+  pub fits : (from : Standing) → Starts words told script.asked from → DumpFits script.asked.dump (state_after from script.had.statements)
 
 -- the generated script, and a dump within the limits
 pub record ToldGenerated (words : List (List ℕ)) : Type 0 where
@@ -43,7 +42,7 @@ pub record ToldGenerated (words : List (List ℕ)) : Type 0 where
   pub says : Says words asked
   pub n : ℕ
   pub generate : asked.generate ≡ Some n
-  pub fits : DumpFits asked.dump (generated_end (empty_standing asked.max_id) n).laid
+  pub fits : DumpFits asked.dump (generated_end (empty_standing asked.max_id) n)
 
 -- the file that the words load is told, and its bytes are no dump
 pub record ToldNoDump (words : List (List ℕ)) (told : Told) : Type 0 where
@@ -65,7 +64,7 @@ pub record ToldLonger (words : List (List ℕ)) (told : Told) : Type 0 where
 -- ---- what is put
 
 -- what stands behind the replies of a script, or its summary: nothing, or that the dump is too long
-abbrev pub Behind : Option (List ℕ) → Laid → List ℕ → Type 0
+abbrev pub Behind : Option (List ℕ) → Standing → List ℕ → Type 0
 Behind None to last = last ≡ []
 Behind (Some name) to last = ((length (dump_of to) ≤ limit) × (last ≡ [])) ⊎ ((limit < length (dump_of to)) × (last ≡ line (codes "too long")))
 
@@ -81,7 +80,7 @@ pub record PutsScript (words : List (List ℕ)) (told : Told) (left : Option (Li
   pub script : List ℕ
   pub writes : WritesScript from (take limit bytes) (nat_le (length bytes) limit) (line (codes "too long")) script
   pub last : List ℕ
-  pub behind : writes.outcome ≡ Over → Behind asked.dump (state_after from writes.statements).laid last
+  pub behind : writes.outcome ≡ Over → Behind asked.dump (state_after from writes.statements) last
   pub other : (writes.outcome ≡ Over → ⊥) → last ≡ []
   pub text_is : text ≡ script ++ last
 
@@ -92,7 +91,7 @@ pub record PutsSummary (words : List (List ℕ)) (text : List ℕ) : Type 0 wher
   pub n : ℕ
   pub generate : asked.generate ≡ Some n
   pub last : List ℕ
-  pub behind : Behind asked.dump (generated_end (empty_standing asked.max_id) n).laid last
+  pub behind : Behind asked.dump (generated_end (empty_standing asked.max_id) n) last
   pub text_is : text ≡ summary_lines (generated_summary (empty_standing asked.max_id) n) ++ last
 
 -- what a run puts where no call fails and memory suffices

@@ -3,47 +3,46 @@ use Rattle.std.specs.Prelude.{◌≡◌, ◌++◌, ◌≤◌, ℕ, List, length,
 use Rattle.std.specs.Io.KnownBytes.{Appends}
 use Rattle.std.specs.List.{All}
 use Rattle.statements.specs.Views.{StatementView}
-use Rattle.generated_run.specs.Laid.{Laid}
-use Rattle.generated_run.specs.Standing.{Standing, begun}
-use Rattle.generated_run.specs.Laws.{IsFull}
+use Rattle.generated_run.specs.Standing.{DifferInSessions, Standing, begun_again}
+use Rattle.generated_run.specs.Laws.{IsNamed}
 use Rattle.generated_run.specs.Output.{out, state_after}
 use Rattle.generated_run.specs.Statuses.{Done, limit}
 use Rattle.inverda_run.specs.Starts.{IsDumpText, Loaded, Told}
 use Rattle.inverda_run.specs.Decided.{Behind}
 use Rattle.inverda_run.specs.Statuses.{Ran}
 
--- EACH STATE HAS A DUMP, and so it is decided what a run puts behind its replies, whatever the words say of a dump
+-- WHEREVER A RUN STANDS IT HAS A DUMP, and so it is decided what a run puts behind its replies, whatever the words say of a dump
 abbrev pub EachStateHasADump : Type 0
-EachStateHasADump = (dump : Option (List ℕ)) (to : Laid) → (last : List ℕ) × Behind dump to last
+EachStateHasADump = (dump : Option (List ℕ)) (to : Standing) → (last : List ℕ) × Behind dump to last
 
--- a file holds the dump of one state, for a greatest identifier
+-- a file holds the dump of one start, for a greatest identifier
 abbrev pub OneStart : Type 0
 OneStart = (file : List ℕ) (max_id : ℕ) (s t : Standing) → Loaded (Some (Some file)) max_id s → Loaded (Some (Some file)) max_id t → s ≡ t
 
--- what a run dumps, within the limit, is loaded as the state that was dumped, where both runs have the same greatest identifier: the
--- second one begins over it, with no version in use and nothing counted
+-- what a run dumps, within the limit, is loaded as where that run stood, where both have the same greatest identifier: the second one
+-- begins there, with no version in use
 abbrev pub LoadsTheDumped : Type 0
-LoadsTheDumped = (s : Laid) (t : Standing) (text : List ℕ) → IsDumpText s text → length text ≤ limit → Loaded (Some (Some text)) s.database.limit t → t ≡ begun s
+LoadsTheDumped = (s t : Standing) (text : List ℕ) → IsDumpText s text → length text ≤ limit → Loaded (Some (Some text)) s.laid.database.limit t → t ≡ begun_again s
 
 -- TWO RUNS ARE ONE: the replies to the statements of both are those of one run of both scripts, and so is the state behind them
 abbrev pub TwoRuns : Type 0
 TwoRuns = (s : Standing) (first second : List StatementView)
     → (out s (first ++ second) ≡ out s first ++ out (state_after s first) second) × (state_after s (first ++ second) ≡ state_after (state_after s first) second)
 
--- statements that name their versions, ask for no advice and are no STEP are answered over the loaded data as without the dump between
+-- statements that name their versions are answered over what was loaded as without the dump between
 abbrev pub BeginsAgain : Type 0
-BeginsAgain = (s : Standing) (statements : List StatementView) → All IsFull statements
-    → (out (begun s.laid) statements ≡ out s statements) × ((state_after (begun s.laid) statements).laid ≡ (state_after s statements).laid)
+BeginsAgain = (s : Standing) (statements : List StatementView) → All IsNamed statements
+    → (out (begun_again s) statements ≡ out s statements) × DifferInSessions (state_after (begun_again s) statements) (state_after s statements)
 
 -- IN ONE SENTENCE: a run was done that dumped to a file, and then one that loaded the file, both with the same greatest identifier, and went
--- on behind what the first had put. Where the statements of the second name their versions, ask for no advice and are no STEP, the two have
--- put what one run of both scripts puts, and have left the same data.
+-- on behind what the first had put. Where the statements of the second name their versions, the two have put what one run of both scripts
+-- puts, advice too, and have left the same data, the same counts and the same pending.
 abbrev pub RunsAreOne : Type 0
 RunsAreOne = (words words' : List (List ℕ)) (told mid told' : Told) (left left' more more' held between held' : Option (List ℕ))
     → (first : Ran words told mid left left' held between) (second : Ran words' mid told' more more' between held')
     → (name file : List ℕ) → first.asked.dump ≡ Some name → second.asked.load ≡ Some name → mid name ≡ Some (Some file)
     → second.asked.max_id ≡ first.asked.max_id
     → (one : Done first.from first.to left left' held between) (other : Done second.from second.to more more' between held')
-    → All IsFull other.statements
+    → All IsNamed other.statements
     → Appends held held' (out first.from (one.statements ++ other.statements))
-    × (second.to.laid ≡ (state_after first.from (one.statements ++ other.statements)).laid)
+    × DifferInSessions second.to (state_after first.from (one.statements ++ other.statements))

@@ -6,11 +6,11 @@ use Rattle.bidel_script.specs.Script.{Comes, Outcome}
 use Rattle.run_words.specs.Words.{Asked}
 use Rattle.generated_run.specs.Act.{act}
 use Rattle.generated_run.specs.Answer.{Answer}
-use Rattle.generated_run.specs.Standing.{Standing}
-use Rattle.generated_run.specs.Output.{joined, out, replies, state_after}
+use Rattle.generated_run.specs.Standing.{DifferInSessions, Standing}
+use Rattle.generated_run.specs.Output.{out, state_after}
 use Rattle.generated_run.specs.Statuses.{Done}
 use Rattle.run_laws.specs.Kept.{IsKept}
-use Rattle.run_laws.specs.Said.{AreSaid, but_advice, nothing_said}
+use Rattle.run_laws.specs.Said.{AreSaid, nothing_said}
 use Rattle.run_laws.specs.Written.{IsWrite}
 use Rattle.inverda_run.specs.Starts.{Told}
 use Rattle.inverda_run.specs.Statuses.{Ran, Starts}
@@ -30,9 +30,8 @@ RunsAreOrdinary = (words : List (List ℕ)) (told : Told) (asked : Asked) (from 
     → act (state_after from before) statement ≡ Ok answer → IsWrite (state_after from before) statement answer
 
 -- TWO RUNS ARE ONE, also where each statement of the second on a table names its version or stands behind an answered USE of its session in
--- the second script, and each STEP behind an answered MATERIALIZE there: the first run dumped to a file that the second loaded, both with the
--- same greatest identifier, and the second went on behind what the first had put. Then they have put the replies of the first and those of the second, which are, but for those to ADVISE,
--- as in one run of both scripts, and have left the same data.
+-- the second script: the first run dumped to a file that the second loaded, both with the same greatest identifier, and the second went on
+-- behind what the first had put. Then they have put what one run of both scripts puts, and have left the same data, counts and pending.
 abbrev pub SaidRunsAreOne : Type 0
 SaidRunsAreOne = (words words' : List (List ℕ)) (told mid told' : Told) (left left' more more' held between held' : Option (List ℕ))
     → (first : Ran words told mid left left' held between) (second : Ran words' mid told' more more' between held')
@@ -40,7 +39,5 @@ SaidRunsAreOne = (words words' : List (List ℕ)) (told mid told' : Told) (left 
     → second.asked.max_id ≡ first.asked.max_id
     → (one : Done first.from first.to left left' held between) (other : Done second.from second.to more more' between held')
     → AreSaid second.from nothing_said other.statements
-    → Appends held held' (out first.from one.statements ++ joined (replies second.from other.statements))
-    × (but_advice other.statements (replies second.from other.statements)
-    ≡ but_advice other.statements (replies (state_after first.from one.statements) other.statements))
-    × (second.to.laid ≡ (state_after first.from (one.statements ++ other.statements)).laid)
+    → Appends held held' (out first.from (one.statements ++ other.statements))
+    × DifferInSessions second.to (state_after first.from (one.statements ++ other.statements))

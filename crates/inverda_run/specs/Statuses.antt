@@ -3,12 +3,10 @@ use Rattle.std.specs.Prelude.{◌≡◌, ◌≤◌, ◌<◌, ◌⊎◌, ℕ, Lis
 use Rattle.std.specs.Io.KnownBytes.{Appends}
 use Rattle.outside.specs.Causes.{Rose}
 use Rattle.outside.specs.FileTold.{IsMissing, ToldAs}
-use Rattle.op_any.specs.Operators.{AnyView}
-use Rattle.db_state.specs.declared.parts.Parts.{Parts}
-use Rattle.generated_run.specs.Laid.{Laid}
 use Rattle.generated_run.specs.Standing.{Standing}
 use Rattle.generated_run.specs.EngineCoreTexts.{line}
-use Rattle.dump_file.specs.Stands.{IsDumpOf}
+use Rattle.dump_formats.specs.Stands.{IsDumpOf}
+use Rattle.dump_formats.specs.declared.loaded.Loaded.{Loaded as Kept}
 use Rattle.run_words.specs.Words.{Asked, Says}
 use Rattle.script_generator.specs.Summary.{summary_lines}
 use Rattle.generated_run.specs.Statuses.{Done, limit}
@@ -53,14 +51,14 @@ RunsSource words = (n : ℕ) → Generates words n → ⊥
 abbrev pub OfStart : List (List ℕ) → Told → (Standing → Type 0) → Type 0
 OfStart words told P = (asked : Asked) × (from : Standing) × Starts words told asked from × (asked.generate ≡ None) × P from
 
--- the bytes are no dump of a database
+-- the bytes are no dump of either format
 abbrev pub NoDump : List ℕ → Type 0
-NoDump bytes = (parts : Parts AnyView) → IsDumpOf bytes parts → ⊥
+NoDump bytes = (kept : Kept) → IsDumpOf bytes kept → ⊥
 
 -- ---- the statuses
 
--- the file that the words name holds the dump of this state, within the limit
-abbrev pub Written : Option (List ℕ) → Told → Laid → Type 0
+-- the file that the words name holds the dump of where the run stands, within the limit
+abbrev pub Written : Option (List ℕ) → Told → Standing → Type 0
 Written None told to = ⊤
 Written (Some name) told to = (text : List ℕ) × IsDumpText to text × (length text ≤ limit) × ToldAs (told name) text
 
@@ -79,7 +77,7 @@ pub record Ran (words : List (List ℕ)) (told told' : Told) (left left' held he
   pub starts : Starts words told asked from
   pub carried : Carried asked from to left left' held held'
   pub limit_stays : to.laid.database.limit ≡ asked.max_id
-  pub written : Written asked.dump told' to.laid
+  pub written : Written asked.dump told' to
 
 -- the loaded bytes are no dump
 pub record RefusedDump (words : List (List ℕ)) (told : Told) (held held' : Option (List ℕ)) : Type 0 where
@@ -121,7 +119,7 @@ pub record LongDump (words : List (List ℕ)) (told : Told) (left left' : Option
   pub name : List ℕ
   pub dumps : Dumps words name
   pub text : List ℕ
-  pub dump : IsDumpText to.laid text
+  pub dump : IsDumpText to text
   pub above : limit < length text
 
 -- the loaded file couldn't be read

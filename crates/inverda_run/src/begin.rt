@@ -1,13 +1,17 @@
-//! The engine with which a run starts.
+//! What a run starts with.
 ghost use Rattle.std.specs.Prelude.{◌≡◌, ◌≤◌, ℕ, List, option_map};
+ghost use Rattle.generated_run.specs.Standing.{kept_in, standing_of};
+ghost use Rattle.op_any.specs.BuiltOn.{AreBuiltOn};
+ghost use Rattle.dump_formats.specs.Pending.{IsPending};
 ghost use Rattle.inverda_run.specs.Files.{MissesOnly};
-ghost use Rattle.inverda_run.specs.Calls.{Begins, BeginsLoaded, LoadsEngine, MissesLoad};
+ghost use Rattle.inverda_run.specs.Starts.{begun_from};
+ghost use Rattle.inverda_run.specs.Calls.{Begins, BeginsLoaded, LoadsSessions, MissesLoad};
 
 use crate::file::{FileRead, read_file};
 use crate::limit::LIMIT;
-use dump_file::load;
+use dump_formats::{Loaded, load};
 use expr_lang::Steps;
-use generated_run::Engine;
+use generated_run::{Engine, Sessions};
 use outside::Files;
 use par_base::{Fault, Limits};
 use std::alloc::Global;
@@ -27,33 +31,48 @@ pub enum NotBegun {
     Fault,
 }
 
-// The engine over the database whose dump the bytes are.
-fn engine_of<L: Ledger>(
+// The beginning over what was loaded.
+fn resumed(alloc: Global, loaded: Loaded) -> Sessions
+    requires built { AreBuiltOn loaded.database.ids.next loaded.database.graph.edges }
+    requires leads { IsPending loaded.database.graph.edges loaded.database.layout.operators loaded.pending }
+    ensures standing { standing_of result ≡ begun_from loaded }
+    ensures kept { kept_in result ≡ loaded.database }
+{
+    let Loaded {
+        database,
+        counts,
+        pending,
+    } = loaded;
+    Sessions::resume(alloc, Engine::over(database), counts, pending)
+}
+
+// What a run starts with over the database whose dump the bytes are.
+fn sessions_of<L: Ledger>(
     alloc: Global,
     bytes: &[u8],
     limits: Limits,
     blank: Blank,
-) -> Result<Engine, NotBegun>
+) -> Result<Sessions, NotBegun>
     requires name { blank.name ≡ L.name }
     requires parts { blank.parts ≡ L.parts }
     requires one { blank.parts ≡ 1 }
-    ensures { LoadsEngine bytes.now limits.max_id result }
+    ensures { LoadsSessions bytes.now limits.max_id result }
 {
     let mut steps = Steps::<L>::new(blank);
     match load(alloc, bytes, limits, &mut steps) {
-        Ok(database) => Ok(Engine::over(database)),
+        Ok(loaded) => Ok(resumed(alloc, loaded)),
         Err(Fault::Refused(_)) => Err(NotBegun::Refused),
         Err(Fault::Memory(_)) => Err(NotBegun::Memory),
     }
 }
 
-// The engine over the database that is loaded from a file.
+// What a run starts with over the database that is loaded from a file.
 fn load_engine<F: Files>(
     alloc: Global,
     name: &str,
     limits: Limits,
     files: &mut F,
-) -> Result<Engine, NotBegun>
+) -> Result<Sessions, NotBegun>
     ensures begins { BeginsLoaded (F.told files.old name.now) limits.max_id
         (F.faults files.old)
         (F.faults files.new) result }
@@ -64,7 +83,7 @@ fn load_engine<F: Files>(
 {
     match read_file(alloc, files, name, LIMIT) {
         Ok(FileRead::Whole(bytes)) => {
-            engine_of::<Brand>(alloc, bytes.as_slice(), limits, Blank::new(1))
+            sessions_of::<Brand>(alloc, bytes.as_slice(), limits, Blank::new(1))
         }
         Ok(FileRead::TooLong) => Err(NotBegun::TooLong),
         Ok(FileRead::Fault) => Err(NotBegun::Fault),
@@ -72,13 +91,13 @@ fn load_engine<F: Files>(
     }
 }
 
-/// The engine with which a run starts: over the database that is loaded, or over an empty one.
+/// What a run starts with: the database that is loaded, with what was kept beside it, or an empty one.
 pub fn begin<F: Files>(
     alloc: Global,
     load: Option<&str>,
     limits: Limits,
     files: &mut F,
-) -> Result<Engine, NotBegun>
+) -> Result<Sessions, NotBegun>
     ensures begins { Begins (F.told files.old) (option_map (λ s. s.now) load.entry)
         limits.max_id (F.faults files.old) (F.faults files.new) result }
     ensures same { (file : List ℕ) → F.told files.new file ≡ F.told files.old file }
@@ -88,6 +107,6 @@ pub fn begin<F: Files>(
 {
     match load {
         Some(name) => load_engine(alloc, name, limits, files),
-        None => Ok(Engine::new(alloc, limits)),
+        None => Ok(Sessions::over(alloc, Engine::new(alloc, limits))),
     }
 }

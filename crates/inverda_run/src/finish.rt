@@ -1,27 +1,29 @@
 //! The dump at the end of a run.
 ghost use Rattle.std.specs.Prelude.{◌≡◌, ◌≤◌, ℕ, List, option_map};
-ghost use Rattle.dump_file.specs.Texts.{AreSpelled};
-ghost use Rattle.generated_run.specs.EngineCoreKept.{state_of};
+ghost use Rattle.dump_formats.specs.Texts.{AreSpelled};
+ghost use Rattle.generated_run.specs.Laws.{HasCounts};
+ghost use Rattle.generated_run.specs.Standing.{kept_in, standing_of};
 ghost use Rattle.inverda_run.specs.Calls.{DumpsTo, Finishes, WritesBut, WritesTo};
 
 use crate::end::End;
 use crate::last::put_last;
 use crate::limit::LIMIT;
-use dump_file::dump;
-use generated_run::Engine;
+use dump_formats::dump;
+use generated_run::Sessions;
 use outside::{Failed, Files, Sink};
 use std::alloc::Global;
 
 // Writes the dump to a file.
 fn dump_to<K: Sink, F: Files>(
     alloc: Global,
-    engine: &Engine,
+    sessions: &Sessions,
     name: &str,
     out: &mut K,
     files: &mut F,
 ) -> End
-    requires { AreSpelled engine.now.graph.edges }
-    ensures dumps { DumpsTo (state_of engine.now) (F.told files.new name.now) (K.held out.old)
+    requires spelled { AreSpelled (kept_in sessions.now).graph.edges }
+    requires counted { HasCounts (standing_of sessions.now) }
+    ensures dumps { DumpsTo (standing_of sessions.now) (F.told files.new name.now) (K.held out.old)
         (K.held out.new) (K.faults out.old) (K.faults out.new) (F.faults files.old)
         (F.faults files.new) result }
     ensures others { (file : List ℕ) → WritesBut name.now (F.told files.old) (F.told files.new)
@@ -30,7 +32,8 @@ fn dump_to<K: Sink, F: Files>(
     ensures later_write { K.faults out.old ≤ K.faults out.new }
     ensures later_file { F.faults files.old ≤ F.faults files.new }
 {
-    let Ok(text) = dump(alloc, engine.database()) else {
+    let database = sessions.engine().database();
+    let Ok(text) = dump(alloc, database, sessions.counts(), sessions.pending()) else {
         return End::Memory;
     };
     let bytes = text.as_str().as_bytes();
@@ -43,17 +46,18 @@ fn dump_to<K: Sink, F: Files>(
     }
 }
 
-/// Dumps the database at the end of a run that has carried out its script, where the words name a file
-/// for it. The dump is in memory, as JSON and as text.
+/// Dumps the database, and what is kept beside it, at the end of a run that has carried out its script,
+/// where the words name a file for it. The dump is in memory, as JSON and as text.
 pub fn finish<K: Sink, F: Files>(
     alloc: Global,
-    engine: &Engine,
+    sessions: &Sessions,
     dump: Option<&str>,
     out: &mut K,
     files: &mut F,
 ) -> End
-    requires { AreSpelled engine.now.graph.edges }
-    ensures finishes { Finishes (state_of engine.now) (option_map (λ s. s.now) dump.entry)
+    requires spelled { AreSpelled (kept_in sessions.now).graph.edges }
+    requires counted { HasCounts (standing_of sessions.now) }
+    ensures finishes { Finishes (standing_of sessions.now) (option_map (λ s. s.now) dump.entry)
         (F.told files.new) (K.held out.old) (K.held out.new) (K.faults out.old)
         (K.faults out.new) (F.faults files.old) (F.faults files.new) result }
     ensures others { (file : List ℕ) → WritesTo (option_map (λ s. s.now) dump.entry)
@@ -64,7 +68,7 @@ pub fn finish<K: Sink, F: Files>(
     ensures later_file { F.faults files.old ≤ F.faults files.new }
 {
     match dump {
-        Some(name) => dump_to(alloc, engine, name, out, files),
+        Some(name) => dump_to(alloc, sessions, name, out, files),
         None => End::Done,
     }
 }

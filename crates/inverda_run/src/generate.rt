@@ -1,6 +1,7 @@
 //! The generated script in place of the source's.
 ghost use Rattle.std.specs.Prelude.{◌≡◌, ◌≤◌, ℕ, List, option_map, IfOk, OnOk};
-ghost use Rattle.dump_file.specs.Texts.{AreSpelled};
+ghost use Rattle.dump_formats.specs.Texts.{AreSpelled};
+ghost use Rattle.generated_run.specs.Laws.{HasCounts};
 ghost use Rattle.generated_run.specs.Standing.{kept_in, standing_of};
 ghost use Rattle.script_generator.specs.Summary.{summary_lines};
 ghost use Rattle.generated_run.specs.Kept.{Keeps};
@@ -12,6 +13,7 @@ use crate::finish::finish;
 use generated_run::{Sessions, run_generated};
 use outside::{Failed, Files, Sink, write_all};
 use par_base::{Memory, Text};
+use run_laws::scripts_keep_counts;
 use script_generator::summary_text;
 use std::alloc::Global;
 
@@ -37,7 +39,8 @@ pub fn generate<K: Sink, F: Files>(
     out: &mut K,
     files: &mut F,
 ) -> End
-    requires { AreSpelled (kept_in sessions.old).graph.edges }
+    requires spelled { AreSpelled (kept_in sessions.old).graph.edges }
+    requires counted { HasCounts (standing_of sessions.old) }
     ensures ends { EndsGenerated (standing_of sessions.old) n (option_map (λ s. s.now) dump.entry)
         (F.told files.new) (K.held out.old) (K.held out.new) (K.faults out.old)
         (K.faults out.new) (F.faults files.old) (F.faults files.new) result }
@@ -49,11 +52,13 @@ pub fn generate<K: Sink, F: Files>(
     ensures later_write { K.faults out.old ≤ K.faults out.new }
     ensures later_file { F.faults files.old ≤ F.faults files.new }
 {
+    // That the counts at the end are such as are dumped rests on it.
+    scripts_keep_counts();
     let Ok(text) = summarize(alloc, sessions, n) else {
         return End::Memory;
     };
     match write_all(out, text.as_str().as_bytes()) {
-        Ok(()) => finish(alloc, sessions.engine(), dump, out, files),
+        Ok(()) => finish(alloc, sessions, dump, out, files),
         Err(Failed) => End::Unwritten,
     }
 }

@@ -1,8 +1,8 @@
 //! The top call: words, a script, a sink and files in, a status out.
 //!
 //! It reads the words, loads a dump where they name one, runs the script of the source from that
-//! database on, and dumps the database at the end where the words ask for it. `specs/Starts.antt` says
-//! from which state a run starts and which text its dump is, and `specs/Statuses.antt` what each
+//! database on, and dumps it at the end where the words ask for it, with what was counted and is
+//! pending. `specs/Starts.antt` says from where a run starts and which text its dump is, and `specs/Statuses.antt` what each
 //! status means.
 //!
 //! A program that calls it is promised that a run of status 0 took a script, put exactly the lines

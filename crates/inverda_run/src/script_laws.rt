@@ -3,7 +3,7 @@ ghost use Rattle.inverda_run.specs.ScriptLaws.{RunsAreOrdinary, RunsStayKept, Sa
 
 use crate::laws::two_runs_are_one;
 use run_laws::{
-    answers_are_lines, moves_store_what_they_name, said_statements_need_the_data_alone,
+    answers_are_lines, moves_store_what_they_name, said_statements_need_no_session,
     scripts_are_ordinary, scripts_keep_states,
 };
 
@@ -21,12 +21,11 @@ pub fn runs_are_ordinary()
     scripts_are_ordinary();
 }
 
-/// A run that loads what another one dumped goes on in the state in which that one ended, also where
-/// its script says USE before it leaves versions out; what ADVISE prints is excepted, since what was
-/// counted isn't dumped.
+/// A run that loads what another one dumped goes on where that one ended, also where its script says
+/// USE before it leaves versions out.
 pub fn said_runs_are_one()
     ensures { SaidRunsAreOne }
 {
     two_runs_are_one();
-    said_statements_need_the_data_alone();
+    said_statements_need_no_session();
 }

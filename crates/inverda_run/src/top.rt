@@ -18,9 +18,10 @@ use crate::generate::generate;
 use crate::last::put_last;
 use crate::laws::two_runs_are_one;
 use crate::script_laws::{runs_are_ordinary, said_runs_are_one};
-use generated_run::{End as ScriptEnd, Sessions, run_source};
+use generated_run::{End as ScriptEnd, run_source};
 use outside::{Files, Sink, Source};
 use par_base::{Fault, Limits};
+use run_laws::scripts_keep_counts;
 use run_words::{read_words, words_say_one_thing};
 use std::alloc::Global;
 
@@ -65,6 +66,8 @@ fn run<S: Source, K: Sink, F: Files>(
     // That a run has one start, and a state one dump, rests on these.
     words_say_one_thing();
     two_runs_are_one();
+    // That the counts at the end are such as are dumped rests on it.
+    scripts_keep_counts();
     // These are laws of every run: they take no time.
     runs_are_ordinary();
     said_runs_are_one();
@@ -76,35 +79,34 @@ fn run<S: Source, K: Sink, F: Files>(
     let limits = Limits {
         max_id: asked.max_id,
     };
-    let engine = match begin(alloc, asked.load, limits, files) {
-        Ok(engine) => engine,
+    let mut sessions = match begin(alloc, asked.load, limits, files) {
+        Ok(sessions) => sessions,
         Err(NotBegun::Memory) => return End::Memory,
         Err(NotBegun::Refused) => return put_last(End::Refused, b"dump refused\n", out),
         Err(NotBegun::TooLong) => return put_last(End::LongLoad, b"too long\n", out),
         Err(NotBegun::Fault) => return put_last(End::UnreadLoad, b"file fault\n", out),
     };
-    let mut sessions = Sessions::over(alloc, engine);
     if let Some(n) = asked.generate {
         return generate(alloc, &mut sessions, n, asked.dump, out, files);
     }
     match run_source(alloc, &mut sessions, script, out) {
-        ScriptEnd::Done => finish(alloc, sessions.engine(), asked.dump, out, files),
+        ScriptEnd::Done => finish(alloc, &sessions, asked.dump, out, files),
         end => ended(end),
     }
 }
 
 /// Runs the script that the source gives, and puts the lines that answer its statements. The words are
 /// those after the program's name: `--load FILE` begins from the database whose dump the file holds,
-/// `--dump FILE` dumps the database to a file at the end, `--max-ids N` sets the greatest identifier
-/// that is drawn, and `--generate N` runs the generated script of N numbers in place of the source's,
-/// which isn't touched, and puts its summary. The answer is a status:
+/// `--dump FILE` dumps it to a file at the end, with what was counted and is pending, `--max-ids N`
+/// sets the greatest identifier that is drawn, and `--generate N` runs the generated script of N
+/// numbers in place of the source's, which isn't touched, and puts its summary. The answer is a status:
 ///
 /// - 0: all statements were carried out and answered, or the generated ones carried out and summed up,
 ///   and the dump was written where there is one
 /// - 1: memory ran out
 /// - 2: the words say nothing; the last line is `bad words`
 /// - 3: the bytes are no script; the last line is `syntax` with line and column of the first fault
-/// - 4: the loaded bytes are no dump of a valid database; the last line is `dump refused`
+/// - 4: the loaded bytes are no dump of either format; the last line is `dump refused`
 /// - 5: the source failed; the last line is `read fault`
 /// - 6: the sink failed
 /// - 7: a statement has more than 65,536 bytes from its first one to its last semicolon, or the script,
@@ -126,8 +128,8 @@ pub fn inverda<S: Source, K: Sink, F: Files>(
     ensures statuses { (result ≡ 0) ⊎ (result ≡ 1) ⊎ (result ≡ 2) ⊎ (result ≡ 3) ⊎ (result ≡ 4)
         ⊎ (result ≡ 5) ⊎ (result ≡ 6) ⊎ (result ≡ 7) ⊎ (result ≡ 8) }
 
-    // A script is answered as its statements say, from the empty or the loaded database on, and the
-    // dump is that of the state behind them.
+    // A script is answered as its statements say, from the empty database or from where the loaded dump
+    // stands, and the dump is that of where they lead.
     ensures done { result ≡ 0 → Ran (map string_bytes words.now) (F.told files.old)
         (F.told files.new) (S.left script.old) (S.left script.new) (K.held out.old)
         (K.held out.new) }

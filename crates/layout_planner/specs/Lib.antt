@@ -1,4 +1,5 @@
 pub mod Costs
+pub mod Counts
 pub mod Best
 pub mod Laws
 pub mod inner

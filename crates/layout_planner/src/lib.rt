@@ -8,7 +8,8 @@
 //! cost (`specs/Best.antt`). Costs depend on the graph and the accesses alone, and not on the layout
 //! that the data has: they are reckoned from the layout of the CREATE TABLE operators. By the laws of
 //! `specs/Laws.antt` no MATERIALIZE of a version is refused there, and what is computed as the length
-//! of a way is the number of its operators. It knows nothing of rows, nor of who counts accesses.
+//! of a way is the number of its operators. It knows nothing of rows, nor of who counts accesses;
+//! `specs/Counts.antt` says what counts beside a graph are.
 #![tactic(auto)]
 
 mod cheapest;

@@ -45,14 +45,15 @@ use Rattle.engine_moves.specs.Act.{act as act_in_full, at_once, is_materialize, 
 use Rattle.engine_moves.specs.Moving.{Moving}
 use Rattle.engine_moves.proofs.ActLaws.{kind_of, started_stays, stepped_stays}
 use Rattle.engine_core.proofs.TextLaws.{assignments_fit, operators_fit, rows_fit}
+use Rattle.engine_sessions.specs.Laws.{CountsStay, HasCounts}
 use Rattle.engine_sessions.specs.Act.{act, advice_on}
-use Rattle.engine_sessions.specs.Accesses.{accessed}
+use Rattle.engine_sessions.specs.Accesses.{accessed, is_move}
 use Rattle.engine_sessions.specs.InFull.{in_full}
 use Rattle.engine_sessions.specs.Standing.{Standing, moving_in, used_by, with_use}
 use Rattle.engine_sessions.specs.declared.answer.Answer.{Answer}
 use Rattle.engine_sessions.specs.declared.answer.Answer.TheVariants.{Plain}
 use Rattle.script_run.specs.Output.{next_state, state_after}
-use Rattle.run_laws.specs.Kept.{DatabasesAreKept, EmptyIsKept, IsKept, ScriptsKeep, StatementsKeep}
+use Rattle.run_laws.specs.Kept.{DatabasesAreKept, EmptyIsKept, IsKept, ScriptsKeep, ScriptsKeepCounts, StatementsKeep}
 use Rattle.run_laws.proofs.FoundLemmas.{version_is}
 use Rattle.run_laws.proofs.GrownLemmas.{Grows, MayAdd, grows, some_grow}
 use Rattle.run_laws.proofs.PlanLemmas.{delete_taken, insert_taken, update_taken}
@@ -239,14 +240,14 @@ kept_moving s x r texts kept h = elim (kind_of s x) as (λ _. IsKept (moving_dat
 
 -- ---- in a session
 
-kept_answered : (s : Standing) (csv : Bool) (table : Option ℕ) (m : Checked (Reply × Moving)) → IsKept s.laid.database → ((r : Reply × Moving) → m ≡ Ok r → IsKept (moving_data r)) → IsKept (next_state s (answered s csv table m)).laid.database
-kept_answered s csv table (Ok r) kept more = more r refl
-kept_answered s csv table (Err e) kept more = kept
+kept_answered : (s : Standing) (csv move : Bool) (table : Option ℕ) (m : Checked (Reply × Moving)) → IsKept s.laid.database → ((r : Reply × Moving) → m ≡ Ok r → IsKept (moving_data r)) → IsKept (next_state s (answered s csv move table m)).laid.database
+kept_answered s csv move table (Ok r) kept more = more r refl
+kept_answered s csv move table (Err e) kept more = kept
 
 -- a statement in full
-kept_full : (s : Standing) (csv : Bool) (x : StatementView) → TextsWithin text_limit x → IsKept s.laid.database → IsKept (next_state s (answered s csv (accessed s.laid.database x) (act_in_full (moving_in s) x))).laid.database
+kept_full : (s : Standing) (csv : Bool) (x : StatementView) → TextsWithin text_limit x → IsKept s.laid.database → IsKept (next_state s (answered s csv (is_move x) (accessed s.laid.database x) (act_in_full (moving_in s) x))).laid.database
 kept_full s csv x texts kept =
-    kept_answered s csv (accessed s.laid.database x) (act_in_full (moving_in s) x) kept (λ r h. kept_moving (moving_in s) x r texts kept h)
+    kept_answered s csv (is_move x) (accessed s.laid.database x) (act_in_full (moving_in s) x) kept (λ r h. kept_moving (moving_in s) x r texts kept h)
 
 kept_used : (s : Standing) (name : List ℕ) (m : Checked ℕ) → IsKept s.laid.database → IsKept (next_state s (m then λ set. Ok (Plain Done, record s { uses = with_use s.uses s.session name }))).laid.database
 kept_used s name (Ok set) kept = kept
@@ -288,3 +289,14 @@ databases_kept k is = record { edges = is.graph.edges; operators = is.graph.oper
 
 pub empty_kept : EmptyIsKept
 empty_kept limit = record { edges = tt; operators = tt; tables = tt; named = tt; sound = empty_sound any_meaning 1 (omega arith) }
+
+-- ---- what is counted
+
+next_counts : CountsStay → (s : Standing) (x : StatementView) (m : Checked (Answer × Standing)) → act s x ≡ m → HasCounts s → HasCounts (next_state s m)
+next_counts law s x (Ok answer) is has = law s x answer has is
+next_counts law s x (Err r) is has = has
+
+pub scripts_keep_counts : CountsStay → ScriptsKeepCounts
+unfolding state_after
+scripts_keep_counts law s [] has = has
+scripts_keep_counts law s (x ∷ xs) has = scripts_keep_counts law (next_state s (act s x)) xs (next_counts law s x (act s x) refl has)

@@ -14,6 +14,7 @@ use Rattle.db_state.specs.declared.parts.Parts.{Parts}
 use Rattle.engine_state.specs.AnyDatabase.{AnyDatabase}
 use Rattle.engine_core.specs.Kept.{state_of}
 use Rattle.engine_sessions.specs.Act.{act}
+use Rattle.engine_sessions.specs.Laws.{HasCounts}
 use Rattle.engine_sessions.specs.Standing.{Standing, begun, empty_standing}
 use Rattle.script_run.specs.Output.{next_state, state_after}
 
@@ -40,3 +41,7 @@ StatementsKeep = (s : Standing) (statement : StatementView) → TextsWithin text
 -- SO EACH STATE THAT A SCRIPT REACHES IS ONE
 abbrev pub ScriptsKeep : Type 0
 ScriptsKeep = (s : Standing) (statements : List StatementView) → All (TextsWithin text_limit) statements → IsKept s.laid.database → IsKept (state_after s statements).laid.database
+
+-- what is counted beside such states are accesses of tables that live, throughout a script
+abbrev pub ScriptsKeepCounts : Type 0
+ScriptsKeepCounts = (s : Standing) (statements : List StatementView) → HasCounts s → HasCounts (state_after s statements)

@@ -1,13 +1,13 @@
 //! The laws. The functions do nothing: their contracts are the laws.
-ghost use Rattle.run_laws.specs.Kept.{DatabasesAreKept, EmptyIsKept, ScriptsKeep, StatementsKeep};
+ghost use Rattle.run_laws.specs.Kept.{DatabasesAreKept, EmptyIsKept, ScriptsKeep, ScriptsKeepCounts, StatementsKeep};
 ghost use Rattle.run_laws.specs.Lines.{AnswersAreLines, StatementsAreAnswered};
 ghost use Rattle.run_laws.specs.Moves.{MovesStoreNamed, StartsLeadToNamed};
-ghost use Rattle.run_laws.specs.Said.{SaidNeedTheDataAlone};
+ghost use Rattle.run_laws.specs.Said.{SaidNeedNoSession};
 ghost use Rattle.run_laws.specs.Scripts.{ScriptsAreOrdinary, ScriptsFit, ScriptsStayKept};
 ghost use Rattle.run_laws.specs.Written.{WritesAreOrdinary};
 
 use engine_core::{moves_store_targets, replies_are_lines};
-use engine_sessions::uses_are_each_sessions_own;
+use engine_sessions::{counts_stay_beside_the_graph, uses_are_each_sessions_own};
 use engine_statements::writes_are_by_identifier;
 
 /// Each statement is answered by one line at least, and the last line ends too, in every session and
@@ -30,10 +30,10 @@ pub fn moves_store_what_they_name()
 }
 
 /// Statements that name the version of their table, or stand behind an answered USE of their session
-/// among them, are answered by the data alone, but for advice, whatever was in use, was pending and was
-/// counted before them; so are STEPs behind an answered MATERIALIZE among them.
-pub fn said_statements_need_the_data_alone()
-    ensures { SaidNeedTheDataAlone }
+/// among them, are answered the same and leave the same but for sessions, whatever was in use and
+/// whichever session was at hand before them.
+pub fn said_statements_need_no_session()
+    ensures { SaidNeedNoSession }
 {
     uses_are_each_sessions_own();
 }
@@ -47,6 +47,14 @@ pub fn scripts_keep_states()
     ensures one { StatementsKeep }
     ensures all { ScriptsKeep }
 {}
+
+/// What is counted are accesses of tables that live, each once and ascending, and stays so behind each
+/// statement of a script.
+pub fn scripts_keep_counts()
+    ensures { ScriptsKeepCounts }
+{
+    counts_stay_beside_the_graph();
+}
 
 /// From a sound state on, each answered INSERT, IMPORT, UPDATE and DELETE leaves its table with just
 /// the rows that the statement makes of it by identifier, and no other table of the version that is

@@ -21,8 +21,8 @@ use Rattle.engine_sessions.specs.declared.answer.Answer.{Answer}
 use Rattle.engine_sessions.specs.declared.answer.Answer.TheVariants.{Plain}
 use Rattle.engine_sessions.specs.Standing.{Standing, moving_in, used_by, with_use}
 use Rattle.engine_sessions.specs.InFull.{in_full}
-use Rattle.engine_sessions.specs.Accesses.{accessed, raised_by}
-use Rattle.engine_sessions.specs.Act.{act, advice_on, answer_of}
+use Rattle.engine_sessions.specs.Accesses.{accessed}
+use Rattle.engine_sessions.specs.Act.{act, advice_on, answer_of, behind}
 use Rattle.script_run.specs.Output.{next_state, text_of, replies}
 use Rattle.script_run.specs.Moves.{heard, tells_storage, with_layout, without_moves, MovesUnseen}
 use Rattle.script_run.specs.Statuses.{Done}
@@ -43,8 +43,8 @@ abbrev beside_move : List ℕ → Bool → Checked (Reply × Laid) → Checked (
 beside_move pending b m = m then λ answer. Ok (answer.0, record { laid = answer.1; pending = pending_behind b answer.1 pending })
 
 -- its answer, and what is counted
-abbrev answered : Standing → Bool → Option ℕ → Checked (Reply × Moving) → Checked (Answer × Standing)
-answered s csv table m = m then λ answer. Ok (answer_of csv answer.0, record s { laid = answer.1.laid; pending = answer.1.pending; counts = raised_by s.counts table })
+abbrev answered : Standing → Bool → Bool → Option ℕ → Checked (Reply × Moving) → Checked (Answer × Standing)
+answered s csv move table m = m then λ answer. Ok (answer_of csv answer.0, behind s move table answer.1)
 
 module _ (s : Standing) (layout pending : List ℕ) where
   abbrev other : Standing
@@ -53,7 +53,7 @@ module _ (s : Standing) (layout pending : List ℕ) where
   same_refused : (r : _) → SameBut s other (Err r) (Err r)
   same_refused r = record { text = refl; layout = layout; pending = pending; next = refl }
 
-  same_data : (csv : Bool) (table : Option ℕ) (b : Bool) (m : Checked (Reply × AnyDatabase)) → SameBut s other (answered s csv table (beside_move s.pending false (beside s.laid b m))) (answered other csv table (beside_move pending false (beside other.laid b m)))
+  same_data : (csv : Bool) (table : Option ℕ) (b : Bool) (m : Checked (Reply × AnyDatabase)) → SameBut s other (answered s csv false table (beside_move s.pending false (beside s.laid b m))) (answered other csv false table (beside_move pending false (beside other.laid b m)))
   same_data csv table true (Ok answer) =
       let left = (with_data other.laid answer).1 in
       record { text = refl; layout = left.layout; pending = pending_behind false left pending; next = refl }
@@ -69,8 +69,8 @@ module _ (s : Standing) (layout pending : List ℕ) where
   same_advised answer (Err r) = same_refused r
 
   -- in full
-  told_data : (csv : Bool) (x : StatementView) → SameBut s other (answered s csv (accessed s.laid.database x) (beside_move s.pending false (beside s.laid (is_built x) (acted_data s.laid.database x))))
-      (answered other csv (accessed s.laid.database x) (beside_move pending false (beside other.laid (is_built x) (acted_data s.laid.database x))))
+  told_data : (csv : Bool) (x : StatementView) → SameBut s other (answered s csv false (accessed s.laid.database x) (beside_move s.pending false (beside s.laid (is_built x) (acted_data s.laid.database x))))
+      (answered other csv false (accessed s.laid.database x) (beside_move pending false (beside other.laid (is_built x) (acted_data s.laid.database x))))
   told_data csv x = same_data csv (accessed s.laid.database x) (is_built x) (acted_data s.laid.database x)
 
   abbrev full : StatementView → StatementView
@@ -116,13 +116,13 @@ pub record Leaves (s : Standing) (m : Checked (Answer × Standing)) : Type 0 whe
 leaves_all : (s : Standing) (r : _) → Leaves s (Err r)
 leaves_all s r = record { layout = s.laid.layout; pending = s.pending; next = refl }
 
-move_leaves : (s : Standing) (in_steps : Bool) (m : Checked (List ℕ)) → Leaves s (answered s false None (if in_steps then started_by s m else beside_move s.pending true (moved_reply (moved_laid s.laid m))))
+move_leaves : (s : Standing) (in_steps : Bool) (m : Checked (List ℕ)) → Leaves s (answered s false true None (if in_steps then started_by s m else beside_move s.pending true (moved_reply (moved_laid s.laid m))))
 move_leaves s false (Ok new) = record { layout = new; pending = []; next = refl }
 move_leaves s true (Ok new) = record { layout = s.laid.layout; pending = changing s.laid.database.graph.edges s.laid.layout new; next = refl }
 move_leaves s false (Err r) = leaves_all s r
 move_leaves s true (Err r) = leaves_all s r
 
-step_leaves : (s : Standing) (operator : Option ℕ) → Leaves s (answered s false None (stepped_at (moving_in s) operator))
+step_leaves : (s : Standing) (operator : Option ℕ) → Leaves s (answered s false true None (stepped_at (moving_in s) operator))
 step_leaves s (Some n) = record { layout = _; pending = _; next = refl }
 step_leaves s None = leaves_all s _
 

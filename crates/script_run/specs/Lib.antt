@@ -6,6 +6,7 @@ pub mod Kept
 pub use Rattle.engine_sessions.specs.Standing
 pub use Rattle.engine_sessions.specs.Act
 pub use Rattle.engine_sessions.specs.declared.answer.Answer
+pub use Rattle.engine_sessions.specs.declared.sessions.Sessions
 pub use Rattle.engine_sessions.specs.Laws
 pub use Rattle.engine_sessions.specs.Texts
 pub use Rattle.engine_sessions.specs.Spoken

@@ -1,16 +1,11 @@
 -- What moves change for their script: no reply but their own and those of SHOW LAYOUT.
 use Rattle.std.specs.Prelude.{◌≡◌, ℕ, Bool, true, false, not, cond, List, [], ◌∷◌, filter, Option}
 use Rattle.std.specs.Io.KnownBytes.{Consumes, Appends}
-use Rattle.statements.specs.Views.{StatementView, Materialize, Step, ShowLayout}
+use Rattle.statements.specs.Views.{StatementView, ShowLayout}
 use Rattle.bidel_script.specs.Script.{IsScript}
+use Rattle.engine_sessions.specs.Accesses.{is_move}
 use Rattle.engine_sessions.specs.Standing.{Standing}
 use Rattle.script_run.specs.Output.{replies, joined}
-
--- a MATERIALIZE, be it at once or in steps, and a STEP
-abbrev pub is_move : StatementView → Bool
-is_move (Materialize named in_steps) = true
-is_move Step = true
-is_move _ = false
 
 -- whether its reply tells what is stored where
 abbrev pub tells_storage : StatementView → Bool

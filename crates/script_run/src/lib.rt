@@ -27,6 +27,6 @@ mod source;
 mod turn;
 
 pub use end::End;
-pub use engine_sessions::{Engine, Sessions, full_statements_need_the_data_alone};
+pub use engine_sessions::{Engine, Sessions, named_statements_need_no_session};
 pub use laws::{moves_change_no_reply, text_is_one};
 pub use source::run_source;

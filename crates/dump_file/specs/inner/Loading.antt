@@ -7,8 +7,6 @@ use Rattle.row_store.specs.Rows.{Rows}
 use Rattle.id_memory.specs.Pairs.{Pairs}
 use Rattle.id_memory.specs.States.{MemoryState}
 use Rattle.serde_json.specs.Data.{Data}
-use Rattle.serde_json.specs.View.{view}
-use Rattle.serde_json.specs.declared.value.Value.{Value as Json}
 use Rattle.version_graph.specs.Edges.{Drawn, IsGraph, numbers}
 use Rattle.version_graph.specs.Finished.{IsFinished}
 use Rattle.version_graph.specs.declared.parts.Placed.{Placed}
@@ -22,26 +20,16 @@ use Rattle.dump_values.specs.declared.dumps.DumpLines.{DumpLines}
 use Rattle.dump_graph.specs.Graphs.{AreNames}
 use Rattle.dump_graph.specs.Texts.{AreFromTexts}
 use Rattle.dump_graph.specs.declared.refused.DumpRefused.{DumpRefused}
-use Rattle.dump_file.specs.Stands.{HasNoOther, Spells}
+use Rattle.dump_file.specs.Stands.{HasNoOther}
 use Rattle.dump_file.specs.Told.{aux_line, auxes_told, dump_told, kept_told, memories_told, memory_line, remembers, stored_line}
 
 -- ---- reading
 
--- the JSON that the bytes spell, or a refusal where they spell none
-abbrev pub ReadsJson : List ℕ → Result Json (Fault DumpRefused) → Type 0
-ReadsJson bytes (Ok json) = Spells bytes (view json)
-ReadsJson bytes (Err (Refused r)) = (d : Data) → Spells bytes d → ⊥
-ReadsJson bytes (Err (Memory memory)) = ⊤
-
--- the bytes are some spelling of a dump that tells this
-abbrev pub Tells : List ℕ → Dump → Type 0
-Tells bytes dump = (d : Data) × Spells bytes d × (dump_of d ≡ Some dump)
-
--- what the dump tells, or a refusal where the bytes are none
-abbrev pub ReadsLines : List ℕ → Result DumpLines (Fault DumpRefused) → Type 0
-ReadsLines bytes (Ok lines) = Tells bytes (dump_seen lines)
-ReadsLines bytes (Err (Refused r)) = (dump : Dump) → Tells bytes dump → ⊥
-ReadsLines bytes (Err (Memory memory)) = ⊤
+-- what the JSON tells, or a refusal where it tells nothing
+abbrev pub ReadsLines : Data → Result DumpLines (Fault DumpRefused) → Type 0
+ReadsLines d (Ok lines) = dump_of d ≡ Some (dump_seen lines)
+ReadsLines d (Err (Refused r)) = (dump : Dump) → dump_of d ≡ Some dump → ⊥
+ReadsLines d (Err (Memory memory)) = ⊤
 
 -- ---- filling in
 

@@ -6,16 +6,16 @@ pub returns-clause-dump : goal.returns-clause-dump
 returns-clause-dump c = each_state_has_a_dump
 
 pub returns-clause-start : goal.returns-clause-start
-returns-clause-start c = one_start c.dumps_are_of_one_database.ensures
+returns-clause-start c = one_start c.dumps_are_of_one_run.ensures
 
 pub returns-clause-loads : goal.returns-clause-loads
-returns-clause-loads c = loads_dumped (one_start c.dumps_are_of_one_database.ensures)
+returns-clause-loads c = loads_dumped (one_start c.dumps_are_of_one_run.ensures)
 
 pub returns-clause-runs : goal.returns-clause-runs
 returns-clause-runs c = two_runs
 
 pub returns-clause-again : goal.returns-clause-again
-returns-clause-again c = begins_again c.full_statements_need_the_data_alone.ensures
+returns-clause-again c = begins_again c.named_statements_need_no_session.ensures
 
 pub returns-clause-one : goal.returns-clause-one
-returns-clause-one c = runs_are_one (loads_dumped (one_start c.dumps_are_of_one_database.ensures)) c.full_statements_need_the_data_alone.ensures
+returns-clause-one c = runs_are_one (loads_dumped (one_start c.dumps_are_of_one_run.ensures)) c.named_statements_need_no_session.ensures

@@ -1,12 +1,11 @@
-use Rattle.std.proofs.Common.{map, string_bytes, refl, sym, subst, ◌∙◌, inl}
-use Rattle.op_any.specs.Operators.{AnyView}
-use Rattle.db_state.specs.declared.parts.Parts.{Parts}
-use Rattle.generated_run.specs.EngineCoreKept.{state_of}
+use Rattle.outside.specs.Causes.{Rose}
+use Rattle.inverda_run.specs.declared.end.End.TheVariants as end
+use Rattle.std.proofs.Common.{◌≡◌, ◌⊎◌, inr, map, string_bytes, ℕ, refl, sym, subst, ◌∙◌, inl}
+use Rattle.generated_run.specs.Laws.{HasCounts}
 use Rattle.generated_run.specs.Standing.{Standing, standing_of}
 use Rattle.run_words.specs.Calls.{asked_of}
-use Rattle.inverda_run.specs.Starts.{StartsBy}
 use Rattle.inverda_run.specs.Statuses.{Starts}
-use Rattle.inverda_run.specs.Calls.{EndStays, Ends, Finishes}
+use Rattle.inverda_run.specs.Calls.{EndStays, Ends, MissesLoad}
 use Rattle.inverda_run.specs.declared.end.End.{End}
 use Rattle.inverda_run.proofs.EndLemmas.{bad_ends, longer_ends, memory_ends, refused_ends, script_ends, unread_ends}
 use Rattle.inverda_run.proofs.FinishLemmas.{finish_stays}
@@ -67,16 +66,15 @@ returns-in-Done-clause-ends g c =
     let told = g.F.Files.told c.args.files.now in
     let asked = asked_of c.in-Ok.asked in
     let begins = c.in-Ok-begin.ensures.begins in
-    let from = standing_of c.over-sessions.result in
+    let from = standing_of c.in-Ok-begin.sessions in
     let own = c.in_default.is in
-    let starts : Starts words told asked from = record { says = c.in-Ok.ensures; start = subst (λ (s : Standing). StartsBy told asked.load asked.max_id s) (sym c.over-sessions.ensures.standing) begins.0 } in
+    let starts : Starts words told asked from = record { says = c.in-Ok.ensures; start = begins.0 } in
     finished words told (g.F.Files.told c.finish.new.files) (g.S.Source.left c.args.script.now) (g.S.Source.left c.run_source.new.script) (g.S.Source.faults c.args.script.now) (g.S.Source.faults c.run_source.new.script)
     (g.K.Sink.held c.args.out.now) (g.K.Sink.held c.run_source.new.out) (g.K.Sink.held c.finish.new.out) (g.K.Sink.faults c.args.out.now) (g.K.Sink.faults c.run_source.new.out) (g.K.Sink.faults c.finish.new.out)
     (g.F.Files.faults c.args.files.now) (g.F.Files.faults c.begin.new.files) (g.F.Files.faults c.finish.new.files)
     c.words_say_one_thing.ensures c.two_runs_are_one.ensures.start asked from (standing_of c.run_source.new.sessions) starts own
     c.in-Done.ensures.ends.0 (c.in-Done.ensures.keeps.limit ∙ starts_limit words told asked from starts) c.in-Done.ensures.ends.1 c.in-Done.ensures.stays begins.2 c.finish.result
-    (subst (λ (k : Parts AnyView). Finishes (state_of k) asked.dump (g.F.Files.told c.finish.new.files) (g.K.Sink.held c.run_source.new.out) (g.K.Sink.held c.finish.new.out) (g.K.Sink.faults c.run_source.new.out) (g.K.Sink.faults c.finish.new.out) (g.F.Files.faults c.begin.new.files) (g.F.Files.faults c.finish.new.files) c.finish.result)
-    c.engine.ensures c.finish.ensures.finishes)
+    c.finish.ensures.finishes
 
 pub returns : goal.returns
 returns g c =
@@ -94,10 +92,10 @@ returns g c =
     let filed = g.F.Files.faults c.args.files.now in
     let filed' = g.F.Files.faults c.begin.new.files in
     let asked = asked_of c.in-Ok.asked in
-    let from = standing_of c.over-sessions.result in
+    let from = standing_of c.in-Ok-begin.sessions in
     let own = c.in_default.is in
     let starts : Starts words told asked from =
-    record { says = c.in-Ok.ensures; start = subst (λ (s : Standing). StartsBy told asked.load asked.max_id s) (sym c.over-sessions.ensures.standing) c.in-Ok-begin.ensures.begins.0 } in
+    record { says = c.in-Ok.ensures; start = c.in-Ok-begin.ensures.begins.0 } in
     record {
       ends = subst (λ (e : End). Ends words told told' left left' read read' held held' put put' filed filed' e) (sym c.ended.ensures)
           (script_ends words told told' left left' read read' held put filed filed' c.words_say_one_thing.ensures c.two_runs_are_one.ensures.start asked from (standing_of c.run_source.new.sessions) starts own
@@ -114,7 +112,7 @@ returns g c =
 pub returns-in-Done-clause-stays : goal.returns-in-Done-clause-stays
 returns-in-Done-clause-stays g c =
     stays_from (g.K.Sink.faults c.args.out.now) (g.K.Sink.faults c.run_source.new.out) (g.K.Sink.faults c.finish.new.out) c.finish.result c.in-Done.ensures.stays
-    (finish_stays (state_of c.engine.result.now) (asked_of c.in-Ok.asked).dump (g.F.Files.told c.finish.new.files) (g.K.Sink.held c.run_source.new.out) (g.K.Sink.held c.finish.new.out)
+    (finish_stays (standing_of c.run_source.new.sessions) (asked_of c.in-Ok.asked).dump (g.F.Files.told c.finish.new.files) (g.K.Sink.held c.run_source.new.out) (g.K.Sink.held c.finish.new.out)
     (g.K.Sink.faults c.run_source.new.out) (g.K.Sink.faults c.finish.new.out) (g.F.Files.faults c.begin.new.files) (g.F.Files.faults c.finish.new.files) c.finish.result c.finish.ensures.finishes)
 
 pub returns-in-Done-clause-untouched : goal.returns-in-Done-clause-untouched
@@ -126,8 +124,29 @@ returns-in-Some-clause-ends g c =
     let told = g.F.Files.told c.args.files.now in
     let asked = asked_of c.in-Ok.asked in
     let begins = c.in-Ok-begin.ensures.begins in
-    let from = standing_of c.over-sessions.result in
-    let starts : Starts words told asked from = record { says = c.in-Ok.ensures; start = subst (λ (s : Standing). StartsBy told asked.load asked.max_id s) (sym c.over-sessions.ensures.standing) begins.0 } in
+    let from = standing_of c.in-Ok-begin.sessions in
+    let starts : Starts words told asked from = record { says = c.in-Ok.ensures; start = begins.0 } in
     generated_so words told (g.F.Files.told c.generate.new.files) (g.S.Source.left c.args.script.now) (g.S.Source.faults c.args.script.now) (g.K.Sink.held c.args.out.now) (g.K.Sink.held c.generate.new.out)
     (g.K.Sink.faults c.args.out.now) (g.K.Sink.faults c.generate.new.out) (g.F.Files.faults c.args.files.now) (g.F.Files.faults c.begin.new.files) (g.F.Files.faults c.generate.new.files)
     c.words_say_one_thing.ensures asked from starts c.in-Some.n c.in-Some.is begins.2 c.generate.result c.generate.ensures.ends
+
+pub finish-requires-clause-counted : goal.finish-requires-clause-counted
+finish-requires-clause-counted g c =
+    let done = c.in-Done.ensures.ends.0 in
+    subst HasCounts (sym done.next) (c.scripts_keep_counts.ensures (standing_of c.in-Ok-begin.sessions) done.statements c.in-Ok-begin.ensures.begins.1.counted)
+
+pub returns-in-Done-clause-files : goal.returns-in-Done-clause-files
+returns-in-Done-clause-files g c = λ file.
+    elim (c.finish.ensures.others file) [
+      inl same ↦ inl (same ∙ c.begin.ensures.same file)
+    | inr there ↦ inr (
+        record { asked = asked_of c.in-Ok.asked; says = c.in-Ok.ensures; dump = there.0 },
+        subst (λ (n : ℕ). (c.finish.result ≡ end.Done) ⊎ Rose n (g.F.Files.faults c.finish.new.files)) c.in-Ok-begin.ensures.begins.2 there.1)
+    ]
+
+pub returns-in-Done-clause-misses : goal.returns-in-Done-clause-misses
+returns-in-Done-clause-misses g c =
+    let was = g.F.Files.missing c.args.files.now in
+    let asked = asked_of c.in-Ok.asked in
+    let told = g.F.Files.told c.args.files.now in
+    misses_loaded (map string_bytes c.args.words.now) told asked was (g.F.Files.missing c.finish.new.files) c.in-Ok.ensures (subst (λ (m : ℕ). MissesLoad told asked.load was m) (sym c.finish.ensures.missing) c.begin.ensures.missing)
