@@ -90,12 +90,12 @@ fn cross<O: Operator, L: Ledger>(
 fn is_passed(layout: &[u32], pass: Pass<'_>, number: u32) -> bool
     ensures { result ≡ is_passed_lem layout.now pass.entry.operators.now pass.entry.backward number }
 {
-    let is_stored = if pass.backward {
-        holds(layout, number)
-    } else {
-        !holds(layout, number)
-    };
-    holds(pass.operators, number) && is_stored
+    holds(pass.operators, number)
+        && if pass.backward {
+            holds(layout, number)
+        } else {
+            !holds(layout, number)
+        }
 }
 
 fn pass_at<O: Operator, L: Ledger>(

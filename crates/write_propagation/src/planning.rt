@@ -126,7 +126,7 @@ fn plan_tree<O: Operator, L: Ledger>(
 /// rows of the identifiers that the changes name, in each of the tables, and no others. Of the at most
 /// sixteen steps for each operator and identifier two are for reading, six for the mapping, and eight
 /// for the auxiliary tables. Else it reads and copies these tables, near and far for each operator. Of
-/// the other operators of the working set's tree it only looks at the numbers of their tables.
+/// the other operators it looks at their numbers alone.
 pub fn plan<O: Operator + Drop, L: Ledger>(
     alloc: Global,
     db: &mut Db<O>,
