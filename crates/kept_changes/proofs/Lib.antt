@@ -1,5 +1,7 @@
 pub mod ChangesLaws
 pub mod TakeLaws
+pub mod CapacityLaws
+pub mod StayLaws
 mod PlaceLemmas
 mod StepLemmas
 mod SideLemmas

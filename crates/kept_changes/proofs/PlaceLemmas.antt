@@ -68,3 +68,17 @@ module _ {T V : Type 0} (f : T → V) (z : V) (items : List (Numbered T)) (k at 
 -- the numbers stay
 pub put_numbers : {T : Type 0} (items : List (Numbered T)) (at : ℕ) (x : Numbered T) → x ≡ slice_index_or items at x → (v : T) → numbers_in (slice_set items at (record { number = x.number; value = v })) ≡ numbers_in items
 put_numbers {T} items at x same v = ap (λ (y : Numbered T). numbers_in (slice_set items at (record { number = y.number; value = v }))) same ∙ numbers_set items at v x
+
+-- two readings together
+both_read : {T V W C : Type 0} (f : T → V) (z : V) (g : T → W) (w : W) (both : V → W → C) (o : Option T) → both (option_map_or f o z) (option_map_or g o w) ≡ option_map_or (λ (t : T). both (f t) (g t)) o (both z w)
+both_read f z g w both None = refl
+both_read f z g w both (Some t) = refl
+
+-- what two readings together give stays under every number where the new value gives it too
+pub put_both : {T V W C : Type 0} (f : T → V) (z : V) (g : T → W) (w : W) (both : V → W → C) (items : List (Numbered T)) (k at : ℕ) (x : Numbered T) → x ≡ slice_index_or items at x → position (λ (i : Numbered T). k == i.number) items ≡ Some at
+    → (v : T) → both (f v) (g v) ≡ both (f x.value) (g x.value) → (n : ℕ)
+    → both (option_map_or f (value_of (slice_set items at (record { number = x.number; value = v })) n) z) (option_map_or g (value_of (slice_set items at (record { number = x.number; value = v })) n) w) ≡ both (option_map_or f (value_of items n) z) (option_map_or g (value_of items n) w)
+put_both {T} {V} {W} {C} f z g w both items k at x same found v e n =
+    both_read f z g w both (value_of (slice_set items at (record { number = x.number; value = v })) n)
+    ∙ put_related (λ (t : T). both (f t) (g t)) (both z w) items k at x same found (λ (a b : C). b ≡ a) (λ (a : C). refl) v e n
+    ∙ sym (both_read f z g w both (value_of items n))

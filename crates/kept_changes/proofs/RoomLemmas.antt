@@ -5,20 +5,8 @@ use Rattle.row_store.specs.Rows.{Rows}
 use Rattle.row_store.specs.States.{TableState}
 use Rattle.op_law.specs.Tables.{Tables, contents}
 use Rattle.row_changes.specs.Changed.{TableChanges}
-use Rattle.kept_changes.specs.Room.{HaveRoom, spares}
-use Rattle.kept_changes.specs.inner.Calls.{AreAtLeast}
-
-pub at_least_same : (rs : List ℕ) → AreAtLeast rs rs
-at_least_same [] = tt
-at_least_same (r ∷ rs) = (omega arith, at_least_same rs)
-
-pub at_least_more : (rs ss us : List ℕ) → AreAtLeast rs ss → AreAtLeast ss us → AreAtLeast rs us
-at_least_more [] [] [] h k = tt
-at_least_more [] [] (u ∷ us) h k = absurd k
-at_least_more [] (s ∷ ss) us h k = absurd h
-at_least_more (r ∷ rs) [] us h k = absurd h
-at_least_more (r ∷ rs) (s ∷ ss) [] h k = absurd k
-at_least_more (r ∷ rs) (s ∷ ss) (u ∷ us) h k = (omega (arith, h.0, k.0), at_least_more rs ss us h.1 k.1)
+use Rattle.kept_changes.specs.Room.{HaveRoom, spares, AreAtLeast}
+use Rattle.kept_changes.proofs.CapacityLaws.{at_least_same}
 
 -- a table with more room in the place of one
 pub at_least_set : (ts : List TableState) (at : ℕ) (t d : TableState) → (slice_index_or ts at d).spare ≤ t.spare → AreAtLeast (spares ts) (spares (slice_set ts at t))

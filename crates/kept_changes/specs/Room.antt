@@ -1,16 +1,17 @@
 -- Room for changes in kept tables, auxiliary tables and memories.
-use Rattle.std.specs.Prelude.{ℕ, ◌≤◌, List, [], ◌∷◌, length, map}
+use Rattle.std.specs.Prelude.{ℕ, ◌+◌, ◌≤◌, List, [], ◌∷◌, length, map}
 use Rattle.std.specs.Option.{option_map_or}
 use Rattle.row_store.specs.declared.change.Change.{Change}
 use Rattle.row_store.specs.States.{TableState}
 use Rattle.id_memory.specs.States.{MemoryState}
 use Rattle.version_graph.specs.Sets.{Each}
+use Rattle.op_law.specs.Tables.{Tables}
 use Rattle.op_law.specs.declared.side.Aux.{Aux}
 use Rattle.row_changes.specs.declared.change.SideChanges.{SideChanges}
 use Rattle.row_changes.specs.Changed.{TableChanges}
 use Rattle.pair_changes.specs.declared.change.PairChange.{PairChange}
 use Rattle.pair_changes.specs.Undo.{PairsFit}
-use Rattle.version_model.specs.Kept.{value_of}
+use Rattle.version_model.specs.Kept.{rows_at, auxes_at, pairs_at, value_of}
 use Rattle.version_model.specs.declared.numbered.Numbered.{Numbered}
 
 -- how many more rows fit each table without memory
@@ -58,3 +59,30 @@ IsMemoryFitAt memories i = PairsFit (memory_room_at memories i.number) i.value
 -- all such changes have room in the memories under their numbers
 abbrev pub MemoriesFitAt : List (Numbered MemoryState) → List (Numbered (List PairChange)) → Type 0
 MemoriesFitAt memories items = Each (λ i. IsMemoryFitAt memories i) items
+
+-- ---- what can be held without memory: what there is, and the room for more
+
+-- as many numbers, and none is less than the one at its place
+abbrev pub AreAtLeast : List ℕ → List ℕ → Type 0
+AreAtLeast [] [] = Unit {0}
+AreAtLeast (r ∷ rs) (s ∷ ss) = (r ≤ s) × AreAtLeast rs ss
+AreAtLeast [] (s ∷ ss) = ⊥
+AreAtLeast (r ∷ rs) [] = ⊥
+
+-- how many rows the table under a number can hold without memory
+abbrev pub capacity_at : List (Numbered TableState) → ℕ → ℕ
+capacity_at tables n = room_at tables n + length (rows_at tables n)
+
+-- how many rows each table can hold
+abbrev pub capacities : List ℕ → Tables → List ℕ
+capacities [] ts = []
+capacities (r ∷ rs) [] = []
+capacities (r ∷ rs) (t ∷ ts) = (r + length t) ∷ capacities rs ts
+
+-- likewise each of the auxiliary tables under a number
+abbrev pub capacities_at : List (Numbered Aux) → ℕ → List ℕ
+capacities_at auxes n = capacities (rooms_at auxes n) (auxes_at auxes n)
+
+-- how many pairs the memory under a number can hold
+abbrev pub memory_capacity_at : List (Numbered MemoryState) → ℕ → ℕ
+memory_capacity_at memories n = memory_room_at memories n + length (pairs_at memories n)

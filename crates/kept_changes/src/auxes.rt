@@ -4,7 +4,7 @@ ghost use Rattle.op_law.specs.Tables.{Tables};
 ghost use Rattle.row_changes.specs.Changed.{changed_tables};
 ghost use Rattle.version_model.specs.Kept.{auxes_at, numbers_in};
 ghost use Rattle.kept_changes.specs.Changes.{sides_at, IsSideAt, AreSidesAt};
-ghost use Rattle.kept_changes.specs.Room.{rooms_at, IsSideFitAt, SidesFitAt};
+ghost use Rattle.kept_changes.specs.Room.{capacities_at, rooms_at, IsSideFitAt, SidesFitAt};
 ghost use Rattle.kept_changes.specs.Undo.{SideLeadsBack, SideLeadsBackAt, AuxesLeadBack};
 ghost use Rattle.kept_changes.specs.Undo.{AuxesUndoable, RestoresAuxes};
 ghost use Rattle.kept_changes.specs.inner.Calls.{OtherSidesStay};
@@ -33,6 +33,7 @@ fn change_aux(alloc: Global, auxes: &mut Vec<Numbered<Aux>>, item: &mut Numbered
     ensures number { item.new.number ≡ item.old.number }
     ensures room { (n : ℕ) → (n == item.old.number) ≡ false
         → rooms_at auxes.new.items n ≡ rooms_at auxes.old.items n }
+    ensures capacity { (n : ℕ) → capacities_at auxes.new.items n ≡ capacities_at auxes.old.items n }
     ensures numbers { numbers_in auxes.new.items ≡ numbers_in auxes.old.items }
 {
     if let Some(at) = place_of(auxes.as_slice(), item.number) {
@@ -53,6 +54,7 @@ pub fn change_auxes(
     ensures rows { (n : ℕ) → auxes_at result.auxes n
         ≡ changed_tables (auxes_at auxes n) (sides_at changes n) }
     ensures back { AuxesLeadBack auxes result.auxes result.back }
+    ensures capacity { (n : ℕ) → capacities_at result.auxes n ≡ capacities_at auxes n }
     ensures numbers { numbers_in result.auxes ≡ numbers_in auxes }
 {
     let mut made = auxes.into_vec();
@@ -75,6 +77,7 @@ fn undo_aux(alloc: Global, auxes: &mut Vec<Numbered<Aux>>, item: Numbered<SideCh
         (auxes_at auxes.old.items item.number) (rooms_at auxes.old.items item.number)
         item.value.tables → auxes_at auxes.new.items item.number ≡ before }
     ensures others { OtherSidesStay item.number auxes.old.items auxes.new.items }
+    ensures capacity { (n : ℕ) → capacities_at auxes.new.items n ≡ capacities_at auxes.old.items n }
     ensures numbers { numbers_in auxes.new.items ≡ numbers_in auxes.old.items }
 {
     let Numbered { number, value } = item;
@@ -94,6 +97,7 @@ pub fn undo_auxes(
 ) -> List<Numbered<Aux>>
     requires { AuxesUndoable auxes back }
     ensures restores { RestoresAuxes auxes back result }
+    ensures capacity { (n : ℕ) → capacities_at result n ≡ capacities_at auxes n }
     ensures numbers { numbers_in result ≡ numbers_in auxes }
 {
     let mut made = auxes.into_vec();

@@ -6,7 +6,8 @@ ghost use Rattle.pair_changes.specs.Undo.{PairsLeadBack};
 ghost use Rattle.version_graph.specs.Sets.{In};
 ghost use Rattle.version_model.specs.Kept.{pairs_at, numbers_in};
 ghost use Rattle.kept_changes.specs.Changes.{pair_changes_at, IsMemoryAt, AreMemoriesAt};
-ghost use Rattle.kept_changes.specs.Room.{memory_room_at, IsMemoryFitAt, MemoriesFitAt};
+ghost use Rattle.kept_changes.specs.Room.{memory_capacity_at, memory_room_at};
+ghost use Rattle.kept_changes.specs.Room.{IsMemoryFitAt, MemoriesFitAt};
 ghost use Rattle.kept_changes.specs.Undo.{MemoryLeadsBackAt, MemoriesLeadBack};
 ghost use Rattle.kept_changes.specs.Undo.{MemoriesUndoable, RestoresMemories};
 ghost use Rattle.kept_changes.specs.inner.Calls.{OtherMemoriesStay};
@@ -39,6 +40,8 @@ fn change_memory(
     ensures number { item.new.number ≡ item.old.number }
     ensures room { (n : ℕ) → (n == item.old.number) ≡ false
         → memory_room_at memories.new.items n ≡ memory_room_at memories.old.items n }
+    ensures capacity { (n : ℕ) → memory_capacity_at memories.new.items n
+        ≡ memory_capacity_at memories.old.items n }
     ensures numbers { numbers_in memories.new.items ≡ numbers_in memories.old.items }
 {
     let Some(at) = place_of(memories.as_slice(), item.number) else {
@@ -60,6 +63,8 @@ pub fn change_memories(
     ensures pairs { (n : ℕ) → pairs_at result.memories n
         ≡ changed_pairs (pairs_at memories n) (pair_changes_at changes n) }
     ensures back { MemoriesLeadBack memories result.memories result.back }
+    ensures capacity { (n : ℕ) → memory_capacity_at result.memories n
+        ≡ memory_capacity_at memories n }
     ensures numbers { numbers_in result.memories ≡ numbers_in memories }
 {
     let mut made = memories.into_vec();
@@ -84,6 +89,8 @@ fn undo_memory(memories: &mut Vec<Numbered<PairMemory>>, item: Numbered<List<Pai
         (pairs_at memories.old.items item.number) (memory_room_at memories.old.items item.number)
         item.value → pairs_at memories.new.items item.number ≡ before }
     ensures others { OtherMemoriesStay item.number memories.old.items memories.new.items }
+    ensures capacity { (n : ℕ) → memory_capacity_at memories.new.items n
+        ≡ memory_capacity_at memories.old.items n }
     ensures numbers { numbers_in memories.new.items ≡ numbers_in memories.old.items }
 {
     let Numbered { number, value } = item;
@@ -101,6 +108,7 @@ pub fn undo_memories(
 ) -> List<Numbered<PairMemory>>
     requires { MemoriesUndoable memories back }
     ensures restores { RestoresMemories memories back result }
+    ensures capacity { (n : ℕ) → memory_capacity_at result n ≡ memory_capacity_at memories n }
     ensures numbers { numbers_in result ≡ numbers_in memories }
 {
     let mut made = memories.into_vec();

@@ -1,5 +1,5 @@
 //! One memory: changes in place, and the way back.
-ghost use Rattle.std.specs.Prelude.{◌≡◌};
+ghost use Rattle.std.specs.Prelude.{◌≡◌, ◌+◌, length};
 ghost use Rattle.id_memory.specs.Pairs.{Pairs};
 ghost use Rattle.pair_changes.specs.Changed.{AreMemoryChanges, changed_pairs};
 ghost use Rattle.pair_changes.specs.Undo.{PairsFit, PairsLeadBack};
@@ -18,6 +18,8 @@ pub(crate) fn change(alloc: Global, memory: &mut PairMemory, changes: &mut List<
     ensures pairs { memory.new.entries ≡ changed_pairs memory.old.entries changes.old }
     ensures back { PairsLeadBack memory.old.entries memory.new.entries memory.new.room
         changes.new }
+    ensures capacity { memory.new.room + length memory.new.entries
+        ≡ memory.old.room + length memory.old.entries }
 {
     let mut left = mem::replace(changes, List::new(alloc)).into_vec();
     change_pairs(memory, left.as_mut_slice());
@@ -27,8 +29,10 @@ pub(crate) fn change(alloc: Global, memory: &mut PairMemory, changes: &mut List<
 /// The memory to which changes lead back. It takes no memory, and the time of `undo_pairs`.
 pub(crate) fn undo(memory: &mut PairMemory, back: List<PairChange>)
     requires { (before : Pairs) × PairsLeadBack before memory.old.entries memory.old.room back }
-    ensures { (before : Pairs) → PairsLeadBack before memory.old.entries memory.old.room back
-        → memory.new.entries ≡ before }
+    ensures restores { (before : Pairs) → PairsLeadBack before memory.old.entries memory.old.room
+        back → memory.new.entries ≡ before }
+    ensures capacity { memory.new.room + length memory.new.entries
+        ≡ memory.old.room + length memory.old.entries }
 {
     let mut left = back.into_vec();
     undo_pairs(memory, left.as_mut_slice());

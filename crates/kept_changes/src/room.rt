@@ -3,9 +3,10 @@ ghost use Rattle.std.specs.Prelude.{◌≡◌, ◌≤◌, ℕ, OnOk};
 ghost use Rattle.version_graph.specs.Sets.{In};
 ghost use Rattle.version_model.specs.Kept.{rows_at, auxes_at, pairs_at, numbers_in};
 ghost use Rattle.kept_changes.specs.Changes.{AreOldAt, AreSidesAt, AreMemoriesAt, IsSideAt};
-ghost use Rattle.kept_changes.specs.Room.{room_at, rooms_at, FitAt, SidesFitAt, IsSideFitAt};
-ghost use Rattle.kept_changes.specs.Room.{memory_room_at, IsMemoryFitAt, MemoriesFitAt};
-ghost use Rattle.kept_changes.specs.inner.Calls.{AreAtLeast};
+ghost use Rattle.kept_changes.specs.Room.{capacity_at, capacities_at, room_at, rooms_at};
+ghost use Rattle.kept_changes.specs.Room.{AreAtLeast, FitAt, SidesFitAt, IsSideFitAt};
+ghost use Rattle.kept_changes.specs.Room.{memory_capacity_at, memory_room_at};
+ghost use Rattle.kept_changes.specs.Room.{IsMemoryFitAt, MemoriesFitAt};
 
 use crate::side::reserve_side;
 use id_memory::PairMemory;
@@ -39,6 +40,7 @@ pub fn reserve_tables(
 ) -> Result<(), Memory>
     requires { AreOldAt tables.old.items changes.now }
     ensures room { OnOk result (FitAt tables.new.items changes.now) }
+    ensures capacity { (n : ℕ) → capacity_at tables.old.items n ≤ capacity_at tables.new.items n }
     ensures same { (n : ℕ) → rows_at tables.new.items n ≡ rows_at tables.old.items n }
     ensures numbers { numbers_in tables.new.items ≡ numbers_in tables.old.items }
 {
@@ -79,6 +81,8 @@ pub fn reserve_auxes(
 ) -> Result<(), Memory>
     requires { AreSidesAt auxes.old.items changes.now }
     ensures room { OnOk result (SidesFitAt auxes.new.items changes.now) }
+    ensures capacity { (n : ℕ) → AreAtLeast (capacities_at auxes.old.items n)
+        (capacities_at auxes.new.items n) }
     ensures same { (n : ℕ) → auxes_at auxes.new.items n ≡ auxes_at auxes.old.items n }
     ensures numbers { numbers_in auxes.new.items ≡ numbers_in auxes.old.items }
 {
@@ -113,6 +117,8 @@ pub fn reserve_memories(
 ) -> Result<(), Memory>
     requires { AreMemoriesAt memories.old.items changes.now }
     ensures room { OnOk result (MemoriesFitAt memories.new.items changes.now) }
+    ensures capacity { (n : ℕ) → memory_capacity_at memories.old.items n
+        ≤ memory_capacity_at memories.new.items n }
     ensures same { (n : ℕ) → pairs_at memories.new.items n ≡ pairs_at memories.old.items n }
     ensures numbers { numbers_in memories.new.items ≡ numbers_in memories.old.items }
 {

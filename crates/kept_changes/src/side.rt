@@ -2,9 +2,9 @@
 ghost use Rattle.std.specs.Prelude.{◌≡◌, ◌≤◌, length, OnOk};
 ghost use Rattle.op_law.specs.Tables.{Tables, contents};
 ghost use Rattle.row_changes.specs.Changed.{changed_tables};
-ghost use Rattle.kept_changes.specs.Room.{HaveRoom, spares};
+ghost use Rattle.kept_changes.specs.Room.{capacities, spares, AreAtLeast, HaveRoom};
 ghost use Rattle.kept_changes.specs.Undo.{SideLeadsBack};
-ghost use Rattle.kept_changes.specs.inner.Calls.{Fit, AreAtLeast};
+ghost use Rattle.kept_changes.specs.inner.Calls.{Fit};
 
 use crate::one_table::{change, undo};
 use par_base::{List, Memory};
@@ -18,6 +18,8 @@ fn change_each(tables: &mut Vec<Table>, changes: &mut Vec<Changes>)
         ≡ changed_tables (contents tables.old.items) changes.old.items }
     ensures back { SideLeadsBack (contents tables.old.items) (contents tables.new.items)
         (spares tables.new.items) changes.new.items }
+    ensures capacity { capacities (spares tables.new.items) (contents tables.new.items)
+        ≡ capacities (spares tables.old.items) (contents tables.old.items) }
 {
     let mut at = changes.len();
     while at > 0 {
@@ -32,6 +34,8 @@ pub(crate) fn change_side(alloc: Global, tables: &mut List<Table>, changes: &mut
     ensures rows { contents tables.new ≡ changed_tables (contents tables.old) changes.old }
     ensures back { SideLeadsBack (contents tables.old) (contents tables.new) (spares tables.new)
         changes.new }
+    ensures capacity { capacities (spares tables.new) (contents tables.new)
+        ≡ capacities (spares tables.old) (contents tables.old) }
 {
     let mut items = mem::replace(tables, List::new(alloc)).into_vec();
     let mut left = mem::replace(changes, List::new(alloc)).into_vec();
@@ -43,8 +47,10 @@ pub(crate) fn change_side(alloc: Global, tables: &mut List<Table>, changes: &mut
 fn undo_each(tables: &mut Vec<Table>, back: List<Changes>)
     requires { (before : Tables) × SideLeadsBack before (contents tables.old.items)
         (spares tables.old.items) back }
-    ensures { (before : Tables) → SideLeadsBack before (contents tables.old.items)
+    ensures restores { (before : Tables) → SideLeadsBack before (contents tables.old.items)
         (spares tables.old.items) back → contents tables.new.items ≡ before }
+    ensures capacity { capacities (spares tables.new.items) (contents tables.new.items)
+        ≡ capacities (spares tables.old.items) (contents tables.old.items) }
 {
     let mut left = back.into_vec();
     while let Some(one) = left.pop() {
@@ -56,8 +62,10 @@ fn undo_each(tables: &mut Vec<Table>, back: List<Changes>)
 pub(crate) fn undo_side(alloc: Global, tables: &mut List<Table>, back: List<Changes>)
     requires { (before : Tables) × SideLeadsBack before (contents tables.old) (spares tables.old)
         back }
-    ensures { (before : Tables) → SideLeadsBack before (contents tables.old) (spares tables.old)
-        back → contents tables.new ≡ before }
+    ensures restores { (before : Tables) → SideLeadsBack before (contents tables.old)
+        (spares tables.old) back → contents tables.new ≡ before }
+    ensures capacity { capacities (spares tables.new) (contents tables.new)
+        ≡ capacities (spares tables.old) (contents tables.old) }
 {
     let mut items = mem::replace(tables, List::new(alloc)).into_vec();
     undo_each(&mut items, back);

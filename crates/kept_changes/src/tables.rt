@@ -5,7 +5,7 @@ ghost use Rattle.row_changes.specs.Changed.{changed};
 ghost use Rattle.version_graph.specs.Sets.{In};
 ghost use Rattle.version_model.specs.Kept.{rows_at, numbers_in};
 ghost use Rattle.kept_changes.specs.Changes.{changes_at, IsOldAt, AreOldAt};
-ghost use Rattle.kept_changes.specs.Room.{room_at, IsFitAt, FitAt};
+ghost use Rattle.kept_changes.specs.Room.{capacity_at, room_at, IsFitAt, FitAt};
 ghost use Rattle.kept_changes.specs.Undo.{LeadsBack, LeadsBackAt, TablesLeadBack};
 ghost use Rattle.kept_changes.specs.Undo.{TablesUndoable, RestoresTables};
 ghost use Rattle.kept_changes.specs.inner.Calls.{OthersStay};
@@ -32,6 +32,7 @@ fn change_table(tables: &mut Vec<Numbered<Table>>, item: &mut Numbered<Changes>)
     ensures number { item.new.number ≡ item.old.number }
     ensures room { (n : ℕ) → (n == item.old.number) ≡ false
         → room_at tables.new.items n ≡ room_at tables.old.items n }
+    ensures capacity { (n : ℕ) → capacity_at tables.new.items n ≡ capacity_at tables.old.items n }
     ensures numbers { numbers_in tables.new.items ≡ numbers_in tables.old.items }
 {
     let Some(at) = place_of(tables.as_slice(), item.number) else {
@@ -52,6 +53,7 @@ pub fn change_tables(
     ensures rows { (n : ℕ) → rows_at result.tables n
         ≡ changed (rows_at tables n) (changes_at changes n) }
     ensures back { TablesLeadBack tables result.tables result.back }
+    ensures capacity { (n : ℕ) → capacity_at result.tables n ≡ capacity_at tables n }
     ensures numbers { numbers_in result.tables ≡ numbers_in tables }
 {
     let mut made = tables.into_vec();
@@ -75,6 +77,7 @@ fn undo_table(tables: &mut Vec<Numbered<Table>>, item: Numbered<Changes>)
         (room_at tables.old.items item.number) item.value
         → rows_at tables.new.items item.number ≡ before }
     ensures others { OthersStay item.number tables.old.items tables.new.items }
+    ensures capacity { (n : ℕ) → capacity_at tables.new.items n ≡ capacity_at tables.old.items n }
     ensures numbers { numbers_in tables.new.items ≡ numbers_in tables.old.items }
 {
     let Numbered { number, value } = item;
@@ -92,6 +95,7 @@ pub fn undo_tables(
 ) -> List<Numbered<Table>>
     requires { TablesUndoable tables back }
     ensures restores { RestoresTables tables back result }
+    ensures capacity { (n : ℕ) → capacity_at result n ≡ capacity_at tables n }
     ensures numbers { numbers_in result ≡ numbers_in tables }
 {
     let mut made = tables.into_vec();

@@ -2,7 +2,7 @@
 //!
 //! First all old pairs are taken out, from the last one on, then all new ones are put in, in their
 //! order, so that no pair stands twice in between.
-ghost use Rattle.std.specs.Prelude.{◌≡◌, ℕ, ◌+◌, ◌≤◌, is_some, if◌then◌else◌, Some, None};
+ghost use Rattle.std.specs.Prelude.{◌≡◌, ℕ, ◌+◌, ◌≤◌, length, is_some, if◌then◌else◌, Some, None};
 ghost use Rattle.id_memory.specs.Pairs.{Pairs, RiseFrom, IsOneToOne, IsWith, pair_of};
 ghost use Rattle.pair_changes.specs.Changed.{AreMemoryChanges, changed_pairs};
 ghost use Rattle.pair_changes.specs.MemoryChanges.{ArePairChanges, pair_after};
@@ -28,6 +28,8 @@ fn take_out(memory: &mut PairMemory, changes: &[PairChange])
     ensures pairs { (id : ℕ) → pair_of memory.new.entries id
         ≡ pair_without changes.now id (pair_of memory.old.entries id) }
     ensures room { memory.new.room ≡ memory.old.room + takes changes.now }
+    ensures capacity { memory.new.room + length memory.new.entries
+        ≡ memory.old.room + length memory.old.entries }
 {
     let mut at = changes.len();
     while at > 0 {
@@ -44,6 +46,8 @@ fn put_one(memory: &mut PairMemory, change: &PairChange)
     ensures with { IsWith memory.old.entries change.now.id change.now.new memory.new.entries }
     ensures room { memory.new.room + (if is_some change.now.new then 1 else 0)
         ≡ memory.old.room }
+    ensures capacity { memory.new.room + length memory.new.entries
+        ≡ memory.old.room + length memory.old.entries }
 {
     is_one_to_one(memory);
     id_of_is_the_other_way();
@@ -61,6 +65,8 @@ fn put_in(memory: &mut PairMemory, changes: &[PairChange])
     ensures pairs { (id : ℕ) → pair_of memory.new.entries id
         ≡ pair_after changes.now id (pair_of memory.old.entries id) }
     ensures room { memory.new.room + puts changes.now ≡ memory.old.room }
+    ensures capacity { memory.new.room + length memory.new.entries
+        ≡ memory.old.room + length memory.old.entries }
 {
     id_of_is_the_other_way();
     for change in changes {
@@ -89,6 +95,8 @@ pub fn change_pairs(memory: &mut PairMemory, changes: &mut [PairChange])
     requires room { PairsFit memory.old.room changes.old }
     ensures pairs { memory.new.entries ≡ changed_pairs memory.old.entries changes.old }
     ensures back { PairsLeadBack memory.old.entries memory.new.entries memory.new.room changes.new }
+    ensures capacity { memory.new.room + length memory.new.entries
+        ≡ memory.old.room + length memory.old.entries }
 {
     is_one_to_one(memory);
     take_out(memory, changes);
@@ -100,8 +108,10 @@ pub fn change_pairs(memory: &mut PairMemory, changes: &mut [PairChange])
 /// The memory to which changes lead back. It takes no memory, and no more time than `change_pairs`.
 pub fn undo_pairs(memory: &mut PairMemory, back: &mut [PairChange])
     requires { (before : Pairs) × PairsLeadBack before memory.old.entries memory.old.room back.old }
-    ensures { (before : Pairs) → PairsLeadBack before memory.old.entries memory.old.room back.old
-        → memory.new.entries ≡ before }
+    ensures restores { (before : Pairs) → PairsLeadBack before memory.old.entries memory.old.room
+        back.old → memory.new.entries ≡ before }
+    ensures capacity { memory.new.room + length memory.new.entries
+        ≡ memory.old.room + length memory.old.entries }
 {
     is_one_to_one(memory);
     pairs_are_the_memory();

@@ -10,4 +10,5 @@ mod ShownLemmas
 mod AuxLemmas
 mod PlanLemmas
 mod ChangeLemmas
+pub mod HoldLaws
 pub mod PlanLaws

@@ -4,6 +4,7 @@ use Rattle.op_law.specs.Meaning.{Meaning}
 use Rattle.db_state.specs.Fields.{IsDatabase, database_for}
 use Rattle.db_state.specs.declared.parts.Parts.{Parts}
 use Rattle.kept_changes.specs.Undo.{AuxesLeadBack, MemoriesLeadBack, TablesLeadBack}
+use Rattle.write_propagation.specs.Capacity.{HoldsAtLeast}
 use Rattle.write_propagation.specs.Plans.{IsSame}
 use Rattle.write_propagation.specs.declared.undo.Undo.{Undo}
 
@@ -33,3 +34,7 @@ pub record IsAgain {O : Type 0} (meaning : O → Meaning) (before again : Parts 
 -- whatever the old database was, it is there again
 abbrev pub Restores : {O : Type 0} → (O → Meaning) → Parts O → Undo → Parts O → Type 0
 Restores {O} meaning now undo again = (before : Parts O) → Undoes meaning before now undo → IsAgain meaning before again
+
+-- a write can still be taken back once the database after it is there again and holds at least as much
+abbrev pub StaysUndoable : {O : Type 0} → (O → Meaning) → Type 0
+StaysUndoable {O} meaning = (before now again : Parts O) (undo : Undo) → Undoes meaning before now undo → IsSame now again → HoldsAtLeast now again → Undoes meaning before again undo

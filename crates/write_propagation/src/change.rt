@@ -1,5 +1,6 @@
 //! What a write puts into a database, and how it is taken back.
 ghost use Rattle.db_state.specs.declared.parts.Parts.{Parts as Fields};
+ghost use Rattle.write_propagation.specs.Capacity.{HoldsAsMuch};
 ghost use Rattle.write_propagation.specs.Plans.{IsSame, Puts};
 ghost use Rattle.write_propagation.specs.Room.{MayCommit};
 ghost use Rattle.write_propagation.specs.Undo.{LeadsTo, Undoes, IsRevertible, Restores};
@@ -20,6 +21,7 @@ pub fn commit<O: Operator + Drop>(alloc: Global, db: &mut Db<O>, plan: Plan) -> 
     requires { MayCommit O.meaning db.old plan }
     ensures puts { Puts db.old plan db.new }
     ensures undoes { Undoes O.meaning db.old db.new result }
+    ensures capacity { HoldsAsMuch db.old db.new }
 {
     let parts = take_parts(alloc, db);
     let stored = change_tables(parts.stored, plan.stored);
@@ -46,7 +48,8 @@ pub fn commit<O: Operator + Drop>(alloc: Global, db: &mut Db<O>, plan: Plan) -> 
 
 fn take_back<O: Operator + Drop>(alloc: Global, db: &mut Db<O>, undo: Undo)
     requires { IsRevertible O.meaning db.old undo }
-    ensures { (before : Fields _) → LeadsTo before db.old undo → IsSame before db.new }
+    ensures same { (before : Fields _) → LeadsTo before db.old undo → IsSame before db.new }
+    ensures capacity { HoldsAsMuch db.old db.new }
 {
     let parts = take_parts(alloc, db);
     let stored = undo_tables(parts.stored, undo.stored);
@@ -69,7 +72,8 @@ fn take_back<O: Operator + Drop>(alloc: Global, db: &mut Db<O>, undo: Undo)
 /// of tables and memories may differ. It takes no memory, and no more time than `commit`.
 pub fn revert<O: Operator + Drop>(alloc: Global, db: &mut Db<O>, undo: Undo)
     requires { IsRevertible O.meaning db.old undo }
-    ensures { Restores O.meaning db.old undo db.new }
+    ensures restores { Restores O.meaning db.old undo db.new }
+    ensures capacity { HoldsAsMuch db.old db.new }
 {
     take_back(alloc, db, undo);
 }

@@ -5,17 +5,19 @@
 //! model's is. `plan` makes everything that may fail and changes no contents; `commit` puts the plan
 //! into the database and takes no memory, so a write is made whole or not at all; `revert` takes it
 //! back with what `commit` gave, without memory too, and the old database is there again
-//! (`specs/Undo.antt`). A write is carried along its own tree by its changes, and what is put in are the
+//! (`specs/Undo.antt`). None of the three lessens what tables and memories can hold without memory
+//! (`specs/Capacity.antt`), so writes in a row can be taken back one after the other. A write is carried along its own tree by its changes, and what is put in are the
 //! changes of what is kept; where every operator of the tree treats each identifier by itself, it
 //! reads the rows of the identifiers that it names, and no others. The crate knows operators by their
 //! laws alone, and nothing of names in statements or of replies.
 //!
-//! Lemmas that crates above may use stand in proofs/: `PlanLaws`.
+//! Lemmas that crates above may use stand in proofs/: `HoldLaws` and `PlanLaws`.
 #![tactic(auto)]
 
 mod change;
 mod copies;
 mod differing;
+mod laws;
 mod making;
 mod planning;
 mod plans;
@@ -25,6 +27,7 @@ mod tree;
 mod undo;
 
 pub use change::{commit, revert};
+pub use laws::writes_stay_undoable;
 pub use planning::plan;
 pub use plans::{Plan, RowWrite};
 pub use undo::Undo;

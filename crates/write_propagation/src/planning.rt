@@ -10,6 +10,7 @@ ghost use Rattle.version_model.specs.Writes.{MayWrite};
 ghost use Rattle.db_state.specs.Fields.{database_for, state_for};
 ghost use Rattle.db_state.specs.Parts.{passes, AreLocalAt, Ascends, MaySee, SeenWithin};
 ghost use Rattle.write_propagation.specs.Bounds.{PlansWithin};
+ghost use Rattle.write_propagation.specs.Capacity.{HoldsAtLeast};
 ghost use Rattle.write_propagation.specs.Plans.{rows_written, IsSame, Plans};
 ghost use Rattle.write_propagation.specs.Room.{HasOld, IsReadyFor};
 ghost use Rattle.write_propagation.specs.Making.{IsPlanOf, MayChangeAuxes, MayPlan};
@@ -144,6 +145,7 @@ pub fn plan<O: Operator + Drop, L: Ledger>(
     ensures ready { IfOk result (IsReadyFor db.new) }
     ensures same { IsSame db.old db.new }
     ensures data { database_for O.meaning db.new ≡ database_for O.meaning db.old }
+    ensures capacity { HoldsAtLeast db.old db.new }
     ensures steps { PlansWithin O.meaning db.old.graph.edges written.set written.changes steps.old
         steps.new }
 {

@@ -1,8 +1,10 @@
 //! Room for the changes of a plan.
-ghost use Rattle.std.specs.Prelude.{OnOk};
+ghost use Rattle.std.specs.Prelude.{ℕ, ◌≤◌, OnOk};
 ghost use Rattle.write_propagation.specs.Plans.{IsSame};
 ghost use Rattle.kept_changes.specs.Changes.{AreOldAt, AreSidesAt, AreMemoriesAt};
-ghost use Rattle.kept_changes.specs.Room.{FitAt, SidesFitAt, MemoriesFitAt};
+ghost use Rattle.kept_changes.specs.Room.{capacity_at, capacities_at, memory_capacity_at};
+ghost use Rattle.kept_changes.specs.Room.{AreAtLeast, FitAt, SidesFitAt, MemoriesFitAt};
+ghost use Rattle.write_propagation.specs.Capacity.{HoldsAtLeast};
 ghost use Rattle.write_propagation.specs.Calls.{KeepsAuxes, KeepsPairs, KeepsRows};
 ghost use Rattle.write_propagation.specs.Room.{HasOld, HasRoom};
 
@@ -32,6 +34,12 @@ fn reserve_all(
     ensures room { OnOk result (FitAt stored.new.items plan.now.stored
         × SidesFitAt aux.new.items plan.now.auxes
         × MemoriesFitAt memories.new.items plan.now.memories) }
+    ensures stored_capacity { (n : ℕ) → capacity_at stored.old.items n
+        ≤ capacity_at stored.new.items n }
+    ensures aux_capacity { (n : ℕ) → AreAtLeast (capacities_at aux.old.items n)
+        (capacities_at aux.new.items n) }
+    ensures memory_capacity { (n : ℕ) → memory_capacity_at memories.old.items n
+        ≤ memory_capacity_at memories.new.items n }
 {
     reserve_tables(stored, plan.stored.as_slice())?;
     reserve_auxes(alloc, aux, plan.auxes.as_slice())?;
@@ -46,6 +54,7 @@ pub(crate) fn make_room<O: Operator + Drop>(
 ) -> Result<(), Memory>
     requires { HasOld db.old plan.now }
     ensures same { IsSame db.old db.new }
+    ensures capacity { HoldsAtLeast db.old db.new }
     ensures room { OnOk result (HasRoom db.new plan.now) }
 {
     let Parts {

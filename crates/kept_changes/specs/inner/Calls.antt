@@ -15,13 +15,6 @@ Fit ts [] = Unit {0}
 Fit [] (c ∷ cs) = ⊥
 Fit (t ∷ ts) (c ∷ cs) = (AreOld t.rows c × (length c ≤ t.spare)) × Fit ts cs
 
--- as many numbers, and none is less than the one at its place
-abbrev pub AreAtLeast : List ℕ → List ℕ → Type 0
-AreAtLeast [] [] = Unit {0}
-AreAtLeast (r ∷ rs) (s ∷ ss) = (r ≤ s) × AreAtLeast rs ss
-AreAtLeast [] (s ∷ ss) = ⊥
-AreAtLeast (r ∷ rs) [] = ⊥
-
 -- the tables under other numbers keep their rows and their room
 abbrev pub OthersStay : ℕ → List (Numbered TableState) → List (Numbered TableState) → Type 0
 OthersStay k old new = (n : ℕ) → (n == k) ≡ false → (rows_at new n ≡ rows_at old n) × (room_at new n ≡ room_at old n)

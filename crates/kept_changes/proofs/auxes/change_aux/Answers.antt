@@ -6,9 +6,9 @@ use Rattle.op_law.specs.declared.side.Aux.{Aux}
 use Rattle.row_changes.specs.Changed.{AreChangesOf, changed_tables}
 use Rattle.version_model.specs.declared.numbered.Numbered.{Numbered}
 use Rattle.version_model.specs.Kept.{auxes_at}
-use Rattle.kept_changes.specs.Room.{HaveRoom, rooms_at, spares}
+use Rattle.kept_changes.specs.Room.{HaveRoom, rooms_at, spares, capacities}
 use Rattle.kept_changes.specs.Undo.{SideLeadsBack}
-use Rattle.kept_changes.proofs.PlaceLemmas.{put_here, put_made, put_numbers, put_other, read_here, unplaced_seen}
+use Rattle.kept_changes.proofs.PlaceLemmas.{put_here, put_made, put_numbers, put_other, read_here, unplaced_seen, put_both}
 use Rattle.kept_changes.proofs.SideLemmas.{fit_of, nowhere}
 use Rattle.kept_changes.proofs.BackLemmas.{none_changed, side_same}
 use Rattle.kept_changes.proofs.auxes.change_aux.Goals as goal
@@ -65,3 +65,10 @@ returns-in_default-clause-back c =
     let k = c.args.item.now.number in
     let found = ap (λ (l : List (Numbered _)). position (λ (i : Numbered _). k == i.number) l) (sym c.as_slice.ensures.value) ∙ sym c.place_of.ensures ∙ c.in_default.is in
     none_changed (auxes_at items k) (rooms_at items k) c.args.item.now.value.tables (unplaced_seen (λ (aux : Aux). tables_of aux) [] items k found) c.requires.old
+
+pub returns-in-Some-clause-capacity : goal.returns-in-Some-clause-capacity
+returns-in-Some-clause-capacity c =
+    let items = c.args.auxes.now.items in
+    let k = c.args.item.now.number in
+    let found = ap (λ (l : List (Numbered _)). position (λ (i : Numbered _). k == i.number) l) (sym c.as_slice.ensures.value) ∙ sym c.place_of.ensures ∙ c.in-Some.is in
+    put_both (λ (aux : Aux). spares aux.tables) [] (λ (aux : Aux). tables_of aux) [] capacities items k c.in-Some.at c.index_mut.result.now c.index_mut.ensures.value found (record { tables = c.change_side.new.tables }) c.change_side.ensures.capacity

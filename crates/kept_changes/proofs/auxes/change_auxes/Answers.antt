@@ -55,6 +55,7 @@ loop-at-preserved c =
           (λ i. behind_apart all k item inside c.loop-at.invariant.distinct (subst (λ (n : ℕ). In n (numbers_in (drop (suc k) all))) same i))
           c.change_aux.ensures.numbers c.change_aux.ensures.back
           (λ n e. let other : (n == item.number) ≡ false = subst (λ (m : ℕ). (n == m) ≡ false) c.change_aux.ensures.number e in (others n other, c.change_aux.ensures.room n other)));
+      capacity = λ n. c.change_aux.ensures.capacity n ∙ c.loop-at.invariant.capacity n;
     }
 
 pub returns-clause-rows : goal.returns-clause-rows

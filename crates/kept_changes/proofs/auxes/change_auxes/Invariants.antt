@@ -3,7 +3,7 @@ use Rattle.row_changes.specs.Changed.{changed_tables}
 use Rattle.version_graph.specs.Sets.{Distinct}
 use Rattle.version_model.specs.Kept.{auxes_at, numbers_in}
 use Rattle.kept_changes.specs.Changes.{sides_at, AreSidesAt}
-use Rattle.kept_changes.specs.Room.{SidesFitAt}
+use Rattle.kept_changes.specs.Room.{SidesFitAt, capacities_at}
 use Rattle.kept_changes.specs.Undo.{AuxesLeadBack}
 use Rattle.kept_changes.proofs.auxes.change_auxes.Given as goal
 
@@ -15,6 +15,7 @@ invariant-loop-at l = record {
   old : AreSidesAt l.made.items (take l.at l.left.items);
   room : SidesFitAt l.made.items (take l.at l.left.items);
   back : AuxesLeadBack l.fn.auxes l.made.items (drop l.at l.left.items);
+  capacity : (n : ℕ) → capacities_at l.made.items n ≡ capacities_at l.fn.auxes n;
 }
 
 abbrev pub decreases-loop-at : goal.decreases-loop-at

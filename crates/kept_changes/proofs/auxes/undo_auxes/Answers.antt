@@ -26,6 +26,7 @@ loop-item-preserved c =
       some = (c.loop-item.invariant.some.0, less c.loop-item.invariant.some.0 c.loop-item.invariant.some.1);
       all = λ before led. less before (c.loop-item.invariant.all before led);
       numbers = c.undo_aux.ensures.numbers ∙ c.loop-item.invariant.numbers;
+      capacity = λ n. c.undo_aux.ensures.capacity n ∙ c.loop-item.invariant.capacity n;
     }
 
 pub returns-clause-restores : goal.returns-clause-restores

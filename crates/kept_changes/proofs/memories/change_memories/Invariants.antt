@@ -3,7 +3,7 @@ use Rattle.pair_changes.specs.Changed.{changed_pairs}
 use Rattle.version_graph.specs.Sets.{Distinct}
 use Rattle.version_model.specs.Kept.{pairs_at, numbers_in}
 use Rattle.kept_changes.specs.Changes.{pair_changes_at, AreMemoriesAt}
-use Rattle.kept_changes.specs.Room.{MemoriesFitAt}
+use Rattle.kept_changes.specs.Room.{MemoriesFitAt, memory_capacity_at}
 use Rattle.kept_changes.specs.Undo.{MemoriesLeadBack}
 use Rattle.kept_changes.proofs.memories.change_memories.Given as goal
 
@@ -15,6 +15,7 @@ invariant-loop-at l = record {
   old : AreMemoriesAt l.made.items (take l.at l.left.items);
   room : MemoriesFitAt l.made.items (take l.at l.left.items);
   back : MemoriesLeadBack l.fn.memories l.made.items (drop l.at l.left.items);
+  capacity : (n : ℕ) → memory_capacity_at l.made.items n ≡ memory_capacity_at l.fn.memories n;
 }
 
 abbrev pub decreases-loop-at : goal.decreases-loop-at

@@ -1,5 +1,5 @@
 use Rattle.std.specs.List.{position}
-use Rattle.std.proofs.Common.{◌≡◌, ℕ, ◌==◌, List, [], slice_set, ap, sym, ◌∙◌, subst}
+use Rattle.std.proofs.Common.{◌≡◌, ℕ, ◌==◌, List, [], slice_set, ap, sym, ◌∙◌, subst, ◌+◌, length}
 use Rattle.id_memory.specs.Pairs.{Pairs}
 use Rattle.id_memory.specs.States.{MemoryState}
 use Rattle.pair_changes.specs.Changed.{AreMemoryChanges, changed_pairs}
@@ -8,7 +8,7 @@ use Rattle.version_model.specs.declared.numbered.Numbered.{Numbered}
 use Rattle.version_model.specs.Kept.{pairs_at}
 use Rattle.kept_changes.specs.Room.{memory_room_at}
 use Rattle.pair_changes.specs.Undo.{PairsLeadBack, PairsFit}
-use Rattle.kept_changes.proofs.PlaceLemmas.{has_place, put_here, put_made, put_numbers, put_other, read_here}
+use Rattle.kept_changes.proofs.PlaceLemmas.{has_place, put_here, put_made, put_numbers, put_other, read_here, put_both}
 use Rattle.kept_changes.proofs.MemoryLemmas.{memory_same}
 use Rattle.kept_changes.proofs.memories.change_memory.Goals as goal
 
@@ -64,3 +64,10 @@ returns-clause-room c =
 
 pub returns-clause-numbers : goal.returns-clause-numbers
 returns-clause-numbers c = put_numbers c.args.memories.now.items c.in-Some.at c.index_mut.result.now c.index_mut.ensures.value c.change.new.memory
+
+pub returns-clause-capacity : goal.returns-clause-capacity
+returns-clause-capacity c =
+    let items = c.args.memories.now.items in
+    let k = c.args.item.now.number in
+    let found = ap (λ (l : List (Numbered _)). position (λ (i : Numbered _). k == i.number) l) (sym c.as_slice.ensures.value) ∙ sym c.place_of.ensures ∙ c.in-Some.is in
+    put_both (λ (memory : MemoryState). memory.room) 0 (λ (memory : MemoryState). memory.entries) [] (λ (room : ℕ) (pairs : Pairs). room + length pairs) items k c.in-Some.at c.index_mut.result.now c.index_mut.ensures.value found c.change.new.memory c.change.ensures.capacity

@@ -5,10 +5,9 @@ use Rattle.op_law.specs.Tables.{Tables}
 use Rattle.op_law.specs.declared.side.Aux.{Aux}
 use Rattle.row_changes.specs.Changed.{AreChangesOf, TableChanges}
 use Rattle.version_model.specs.declared.numbered.Numbered.{Numbered}
-use Rattle.kept_changes.specs.Room.{HaveRoom, rooms_at, spares}
-use Rattle.kept_changes.specs.inner.Calls.{AreAtLeast}
+use Rattle.kept_changes.specs.Room.{HaveRoom, rooms_at, spares, AreAtLeast}
 use Rattle.kept_changes.proofs.PlaceLemmas.{put_here, put_numbers, put_related, read_here, unplaced_seen}
-use Rattle.kept_changes.proofs.RoomLemmas.{at_least_same}
+use Rattle.kept_changes.proofs.CapacityLaws.{at_least_same}
 use Rattle.kept_changes.proofs.SideLemmas.{many}
 use Rattle.kept_changes.proofs.room.reserve_aux.Goals as goal
 

@@ -1,10 +1,11 @@
-use Rattle.std.proofs.Common.{◌≡◌, ◌+◌, List, [], ◌∷◌, ◌++◌, take, ap, sym, ◌∙◌, subst}
+use Rattle.std.proofs.Common.{◌≡◌, ◌+◌, List, [], ◌∷◌, ◌++◌, take, ap, sym, ◌∙◌, subst, length, arith}
 use Rattle.std.proofs.lemmas.List.{take_more}
 use Rattle.pair_changes.specs.declared.change.PairChange.{PairChange}
 use Rattle.version_graph.proofs.SetLaws.{each_append, each_more}
 use Rattle.version_model.specs.declared.numbered.Numbered.{Numbered}
 use Rattle.kept_changes.specs.Room.{IsMemoryFitAt, MemoriesFitAt, memory_room_at}
 use Rattle.kept_changes.proofs.MemoryLemmas.{fit_more}
+use Rattle.id_memory.specs.Pairs.{Pairs}
 use Rattle.kept_changes.proofs.room.reserve_memories.Goals as goal
 
 pub loop-item-preserved : goal.loop-item-preserved
@@ -21,4 +22,5 @@ loop-item-preserved c =
       room = subst (λ (l : List (Numbered (List PairChange))). MemoriesFitAt after l) (sym next) (each_append (λ i. IsMemoryFitAt after i) (take at all) (item ∷ []) kept (c.in_ok-reserve_memory.ensures.room, tt));
       same = λ n. c.reserve_memory.ensures.same n ∙ c.loop-item.invariant.same n;
       numbers = c.reserve_memory.ensures.numbers ∙ c.loop-item.invariant.numbers;
+      capacity = λ n. omega (arith, c.loop-item.invariant.capacity n, c.reserve_memory.ensures.grown n, ap (λ (ps : Pairs). length ps) (c.reserve_memory.ensures.same n));
     }

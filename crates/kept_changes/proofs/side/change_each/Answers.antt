@@ -1,4 +1,4 @@
-use Rattle.std.proofs.Common.{◌≡◌, ◌-◌, ◌<◌, ◌≤◌, ℕ, suc, length, List, [], ◌∷◌, ◌++◌, take, slice_index_or, slice_set, ap, sym, ◌∙◌, subst, arith}
+use Rattle.std.proofs.Common.{◌≡◌, ◌-◌, ◌<◌, ◌≤◌, ℕ, suc, length, List, [], ◌∷◌, ◌++◌, take, slice_index_or, slice_set, ap, sym, ◌∙◌, subst, arith, ◌+◌, refl}
 use Rattle.row_store.specs.declared.change.Change.{Change}
 use Rattle.row_store.specs.Changes.{AreOld}
 use Rattle.row_store.specs.States.{TableState}
@@ -10,6 +10,7 @@ use Rattle.kept_changes.proofs.ChangesLaws.{no_changes}
 use Rattle.kept_changes.proofs.SideLemmas.{changed_last, fit_before, fit_last, fit_many}
 use Rattle.kept_changes.proofs.BackLemmas.{LeadsBackFrom, from_end, from_less}
 use Rattle.kept_changes.proofs.TakeLaws.{length_set, length_take, take_last, take_set, take_whole}
+use Rattle.kept_changes.proofs.CapacityLaws.{capacities_set}
 use Rattle.kept_changes.proofs.side.change_each.Goals as goal
 
 pub loop-at-init : goal.loop-at-init
@@ -23,6 +24,7 @@ loop-at-init c =
       rows = ap (λ (l : TableChanges). changed_tables (contents ts) l) all;
       fit = subst (λ (l : TableChanges). Fit ts l) (sym all) c.requires;
       back = subst (λ (n : ℕ). LeadsBackFrom n (contents ts) ts cs) (sym count) (from_end ts cs (fit_many ts cs c.requires));
+      capacity = refl;
     }
 
 pub index_mut-requires : goal.index_mut-requires
@@ -94,6 +96,7 @@ loop-at-preserved c =
           ∙ c.loop-at.invariant.rows;
       fit = subst (λ (l : TableChanges). Fit (slice_set ts k t) l) (sym kept) (subst (λ (n : ℕ). Fit (slice_set ts n t) (take k cs)) long (fit_before ts (take k cs) one t fit));
       back = from_less k (contents c.args.tables.now.items) ts cs t d left behind (subst (λ (u : TableState). LeadsBack u.rows t.rows t.spare left) c.index_mut.ensures.value c.change.ensures.back);
+      capacity = capacities_set ts k t d (c.change.ensures.capacity ∙ ap (λ (u : TableState). u.spare + length u.rows) c.index_mut.ensures.value) ∙ c.loop-at.invariant.capacity;
     }
 
 pub returns-clause-rows : goal.returns-clause-rows

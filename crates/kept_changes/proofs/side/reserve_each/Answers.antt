@@ -3,9 +3,9 @@ use Rattle.std.proofs.lemmas.List.{length-take-le, take_more}
 use Rattle.row_store.specs.declared.change.Change.{Change}
 use Rattle.row_store.specs.States.{TableState}
 use Rattle.row_changes.specs.Changed.{TableChanges}
-use Rattle.kept_changes.specs.Room.{HaveRoom, spares}
-use Rattle.kept_changes.specs.inner.Calls.{AreAtLeast}
-use Rattle.kept_changes.proofs.RoomLemmas.{at_least_more, at_least_same, at_least_set, contents_set, no_need, room_grown, room_more}
+use Rattle.kept_changes.specs.Room.{HaveRoom, spares, AreAtLeast}
+use Rattle.kept_changes.proofs.CapacityLaws.{at_least_more, at_least_same}
+use Rattle.kept_changes.proofs.RoomLemmas.{at_least_set, contents_set, no_need, room_grown, room_more}
 use Rattle.kept_changes.proofs.side.reserve_each.Goals as goal
 
 pub loop-at-init : goal.loop-at-init

@@ -1,7 +1,6 @@
 use Rattle.std.proofs.Common.{◌≡◌, take}
 use Rattle.op_law.specs.Tables.{contents}
-use Rattle.kept_changes.specs.Room.{HaveRoom, spares}
-use Rattle.kept_changes.specs.inner.Calls.{AreAtLeast}
+use Rattle.kept_changes.specs.Room.{HaveRoom, spares, AreAtLeast}
 use Rattle.kept_changes.proofs.side.reserve_each.Given as goal
 
 abbrev pub invariant-loop-at : goal.invariant-loop-at

@@ -1,5 +1,5 @@
 use Rattle.std.specs.List.{position}
-use Rattle.std.proofs.Common.{◌≡◌, ℕ, ◌==◌, ◌≤◌, length, List, [], slice_set, ap, sym, ◌∙◌, subst}
+use Rattle.std.proofs.Common.{◌≡◌, ℕ, ◌==◌, ◌≤◌, length, List, [], slice_set, ap, sym, ◌∙◌, subst, ◌+◌}
 use Rattle.row_store.specs.Changes.{AreOld}
 use Rattle.row_store.specs.Rows.{Rows}
 use Rattle.row_store.specs.States.{TableState}
@@ -9,7 +9,7 @@ use Rattle.version_model.specs.declared.numbered.Numbered.{Numbered}
 use Rattle.version_model.specs.Kept.{rows_at}
 use Rattle.kept_changes.specs.Room.{room_at}
 use Rattle.kept_changes.specs.Undo.{LeadsBack}
-use Rattle.kept_changes.proofs.PlaceLemmas.{has_place, put_here, put_made, put_numbers, put_other, read_here}
+use Rattle.kept_changes.proofs.PlaceLemmas.{has_place, put_here, put_made, put_numbers, put_other, read_here, put_both}
 use Rattle.kept_changes.proofs.BackLemmas.{leads_same}
 use Rattle.kept_changes.proofs.tables.change_table.Goals as goal
 
@@ -65,3 +65,10 @@ returns-clause-room c =
 
 pub returns-clause-numbers : goal.returns-clause-numbers
 returns-clause-numbers c = put_numbers c.args.tables.now.items c.in-Some.at c.index_mut.result.now c.index_mut.ensures.value c.change.new.table
+
+pub returns-clause-capacity : goal.returns-clause-capacity
+returns-clause-capacity c =
+    let items = c.args.tables.now.items in
+    let k = c.args.item.now.number in
+    let found = ap (λ (l : List (Numbered _)). position (λ (i : Numbered _). k == i.number) l) (sym c.as_slice.ensures.value) ∙ sym c.place_of.ensures ∙ c.in-Some.is in
+    put_both (λ (table : TableState). table.spare) 0 (λ (table : TableState). table.rows) [] (λ (room : ℕ) (rows : Rows). room + length rows) items k c.in-Some.at c.index_mut.result.now c.index_mut.ensures.value found c.change.new.table c.change.ensures.capacity

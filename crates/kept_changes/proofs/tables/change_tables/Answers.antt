@@ -54,4 +54,5 @@ loop-at-preserved c =
           (λ i. behind_apart all k item inside c.loop-at.invariant.distinct (subst (λ (n : ℕ). In n (numbers_in (drop (suc k) all))) same i))
           c.change_table.ensures.numbers c.change_table.ensures.back
           (λ n e. let other : (n == item.number) ≡ false = subst (λ (m : ℕ). (n == m) ≡ false) c.change_table.ensures.number e in (others n other, c.change_table.ensures.room n other)));
+      capacity = λ n. c.change_table.ensures.capacity n ∙ c.loop-at.invariant.capacity n;
     }

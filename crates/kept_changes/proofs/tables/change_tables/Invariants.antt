@@ -3,7 +3,7 @@ use Rattle.row_changes.specs.Changed.{changed}
 use Rattle.version_graph.specs.Sets.{Distinct}
 use Rattle.version_model.specs.Kept.{rows_at, numbers_in}
 use Rattle.kept_changes.specs.Changes.{changes_at, AreOldAt}
-use Rattle.kept_changes.specs.Room.{FitAt}
+use Rattle.kept_changes.specs.Room.{FitAt, capacity_at}
 use Rattle.kept_changes.specs.Undo.{TablesLeadBack}
 use Rattle.kept_changes.proofs.tables.change_tables.Given as goal
 
@@ -15,6 +15,7 @@ invariant-loop-at l = record {
   old : AreOldAt l.made.items (take l.at l.left.items);
   room : FitAt l.made.items (take l.at l.left.items);
   back : TablesLeadBack l.fn.tables l.made.items (drop l.at l.left.items);
+  capacity : (n : ℕ) → capacity_at l.made.items n ≡ capacity_at l.fn.tables n;
 }
 
 abbrev pub decreases-loop-at : goal.decreases-loop-at

@@ -47,4 +47,5 @@ loop-change-preserved c =
           ∙ c.loop-change.invariant.pairs q;
       room = omega (arith, count, behind, c.loop-change.invariant.room, c.put_one.ensures.room);
       rooms = omega (arith, count, behind, c.loop-change.invariant.rooms, c.put_one.ensures.room);
+      capacity = c.put_one.ensures.capacity ∙ c.loop-change.invariant.capacity;
     }

@@ -1,4 +1,4 @@
-use Rattle.std.proofs.Common.{◌≡◌, ℕ, ◌+◌, ◌≤◌, drop}
+use Rattle.std.proofs.Common.{◌≡◌, ℕ, ◌+◌, ◌≤◌, length, drop}
 use Rattle.id_memory.specs.Pairs.{Pairs, RiseFrom, pair_of}
 use Rattle.pair_changes.specs.MemoryChanges.{pair_after}
 use Rattle.pair_changes.specs.Undo.{puts}
@@ -13,4 +13,5 @@ invariant-loop-change l = record {
   pairs : (id : ℕ) → pair_after (drop l.change-index l.changes) id (pair_of l.memory.entries id) ≡ pair_after l.changes id (pair_of l.fn.memory.entries id);
   room : puts (drop l.change-index l.changes) ≤ l.memory.room;
   rooms : l.memory.room + puts l.changes ≡ l.fn.memory.room + puts (drop l.change-index l.changes);
+  capacity : l.memory.room + length l.memory.entries ≡ l.fn.memory.room + length l.fn.memory.entries;
 }

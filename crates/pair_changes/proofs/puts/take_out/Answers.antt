@@ -1,4 +1,4 @@
-use Rattle.std.proofs.Common.{◌≡◌, ℕ, ◌+◌, ◌-◌, ◌<◌, suc, length, drop, None, sym, subst, arith}
+use Rattle.std.proofs.Common.{◌≡◌, ℕ, ◌+◌, ◌-◌, ◌<◌, suc, length, drop, None, sym, ◌∙◌, subst, arith}
 use Rattle.id_memory.specs.Pairs.{pair_of}
 use Rattle.pair_changes.specs.declared.change.PairChange.{PairChange}
 use Rattle.pair_changes.specs.Undo.{takes}
@@ -23,4 +23,5 @@ loop-at-preserved c =
       rise = c.remove.ensures.without.rises;
       pairs = pairs_less bs mid next all k d inside c.requires.old pairs c.remove.ensures.without;
       room = room_less bs mid next all k d inside c.requires.old pairs c.args.memory.now.room c.remove.new.self.room c.loop-at.memory.room c.remove.ensures.room c.remove.ensures.len room;
+      capacity = c.remove.ensures.room ∙ c.loop-at.invariant.capacity;
     }

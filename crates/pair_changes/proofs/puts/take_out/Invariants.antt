@@ -10,6 +10,7 @@ invariant-loop-at l = record {
   rise : RiseFrom 0 l.memory.entries;
   pairs : (id : ℕ) → pair_of l.memory.entries id ≡ pair_without (drop l.at l.changes) id (pair_of l.fn.memory.entries id);
   room : l.memory.room ≡ l.fn.memory.room + takes (drop l.at l.changes);
+  capacity : l.memory.room + length l.memory.entries ≡ l.fn.memory.room + length l.fn.memory.entries;
 }
 
 abbrev pub decreases-loop-at : goal.decreases-loop-at

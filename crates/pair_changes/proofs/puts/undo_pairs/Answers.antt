@@ -8,7 +8,7 @@ change_pairs-requires-clause-old c = (c.requires.0, c.requires.1.lead)
 pub change_pairs-requires-clause-room : goal.change_pairs-requires-clause-room
 change_pairs-requires-clause-room c = c.requires.1.room
 
-pub returns : goal.returns
-returns c = λ before led.
+pub returns-clause-restores : goal.returns-clause-restores
+returns-clause-restores c = λ before led.
     c.change_pairs.ensures.pairs
     ∙ difference_makes c.pairs_are_the_memory.ensures c.args.memory.now.entries before c.args.back.now c.is_one_to_one.ensures.rise led.lead.rises led.lead.difference

@@ -3,6 +3,7 @@ use Rattle.db_state.specs.Fields.{IsDatabase}
 use Rattle.db_state.specs.declared.parts.Parts.{Parts}
 use Rattle.kept_changes.specs.Changes.{AreMemoriesAt, AreOldAt, AreSidesAt}
 use Rattle.kept_changes.specs.Room.{FitAt, MemoriesFitAt, SidesFitAt}
+use Rattle.write_propagation.specs.Capacity.{HoldsAsMuch}
 use Rattle.write_propagation.specs.Plans.{Puts}
 use Rattle.write_propagation.specs.Undo.{LeadsTo}
 use Rattle.write_propagation.specs.declared.undo.Undo.{Undo}
@@ -47,3 +48,9 @@ returns-clause-undoes g c =
     (leads_back c.args.db.now c.take_parts-parts.result c.args.plan undo c.change_tables-stored.result.tables c.change_auxes-auxes.result.auxes c.change_memories-memories.result.memories c.take_parts-parts.ensures.parts refl
     c.change_tables-stored.ensures.back c.change_auxes-auxes.ensures.back c.change_memories-memories.ensures.back) in
     record { kept = subst (λ (x : Parts _). IsDatabase g.O.Operator.meaning x) c.take_parts-parts.ensures.parts c.take_parts-parts.ensures.kept; leads = led }
+
+pub returns-clause-capacity : goal.returns-clause-capacity
+returns-clause-capacity g c =
+    subst (λ (d : Parts _). HoldsAsMuch d c.put_parts.new.db) c.take_parts-parts.ensures.parts
+    (subst (λ (x : Parts _). HoldsAsMuch c.take_parts-parts.result x) (sym c.put_parts.ensures)
+    (record { stored = c.change_tables-stored.ensures.capacity; aux = c.change_auxes-auxes.ensures.capacity; memory = c.change_memories-memories.ensures.capacity }))

@@ -1,6 +1,7 @@
 use Rattle.std.proofs.Common.{sym, subst}
 use Rattle.db_state.specs.declared.parts.Parts.{Parts}
 use Rattle.kept_changes.specs.Undo.{AuxesLeadBack, MemoriesLeadBack, TablesLeadBack}
+use Rattle.write_propagation.specs.Capacity.{HoldsAsMuch}
 use Rattle.write_propagation.specs.Plans.{IsSame}
 use Rattle.write_propagation.proofs.ChangeLemmas.{is_again}
 use Rattle.write_propagation.proofs.LeadLemmas.{same_database}
@@ -29,8 +30,8 @@ put_parts-requires g c =
     (c.undo_memories-memories.ensures.restores before.memories (subst (λ (x : Parts _). MemoriesLeadBack before.memories x.memories c.args.undo.memories) (sym is) led.memories)) in
     (same_database g.O.Operator.meaning g.met.O.Operator.laws before c.requires.1.kept _ same).0
 
-pub returns : goal.returns
-returns g c = λ before led.
+pub returns-clause-same : goal.returns-clause-same
+returns-clause-same g c = λ before led.
     let parts = c.take_parts-parts.result in
     let is = c.take_parts-parts.ensures.parts in
     subst (λ (x : Parts _). IsSame before x) (sym c.put_parts.ensures)
@@ -40,3 +41,9 @@ returns g c = λ before led.
     (c.undo_auxes-aux.ensures.restores before.aux (subst (λ (x : Parts _). AuxesLeadBack before.aux x.aux c.args.undo.auxes) (sym is) led.auxes))
     c.undo_memories-memories.ensures.numbers
     (c.undo_memories-memories.ensures.restores before.memories (subst (λ (x : Parts _). MemoriesLeadBack before.memories x.memories c.args.undo.memories) (sym is) led.memories)))
+
+pub returns-clause-capacity : goal.returns-clause-capacity
+returns-clause-capacity g c =
+    subst (λ (d : Parts _). HoldsAsMuch d c.put_parts.new.db) c.take_parts-parts.ensures.parts
+    (subst (λ (x : Parts _). HoldsAsMuch c.take_parts-parts.result x) (sym c.put_parts.ensures)
+    (record { stored = c.undo_tables-stored.ensures.capacity; aux = c.undo_auxes-aux.ensures.capacity; memory = c.undo_memories-memories.ensures.capacity }))

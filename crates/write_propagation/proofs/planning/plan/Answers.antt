@@ -4,6 +4,7 @@ use Rattle.write_propagation.specs.Plans.{rows_written}
 use Rattle.write_propagation.specs.Trees.{IsTree}
 use Rattle.write_propagation.proofs.WholeLemmas.{fewer_operators, path_few, tree_local}
 use Rattle.write_propagation.proofs.LeadLemmas.{changes_same, plans_same, same_database, same_self}
+use Rattle.write_propagation.proofs.HoldLaws.{holds_self}
 use Rattle.write_propagation.proofs.planning.plan.Goals as goal
 
 pub returns-in_err-tree-clause-same : goal.returns-in_err-tree-clause-same
@@ -50,3 +51,9 @@ returns-clause-steps g c local =
     let is = subst (λ (x : Drawn _). IsTree x.edges c.args.written.set c.args.written.table tree) c.graph.ensures.graph c.in_ok-tree.ensures in
     let at = tree_local d.graph.edges c.args.written.set c.args.written.table tree is c.graph.ensures.kept.graph.edges g.O.Operator.meaning local in
     fewer_operators (length c.args.written.changes) _ _ _ _ (path_few d.graph.edges c.args.written.set c.args.written.table tree is) (c.in_ok-plan.ensures.steps at)
+
+pub returns-in_err-tree-clause-capacity : goal.returns-in_err-tree-clause-capacity
+returns-in_err-tree-clause-capacity g c = holds_self c.args.db.now
+
+pub returns-in_err-plan-clause-capacity : goal.returns-in_err-plan-clause-capacity
+returns-in_err-plan-clause-capacity g c = holds_self c.args.db.now
