@@ -24,8 +24,8 @@ use version_graph::Graph;
 use version_model::Numbered;
 
 /// What the JSON tells, where it spells a database.
-fn read_lines(alloc: Global, json: &Json) -> Result<DumpLines, Fault<DumpRefused>>
-    ensures told { ReadsLines (view json.now) result }
+fn read_lines(alloc: Global, json: Json) -> Result<DumpLines, Fault<DumpRefused>>
+    ensures told { ReadsLines (view json) result }
     ensures within { IfOk result
         (λ lines. (1 ≤ lines.kept.next) × (lines.kept.next ≤ 2 ^ 63)) }
 {
@@ -100,15 +100,15 @@ fn make_fields(
 
 /// The database for which the JSON stands, with this limit of identifiers. It is refused exactly where
 /// it stands for none. It takes time in the size of the JSON, that of building the graph, and that of
-/// `check`, which asks each operator once.
+/// `check`, which asks each operator once. Of the JSON nothing is left when the check begins.
 #[tactic(auto, using(crate::proofs::LoadLemmas::is_loaded, crate::proofs::LoadLemmas::none_made))]
 pub fn load_database<L: Ledger>(
     alloc: Global,
-    json: &Json,
+    json: Json,
     limits: Limits,
     steps: &mut Steps<L>,
 ) -> Result<Db<AnyOp>, Fault<DumpRefused>>
-    ensures { Loads (view json.now) limits.max_id result }
+    ensures { Loads (view json) limits.max_id result }
 {
     let lines = read_lines(alloc, json)?;
     let fields = make_fields(alloc, lines, limits.max_id)?;

@@ -65,7 +65,7 @@ fn load_first<L: Ledger>(
     requires { is_second_lem (view json) ≡ false }
     ensures { LoadsJson (view json) limits.max_id result }
 {
-    let database = load_database(alloc, &json, limits, steps)?;
+    let database = load_database(alloc, json, limits, steps)?;
     Ok(Loaded {
         database,
         counts: List::new(alloc),
@@ -95,7 +95,7 @@ fn load_second<L: Ledger>(
     else {
         return Err(Fault::Refused(DumpRefused));
     };
-    let database = load_database(alloc, &first, limits, steps)?;
+    let database = load_database(alloc, first, limits, steps)?;
     match read_beside(alloc, &database, &counts, &goal)? {
         Some((counts, pending)) => Ok(Loaded {
             database,

@@ -1,5 +1,6 @@
 pub mod BackLaws
 mod DumpBack
+mod KeptLemmas
 mod ListLemmas
 mod MemberLemmas
 mod PairLemmas

@@ -1,22 +1,23 @@
 -- Lists that are read item by item.
 use Rattle.std.specs.Prelude.{option_map, option_and_then}
-use Rattle.std.proofs.Common.{◌≡◌, ℕ, suc, ◌+◌, ◌<◌, ◌≤◌, Option, Some, None, refl, sym, ap, ◌∙◌, append_assoc, List, [], ◌∷◌, ◌++◌, length, drop, get_or, arith}
+use Rattle.std.proofs.Common.{◌≡◌, subst, ℕ, suc, ◌+◌, ◌<◌, ◌≤◌, Option, Some, None, refl, sym, ap, ◌∙◌, append_assoc, List, [], ◌∷◌, ◌++◌, length, drop, get_or, arith}
 use Rattle.std.proofs.Math.Seq.{drop-cons}
-use Rattle.std.proofs.lemmas.List.{append-nil, drop_all}
-use Rattle.serde_json.specs.Data.{Data, Items, item}
+use Rattle.std.proofs.lemmas.List.{append-nil, drop_all, length_push}
+use Rattle.serde_json.specs.Data.{Data}
 use Rattle.serde_json.specs.View.{items_view, view}
 use Rattle.serde_json.specs.declared.value.Value.{Value as Json}
 use Rattle.dump_values.specs.Members.{list_of}
+
+-- the items from a place on begin with the one there
+pub begins : (xs : List Json) (i : ℕ) (one : Json) → i < length xs → one ≡ get_or xs i one → drop i xs ≡ one ∷ drop (i + 1) xs
+begins xs i one within is =
+    let more : suc i ≡ i + 1 = omega arith in
+    drop-cons xs i one within ∙ ap (λ (k : ℕ). get_or xs i one ∷ drop k xs) more ∙ ap (λ (y : Json). y ∷ drop (i + 1) xs) (sym is)
 
 module _ {A : Type 0} (read : Data → Option A) (all : Option (List A)) (old : List A) where
   after : (x : A) (o : Option (List A)) → option_map (λ (ls : List A). old ++ ls) (option_map (λ (ls : List A). x ∷ ls) o) ≡ option_map (λ (ls : List A). (old ++ x ∷ []) ++ ls) o
   after x None = refl
   after x (Some ls) = ap (λ (l : List A). Some l) (sym (append_assoc old (x ∷ []) ls))
-
-  begins : (xs : List Json) (i : ℕ) (one : Json) → i < length xs → one ≡ get_or xs i one → drop i xs ≡ one ∷ drop (i + 1) xs
-  begins xs i one within is =
-      let more : suc i ≡ i + 1 = omega arith in
-      drop-cons xs i one within ∙ ap (λ (k : ℕ). get_or xs i one ∷ drop k xs) more ∙ ap (λ (y : Json). y ∷ drop (i + 1) xs) (sym is)
 
   -- the item at the place is the next
   opened : (xs : List Json) (i : ℕ) (one : Json) (o : Option A) → i < length xs → one ≡ get_or xs i one → read (view one) ≡ o → all ≡ option_map (λ (ls : List A). old ++ ls) (list_of read (items_view (drop i xs)))
@@ -31,6 +32,12 @@ module _ {A : Type 0} (read : Data → Option A) (all : Option (List A)) (old : 
   list_more xs i one x new within is found made so_far =
       opened xs i one (Some x) within is found so_far ∙ after x (list_of read (items_view (drop (i + 1) xs)))
       ∙ ap (λ (l : List A). option_map (λ (ls : List A). l ++ ls) (list_of read (items_view (drop (i + 1) xs)))) (sym made)
+
+  -- the same, where the items before it were taken out
+  pub list_taken : (xs ys : List Json) (one : Json) (x : A) (new : List A) → length ys < length xs → one ≡ get_or xs (length ys) one → read (view one) ≡ Some x → new ≡ old ++ x ∷ [] → all ≡ option_map (λ (ls : List A). old ++ ls) (list_of read (items_view (drop (length ys) xs)))
+      → all ≡ option_map (λ (ls : List A). new ++ ls) (list_of read (items_view (drop (length (ys ++ one ∷ [])) xs)))
+  list_taken xs ys one x new within is found made so_far =
+      subst (λ (n : ℕ). all ≡ option_map (λ (ls : List A). new ++ ls) (list_of read (items_view (drop n xs)))) (sym (length_push ys one)) (list_more xs (length ys) one x new within is found made so_far)
 
   -- an item was none of these
   pub list_stops : (xs : List Json) (i : ℕ) (one : Json) → i < length xs → one ≡ get_or xs i one → read (view one) ≡ None → all ≡ option_map (λ (ls : List A). old ++ ls) (list_of read (items_view (drop i xs))) → None ≡ all

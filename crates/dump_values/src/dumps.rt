@@ -1,14 +1,17 @@
 //! Whole dumps.
 ghost use Rattle.std.specs.Prelude.{◌≡◌, ◌≤◌, ◌^◌, codes, IfOk, IfSome, OnOk, option_map};
-ghost use Rattle.serde_json.specs.View.{members_view, view};
+ghost use Rattle.serde_json.specs.Find.{as_array};
+ghost use Rattle.serde_json.specs.View.{items_view, members_view, view};
 ghost use Rattle.dump_values.specs.Dumps.{auxes_seen, dump_of, dump_seen, graph_of, has_format as is_of_format, kept_of, kept_seen, memories_seen, written};
 ghost use Rattle.dump_values.specs.Lines.{aux_of, memory_of, operator_of, version_of};
-ghost use Rattle.dump_values.specs.Members.{both, list_at, member_of, next_of, numbers_of, small_of};
+ghost use Rattle.dump_values.specs.Members.{both, list_at, list_of, member_of, next_of, numbers_of, small_of};
 ghost use Rattle.dump_values.specs.inner.Calls.{with_graph, with_layout, with_tables};
 
 use crate::lines::{OperatorLine, VersionLine};
-use crate::lists::{auxes_at, memories_at, operators_at, stored_at, versions_at};
-use crate::members::{count_members, next_at, numbers_at, put_number, read_within, small_at};
+use crate::lists::{each_aux, each_memory, each_stored, operators_at, versions_at};
+use crate::members::{
+    count_members, next_at, numbers_at, put_number, read_within, small_at, take_items,
+};
 use id_memory::PairMemory;
 use par_base::{List, Memory};
 use row_store::Table;
@@ -141,16 +144,17 @@ fn layout_and_next(alloc: Global, json: &Json) -> Result<Option<(List<u32>, u64)
 // The auxiliary tables and the memories.
 fn operator_lists(
     alloc: Global,
-    json: &Json,
+    auxes: Vec<Json>,
+    memories: Vec<Json>,
 ) -> Result<Option<(List<(u32, List<Table>)>, List<(u32, PairMemory)>)>, Memory>
     ensures { IfOk result (λ lists. option_map (λ l. (auxes_seen l.0, memories_seen l.1)) lists
-        ≡ both (list_at aux_of (codes "aux") (view json.now))
-        (list_at memory_of (codes "memories") (view json.now))) }
+        ≡ both (list_of aux_of (items_view auxes.items))
+        (list_of memory_of (items_view memories.items))) }
 {
-    let Some(auxes) = auxes_at(alloc, json, "aux")? else {
+    let Some(auxes) = each_aux(alloc, auxes)? else {
         return Ok(None);
     };
-    match memories_at(alloc, json, "memories") {
+    match each_memory(alloc, memories) {
         Ok(Some(memories)) => Ok(Some((auxes, memories))),
         Ok(None) => {
             mem::drop(auxes);
@@ -163,17 +167,43 @@ fn operator_lists(
     }
 }
 
-fn read_kept(alloc: Global, json: &Json) -> Result<Option<KeptLines>, Memory>
-    ensures value { IfOk result (λ kept. option_map kept_seen kept ≡ kept_of (view json.now)) }
+// The items of the three lists that may be long. They are taken out, so that each can be let go once
+// it was read.
+fn take_lists(json: Json) -> Option<(Vec<Json>, Vec<Json>, Vec<Json>)>
+    ensures { option_map (λ l. (items_view l.0.items, (items_view l.1.items, items_view l.2.items)))
+        result ≡ both (member_of as_array (codes "stored") (view json))
+        (both (member_of as_array (codes "aux") (view json))
+        (member_of as_array (codes "memories") (view json))) }
+{
+    let Json::Object(mut members) = json else {
+        return None;
+    };
+    let Some(stored) = take_items(&mut members, "stored") else {
+        return None;
+    };
+    let Some(auxes) = take_items(&mut members, "aux") else {
+        return None;
+    };
+    match take_items(&mut members, "memories") {
+        Some(memories) => Some((stored, auxes, memories)),
+        None => None,
+    }
+}
+
+fn read_kept(alloc: Global, json: Json) -> Result<Option<KeptLines>, Memory>
+    ensures value { IfOk result (λ kept. option_map kept_seen kept ≡ kept_of (view json)) }
     ensures within { IfOk result (λ kept. IfSome kept (λ k. (1 ≤ k.next) × (k.next ≤ 2 ^ 63))) }
 {
-    let Some((layout, next)) = layout_and_next(alloc, json)? else {
+    let Some((layout, next)) = layout_and_next(alloc, &json)? else {
         return Ok(None);
     };
-    let Some(stored) = stored_at(alloc, json, "stored")? else {
+    let Some((stored, auxes, memories)) = take_lists(json) else {
         return Ok(None);
     };
-    match operator_lists(alloc, json)? {
+    let Some(stored) = each_stored(alloc, stored)? else {
+        return Ok(None);
+    };
+    match operator_lists(alloc, auxes, memories)? {
         Some((auxes, memories)) => Ok(Some(KeptLines {
             layout,
             stored,
@@ -185,19 +215,20 @@ fn read_kept(alloc: Global, json: &Json) -> Result<Option<KeptLines>, Memory>
     }
 }
 
-/// What the JSON tells, where it spells a dump. The next identifier is from 1 to 2^63.
-pub fn read_dump(alloc: Global, json: &Json) -> Result<Option<DumpLines>, Memory>
-    ensures value { IfOk result (λ dump. option_map dump_seen dump ≡ dump_of (view json.now)) }
+/// What the JSON tells, where it spells a dump. The next identifier is from 1 to 2^63. The JSON of a
+/// row is let go once the row was read, so that both are never in memory at once.
+pub fn read_dump(alloc: Global, json: Json) -> Result<Option<DumpLines>, Memory>
+    ensures value { IfOk result (λ dump. option_map dump_seen dump ≡ dump_of (view json)) }
     ensures within { IfOk result
         (λ dump. IfSome dump (λ d. (1 ≤ d.kept.next) × (d.kept.next ≤ 2 ^ 63))) }
 {
-    if !has_format(json) {
+    if !has_format(&json) {
         return Ok(None);
     }
-    if count_members(json) != 10 {
+    if count_members(&json) != 10 {
         return Ok(None);
     }
-    let Some(graph) = read_graph(alloc, json)? else {
+    let Some(graph) = read_graph(alloc, &json)? else {
         return Ok(None);
     };
     match read_kept(alloc, json)? {

@@ -36,14 +36,14 @@ pub struct OperatorLine {
 }
 
 /// The number and the table of a stored table.
-pub(crate) fn read_stored(alloc: Global, json: &Json) -> Result<Option<(u32, Table)>, Memory>
+pub(crate) fn read_stored(alloc: Global, json: Json) -> Result<Option<(u32, Table)>, Memory>
     ensures { IfOk result (λ line. option_map (λ l. (l.0, l.1.rows)) line
-        ≡ stored_of (view json.now)) }
+        ≡ stored_of (view json)) }
 {
-    if count_members(json) != 2 {
+    if count_members(&json) != 2 {
         return Ok(None);
     }
-    let Some(number) = small_at(json, "table") else {
+    let Some(number) = small_at(&json, "table") else {
         return Ok(None);
     };
     match table_at(alloc, json, "rows")? {
@@ -53,14 +53,14 @@ pub(crate) fn read_stored(alloc: Global, json: &Json) -> Result<Option<(u32, Tab
 }
 
 /// The number and the auxiliary tables of an operator.
-pub(crate) fn read_aux(alloc: Global, json: &Json) -> Result<Option<(u32, List<Table>)>, Memory>
+pub(crate) fn read_aux(alloc: Global, json: Json) -> Result<Option<(u32, List<Table>)>, Memory>
     ensures { IfOk result (λ line. option_map (λ l. (l.0, map (λ t. t.rows) l.1)) line
-        ≡ aux_of (view json.now)) }
+        ≡ aux_of (view json)) }
 {
-    if count_members(json) != 2 {
+    if count_members(&json) != 2 {
         return Ok(None);
     }
-    let Some(number) = small_at(json, "operator") else {
+    let Some(number) = small_at(&json, "operator") else {
         return Ok(None);
     };
     match tables_at(alloc, json, "tables")? {
@@ -70,14 +70,14 @@ pub(crate) fn read_aux(alloc: Global, json: &Json) -> Result<Option<(u32, List<T
 }
 
 /// The number and the memory of an operator.
-pub(crate) fn read_memory(alloc: Global, json: &Json) -> Result<Option<(u32, PairMemory)>, Memory>
+pub(crate) fn read_memory(alloc: Global, json: Json) -> Result<Option<(u32, PairMemory)>, Memory>
     ensures { IfOk result (λ line. option_map (λ l. (l.0, l.1.entries)) line
-        ≡ memory_of (view json.now)) }
+        ≡ memory_of (view json)) }
 {
-    if count_members(json) != 2 {
+    if count_members(&json) != 2 {
         return Ok(None);
     }
-    let Some(number) = small_at(json, "operator") else {
+    let Some(number) = small_at(&json, "operator") else {
         return Ok(None);
     };
     match pairs_at(alloc, json, "pairs")? {

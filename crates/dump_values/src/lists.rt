@@ -69,9 +69,13 @@ pub(crate) fn versions_at(
     }
 }
 
-fn each_stored(alloc: Global, items: &[Json]) -> Result<Option<List<(u32, Table)>>, Memory>
+/// The stored tables that the items spell.
+pub(crate) fn each_stored(
+    alloc: Global,
+    items: Vec<Json>,
+) -> Result<Option<List<(u32, Table)>>, Memory>
     ensures { IfOk result (λ lines. option_map stored_seen lines
-        ≡ list_of stored_of (items_view items.now)) }
+        ≡ list_of stored_of (items_view items.items)) }
 {
     let mut lines = List::new(alloc);
     for item in items {
@@ -83,24 +87,13 @@ fn each_stored(alloc: Global, items: &[Json]) -> Result<Option<List<(u32, Table)
     Ok(Some(lines))
 }
 
-/// The stored tables under this key.
-pub(crate) fn stored_at(
+/// The auxiliary tables that the items spell.
+pub(crate) fn each_aux(
     alloc: Global,
-    json: &Json,
-    key: &str,
-) -> Result<Option<List<(u32, Table)>>, Memory>
-    ensures { IfOk result (λ lines. option_map stored_seen lines
-        ≡ list_at stored_of key.now (view json.now)) }
-{
-    match items_at(json, key) {
-        Some(items) => each_stored(alloc, items),
-        None => Ok(None),
-    }
-}
-
-fn each_aux(alloc: Global, items: &[Json]) -> Result<Option<List<(u32, List<Table>)>>, Memory>
+    items: Vec<Json>,
+) -> Result<Option<List<(u32, List<Table>)>>, Memory>
     ensures { IfOk result (λ lines. option_map auxes_seen lines
-        ≡ list_of aux_of (items_view items.now)) }
+        ≡ list_of aux_of (items_view items.items)) }
 {
     let mut lines = List::new(alloc);
     for item in items {
@@ -112,24 +105,13 @@ fn each_aux(alloc: Global, items: &[Json]) -> Result<Option<List<(u32, List<Tabl
     Ok(Some(lines))
 }
 
-/// The auxiliary tables under this key.
-pub(crate) fn auxes_at(
+/// The memories that the items spell.
+pub(crate) fn each_memory(
     alloc: Global,
-    json: &Json,
-    key: &str,
-) -> Result<Option<List<(u32, List<Table>)>>, Memory>
-    ensures { IfOk result (λ lines. option_map auxes_seen lines
-        ≡ list_at aux_of key.now (view json.now)) }
-{
-    match items_at(json, key) {
-        Some(items) => each_aux(alloc, items),
-        None => Ok(None),
-    }
-}
-
-fn each_memory(alloc: Global, items: &[Json]) -> Result<Option<List<(u32, PairMemory)>>, Memory>
+    items: Vec<Json>,
+) -> Result<Option<List<(u32, PairMemory)>>, Memory>
     ensures { IfOk result (λ lines. option_map memories_seen lines
-        ≡ list_of memory_of (items_view items.now)) }
+        ≡ list_of memory_of (items_view items.items)) }
 {
     let mut lines = List::new(alloc);
     for item in items {
@@ -139,19 +121,4 @@ fn each_memory(alloc: Global, items: &[Json]) -> Result<Option<List<(u32, PairMe
         lines.push(line)?;
     }
     Ok(Some(lines))
-}
-
-/// The memories under this key.
-pub(crate) fn memories_at(
-    alloc: Global,
-    json: &Json,
-    key: &str,
-) -> Result<Option<List<(u32, PairMemory)>>, Memory>
-    ensures { IfOk result (λ lines. option_map memories_seen lines
-        ≡ list_at memory_of key.now (view json.now)) }
-{
-    match items_at(json, key) {
-        Some(items) => each_memory(alloc, items),
-        None => Ok(None),
-    }
 }

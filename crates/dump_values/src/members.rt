@@ -1,8 +1,9 @@
 //! Numbers, lists of numbers, texts, and members of objects.
 ghost use Rattle.std.specs.Prelude.{◌≡◌, ◌<◌, ◌≤◌, ◌^◌, IfOk, IfSome, OnOk, option_and_then, option_map};
-ghost use Rattle.serde_json.specs.Find.{as_array, as_str};
+ghost use Rattle.serde_json.specs.Find.{as_array, as_str, get, get_member};
 ghost use Rattle.serde_json.specs.Data.{put as with_member, string};
 ghost use Rattle.serde_json.specs.View.{items_view, members_view, view};
+ghost use Rattle.dump_values.specs.inner.Calls.{LeavesOthers};
 ghost use Rattle.dump_values.specs.Members.{count_of, id_of, list_of, member_of, next_of, number_json, number_of, numbers_json, numbers_of, small_of, within};
 
 use par_base::{List, Memory, Text};
@@ -123,6 +124,49 @@ pub(crate) fn items_at<'a>(json: &'a Json, key: &str) -> Option<&'a [Json]>
             None => None,
         },
         None => None,
+    }
+}
+
+/// The items of an array.
+pub(crate) fn into_items(json: Json) -> Option<Vec<Json>>
+    ensures { option_map (λ items. items_view items.items) result ≡ as_array (view json) }
+{
+    match json {
+        Json::Array(items) => Some(items),
+        _ => None,
+    }
+}
+
+/// Takes out what stands under this key. What stands under another one stays.
+fn take_member(members: &mut Map<String, Json>, key: &str) -> Option<Json>
+    ensures value { option_map view result
+        ≡ get_member key.now (members_view members.old.entries) }
+    ensures others { LeavesOthers key.now (members_view members.old.entries)
+        (members_view members.new.entries) }
+{
+    members.remove(key)
+}
+
+/// Takes out the list under this key.
+pub(crate) fn take_items(members: &mut Map<String, Json>, key: &str) -> Option<Vec<Json>>
+    ensures value { option_map (λ items. items_view items.items) result ≡ option_and_then as_array
+        (get_member key.now (members_view members.old.entries)) }
+    ensures others { LeavesOthers key.now (members_view members.old.entries)
+        (members_view members.new.entries) }
+{
+    match take_member(members, key) {
+        Some(found) => into_items(found),
+        None => None,
+    }
+}
+
+/// What stands under this key of an object.
+pub(crate) fn into_member(json: Json, key: &str) -> Option<Json>
+    ensures { option_map view result ≡ get key.now (view json) }
+{
+    match json {
+        Json::Object(mut members) => take_member(&mut members, key),
+        _ => None,
     }
 }
 

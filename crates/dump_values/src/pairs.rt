@@ -6,7 +6,7 @@ ghost use Rattle.dump_values.specs.Members.{member_of};
 ghost use Rattle.dump_values.specs.Pairs.{is_end as nothing, last_of, may_follow, pairs_behind, pairs_json, pairs_of, triple_json, triple_of, two_of};
 ghost use Rattle.dump_values.specs.inner.Calls.{EndBefore};
 
-use crate::members::read_id;
+use crate::members::{into_items, into_member, read_id};
 use id_memory::{PairMemory, pairs_are_the_memory};
 use par_base::Memory;
 use serde_json::{Number, Value as Json};
@@ -61,6 +61,14 @@ fn read_triple(json: &Json) -> Option<(u64, u64, u64)>
     }
 }
 
+// The same, where the JSON is let go.
+fn take_triple(json: Json) -> Option<(u64, u64, u64)>
+    ensures value { result ≡ triple_of (view json) }
+    ensures within { IfSome result (λ entry. entry.0 < 2 ^ 63) }
+{
+    read_triple(&json)
+}
+
 /// Whether an entry may come behind those that were read.
 fn follows(memory: &PairMemory, least: u64, entry: (u64, u64, u64)) -> bool
     ensures { result ≡ may_follow memory.now.entries least entry }
@@ -82,14 +90,14 @@ fn put_behind(memory: &mut PairMemory, entry: (u64, u64, u64)) -> Result<(), Mem
     Ok(())
 }
 
-fn read_triples(alloc: Global, items: &[Json]) -> Result<Option<PairMemory>, Memory>
+fn read_triples(alloc: Global, items: Vec<Json>) -> Result<Option<PairMemory>, Memory>
     ensures { IfOk result (λ memory. option_map (λ m. m.entries) memory
-        ≡ pairs_behind [] 1 (items_view items.now)) }
+        ≡ pairs_behind [] 1 (items_view items.items)) }
 {
     let mut memory = PairMemory::new(alloc);
     let mut least = 1;
     for item in items {
-        let Some(entry) = read_triple(item) else {
+        let Some(entry) = take_triple(item) else {
             return Ok(None);
         };
         if !follows(&memory, least, entry) {
@@ -102,22 +110,22 @@ fn read_triples(alloc: Global, items: &[Json]) -> Result<Option<PairMemory>, Mem
 }
 
 /// The memory that the JSON spells, where it spells one.
-fn read_pairs(alloc: Global, json: &Json) -> Result<Option<PairMemory>, Memory>
+fn read_pairs(alloc: Global, json: Json) -> Result<Option<PairMemory>, Memory>
     ensures { IfOk result (λ memory. option_map (λ m. m.entries) memory
-        ≡ pairs_of (view json.now)) }
+        ≡ pairs_of (view json)) }
 {
-    match json.as_array() {
-        Some(items) => read_triples(alloc, items.as_slice()),
+    match into_items(json) {
+        Some(items) => read_triples(alloc, items),
         None => Ok(None),
     }
 }
 
 /// The memory under this key.
-pub(crate) fn pairs_at(alloc: Global, json: &Json, key: &str) -> Result<Option<PairMemory>, Memory>
+pub(crate) fn pairs_at(alloc: Global, json: Json, key: &str) -> Result<Option<PairMemory>, Memory>
     ensures { IfOk result (λ memory. option_map (λ m. m.entries) memory
-        ≡ member_of pairs_of key.now (view json.now)) }
+        ≡ member_of pairs_of key.now (view json)) }
 {
-    match json.get(key) {
+    match into_member(json, key) {
         Some(found) => read_pairs(alloc, found),
         None => Ok(None),
     }

@@ -24,7 +24,7 @@ fn read_values(alloc: Global, items: &[Json]) -> Result<Option<Row>, Memory>
 }
 
 /// The identifier and the row that the JSON spells, where it spells one.
-pub(crate) fn read_row(alloc: Global, json: &Json) -> Result<Option<(u64, Row)>, Memory>
+fn read_row(alloc: Global, json: &Json) -> Result<Option<(u64, Row)>, Memory>
     ensures value { IfOk result (λ row. row ≡ row_of (view json.now)) }
     ensures within { IfOk result (λ row. IfSome row (λ r. r.0 < 2 ^ 63)) }
 {
@@ -41,6 +41,14 @@ pub(crate) fn read_row(alloc: Global, json: &Json) -> Result<Option<(u64, Row)>,
         Some(row) => Ok(Some((id, row))),
         None => Ok(None),
     }
+}
+
+/// The same, where the JSON is let go.
+pub(crate) fn take_row(alloc: Global, json: Json) -> Result<Option<(u64, Row)>, Memory>
+    ensures value { IfOk result (λ row. row ≡ row_of (view json)) }
+    ensures within { IfOk result (λ row. IfSome row (λ r. r.0 < 2 ^ 63)) }
+{
+    read_row(alloc, &json)
 }
 
 /// A row as JSON.

@@ -4,21 +4,22 @@ ghost use Rattle.serde_json.specs.View.{items_view, view};
 ghost use Rattle.dump_values.specs.Members.{list_of, member_of};
 ghost use Rattle.dump_values.specs.Tables.{rows_from, table_json, table_of, tables_json, tables_of};
 
-use crate::rows::{read_row, write_row};
+use crate::members::{into_items, into_member};
+use crate::rows::{take_row, write_row};
 use par_base::{List, Memory};
 use row_store::Table;
 use serde_json::Value as Json;
 use std::alloc::Global;
 
 #[tactic(auto, using(row_store::specs::inner::FoundRows::below_more, row_store::specs::inner::FoundRows::below_push))]
-fn read_rows(alloc: Global, items: &[Json]) -> Result<Option<Table>, Memory>
+fn read_rows(alloc: Global, items: Vec<Json>) -> Result<Option<Table>, Memory>
     ensures { IfOk result (λ table. option_map (λ t. t.rows) table
-        ≡ rows_from 1 (items_view items.now)) }
+        ≡ rows_from 1 (items_view items.items)) }
 {
     let mut table = Table::new(alloc);
     let mut least = 1;
     for item in items {
-        let Some((id, row)) = read_row(alloc, item)? else {
+        let Some((id, row)) = take_row(alloc, item)? else {
             return Ok(None);
         };
         if id < least {
@@ -31,29 +32,29 @@ fn read_rows(alloc: Global, items: &[Json]) -> Result<Option<Table>, Memory>
 }
 
 /// The table that the JSON spells, where it spells one.
-fn read_table(alloc: Global, json: &Json) -> Result<Option<Table>, Memory>
-    ensures { IfOk result (λ table. option_map (λ t. t.rows) table ≡ table_of (view json.now)) }
+fn read_table(alloc: Global, json: Json) -> Result<Option<Table>, Memory>
+    ensures { IfOk result (λ table. option_map (λ t. t.rows) table ≡ table_of (view json)) }
 {
-    match json.as_array() {
-        Some(items) => read_rows(alloc, items.as_slice()),
+    match into_items(json) {
+        Some(items) => read_rows(alloc, items),
         None => Ok(None),
     }
 }
 
 /// The table under this key.
-pub(crate) fn table_at(alloc: Global, json: &Json, key: &str) -> Result<Option<Table>, Memory>
+pub(crate) fn table_at(alloc: Global, json: Json, key: &str) -> Result<Option<Table>, Memory>
     ensures { IfOk result (λ table. option_map (λ t. t.rows) table
-        ≡ member_of table_of key.now (view json.now)) }
+        ≡ member_of table_of key.now (view json)) }
 {
-    match json.get(key) {
+    match into_member(json, key) {
         Some(found) => read_table(alloc, found),
         None => Ok(None),
     }
 }
 
-fn read_each_table(alloc: Global, items: &[Json]) -> Result<Option<List<Table>>, Memory>
+fn read_each_table(alloc: Global, items: Vec<Json>) -> Result<Option<List<Table>>, Memory>
     ensures { IfOk result (λ tables. option_map (λ ts. map (λ t. t.rows) ts) tables
-        ≡ list_of table_of (items_view items.now)) }
+        ≡ list_of table_of (items_view items.items)) }
 {
     let mut tables = List::new(alloc);
     for item in items {
@@ -65,26 +66,22 @@ fn read_each_table(alloc: Global, items: &[Json]) -> Result<Option<List<Table>>,
     Ok(Some(tables))
 }
 
-fn read_tables(alloc: Global, json: &Json) -> Result<Option<List<Table>>, Memory>
+fn read_tables(alloc: Global, json: Json) -> Result<Option<List<Table>>, Memory>
     ensures { IfOk result (λ tables. option_map (λ ts. map (λ t. t.rows) ts) tables
-        ≡ tables_of (view json.now)) }
+        ≡ tables_of (view json)) }
 {
-    match json.as_array() {
-        Some(items) => read_each_table(alloc, items.as_slice()),
+    match into_items(json) {
+        Some(items) => read_each_table(alloc, items),
         None => Ok(None),
     }
 }
 
 /// The list of tables under this key.
-pub(crate) fn tables_at(
-    alloc: Global,
-    json: &Json,
-    key: &str,
-) -> Result<Option<List<Table>>, Memory>
+pub(crate) fn tables_at(alloc: Global, json: Json, key: &str) -> Result<Option<List<Table>>, Memory>
     ensures { IfOk result (λ tables. option_map (λ ts. map (λ t. t.rows) ts) tables
-        ≡ member_of tables_of key.now (view json.now)) }
+        ≡ member_of tables_of key.now (view json)) }
 {
-    match json.get(key) {
+    match into_member(json, key) {
         Some(found) => read_tables(alloc, found),
         None => Ok(None),
     }

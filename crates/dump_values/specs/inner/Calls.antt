@@ -1,13 +1,18 @@
 -- What inner calls suppose and ensure.
-use Rattle.std.specs.Prelude.{ℕ, ◌<◌, [], ◌∷◌, codes}
+use Rattle.std.specs.Prelude.{◌≡◌, ℕ, ◌<◌, List, [], ◌∷◌, codes}
 use Rattle.id_memory.specs.Pairs.{Pairs}
 use Rattle.serde_json.specs.Data.{Data, Members, put}
+use Rattle.serde_json.specs.Find.{get_member}
 use Rattle.dump_values.specs.Members.{number_json}
 
 -- every identifier of the entries is below this one
 abbrev pub EndBefore : Pairs → ℕ → Type 0
 EndBefore [] n = Unit {0}
 EndBefore (e ∷ es) n = (e.0 < n) × EndBefore es n
+
+-- what stands under other keys stays when one is taken out
+abbrev pub LeavesOthers : List ℕ → Members → Members → Type 0
+LeavesOthers key before after = (other : List ℕ) → (other ≡ key → ⊥) → get_member other after ≡ get_member other before
 
 -- members with those of the graph
 abbrev pub with_graph : Data → Data → ℕ → ℕ → Members → Members

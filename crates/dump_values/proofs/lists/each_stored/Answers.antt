@@ -1,21 +1,32 @@
 use Rattle.std.specs.Prelude.{option_map}
-use Rattle.std.proofs.Common.{ℕ, List, [], ◌∷◌, map, sym, ap, ◌∙◌}
+use Rattle.std.proofs.Common.{ℕ, List, [], ◌∷◌, length, sym, ap, ◌∙◌, arith}
 use Rattle.std.proofs.lemmas.List.{map-append}
+use Rattle.std.proofs.lemmas.Iterator.Adapters.{YieldsList-from_vec}
+use Rattle.std.proofs.lemmas.Iterator.Consumers.{YieldsList-end, YieldsList-turn}
 use Rattle.row_store.specs.States.{TableState}
 use Rattle.dump_values.specs.Dumps.{stored_seen}
 use Rattle.dump_values.specs.Lines.{stored_of}
-use Rattle.dump_values.proofs.ListLemmas.{list_ends, list_more}
+use Rattle.dump_values.proofs.ListLemmas.{list_ends, list_stops, list_taken}
 use Rattle.dump_values.proofs.lists.each_stored.Goals as goal
+
+pub returns-in_default : goal.returns-in_default
+returns-in_default c =
+    let l = c.loop-item in
+    let turn = YieldsList-turn (YieldsList-from_vec {s = c.into_iter-item-iterator.result} c.args.items.items c.into_iter-item-iterator.ensures.into_iter_gives.0 (c.into_iter-item-iterator.ensures.into_iter_gives.1 ∙ c.args.items.ok.0)) c.loop-item.yielded c.loop-item.item-iterator c.loop-item.yielded_by c.next.result c.next.new.self c.in-Some.item c.in-Some.is c.next.ensures.steps in
+    let found = sym c.in_ok-line.ensures ∙ ap (option_map (λ (l : ℕ × TableState). (l.0, l.1.rows))) c.in_default.is in
+    list_stops stored_of _ (stored_seen l.lines) c.args.items.items (length l.yielded) c.in-Some.item turn.0 turn.1 found l.invariant
 
 pub loop-item-preserved : goal.loop-item-preserved
 loop-item-preserved c =
     let l = c.loop-item in
-    let line = c.in-Some.line in
-    let found = sym c.in_ok-line.ensures ∙ ap (option_map (λ (l : ℕ × TableState). (l.0, l.1.rows))) c.in-Some.is in
+    let line = c.in-Some-2.line in
+    let turn = YieldsList-turn (YieldsList-from_vec {s = c.into_iter-item-iterator.result} c.args.items.items c.into_iter-item-iterator.ensures.into_iter_gives.0 (c.into_iter-item-iterator.ensures.into_iter_gives.1 ∙ c.args.items.ok.0)) c.loop-item.yielded c.loop-item.item-iterator c.loop-item.yielded_by c.next.result c.next.new.self c.in-Some.item c.in-Some.is c.next.ensures.steps in
+    let found = sym c.in_ok-line.ensures ∙ ap (option_map (λ (l : ℕ × TableState). (l.0, l.1.rows))) c.in-Some-2.is in
     let made = ap (λ (ls : List (ℕ × TableState)). stored_seen ls) c.in_ok-push.ensures.ok ∙ map-append (λ (l : ℕ × TableState). (l.0, l.1.rows)) l.lines (line ∷ []) in
-    list_more stored_of _ (stored_seen l.lines) c.args.items.now l.item-index c.item-item.result _ _ c.loop-item-test.true c.item-item.is found made l.invariant
+    list_taken stored_of _ (stored_seen l.lines) c.args.items.items l.yielded c.in-Some.item _ _ turn.0 turn.1 found made l.invariant
 
 pub returns : goal.returns
 returns c =
     let l = c.loop-item in
-    list_ends stored_of _ (stored_seen l.lines) c.args.items.now l.item-index c.loop-item-test.false l.invariant
+    let end = YieldsList-end (YieldsList-from_vec {s = c.into_iter-item-iterator.result} c.args.items.items c.into_iter-item-iterator.ensures.into_iter_gives.0 (c.into_iter-item-iterator.ensures.into_iter_gives.1 ∙ c.args.items.ok.0)) c.loop-item.yielded c.loop-item.item-iterator c.loop-item.yielded_by c.next.result c.next.new.self c.in-None.is c.next.ensures.steps in
+    list_ends stored_of _ (stored_seen l.lines) c.args.items.items (length l.yielded) (let all = end.1 in omega (arith, all)) l.invariant

@@ -1,5 +1,5 @@
 use Rattle.std.specs.Prelude.{option_map}
-use Rattle.std.proofs.Common.{◌≡◌, ◌++◌, drop}
+use Rattle.std.proofs.Common.{◌≡◌, ◌++◌, drop, length}
 use Rattle.serde_json.specs.View.{items_view}
 use Rattle.dump_values.specs.Dumps.{stored_seen}
 use Rattle.dump_values.specs.Lines.{stored_of}
@@ -7,4 +7,4 @@ use Rattle.dump_values.specs.Members.{list_of}
 use Rattle.dump_values.proofs.lists.each_stored.Given as goal
 
 abbrev pub invariant-loop-item : goal.invariant-loop-item
-invariant-loop-item l = list_of stored_of (items_view l.items) ≡ option_map (λ ls. stored_seen l.lines ++ ls) (list_of stored_of (items_view (drop l.item-index l.items)))
+invariant-loop-item l = list_of stored_of (items_view l.fn.items.items) ≡ option_map (λ ls. stored_seen l.lines ++ ls) (list_of stored_of (items_view (drop (length l.yielded) l.fn.items.items)))

@@ -1,4 +1,4 @@
-use Rattle.std.proofs.Common.{◌≡◌, [], drop}
+use Rattle.std.proofs.Common.{◌≡◌, [], drop, length}
 use Rattle.id_memory.specs.Pairs.{RiseFrom}
 use Rattle.serde_json.specs.View.{items_view}
 use Rattle.dump_values.specs.Pairs.{pairs_behind}
@@ -7,7 +7,7 @@ use Rattle.dump_values.proofs.pairs.read_triples.Given as goal
 
 abbrev pub invariant-loop-item : goal.invariant-loop-item
 invariant-loop-item l = record {
-  read : pairs_behind [] 1 (items_view l.items) ≡ pairs_behind l.memory.entries l.least (items_view (drop l.item-index l.items));
+  read : pairs_behind [] 1 (items_view l.fn.items.items) ≡ pairs_behind l.memory.entries l.least (items_view (drop (length l.yielded) l.fn.items.items));
   rise : RiseFrom 0 l.memory.entries;
   below : EndBefore l.memory.entries l.least;
 }
