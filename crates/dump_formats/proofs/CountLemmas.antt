@@ -1,5 +1,5 @@
 -- Counts, and what a dump tells of them.
-use Rattle.std.specs.Prelude.{◌==◌, ◌<◌, ◌≤◌, Option, Some, None}
+use Rattle.std.specs.Prelude.{◌==◌, ◌<◌, ◌≤◌, Some}
 use Rattle.std.specs.List.{find}
 use Rattle.std.specs.Option.{option_map_or}
 use Rattle.std.proofs.Common.{◌≡◌, ℕ, List, [], ◌∷◌, Bool, true, false, not, cond, filter, map, inl, inr, refl, sym, ap, ◌∙◌, subst, arith}

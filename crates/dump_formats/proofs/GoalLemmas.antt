@@ -3,11 +3,11 @@ use Rattle.std.specs.Prelude.{◌==◌, ◌<◌, ◌≤◌, ◌^◌, Option, Som
 use Rattle.std.proofs.Common.{◌≡◌, ℕ, suc, List, [], ◌∷◌, Bool, true, false, cond, filter, length, map, refl, sym, ap, ◌∙◌, subst, arith}
 use Rattle.std.proofs.lemmas.Bool.{eqb-true}
 use Rattle.std.proofs.lemmas.List.{reverse-reverse}
-use Rattle.serde_json.specs.Data.{Data, null, array, Items}
+use Rattle.serde_json.specs.Data.{Data, array, Items}
 use Rattle.serde_json.specs.Find.{as_array, as_null}
 use Rattle.serde_json.specs.View.{items_of, items_view}
 use Rattle.serde_json.specs.declared.value.Value.{Value as Json}
-use Rattle.version_graph.specs.Edges.{AreEdges, IsGraph, Drawn, Rises, numbers}
+use Rattle.version_graph.specs.Edges.{AreEdges, Rises, numbers}
 use Rattle.version_graph.specs.Forest.{forest}
 use Rattle.version_graph.specs.Sets.{Each, In}
 use Rattle.version_graph.proofs.SetLaws.{each_at, each_of}
@@ -22,7 +22,7 @@ use Rattle.migration.specs.Pending.{IsPending, goal_of}
 use Rattle.migration.specs.Sides.{changes_side, changing}
 use Rattle.migration.proofs.PendingLaws.{start_leads, start_pending}
 use Rattle.version_graph.specs.declared.parts.Placed.{Placed}
-use Rattle.dump_values.specs.Members.{number_json, numbers_json}
+use Rattle.dump_values.specs.Members.{number_json}
 use Rattle.dump_formats.specs.Formats.{goal_json, goal_told}
 use Rattle.dump_formats.specs.inner.Read.{FindsPending, LeadsTo, ReadsNumbers}
 use Rattle.dump_formats.proofs.SpelledLemmas.{numbers_same, spelled_many}

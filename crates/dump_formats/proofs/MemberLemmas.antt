@@ -1,5 +1,5 @@
 -- Members that are put to an object or taken out of it.
-use Rattle.std.specs.Prelude.{◌≤◌, codes, length, Option, Some, None, option_map}
+use Rattle.std.specs.Prelude.{◌≤◌, codes, length, Option, Some, option_map}
 use Rattle.std.specs.BTreeMap.{is_at}
 use Rattle.std.specs.Cmp.Lexicographic.{slice_cmp}
 use Rattle.std.specs.Map.{lookup, remove_entry}

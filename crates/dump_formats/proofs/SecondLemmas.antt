@@ -1,6 +1,6 @@
 -- A dump of the second format, and the one of the first that is left of it.
 use Rattle.std.specs.Prelude.{◌≤◌, Some, None, codes}
-use Rattle.std.proofs.Common.{◌≡◌, ℕ, ◌+◌, List, [], ◌∷◌, true, false, map, refl, Option, arith}
+use Rattle.std.proofs.Common.{◌≡◌, ℕ, List, [], ◌∷◌, true, false, map, refl, Option, arith}
 use Rattle.std.proofs.Math.Nat.{max-le}
 use Rattle.std.proofs.lemmas.Bool.{or_from}
 use Rattle.serde_json.specs.Data.{Data, null, boolean, number, string, array, object, depth, items_depth, members_depth, put}
@@ -10,7 +10,7 @@ use Rattle.serde_json.specs.View.{items_of}
 use Rattle.serde_json.specs.Written.{has_float, items_have_float}
 use Rattle.layout_planner.specs.declared.planning.TableCount.{TableCount}
 use Rattle.dump_values.specs.Dumps.{Dump, dump_json}
-use Rattle.dump_values.specs.Members.{number_json, numbers_json}
+use Rattle.dump_values.specs.Members.{number_json}
 use Rattle.dump_formats.specs.Formats.{count_json, counts_json, first_of, goal_json, is_second, second_json}
 use Rattle.dump_formats.proofs.MemberLemmas.{depth_put, float_put}
 

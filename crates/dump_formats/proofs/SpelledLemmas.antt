@@ -1,9 +1,8 @@
 -- What JSON spells: numbers, counts, and lists of them.
-use Rattle.std.specs.Prelude.{◌==◌, ◌<◌, ◌^◌, ◌≤◌, Option, Some, None, option_and_then, if◌then◌else◌}
+use Rattle.std.specs.Prelude.{◌==◌, ◌<◌, ◌^◌, Option, Some, None, option_and_then, if◌then◌else◌}
 use Rattle.std.proofs.Common.{◌≡◌, ℕ, zero, suc, List, [], ◌∷◌, Bool, true, false, cond, get_or, length, map, inl, inr, refl, sym, ap, ◌∙◌, subst, arith}
 use Rattle.std.proofs.lemmas.Bool.{cond-true, eq-eqb, eqb-true}
-use Rattle.serde_json.specs.Data.{Data, Num, unsigned, negative, float, null, boolean, number, string, array, object, Items, no_items, item}
-use Rattle.serde_json.specs.Find.{as_array}
+use Rattle.serde_json.specs.Data.{Data, unsigned, negative, float, null, boolean, number, string, array, object, Items, no_items, item}
 use Rattle.serde_json.specs.View.{items_of, items_view, view}
 use Rattle.serde_json.specs.declared.value.Value.{Value as Json}
 use Rattle.version_graph.specs.Sets.{Each, In}
@@ -11,7 +10,7 @@ use Rattle.version_graph.proofs.SetLaws.{each_at}
 use Rattle.layout_planner.specs.Counts.{tables_counted}
 use Rattle.layout_planner.specs.declared.planning.TableCount.{TableCount}
 use Rattle.dump_values.specs.Members.{both, number_json, number_of, numbers_json, small_of, within}
-use Rattle.dump_values.specs.Pairs.{is_end, last_of, two_of}
+use Rattle.dump_values.specs.Pairs.{last_of, two_of}
 use Rattle.dump_values.proofs.BackLaws.{small_back}
 use Rattle.dump_formats.specs.Formats.{count_json, counts_json, goal_json}
 use Rattle.dump_formats.specs.inner.Read.{count_at}

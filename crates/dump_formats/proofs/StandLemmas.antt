@@ -1,13 +1,12 @@
 -- What is loaded stands for the dump, where nothing is loaded nothing does, and a dump is of one run.
 use Rattle.std.specs.Prelude.{◌==◌, ◌⊎◌, Option, Some, None, is_some, option_and_then, Result, Ok, Err, codes}
 use Rattle.std.specs.Option.{option_map_or}
-use Rattle.std.proofs.Common.{◌≡◌, ℕ, List, [], Bool, true, false, inl, inr, refl, sym, ap, ◌∙◌, subst}
+use Rattle.std.proofs.Common.{◌≡◌, ℕ, List, [], true, false, inl, inr, refl, sym, ap, ◌∙◌, subst}
 use Rattle.std.proofs.lemmas.Bool.{cond-false, eqb-true, false≢true}
 use Rattle.par_base.specs.declared.fault.Fault.{Fault}
 use Rattle.par_base.specs.declared.fault.Fault.TheVariants.{Refused, Memory}
 use Rattle.serde_json.specs.Data.{Data}
 use Rattle.serde_json.specs.Find.{get}
-use Rattle.serde_json.specs.Read.{read}
 use Rattle.serde_json.specs.View.{view}
 use Rattle.version_graph.specs.Edges.{AreEdges, Drawn}
 use Rattle.layout_planner.specs.Counts.{AreCounts, counts_told}
@@ -16,7 +15,7 @@ use Rattle.migration.specs.Pending.{IsPending}
 use Rattle.op_any.specs.Operators.{AnyView, any_meaning}
 use Rattle.db_state.specs.Fields.{database_for}
 use Rattle.db_state.specs.declared.parts.Parts.{Parts}
-use Rattle.dump_values.specs.Dumps.{Dump, dump_of, has_format}
+use Rattle.dump_values.specs.Dumps.{dump_of, has_format}
 use Rattle.dump_values.specs.Members.{number_of, within}
 use Rattle.dump_graph.specs.declared.refused.DumpRefused.{DumpRefused}
 use Rattle.dump_file.specs.Laws.{DumpsAreOfOneDatabase, DumpsAreOfOneGraph}
@@ -25,7 +24,7 @@ use Rattle.dump_file.specs.Told.{dump_told}
 use Rattle.dump_file.specs.States.{state_json, state_told}
 use Rattle.dump_formats.specs.Formats.{counts_json, first_of, goal_json, goal_told, is_second, run_json}
 use Rattle.dump_formats.specs.Laws.{DumpsAreOfOneRun}
-use Rattle.dump_formats.specs.Stands.{IsDumpOf, Loads, Spells, StandsFor, StandsSecond}
+use Rattle.dump_formats.specs.Stands.{Loads, Spells, StandsFor}
 use Rattle.dump_formats.specs.inner.Read.{AreBeside, AreParts, FindsBeside, FindsCounts, FindsPending, LoadsJson, ReadsJson}
 use Rattle.dump_formats.specs.declared.loaded.Loaded.{Loaded}
 use Rattle.dump_formats.specs.declared.parts.Members.{Members}

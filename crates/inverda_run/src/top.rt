@@ -18,7 +18,7 @@ use crate::generate::generate;
 use crate::last::put_last;
 use crate::laws::two_runs_are_one;
 use crate::script_laws::{runs_are_ordinary, said_runs_are_one};
-use generated_run::{End as ScriptEnd, run_source};
+use generated_run::{End as ScriptEnd, Stream, run_source};
 use outside::{Files, Sink, Source};
 use par_base::{Fault, Limits};
 use run_laws::scripts_keep_counts;
@@ -89,8 +89,9 @@ fn run<S: Source, K: Sink, F: Files>(
     if let Some(n) = asked.generate {
         return generate(alloc, &mut sessions, n, asked.dump, out, files);
     }
-    match run_source(alloc, &mut sessions, script, out) {
-        ScriptEnd::Done => finish(alloc, &sessions, asked.dump, out, files),
+    let mut stream = Stream::new(alloc, sessions);
+    match run_source(alloc, &mut stream, script, out) {
+        ScriptEnd::Done => finish(alloc, stream.sessions(), asked.dump, out, files),
         end => ended(end),
     }
 }

@@ -1,9 +1,9 @@
 -- How the run of a source ends.
-use Rattle.std.proofs.Common.{◌≡◌, ◌+◌, ◌≤◌, ◌⊎◌, ℕ, List, [], ◌++◌, Option, None, Some, Bool, true, false, inl, inr, refl, sym, ap, subst, ◌∙◌, append-nil, take, length, arith}
+use Rattle.std.proofs.Common.{◌≡◌, ◌⊎◌, ℕ, List, [], ◌++◌, Option, None, Some, Bool, true, false, inl, inr, refl, sym, ap, subst, ◌∙◌, append-nil, take, length, arith}
 use Rattle.std.specs.Prelude.{nat_le, codes}
 use Rattle.std.proofs.lemmas.List.{append_cancel_right, take_all}
 use Rattle.std.proofs.lemmas.Bool.{le-leb}
-use Rattle.std.specs.Io.KnownBytes.{Appends, Consumes}
+use Rattle.std.specs.Io.KnownBytes.{Appends}
 use Rattle.std.proofs.KnownBytes.{Appends-trans}
 use Rattle.outside.specs.Causes.{Rose}
 use Rattle.statements.specs.Views.{StatementView}
@@ -11,18 +11,17 @@ use Rattle.bidel_script.specs.Places.{Place}
 use Rattle.bidel_script.specs.Script.{IsScript, Comes, Outcome, Over, Fault, Long, Open}
 use Rattle.bidel_script.proofs.ScriptLaws.{over_is_script}
 use Rattle.bidel_script.proofs.UniqueLaws.{one_comes}
-use Rattle.script_stream.specs.Reading as reading
+use Rattle.script_run.specs.Reading as reading
 use Rattle.engine_sessions.specs.EngineCoreTexts.{line}
 use Rattle.engine_sessions.specs.Standing.{Standing}
-use Rattle.script_run.specs.Output.{out, state_after}
+use Rattle.script_run.specs.Output.{out}
 use Rattle.script_run.specs.Statuses as statuses
 use Rattle.script_run.specs.Statuses.{limit, Taken, whole, early, fault_line, last_line, WritesScript, Had, PutsFront, AnswersScript, Begun, BegunTaken, CutShort}
-use Rattle.script_run.specs.Calls.{Runs, RunsTo, RunsFront, RunStays, PutsLine, last_text, end_of, Ends, EndStays}
+use Rattle.script_run.specs.Calls.{RunsTo, RunsFront, RunStays, PutsLine, last_text, end_of, Ends, EndStays}
 use Rattle.script_run.specs.declared.turn.Last.{Last}
 use Rattle.script_run.specs.declared.turn.Last.TheVariants as last
 use Rattle.script_run.specs.declared.run.Ran.{Ran}
 use Rattle.script_run.specs.declared.run.Ran.TheVariants as ran
-use Rattle.script_run.specs.declared.end.End.TheVariants as end
 use Rattle.script_run.proofs.FrontLaws.{out_more, puts_behind, puts_more, puts_none}
 use Rattle.script_run.proofs.CutLaws.{fault_comes, long_comes, place_stays, taken_cut}
 use Rattle.script_run.proofs.ToldLemmas.{CountsAll, above_counts, whole_counts, whole_told}

@@ -1,5 +1,5 @@
 -- Fronts of the bytes that a run puts.
-use Rattle.std.proofs.Common.{◌≡◌, ◌+◌, ℕ, List, [], ◌++◌, Option, Bool, inl, inr, refl, sym, ap, subst, ◌∙◌, take, length, arith}
+use Rattle.std.proofs.Common.{◌≡◌, ◌+◌, ℕ, List, [], ◌++◌, Option, inl, inr, refl, sym, ap, subst, ◌∙◌, take, length, arith}
 use Rattle.std.proofs.lemmas.Bool.Decides.{leb_tells}
 use Rattle.std.proofs.lemmas.List.{take-append-le, take_all, take_at}
 use Rattle.std.proofs.Math.Seq.{take-append-add}

@@ -1,5 +1,7 @@
 pub mod OutputLaws
 pub mod FrontLaws
+mod StreamLemmas
+mod ReadLemmas
 mod RunLemmas
 mod ToldLemmas
 pub mod CutLaws

@@ -1,16 +1,25 @@
 -- What the inner calls give.
-use Rattle.std.specs.Prelude.{◌≡◌, ◌<◌, ◌++◌, ◌∷◌, ℕ, List, [], Option, codes, ⊤}
+use Rattle.std.specs.Prelude.{◌≡◌, ◌<◌, ◌+◌, ◌-◌, ◌*◌, ◌&&◌, ℕ, not, true, false, List, [], length, take, Option, codes, if◌then◌else◌, ⊤}
 use Rattle.std.specs.Io.KnownBytes.{Appends}
+use Rattle.par_base.specs.Checked.{Checked}
 use Rattle.outside.specs.Causes.{Rose}
-use Rattle.statements.specs.Views.{StatementView}
-use Rattle.script_stream.specs.declared.stream.Stream.{Stream}
-use Rattle.script_stream.specs.Holding.{place_in}
-use Rattle.script_stream.specs.Reading.{First, Reads, ReachesEnd, ReachesFault, ReachesLong, ReachesUnread, ReachesTooMany}
-use Rattle.engine_sessions.specs.Standing.{Standing}
-use Rattle.engine_sessions.specs.Act.{act}
+use Rattle.statements.specs.Views.{StatementView, statement_view}
+use Rattle.script_stream.specs.declared.input.Next.{Next as Found}
+use Rattle.script_stream.specs.declared.input.Next.TheVariants as found
+use Rattle.script_stream.specs.Holding.{Holds, limit, place_in}
+use Rattle.script_stream.specs.Giving.{GivesStatement, Stands as StandsInput}
+use Rattle.engine_sessions.specs.Standing.{Standing, standing_of}
 use Rattle.engine_sessions.specs.EngineCoreTexts.{line}
-use Rattle.script_run.specs.Output.{text_of, next_state, out, state_after}
+use Rattle.engine_sessions.specs.declared.answer.Answer.{Answer}
+use Rattle.script_run.specs.Output.{text_of, out, state_after}
 use Rattle.script_run.specs.Statuses.{Done, Stopped, Unread, Passed, PutsFront, CutShort, fault_line}
+use Rattle.script_run.specs.Streams.{is_refused}
+use Rattle.script_run.specs.Reading.{First, Reads, ReachesEnd, ReachesFault, ReachesLong, ReachesUnread, ReachesTooMany}
+use Rattle.script_run.specs.declared.stream.Stream.{Stream}
+use Rattle.script_run.specs.declared.stream.Next.{Next}
+use Rattle.script_run.specs.declared.stream.Next.TheVariants as next
+use Rattle.script_run.specs.declared.stream.Stop.{Stop}
+use Rattle.script_run.specs.declared.stream.Stop.TheVariants as stop
 use Rattle.script_run.specs.declared.turn.Last.{Last}
 use Rattle.script_run.specs.declared.turn.Last.TheVariants as last
 use Rattle.script_run.specs.declared.turn.Turn.{Turn}
@@ -20,6 +29,44 @@ use Rattle.script_run.specs.declared.run.Ran.TheVariants as ran
 use Rattle.script_run.specs.declared.end.End.{End}
 use Rattle.script_run.specs.declared.end.End.TheVariants as end
 
+-- ---- one statement
+
+-- the lines that answer a statement, and whether it was refused
+abbrev pub IsReplyTo : Checked (Answer × Standing) → Next → Type 0
+IsReplyTo answered (next.Reply text refused) = (text ≡ text_of answered) × (refused ≡ is_refused answered)
+IsReplyTo answered next.More = ⊥
+IsReplyTo answered next.End = ⊥
+IsReplyTo answered (next.Stop reason) = ⊥
+
+-- the input gave a statement
+pub record FindsStatement (fed : List ℕ) (answered : List StatementView) (old new : Stream) (statement : StatementView) : Type 0 where
+  pub given : GivesStatement (take limit fed) answered old.input new.input statement
+  pub ends : new.input.ended ≡ true → (old.ended ≡ true) × (old.passed ≡ false)
+
+-- it gave none, for this reason
+pub record FindsNone (fed : List ℕ) (answered : List StatementView) (old new : Stream) (found : Found) : Type 0 where
+  pub holds : Holds (take limit fed) answered new.input
+  pub ends : new.input.ended ≡ true → (old.ended ≡ true) × (old.passed ≡ false)
+  pub there : StandsInput (take limit fed) answered new.input found
+
+-- what the input gives behind the statements that were answered; where it wants more, the stream is as it was, and the end wasn't told
+-- or doesn't count
+abbrev pub FindsNext : List ℕ → List StatementView → Stream → Stream → Found → Type 0
+FindsNext fed answered old new (found.Statement statement) = FindsStatement fed answered old new (statement_view statement)
+FindsNext fed answered old new found.More = FindsNone fed answered old new found.More × (new ≡ old) × (old.ended && not old.passed ≡ false)
+FindsNext fed answered old new f = FindsNone fed answered old new f
+
+-- ---- the source
+
+-- how much may still come of a stream: bytes up to the limit, the end, and statements
+abbrev pub room_in : Stream → ℕ
+room_in s = 2 * (limit - (s.input.before + length s.input.bytes.items)) + (if s.ended then 0 else 1) + (limit - place_in s.input)
+
+-- what stands behind the statements where a script goes no further
+abbrev pub last_of : Stop → Last
+last_of (stop.Syntax line column) = last.Fault line column
+last_of stop.TooLong = last.Long
+
 -- what stands behind these statements of the source
 abbrev pub Reached : Option (List ℕ) → Option (List ℕ) → ℕ → ℕ → List StatementView → Last → Type 0
 Reached left left' was is sts last.Over = ReachesEnd left left' was is sts
@@ -28,41 +75,12 @@ Reached left left' was is sts last.Long = ReachesLong left left' was is sts
 Reached left left' was is sts last.Unread = ReachesUnread left left' was is sts
 Reached left left' was is sts last.TooMany = ReachesTooMany left left' was is sts
 
--- some statements of the source were given
-abbrev pub IsReading : Option (List ℕ) → ℕ → Stream → Type 0
-IsReading left' is s = (left : Option (List ℕ)) × (was : ℕ) × (sts : List StatementView) × Reads left left' was is sts s
-
--- ---- one statement
-
--- it was carried out, and the lines that answer it were put
-abbrev pub RunsOne : StatementView → Option (List ℕ) → Option (List ℕ) → Standing → Standing → Type 0
-RunsOne statement held held' s s' = Appends held held' (text_of (act s statement)) × (s' ≡ next_state s (act s statement))
-
--- a statement was carried out, and the sink's bytes and count of faults are, before and now
-abbrev pub Answers : StatementView → Option (List ℕ) → Option (List ℕ) → ℕ → ℕ → Standing → Standing → Turn → Type 0
-Answers statement held held' was is s s' turn.Ran = RunsOne statement held held' s s'
-Answers statement held held' was is s s' (turn.Stops last) = ⊥
-Answers statement held held' was is s s' turn.Memory = held' ≡ held
-Answers statement held held' was is s s' turn.Unwritten = Rose was is × PutsFront held held' (text_of (act s statement))
-
--- the next statement was taken from the source and carried out
-pub record TakesOne (left left' : Option (List ℕ)) (was is : ℕ) (sts : List StatementView) (old new : Stream) (statement : StatementView) : Type 0 where
-  pub reads : Reads left left' was is (sts ++ statement ∷ []) new
-  pub on : place_in old < place_in new
-
--- what a turn leaves: of the source what is left and its count of faults, of the sink its bytes and its count, and the state, before and now
-abbrev pub Turns : Option (List ℕ) → Option (List ℕ) → ℕ → ℕ → List StatementView → Stream → Stream → Option (List ℕ) → Option (List ℕ) → ℕ → ℕ → Standing → Standing → Turn → Type 0
-Turns left left' read read' sts old new held held' was is s s' turn.Ran =
-    (statement : StatementView) × TakesOne left left' read read' sts old new statement × RunsOne statement held held' s s'
-Turns left left' read read' sts old new held held' was is s s' (turn.Stops last) = Reached left left' read read' sts last × (held' ≡ held) × (s' ≡ s)
-Turns left left' read read' sts old new held held' was is s s' turn.Memory = (read' ≡ read) × First left sts × (held' ≡ held)
-Turns left left' read read' sts old new held held' was is s s' turn.Unwritten =
-    Rose was is × (read' ≡ read) × (statement : StatementView) × First left (sts ++ statement ∷ []) × PutsFront held held' (text_of (act s statement))
-
--- a turn counts no fault of the sink where it isn't the sink that failed
-abbrev pub TurnStays : ℕ → ℕ → Turn → Type 0
-TurnStays was is turn.Unwritten = ⊤
-TurnStays was is _ = is ≡ was
+-- a piece was fed, or the end told; or no more comes of the source
+abbrev pub Feeds : Standing → Option (List ℕ) → Option (List ℕ) → ℕ → ℕ → List StatementView → Stream → Stream → Turn → Type 0
+Feeds from left left' was is sts old new turn.Goes = Reads from left left' was is sts new × (room_in new < room_in old) × (new.going ≡ true)
+Feeds from left left' was is sts old new (turn.Stops last) = Reached left left' was is sts last
+Feeds from left left' was is sts old new turn.Memory = (is ≡ was) × First left sts
+Feeds from left left' was is sts old new turn.Unwritten = ⊥
 
 -- ---- all statements
 
@@ -78,6 +96,32 @@ pub record RunsFront (from : Standing) (left : Option (List ℕ)) (held held' : 
   pub statements : List StatementView
   pub first : First left statements
   pub put : PutsFront held held' (out from statements)
+
+-- statements of the source were answered, they brought the state about, and their lines were put
+pub record RanSoFar (from : Standing) (left left' : Option (List ℕ)) (read read' : ℕ) (held held' : Option (List ℕ)) (stream : Stream) : Type 0 where
+  pub statements : List StatementView
+  pub reads : Reads from left left' read read' statements stream
+  pub put : Appends held held' (out from statements)
+
+-- what a turn leaves
+abbrev pub Turns : Standing → Option (List ℕ) → Option (List ℕ) → ℕ → ℕ → Option (List ℕ) → Option (List ℕ) → ℕ → ℕ → Stream → Stream → Turn → Type 0
+Turns from left left' read read' held held' was is old new turn.Goes =
+    RanSoFar from left left' read read' held held' new × (room_in new < room_in old) × (new.going ≡ true)
+Turns from left left' read read' held held' was is old new (turn.Stops last) = RunsTo from (standing_of new.sessions) left left' read read' held held' last
+Turns from left left' read read' held held' was is old new turn.Memory = (read' ≡ read) × RunsFront from left held held'
+Turns from left left' read read' held held' was is old new turn.Unwritten = Rose was is × (read' ≡ read) × RunsFront from left held held'
+
+-- lines were put, or a front of them
+abbrev pub PutsReply : List ℕ → Option (List ℕ) → Option (List ℕ) → ℕ → ℕ → Turn → Type 0
+PutsReply text held held' was is turn.Goes = Appends held held' text × (is ≡ was)
+PutsReply text held held' was is (turn.Stops last) = ⊥
+PutsReply text held held' was is turn.Memory = ⊥
+PutsReply text held held' was is turn.Unwritten = Rose was is × PutsFront held held' text
+
+-- a turn counts no fault of the sink where it isn't the sink that failed
+abbrev pub TurnStays : ℕ → ℕ → Turn → Type 0
+TurnStays was is turn.Unwritten = ⊤
+TurnStays was is _ = is ≡ was
 
 -- what the turns leave
 abbrev pub Runs : Standing → Standing → Option (List ℕ) → Option (List ℕ) → ℕ → ℕ → Option (List ℕ) → Option (List ℕ) → ℕ → ℕ → Ran → Type 0

@@ -3,6 +3,8 @@ pub mod Moves
 pub mod Statuses
 pub mod Calls
 pub mod Kept
+pub mod Streams
+pub mod Reading
 pub use Rattle.engine_sessions.specs.Standing
 pub use Rattle.engine_sessions.specs.Act
 pub use Rattle.engine_sessions.specs.declared.answer.Answer

@@ -1,5 +1,5 @@
 -- What moves change for their script: no reply but their own and those of SHOW LAYOUT.
-use Rattle.std.specs.Prelude.{◌≡◌, ℕ, Bool, true, false, not, cond, List, [], ◌∷◌, filter, Option}
+use Rattle.std.specs.Prelude.{◌≡◌, ℕ, Bool, true, not, cond, List, [], ◌∷◌, filter, Option}
 use Rattle.std.specs.Io.KnownBytes.{Consumes, Appends}
 use Rattle.statements.specs.Views.{StatementView, ShowLayout}
 use Rattle.bidel_script.specs.Script.{IsScript}

@@ -5,7 +5,7 @@ use Rattle.outside.specs.Causes.{Rose}
 use Rattle.statements.specs.Views.{StatementView}
 use Rattle.bidel_script.specs.Places.{Place, place_of}
 use Rattle.bidel_script.specs.Script.{IsScript, Comes, Outcome, Over, Fault, Long, Open}
-use Rattle.script_stream.specs.Reading.{SeenSoon}
+use Rattle.script_run.specs.Reading.{SeenSoon}
 use Rattle.engine_sessions.specs.EngineCoreTexts.{line}
 use Rattle.engine_sessions.specs.Standing.{Standing}
 use Rattle.script_run.specs.Output.{out, state_after}

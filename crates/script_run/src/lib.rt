@@ -1,9 +1,10 @@
 //! The run of a script: its bytes in, the lines that answer its statements out, from any standing on.
 //!
-//! It takes the whole script, has it cut into tokens, and then takes one statement after the other: each is found at the front,
-//! carried out by the engine and answered at once. Which statements some bytes fix, and what stands behind them, is said by
-//! `bidel_script`. `specs/Output.antt` says which lines answer statements, and which state is behind them;
-//! `specs/Statuses.antt` says how a run ends.
+//! A `Stream` is a script that comes in pieces, with the engine that answers it: whoever holds one open feeds pieces and takes the
+//! replies, each as soon as the pieces fix its statement (`specs/Streams.antt`), however the bytes are cut. `run_source` does so with
+//! the bytes of a source: a piece is taken only where all statements were answered that the bytes before it fix. Which statements
+//! some bytes fix, and what stands behind them, is said by `bidel_script`; `specs/Output.antt` says which lines answer statements, and
+//! which state is behind them; `specs/Statuses.antt` says how a run ends.
 //!
 //! The crates above are promised that a run that is done took a script, put exactly the lines that
 //! answer its statements and left the state behind them (`Done`); that a run which a fault, a failed
@@ -18,15 +19,19 @@
 //! `OutputLaws`, `SpelledLaws` and `MoveLaws`.
 #![tactic(auto)]
 
+mod answer;
 mod end;
 mod laws;
 mod lines;
 mod run;
 mod script;
 mod source;
+mod stream;
+mod taking;
 mod turn;
 
 pub use end::End;
 pub use engine_sessions::{Engine, Sessions, named_statements_need_no_session};
 pub use laws::{moves_change_no_reply, text_is_one};
 pub use source::run_source;
+pub use stream::{Next, Stop, Stream};

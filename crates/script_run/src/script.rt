@@ -1,24 +1,23 @@
 //! The statements of a source, and the last line.
 ghost use Rattle.std.specs.Prelude.{◌≡◌, ◌≤◌, []};
-ghost use Rattle.script_stream.specs.Holding.{Holds};
 ghost use Rattle.engine_sessions.specs.Standing.{kept_in, standing_of};
 ghost use Rattle.script_run.specs.Kept.{Keeps};
+ghost use Rattle.script_run.specs.Streams.{AwaitsBytes, Stands};
 ghost use Rattle.script_run.specs.Calls.{PutsLine, RunStays, Runs, last_text};
 
 use crate::lines::syntax_line;
 use crate::run::{Ran, run_statements};
+use crate::stream::Stream;
 use crate::turn::Last;
-use engine_sessions::Sessions;
 use expr_lang::Steps;
 use outside::{Failed, Sink, Source, write_all};
-use script_stream::Stream;
 use std::alloc::Global;
 use std::sync::ledger::{Blank, Ledger};
 
 /// Carries out and answers each statement of the source.
 pub fn run_script<S: Source, K: Sink, L: Ledger>(
     alloc: Global,
-    sessions: &mut Sessions,
+    stream: &mut Stream,
     script: &mut S,
     out: &mut K,
     blank: Blank,
@@ -26,17 +25,18 @@ pub fn run_script<S: Source, K: Sink, L: Ledger>(
     requires name { blank.name ≡ L.name }
     requires parts { blank.parts ≡ L.parts }
     requires one { blank.parts ≡ 1 }
-    ensures runs { Runs (standing_of sessions.old) (standing_of sessions.new) (S.left script.old)
-        (S.left script.new) (S.faults script.old) (S.faults script.new) (K.held out.old)
-        (K.held out.new) (K.faults out.old) (K.faults out.new) result }
+    requires new { Stands (standing_of stream.old.sessions) [] [] stream.old }
+    requires awaits { AwaitsBytes stream.old }
+    ensures runs { Runs (standing_of stream.old.sessions) (standing_of stream.new.sessions)
+        (S.left script.old) (S.left script.new) (S.faults script.old) (S.faults script.new)
+        (K.held out.old) (K.held out.new) (K.faults out.old) (K.faults out.new) result }
     ensures stays { RunStays (K.faults out.old) (K.faults out.new) result }
-    ensures keeps { Keeps (kept_in sessions.old) (kept_in sessions.new) }
+    ensures keeps { Keeps (kept_in stream.old.sessions) (kept_in stream.new.sessions) }
     ensures later_read { S.faults script.old ≤ S.faults script.new }
     ensures later_write { K.faults out.old ≤ K.faults out.new }
 {
     let mut steps = Steps::<L>::new(blank);
-    let mut stream = Stream::new(alloc);
-    run_statements(alloc, sessions, &mut stream, script, out, &mut steps)
+    run_statements(alloc, stream, script, out, &mut steps)
 }
 
 // Puts a line.

@@ -1,14 +1,15 @@
 //! The run of a source.
-ghost use Rattle.std.specs.Prelude.{◌≡◌, ◌≤◌};
+ghost use Rattle.std.specs.Prelude.{◌≡◌, ◌≤◌, []};
 ghost use Rattle.engine_sessions.specs.Standing.{kept_in, standing_of};
 ghost use Rattle.script_run.specs.Kept.{Keeps};
+ghost use Rattle.script_run.specs.Streams.{AwaitsBytes, Stands};
 ghost use Rattle.script_run.specs.Calls.{EndStays, Ends, end_of};
 
 use crate::end::End;
 use crate::run::Ran;
 use crate::script::{put_last, run_script};
+use crate::stream::Stream;
 use crate::turn::Last;
-use engine_sessions::Sessions;
 use outside::{Sink, Source};
 use std::alloc::Global;
 use std::marker::Brand;
@@ -28,7 +29,7 @@ fn end(ran: Ran) -> End
     }
 }
 
-/// Carries out and answers each statement of the source, from the sessions' database on; then the last line is put, where there is one.
+/// Carries out and answers each statement of the source by a stream to which nothing was fed; then the last line is put, where there is one.
 /// Bytes are taken in pieces of at most 4,096, and each statement is answered before more bytes are taken than show that it ends.
 /// Before the last line of a fault, a failed read or too many bytes stand the replies to the statements that were known to end; and
 /// where a fault or a statement that is too long ends the run, no more than its last piece was taken beyond it.
@@ -37,19 +38,21 @@ fn end(ran: Ran) -> End
 /// each piece, with the unfinished statement before it, into tokens.
 pub fn run_source<S: Source, K: Sink>(
     alloc: Global,
-    sessions: &mut Sessions,
+    stream: &mut Stream,
     script: &mut S,
     out: &mut K,
 ) -> End
-    ensures ends { Ends (standing_of sessions.old) (standing_of sessions.new) (S.left script.old)
-        (S.left script.new) (S.faults script.old) (S.faults script.new) (K.held out.old)
-        (K.held out.new) (K.faults out.old) (K.faults out.new) result }
+    requires new { Stands (standing_of stream.old.sessions) [] [] stream.old }
+    requires awaits { AwaitsBytes stream.old }
+    ensures ends { Ends (standing_of stream.old.sessions) (standing_of stream.new.sessions)
+        (S.left script.old) (S.left script.new) (S.faults script.old) (S.faults script.new)
+        (K.held out.old) (K.held out.new) (K.faults out.old) (K.faults out.new) result }
     ensures stays { EndStays (K.faults out.old) (K.faults out.new) result }
-    ensures keeps { Keeps (kept_in sessions.old) (kept_in sessions.new) }
+    ensures keeps { Keeps (kept_in stream.old.sessions) (kept_in stream.new.sessions) }
     ensures later_read { S.faults script.old ≤ S.faults script.new }
     ensures later_write { K.faults out.old ≤ K.faults out.new }
 {
-    match run_script::<S, K, Brand>(alloc, sessions, script, out, Blank::new(1)) {
+    match run_script::<S, K, Brand>(alloc, stream, script, out, Blank::new(1)) {
         Ran::Stops(last) => end(put_last(alloc, last, out)),
         Ran::Memory => End::Memory,
         Ran::Unwritten => End::Unwritten,

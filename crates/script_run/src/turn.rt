@@ -1,23 +1,15 @@
-//! One statement: taken from the source, carried out and answered.
-ghost use Rattle.std.specs.Prelude.{◌≡◌, ◌≤◌, ℕ, List, Option, IfOk, OnOk};
-ghost use Rattle.expr_lang.specs.Operations.{text_limit};
-ghost use Rattle.statements.specs.Views.{StatementView, statement_view};
-ghost use Rattle.statements.specs.Texts.{TextsWithin};
-ghost use Rattle.script_stream.specs.Giving.{IsWritten};
-ghost use Rattle.script_stream.specs.Reading.{Reads};
-ghost use Rattle.engine_sessions.specs.Spoken.{TextsCome};
-ghost use Rattle.engine_sessions.specs.Standing.{kept_in, standing_of};
-ghost use Rattle.engine_sessions.specs.Act.{act};
-ghost use Rattle.script_run.specs.Output.{next_state, text_of};
+//! One turn: what comes of the stream is put, or a piece is fed.
+ghost use Rattle.std.specs.Prelude.{◌≡◌, ◌≤◌, ℕ, List, Option, true};
+ghost use Rattle.engine_sessions.specs.Standing.{Standing, kept_in};
 ghost use Rattle.script_run.specs.Kept.{Keeps};
-ghost use Rattle.script_run.specs.Calls.{Answers, IsReading, Turns, TurnStays};
+ghost use Rattle.script_run.specs.Streams.{IsStream};
+ghost use Rattle.script_run.specs.Calls.{PutsReply, RanSoFar, Turns, TurnStays, last_of as last_of_lem};
 
-use engine_sessions::{Sessions, answer_text, refusal_text};
+use crate::stream::{Next, Stop, Stream};
+use crate::taking::take_piece;
 use expr_lang::Steps;
 use outside::{Failed, Sink, Source, write_all};
-use par_base::{Fault, Memory, Text};
-use script_stream::{Given, Stream, next_statement};
-use statements::Statement;
+use par_base::Text;
 use std::alloc::Global;
 use std::sync::ledger::Ledger;
 
@@ -36,12 +28,12 @@ pub enum Last {
     TooMany,
 }
 
-/// What became of the next statement.
+/// What became of a turn.
 #[derive(Clone, Copy)]
 pub enum Turn {
-    /// It was carried out and answered.
-    Ran,
-    /// None comes, but this.
+    /// A statement was answered, or a piece fed.
+    Goes,
+    /// All statements that are known to end were answered, and this stands behind them.
     Stops(Last),
     /// Memory ran out.
     Memory,
@@ -49,83 +41,53 @@ pub enum Turn {
     Unwritten,
 }
 
-// Carries out a statement, and gives the lines that answer it.
-fn answer<L: Ledger>(
-    alloc: Global,
-    sessions: &mut Sessions,
-    statement: Statement,
-    steps: &mut Steps<L>,
-) -> Result<Text, Memory>
-    requires { TextsWithin text_limit (statement_view statement) }
-    ensures text { IfOk result (λ text.
-        text ≡ text_of (act (standing_of sessions.old) (statement_view statement))) }
-    ensures next { OnOk result (standing_of sessions.new ≡ next_state (standing_of sessions.old)
-        (act (standing_of sessions.old) (statement_view statement))) }
-    ensures texts { TextsCome (statement_view statement) (kept_in sessions.old).graph.edges
-        (kept_in sessions.new).graph.edges }
-    ensures limit { (kept_in sessions.new).ids.limit ≡ (kept_in sessions.old).ids.limit }
+// What stands behind the statements where a script goes no further.
+fn last_of(stop: Stop) -> Last
+    ensures { result ≡ last_of_lem stop }
 {
-    match sessions.event(alloc, statement, steps) {
-        Ok(answer) => answer_text(alloc, &answer),
-        Err(Fault::Refused(refusal)) => refusal_text(alloc, &refusal),
-        Err(Fault::Memory(memory)) => Err(memory),
+    match stop {
+        Stop::Syntax { line, column } => Last::Fault { line, column },
+        Stop::TooLong => Last::Long,
     }
 }
 
-// Carries out a statement, and puts the lines that answer it.
-fn answer_one<K: Sink, L: Ledger>(
-    alloc: Global,
-    sessions: &mut Sessions,
-    statement: Statement,
-    out: &mut K,
-    steps: &mut Steps<L>,
-) -> Turn
-    requires texts { TextsWithin text_limit (statement_view statement) }
-    requires written { IsWritten (statement_view statement) }
-    ensures answers { Answers (statement_view statement) (K.held out.old) (K.held out.new)
-        (K.faults out.old) (K.faults out.new) (standing_of sessions.old) (standing_of sessions.new)
-        result }
-    ensures stays { TurnStays (K.faults out.old) (K.faults out.new) result }
-    ensures keeps { Keeps (kept_in sessions.old) (kept_in sessions.new) }
+// Puts the lines that answer a statement.
+fn put_reply<K: Sink>(text: &Text, out: &mut K) -> Turn
+    ensures puts { PutsReply text.now (K.held out.old) (K.held out.new) (K.faults out.old)
+        (K.faults out.new) result }
     ensures later { K.faults out.old ≤ K.faults out.new }
 {
-    match answer(alloc, sessions, statement, steps) {
-        Ok(text) => match write_all(out, text.as_str().as_bytes()) {
-            Ok(()) => Turn::Ran,
-            Err(Failed) => Turn::Unwritten,
-        },
-        Err(_) => Turn::Memory,
+    match write_all(out, text.as_str().as_bytes()) {
+        Ok(()) => Turn::Goes,
+        Err(Failed) => Turn::Unwritten,
     }
 }
 
-/// Takes the next statement from the source, carries it out, and puts the lines that answer it. Bytes are taken only where all
-/// statements were answered that those before fix.
+/// Puts the reply to the next statement. Where all statements were answered that the bytes fix, a piece is taken from the source.
 pub fn take_turn<S: Source, K: Sink, L: Ledger>(
     alloc: Global,
-    sessions: &mut Sessions,
     stream: &mut Stream,
     script: &mut S,
     out: &mut K,
     steps: &mut Steps<L>,
 ) -> Turn
-    requires { IsReading (S.left script.old) (S.faults script.old) stream.old }
-    ensures turns { (left : Option (List ℕ)) (was : ℕ) (sts : List StatementView)
-        → Reads left (S.left script.old) was (S.faults script.old) sts stream.old
-        → Turns left (S.left script.new) was (S.faults script.new) sts stream.old stream.new
-        (K.held out.old) (K.held out.new) (K.faults out.old) (K.faults out.new)
-        (standing_of sessions.old) (standing_of sessions.new) result }
+    requires stream { IsStream stream.old }
+    requires going { stream.old.going ≡ true }
+    ensures turns { (from : Standing) (left : Option (List ℕ)) (was : ℕ)
+        (held : Option (List ℕ)) → RanSoFar from left (S.left script.old) was
+        (S.faults script.old) held (K.held out.old) stream.old
+        → Turns from left (S.left script.new) was (S.faults script.new) held (K.held out.new)
+        (K.faults out.old) (K.faults out.new) stream.old stream.new result }
     ensures stays { TurnStays (K.faults out.old) (K.faults out.new) result }
-    ensures keeps { Keeps (kept_in sessions.old) (kept_in sessions.new) }
+    ensures keeps { Keeps (kept_in stream.old.sessions) (kept_in stream.new.sessions) }
     ensures later_read { S.faults script.old ≤ S.faults script.new }
     ensures later_write { K.faults out.old ≤ K.faults out.new }
 {
-    match next_statement(alloc, stream, script) {
-        Given::Statement(statement) => answer_one(alloc, sessions, statement, out, steps),
-        Given::Over => Turn::Stops(Last::Over),
-        Given::Fault { line, column } => Turn::Stops(Last::Fault { line, column }),
-        Given::Long => Turn::Stops(Last::Long),
-        Given::Unread => Turn::Stops(Last::Unread),
-        Given::TooMany => Turn::Stops(Last::TooMany),
-        Given::Memory => Turn::Memory,
+    match stream.next(alloc, steps) {
+        Ok(Next::Reply { text, .. }) => put_reply(&text, out),
+        Ok(Next::More) => take_piece(alloc, stream, script),
+        Ok(Next::End) => Turn::Stops(Last::Over),
+        Ok(Next::Stop(stop)) => Turn::Stops(last_of(stop)),
+        Err(_) => Turn::Memory,
     }
 }

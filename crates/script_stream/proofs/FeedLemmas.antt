@@ -1,4 +1,4 @@
--- What a stream holds as pieces come.
+-- What an input holds as pieces come.
 use Rattle.std.proofs.Common.{◌≡◌, ◌+◌, ◌-◌, ◌++◌, ℕ, List, [], Bool, false, refl, sym, ap, subst, ◌∙◌, take, drop, length, arith, append_assoc, append-nil, length-append, length-drop}
 use Rattle.std.proofs.lemmas.List.{length-take-le, take-append-drop}
 use Rattle.bidel_lex.specs.declared.tokens.Token.{Token}
@@ -13,21 +13,21 @@ use Rattle.bidel_script.specs.Moved.{ComesBehind, end_behind, moved}
 use Rattle.bidel_script.specs.Calls.{place_view}
 use Rattle.bidel_script.proofs.BlanksLaws.{blanks_go, passed_all, passed_within}
 use Rattle.bidel_script.proofs.PlaceLaws.{behind_all-append}
-use Rattle.script_stream.specs.declared.stream.Stream.{Stream}
-use Rattle.script_stream.specs.Holding.{Holds, IsStream}
-use Rattle.script_stream.specs.declared.stream.Kept.{Kept}
+use Rattle.script_stream.specs.declared.input.Input.{Input}
+use Rattle.script_stream.specs.Holding.{Holds, IsInput}
+use Rattle.script_stream.specs.declared.input.Kept.{Kept}
 use Rattle.script_stream.specs.Calls.{IsKept, Refilled}
 use Rattle.script_stream.proofs.PassedLemmas.{comes_passed, moved_again, moved_none}
-use Rattle.script_stream.proofs.HoldLemmas.{comes_used, end_within, going_on}
+use Rattle.script_stream.proofs.HoldLaws.{comes_used, end_within, going_on}
 
 -- ---- pieces
 
 -- the bytes behind those of the statements that were given, and a piece more
-abbrev pub left_with : Stream → List ℕ → List ℕ
+abbrev pub left_with : Input → List ℕ → List ℕ
 left_with old piece = drop (end_behind old.tokens.items old.used) old.bytes.items ++ piece
 
 -- the bytes of the statements that were given went, a piece came, and white space and comments went
-pub record Fresh (old : Stream) (piece : List ℕ) (kept : Kept) (new : Stream) : Type 0 where
+pub record Fresh (old : Input) (piece : List ℕ) (kept : Kept) (new : Input) : Type 0 where
   pub behind : Place
   pub gone : behind ≡ behind_all (place_view old.place) (take (end_behind old.tokens.items old.used) old.bytes.items)
   pub is_kept : IsKept (left_with old piece) old.inside behind kept
@@ -39,7 +39,7 @@ pub record Fresh (old : Stream) (piece : List ℕ) (kept : Kept) (new : Stream) 
   pub before : new.before ≡ old.before + end_behind old.tokens.items old.used + kept.passed
   pub place : place_view new.place ≡ place_view kept.place
 
-module _ (fed : List ℕ) (given : List StatementView) (old new : Stream) (piece : List ℕ) (kept : Kept) (f : Fresh old piece kept new) (h : Holds fed given old) (wants : old.tail.last ≡ lexed.More) where
+module _ (fed : List ℕ) (given : List StatementView) (old new : Input) (piece : List ℕ) (kept : Kept) (f : Fresh old piece kept new) (h : Holds fed given old) (wants : old.tail.last ≡ lexed.More) where
   abbrev k : ℕ
   k = end_behind old.tokens.items old.used
 
@@ -120,7 +120,7 @@ module _ (fed : List ℕ) (given : List StatementView) (old new : Stream) (piece
     leads = f.used;
   }
 
-pub refills : (old new : Stream) (piece : List ℕ) (kept : Kept) → IsStream old → Fresh old piece kept new → Refilled old piece new.ended new
+pub refills : (old new : Input) (piece : List ℕ) (kept : Kept) → IsInput old → Fresh old piece kept new → Refilled old piece new.ended new
 refills old new piece kept is f =
     let k = end_behind old.tokens.items old.used in
     let n = first_byte old.inside 0 (left_with old piece) in
@@ -135,8 +135,8 @@ refills old new piece kept is f =
 
 -- ---- nothing was fed
 
--- the stream to which nothing was fed
-pub holds_none : (s : Stream) → s.bytes.items ≡ [] → s.tokens.items ≡ [] → s.tail ≡ record { last = lexed.More; begun = 0 } → s.used ≡ 0 → s.before ≡ 0 → s.ended ≡ false
+-- the input to which nothing was fed
+pub holds_none : (s : Input) → s.bytes.items ≡ [] → s.tokens.items ≡ [] → s.tail ≡ record { last = lexed.More; begun = 0 } → s.used ≡ 0 → s.before ≡ 0 → s.ended ≡ false
     → s.inside ≡ false → place_view s.place ≡ start → Holds [] [] s
 unfolding next_of lexed_at first_byte behind_all
 holds_none s bytes tokens tail used before ended inside place = record {

@@ -1,4 +1,3 @@
 mod PassedLemmas
-mod HoldLemmas
+pub mod HoldLaws
 mod FeedLemmas
-pub mod ReadLaws

@@ -1,4 +1,4 @@
--- What a stream holds of the bytes that were fed to it.
+-- What an input holds of the bytes that were fed to it.
 use Rattle.std.specs.Prelude.{◌≡◌, ◌≤◌, ◌+◌, ◌++◌, ℕ, Bool, true, List, [], length}
 use Rattle.statements.specs.Views.{StatementView}
 use Rattle.bidel_script.specs.Places.{behind_all, start}
@@ -6,7 +6,7 @@ use Rattle.bidel_script.specs.Tails.{AreAll, Fits}
 use Rattle.bidel_script.specs.Script.{Leads, Comes, Outcome}
 use Rattle.bidel_script.specs.Moved.{ComesBehind, end_behind, moved}
 use Rattle.bidel_script.specs.Calls.{place_view}
-use Rattle.script_stream.specs.declared.stream.Stream.{Stream}
+use Rattle.script_stream.specs.declared.input.Input.{Input}
 
 -- the greatest number of bytes of a script
 abbrev pub limit : ℕ
@@ -19,7 +19,7 @@ Follows before early inside bytes = (more : List ℕ) (ended : Bool) (rest : Lis
 
 -- these bytes were fed, and these of their statements were given; the bytes of the early ones are gone, with the white space and comments
 -- behind them; no bytes are left where a comment is open
-pub record Holds (fed : List ℕ) (given : List StatementView) (s : Stream) : Type 0 where
+pub record Holds (fed : List ℕ) (given : List StatementView) (s : Input) : Type 0 where
   pub before : List ℕ
   pub early : List StatementView
   pub later : List StatementView
@@ -34,9 +34,9 @@ pub record Holds (fed : List ℕ) (given : List StatementView) (s : Stream) : Ty
   pub leads : Leads s.bytes.items s.tail s.tokens.items later s.used
 
 -- how many bytes of the script stand before the first statement that wasn't given
-abbrev pub place_in : Stream → ℕ
+abbrev pub place_in : Input → ℕ
 place_in s = s.before + end_behind s.tokens.items s.used
 
 -- bytes within the limit were fed, and some of their statements were given
-abbrev pub IsStream : Stream → Type 0
-IsStream s = (fed : List ℕ) × (given : List StatementView) × Holds fed given s × (length fed ≤ limit)
+abbrev pub IsInput : Input → Type 0
+IsInput s = (fed : List ℕ) × (given : List StatementView) × Holds fed given s × (length fed ≤ limit)

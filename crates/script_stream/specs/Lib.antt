@@ -1,4 +1,3 @@
 pub mod Holding
 pub mod Giving
-pub mod Reading
 pub mod Calls

@@ -1,6 +1,5 @@
 use Rattle.std.proofs.Common.{sym, arith}
-use Rattle.serde_json.specs.View.{items_view, view}
-use Rattle.dump_formats.specs.inner.Read.{ReadsCounts}
+use Rattle.serde_json.specs.View.{view}
 use Rattle.dump_formats.proofs.FoundLemmas.{counts_found, counts_length, counts_none, reads_of}
 use Rattle.dump_formats.proofs.accesses.read_counts.Goals as goal
 

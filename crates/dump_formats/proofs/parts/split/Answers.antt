@@ -1,5 +1,5 @@
-use Rattle.std.specs.Prelude.{Some, None, codes, option_map}
-use Rattle.std.proofs.Common.{◌≡◌, inl, inr, sym, ap, ◌∙◌}
+use Rattle.std.specs.Prelude.{codes, option_map}
+use Rattle.std.proofs.Common.{inl, inr, sym, ap, ◌∙◌}
 use Rattle.serde_json.specs.Find.{get}
 use Rattle.serde_json.specs.View.{view}
 use Rattle.dump_formats.specs.Formats.{first_of}

@@ -1,17 +1,17 @@
-use Rattle.std.proofs.Common.{◌≡◌, ◌≤◌, ◌-◌}
+use Rattle.std.proofs.Common.{◌≡◌, ◌≤◌, true}
 use Rattle.engine_sessions.specs.Standing.{kept_in, standing_of}
-use Rattle.script_stream.specs.Holding.{limit, place_in}
 use Rattle.script_run.specs.Kept.{Keeps}
-use Rattle.script_run.proofs.RunLemmas.{RanSoFar}
+use Rattle.script_run.specs.Calls.{RanSoFar, room_in}
 use Rattle.script_run.proofs.run.run_statements.Given as goal
 
 abbrev pub invariant-loop-last : goal.invariant-loop-last
 invariant-loop-last g l = record {
-  so_far : RanSoFar (standing_of l.fn.sessions) (g.S.Source.left l.fn.script) (g.S.Source.faults l.fn.script) (g.S.Source.left l.script) (g.S.Source.faults l.script) l.stream (g.K.Sink.held l.fn.out) (g.K.Sink.held l.out) (standing_of l.sessions);
-  keeps : Keeps (kept_in l.fn.sessions) (kept_in l.sessions);
+  so_far : RanSoFar (standing_of l.fn.stream.sessions) (g.S.Source.left l.fn.script) (g.S.Source.left l.script) (g.S.Source.faults l.fn.script) (g.S.Source.faults l.script) (g.K.Sink.held l.fn.out) (g.K.Sink.held l.out) l.stream;
+  going : l.stream.going ≡ true;
+  keeps : Keeps (kept_in l.fn.stream.sessions) (kept_in l.stream.sessions);
   stays : g.K.Sink.faults l.out ≡ g.K.Sink.faults l.fn.out;
   later : g.S.Source.faults l.fn.script ≤ g.S.Source.faults l.script;
 }
 
 abbrev pub decreases-loop-last : goal.decreases-loop-last
-decreases-loop-last g l = limit - place_in l.stream
+decreases-loop-last g l = room_in l.stream

@@ -1,27 +1,57 @@
-use Rattle.std.proofs.Common.{refl}
+use Rattle.std.proofs.Common.{◌∙◌, ap, subst, sym}
 use Rattle.engine_sessions.specs.Standing.{standing_of}
-use Rattle.statements.specs.Views.{statement_view}
-use Rattle.script_stream.proofs.ReadLaws.{reads_stream}
-use Rattle.script_run.proofs.RunLemmas.{turn_next}
+use Rattle.script_run.specs.declared.stream.Stream.{Stream}
+use Rattle.script_run.specs.declared.turn.Last.{Last}
+use Rattle.script_run.specs.Calls.{Reached}
+use Rattle.script_run.proofs.ReadLemmas.{reaches_end, reaches_stop, reads_first, stop_stands, waits_more}
+use Rattle.script_run.proofs.RunLemmas.{ran_memory, ran_stops, turn_piece, turn_reply}
 use Rattle.script_run.proofs.turn.take_turn.Goals as goal
 
-pub next_statement-requires : goal.next_statement-requires
-next_statement-requires g c = reads_stream c.requires.0 (g.S.Source.left c.args.script.now) c.requires.1 (g.S.Source.faults c.args.script.now) c.requires.2 c.args.stream.now c.requires.3
+pub take_piece-requires-clause-stream : goal.take_piece-requires-clause-stream
+take_piece-requires-clause-stream g c =
+    let s = c.requires.stream in
+    let m = (rw c.in-Ok-More.field-0-is at c.in-Ok-More.ensures.gives) s.0 s.1 s.2 s.3 in (s.0, s.1, s.2, m.0)
 
-pub answer_one-requires-clause-texts : goal.answer_one-requires-clause-texts
-answer_one-requires-clause-texts g c = (c.in-Statement.ensures.reaches c.requires.0 c.requires.1 c.requires.2 c.requires.3).texts
+pub take_piece-requires-clause-awaits : goal.take_piece-requires-clause-awaits
+take_piece-requires-clause-awaits g c =
+    let s = c.requires.stream in
+    ((rw c.in-Ok-More.field-0-is at c.in-Ok-More.ensures.gives) s.0 s.1 s.2 s.3).1.2
 
-pub answer_one-requires-clause-written : goal.answer_one-requires-clause-written
-answer_one-requires-clause-written g c = (c.in-Statement.ensures.reaches c.requires.0 c.requires.1 c.requires.2 c.requires.3).written
+pub returns-in-Ok-Reply-clause-turns : goal.returns-in-Ok-Reply-clause-turns
+returns-in-Ok-Reply-clause-turns g c = λ from left was held r.
+    turn_reply from left was (g.S.Source.left c.args.script.now) (g.S.Source.faults c.args.script.now) c.args.stream.now c.next.new.self held (g.K.Sink.held c.args.out.now) r (ap (λ (x : Stream). x.ended) c.next.ensures.same) c.in-Ok-Reply.text _
+    ((rw c.in-Ok-Reply.field-0-is at c.in-Ok-Reply.ensures.gives) from r.reads.bytes r.statements r.reads.stands) (rw c.in-Ok-Reply.field-0-is at c.in-Ok-Reply.ensures.open) (g.K.Sink.held c.put_reply.new.out) (g.K.Sink.faults c.args.out.now) (g.K.Sink.faults c.put_reply.new.out) c.put_reply.result c.put_reply.ensures.puts
 
-pub returns-in-Statement-clause-turns : goal.returns-in-Statement-clause-turns
-returns-in-Statement-clause-turns g c = λ left was sts reads.
-    turn_next left (g.S.Source.left c.next_statement.new.source) was (g.S.Source.faults c.args.script.now) (g.S.Source.faults c.next_statement.new.source) sts c.args.stream.now c.next_statement.new.stream
-    (g.K.Sink.held c.args.out.now) (g.K.Sink.held c.answer_one.new.out) (g.K.Sink.faults c.args.out.now) (g.K.Sink.faults c.answer_one.new.out) (standing_of c.args.sessions.now) (standing_of c.answer_one.new.sessions)
-    (statement_view c.in-Statement.statement) c.answer_one.result (g.S.Source.left c.args.script.now) reads (c.in-Statement.ensures.reaches left was sts reads) c.answer_one.ensures.answers
+pub returns-in-Ok-More-clause-turns : goal.returns-in-Ok-More-clause-turns
+returns-in-Ok-More-clause-turns g c = λ from left was held r.
+    let gives = (rw c.in-Ok-More.field-0-is at c.in-Ok-More.ensures.gives) from r.reads.bytes r.statements r.reads.stands in
+    let waits = waits_more from left was (g.S.Source.left c.args.script.now) (g.S.Source.faults c.args.script.now) r.statements c.args.stream.now c.next.new.self r.reads (ap (λ (x : Stream). x.ended) c.next.ensures.same) gives in
+    let feeds = c.take_piece.ensures.feeds from left was r.statements waits in
+    turn_piece from left was (g.S.Source.left c.args.script.now) (g.S.Source.faults c.args.script.now) c.args.stream.now c.take_piece.new.stream held (g.K.Sink.held c.args.out.now) r
+    (g.S.Source.left c.take_piece.new.source) (g.S.Source.faults c.take_piece.new.source) (g.K.Sink.faults c.args.out.now) (g.K.Sink.faults c.args.out.now) c.take_piece.result
+    (ap standing_of c.take_piece.ensures.sessions ∙ ap (λ (x : Stream). standing_of x.sessions) gives.1.0) (rw gives.1.0 at feeds)
 
-pub returns-in-TooMany-clause-turns : goal.returns-in-TooMany-clause-turns
-returns-in-TooMany-clause-turns g c = λ left was sts reads. (c.in-TooMany.ensures.reaches left was sts reads, refl, refl)
+pub returns-in-Ok-End-clause-turns : goal.returns-in-Ok-End-clause-turns
+returns-in-Ok-End-clause-turns g c = λ from left was held r.
+    let gives = (rw c.in-Ok-End.field-0-is at c.in-Ok-End.ensures.gives) from r.reads.bytes r.statements r.reads.stands in
+    ran_stops from left was (g.S.Source.left c.args.script.now) (g.S.Source.faults c.args.script.now) c.args.stream.now c.next.new.self held (g.K.Sink.held c.args.out.now) r
+    (g.S.Source.left c.args.script.now) (g.S.Source.faults c.args.script.now) _
+    (reaches_end from left was (g.S.Source.left c.args.script.now) (g.S.Source.faults c.args.script.now) r.statements c.args.stream.now c.next.new.self r.reads (ap (λ (x : Stream). x.ended) c.next.ensures.same) gives)
+    (gives.0.standing ∙ sym r.reads.stands.standing)
 
-pub returns-in-Memory-clause-turns : goal.returns-in-Memory-clause-turns
-returns-in-Memory-clause-turns g c = λ left was sts reads. let x = c.in-Memory.ensures.reaches left was sts reads in (x.0, x.1, refl)
+pub returns-in-Ok-Stop-clause-turns : goal.returns-in-Ok-Stop-clause-turns
+returns-in-Ok-Stop-clause-turns g c = λ from left was held r.
+    let left' = g.S.Source.left c.args.script.now in
+    let is = g.S.Source.faults c.args.script.now in
+    let gives = (rw c.in-Ok-Stop.field-0-is at c.in-Ok-Stop.ensures.gives) from r.reads.bytes r.statements r.reads.stands in
+    let same = ap (λ (x : Stream). x.ended) c.next.ensures.same in
+    ran_stops from left was left' is c.args.stream.now c.next.new.self held (g.K.Sink.held c.args.out.now) r left' is c.last_of.result
+    (subst (λ (l : Last). Reached left left' was is r.statements l) (sym c.last_of.ensures) (reaches_stop from left was left' is r.statements c.args.stream.now c.next.new.self r.reads same c.in-Ok-Stop.stop gives))
+    ((stop_stands from left was left' is r.statements c.args.stream.now c.next.new.self r.reads same c.in-Ok-Stop.stop gives).standing ∙ sym r.reads.stands.standing)
+
+pub returns-in-Err-clause-turns : goal.returns-in-Err-clause-turns
+returns-in-Err-clause-turns g c = λ from left was held r. (
+  r.reads.taken.same,
+  ran_memory from left was (g.S.Source.left c.args.script.now) (g.S.Source.faults c.args.script.now) c.args.stream.now c.next.new.self held (g.K.Sink.held c.args.out.now) r
+      (reads_first from left was (g.S.Source.left c.args.script.now) (g.S.Source.faults c.args.script.now) r.statements c.args.stream.now r.reads),
+)
