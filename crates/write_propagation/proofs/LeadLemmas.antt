@@ -128,7 +128,7 @@ module _ {O : Type 0} (meaning : O → Meaning) (laws : (o : O) → Laws (meanin
   -- ---- nothing is put
 
   abbrev none : Plan
-  none = record { stored = []; auxes = []; memories = []; ids = d.ids }
+  none = record { stored = []; auxes = []; memories = []; ids = d.ids; changed = [] }
 
   still : IsPlanTo meaning d s none
   still = record {

@@ -1,6 +1,6 @@
 -- The plan of what was made of what is seen of a tree is the plan of the whole write.
 use Rattle.std.specs.Option.{option_map_or}
-use Rattle.std.proofs.Common.{◌≡◌, ℕ, ◌<◌, ◌≤◌, List, [], Bool, true, false, map, Ok, Err, Option, inl, inr, refl, sym, ap, ◌∙◌, subst}
+use Rattle.std.proofs.Common.{◌≡◌, ℕ, ◌<◌, ◌≤◌, List, [], Bool, true, false, map, Ok, Err, Option, inl, inr, refl, sym, ap, ◌∙◌, subst, filter}
 use Rattle.par_base.specs.declared.fault.Fault.{Fault}
 use Rattle.par_base.specs.declared.fault.Fault.TheVariants.{Refused, Memory as OutOfMemory}
 use Rattle.par_base.specs.declared.refusal.IdsSpent.{IdsSpent}
@@ -48,6 +48,7 @@ use Rattle.write_propagation.specs.Calls.{stored_in}
 use Rattle.write_propagation.specs.Making.{IsMaking, IsPlanOf, MakesWrite, MayPlan, made_over, seen_write}
 use Rattle.write_propagation.specs.Plans.{Plans, rows_written}
 use Rattle.write_propagation.specs.Room.{HasOld}
+use Rattle.write_propagation.specs.Told.{TellsApart, TellsChanged, has_change}
 use Rattle.changes_walk.specs.Reach.{IsWhole}
 use Rattle.changes_walk.proofs.ReachLaws.{IsInside, write_reached}
 use Rattle.write_propagation.specs.Trees.{part}
@@ -56,6 +57,7 @@ use Rattle.write_propagation.specs.declared.plans.RowWrite.{RowWrite}
 use Rattle.write_propagation.specs.declared.tree.Tree.{Tree}
 use Rattle.write_propagation.proofs.ItemLemmas.{item_at, stored_apart, stored_beside}
 use Rattle.write_propagation.proofs.LeadLemmas.{IsPlanTo, leads, no_changes}
+use Rattle.write_propagation.proofs.ToldLemmas.{listed, tells_apart, unlisted}
 use Rattle.write_propagation.proofs.TreeLemmas.{outside_memory, outside_table, part_memory, part_table, same_pair}
 use Rattle.write_propagation.proofs.WholeLemmas.{lives, operators_apart, path, path_inside}
 use Rattle.id_memory.specs.Pairs.{Pairs}
@@ -252,6 +254,20 @@ module _ {O : Type 0} (meaning : O → Meaning) (laws : (o : O) → Laws (meanin
         subst (λ (n : ℕ). n ≤ first_refused d.ids) (sym shows.part.next) (subst (λ (n : ℕ). small.next ≤ n) refuses_same is.within),
         λ new puts. leads meaning laws d good end sound_end plan to new puts,
       )
+
+      -- THE TABLES THAT A WRITE CHANGES
+      pub tells_changed : TellsChanged meaning d w plan
+      tells_changed t =
+          let test : ℕ → Bool = λ n. has_change (latest_changes making.made.tables n) in
+          let last : List Change = latest_changes making.made.tables t in
+          let told : (b : Bool) → is_in t (filter test tree.tables) ≡ b → TellsApart (s.tables t) (end.tables t) b → TellsApart (s.tables t) (end.tables t) (is_in t plan.changed) =
+          λ b is tells. subst (λ (x : Bool). TellsApart (s.tables t) (end.tables t) x) (sym (ap (λ (l : List ℕ). is_in t l) for.changed ∙ is)) tells in
+          in_or_not t tree.tables (TellsApart (s.tables t) (end.tables t) (is_in t plan.changed))
+          (λ own.
+          let old : AreOld (s.tables t) last = has_rows t last own (is.pass t) _ (is.tables t) (is.fits t).1 in
+          let makes : changed (s.tables t) last ≡ end.tables t = makes_rows t last own (is.pass t) _ (is.tables t) (ap (λ (x : State). x.tables t) is.made) in
+          told (test t) (listed test t tree.tables own) (tells_apart (s.tables t) (end.tables t) last (good.sound.well.tables t).0 (is.fits t).0 old makes))
+          (λ other. told false (unlisted test t tree.tables other) (same_table t other))
 
       -- and each change has the old row of its table
       pub has_old : HasOld d plan

@@ -1,5 +1,6 @@
 pub mod Trees
 pub mod Plans
+pub mod Told
 pub mod Room
 pub mod Capacity
 pub mod Undo

@@ -32,6 +32,7 @@ use Rattle.db_state.specs.Fields.{IsDatabase, state_for}
 use Rattle.db_state.specs.declared.parts.Parts.{Parts}
 use Rattle.write_propagation.specs.Calls.{AreChangesNow, AreMemoryChangesNow, stored_in}
 use Rattle.write_propagation.specs.Plans.{rows_written}
+use Rattle.write_propagation.specs.Told.{changed_of}
 use Rattle.write_propagation.specs.Trees.{IsTree, part}
 use Rattle.write_propagation.specs.declared.copies.Copies.{Copies}
 use Rattle.write_propagation.specs.declared.making.Making.{Making}
@@ -126,9 +127,10 @@ pub record AreAuxChanges {O : Type 0} (meaning : O → Meaning) (d : Parts O) (t
 
 -- ---- the plan
 
--- the plan of what was made: the changes of the stored tables of the tree, and of the auxiliary tables and the memories of its operators
+-- the plan of what was made: the changes of the stored tables of the tree, and of the auxiliary tables and the memories of its operators; and those of its tables that get other rows
 pub record IsPlanOf {O : Type 0} (meaning : O → Meaning) (d : Parts O) (tree : Tree) (test : ℕ → Bool) (making : Making) (plan : Plan) : Type 0 where
   pub stored : AreChangesNow making.made.tables (stored_in d tree) plan.stored
   pub auxes : AreAuxChanges meaning d test making tree.operators plan.auxes
   pub memories : AreMemoryChangesNow d.memories making.made.memories tree.operators plan.memories
   pub ids : plan.ids ≡ making.made.ids
+  pub changed : plan.changed ≡ changed_of making.made.tables tree.tables

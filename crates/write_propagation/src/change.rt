@@ -1,4 +1,5 @@
 //! What a write puts into a database, and how it is taken back.
+ghost use Rattle.std.specs.Prelude.{◌≡◌};
 ghost use Rattle.db_state.specs.declared.parts.Parts.{Parts as Fields};
 ghost use Rattle.write_propagation.specs.Capacity.{HoldsAsMuch};
 ghost use Rattle.write_propagation.specs.Plans.{IsSame, Puts};
@@ -22,6 +23,7 @@ pub fn commit<O: Operator + Drop>(alloc: Global, db: &mut Db<O>, plan: Plan) -> 
     ensures puts { Puts db.old plan db.new }
     ensures undoes { Undoes O.meaning db.old db.new result }
     ensures capacity { HoldsAsMuch db.old db.new }
+    ensures changed { result.changed ≡ plan.changed }
 {
     let parts = take_parts(alloc, db);
     let stored = change_tables(parts.stored, plan.stored);
@@ -43,6 +45,7 @@ pub fn commit<O: Operator + Drop>(alloc: Global, db: &mut Db<O>, plan: Plan) -> 
         auxes: auxes.back,
         memories: memories.back,
         ids: parts.ids,
+        changed: plan.changed,
     }
 }
 

@@ -6,12 +6,14 @@
 //! into the database and takes no memory, so a write is made whole or not at all; `revert` takes it
 //! back with what `commit` gave, without memory too, and the old database is there again
 //! (`specs/Undo.antt`). None of the three lessens what tables and memories can hold without memory
-//! (`specs/Capacity.antt`), so writes in a row can be taken back one after the other. A write is carried along its own tree by its changes, and what is put in are the
-//! changes of what is kept; where every operator of the tree treats each identifier by itself, it
-//! reads the rows of the identifiers that it names, and no others. The crate knows operators by their
-//! laws alone, and nothing of names in statements or of replies.
+//! (`specs/Capacity.antt`), so writes in a row can be taken back one after the other. A plan, and what
+//! takes it back, list the table versions that get other rows (`specs/Told.antt`). A write is carried
+//! along its own tree by its changes, and what is put in are the changes of what is kept; where every
+//! operator of the tree treats each identifier by itself, it reads the rows of the identifiers that it
+//! names, and no others. The crate knows operators by their laws alone, and nothing of names in
+//! statements or of replies.
 //!
-//! Lemmas that crates above may use stand in proofs/: `HoldLaws` and `PlanLaws`.
+//! Lemmas that crates above may use stand in proofs/: `HoldLaws`, `PlanLaws` and `UndoLaws`.
 #![tactic(auto)]
 
 mod change;
@@ -23,6 +25,7 @@ mod planning;
 mod plans;
 mod remembering;
 mod room;
+mod told;
 mod tree;
 mod undo;
 

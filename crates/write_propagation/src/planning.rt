@@ -13,6 +13,7 @@ ghost use Rattle.write_propagation.specs.Bounds.{PlansWithin};
 ghost use Rattle.write_propagation.specs.Capacity.{HoldsAtLeast};
 ghost use Rattle.write_propagation.specs.Plans.{rows_written, IsSame, Plans};
 ghost use Rattle.write_propagation.specs.Room.{HasOld, IsReadyFor};
+ghost use Rattle.write_propagation.specs.Told.{TellsChanged};
 ghost use Rattle.write_propagation.specs.Making.{IsPlanOf, MayChangeAuxes, MayPlan};
 
 use crate::copies::kept_of;
@@ -21,6 +22,7 @@ use crate::making::{Making, make_write};
 use crate::plans::{Plan, RowWrite};
 use crate::remembering::memory_changes;
 use crate::room::make_room;
+use crate::told::changed_tables;
 use crate::tree::{Tree, tree_of};
 use db_state::{Db, Sight, sight_over};
 use expr_lang::Steps;
@@ -66,12 +68,14 @@ fn plan_of<O: Operator, L: Ledger>(
         making.made.memories.as_slice(),
         tree.operators.as_slice(),
     )?;
+    let changed = changed_tables(alloc, making.made.tables.as_slice(), tree.tables.as_slice())?;
     let Making { copies: _, made } = making;
     Ok(Plan {
         stored,
         auxes,
         memories,
         ids: made.ids,
+        changed,
     })
 }
 
@@ -90,6 +94,7 @@ fn plan_seen<O: Operator, L: Ledger>(
     requires rise { ChangesRise 0 written.changes }
     ensures plans { Plans O.meaning db.now written.set written.table
         (rows_written O.meaning db.now written) written.ids.next result }
+    ensures tells { IfOk result (TellsChanged O.meaning db.now written) }
     ensures old { IfOk result (HasOld db.now) }
     ensures steps { SeenWithin 16 sight.entry (length tree.now.operators) steps.old steps.new }
 {
@@ -110,6 +115,7 @@ fn plan_tree<O: Operator, L: Ledger>(
     requires { MayPlan O.meaning db.now tree.now written }
     ensures plans { Plans O.meaning db.now written.set written.table
         (rows_written O.meaning db.now written) written.ids.next result }
+    ensures tells { IfOk result (TellsChanged O.meaning db.now written) }
     ensures old { IfOk result (HasOld db.now) }
     ensures steps { AreLocalAt O.meaning db.now.graph.edges tree.now.operators
         → steps.new ≤ steps.old + 16 * (length written.changes * length tree.now.operators) }
@@ -142,6 +148,7 @@ pub fn plan<O: Operator + Drop, L: Ledger>(
     requires limit { written.ids.limit ≡ db.old.ids.limit }
     ensures plans { Plans O.meaning db.new written.set written.table
         (rows_written O.meaning db.old written) written.ids.next result }
+    ensures tells { IfOk result (TellsChanged O.meaning db.old written) }
     ensures ready { IfOk result (IsReadyFor db.new) }
     ensures same { IsSame db.old db.new }
     ensures data { database_for O.meaning db.new ≡ database_for O.meaning db.old }

@@ -16,11 +16,13 @@ pub struct RowWrite {
 }
 
 /// What a write puts into a database: the changes of stored tables, and of the auxiliary tables and the
-/// memories of operators, each under its number, and the counter after all that was drawn.
+/// memories of operators, each under its number, and the counter after all that was drawn. Beside it
+/// stand the numbers of the table versions, stored or not, that get other rows by it.
 #[derive(Drop)]
 pub struct Plan {
     pub stored: List<Numbered<Changes>>,
     pub auxes: List<Numbered<SideChanges>>,
     pub memories: List<Numbered<List<PairChange>>>,
     pub ids: IdCounter,
+    pub changed: List<u32>,
 }

@@ -7,6 +7,7 @@ use Rattle.version_graph.specs.Edges.{is_in}
 use Rattle.version_model.specs.declared.numbered.Numbered.{Numbered}
 use Rattle.version_model.specs.Kept.{numbers_in}
 use Rattle.write_propagation.specs.Calls.{AreChangesNow, AreMemoryChangesNow}
+use Rattle.write_propagation.specs.Told.{changed_of}
 use Rattle.write_propagation.proofs.planning.plan_of.Goals as goal
 
 pub returns-clause-plans : goal.returns-clause-plans
@@ -22,4 +23,7 @@ returns-clause-plans g c =
           (subst (λ (l : List (Numbered MemoryState)). AreMemoryChangesNow c.args.db.now.memories l c.as_slice-5.result.now c.in_ok-memories.memories) c.as_slice-4.ensures
           (subst (λ (l : List (Numbered MemoryState)). AreMemoryChangesNow l c.as_slice-4.result.now c.as_slice-5.result.now c.in_ok-memories.memories) c.memories.ensures c.in_ok-memories.ensures));
       ids = refl;
+      changed = c.in_ok-changed.ensures
+          ∙ ap (λ (l : List (Numbered (List Change))). changed_of l c.as_slice-7.result.now) c.as_slice-6.ensures
+          ∙ ap (λ (l : List ℕ). changed_of m.made.tables l) c.as_slice-7.ensures;
     }
