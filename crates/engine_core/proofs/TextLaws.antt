@@ -1,5 +1,5 @@
 -- The texts of a statement that aren't too long fit rows, SETs and operators; and what holds of operators' texts stays so.
-use Rattle.std.proofs.Common.{◌≤◌, ℕ, List, [], ◌∷◌, ◌++◌, length, Some, None}
+use Rattle.std.proofs.Common.{ℕ, List, [], ◌∷◌, Some, None}
 use Rattle.std.specs.List.{All}
 use Rattle.std.proofs.lemmas.List.Elements.{All-head, All-tail, All-weaker}
 use Rattle.par_base.specs.declared.value.Value.{Value}

@@ -1,7 +1,7 @@
 -- One event: the reply or refusal of a statement, and the next state.
-use Rattle.std.specs.Prelude.{◌≡◌, ℕ, ◌==◌, ◌&&◌, Bool, true, false, not, List, length, Ok, Err, if◌then◌else◌}
+use Rattle.std.specs.Prelude.{◌≡◌, ℕ, ◌==◌, Bool, true, false, not, length, Ok, Err, if◌then◌else◌}
 use Rattle.par_base.specs.declared.refusal.Refusal.TheVariants.{NotBuilt}
-use Rattle.statements.specs.Views.{OpView, StatementView, CreateVersion, DropVersion, Insert, Update, Delete, Select, Materialize, ShowLayout}
+use Rattle.statements.specs.Views.{StatementView, CreateVersion, DropVersion, Insert, Update, Delete, Select, Materialize, ShowLayout}
 use Rattle.version_graph.specs.Sets.{In}
 use Rattle.version_graph.specs.Tables.{table_numbers}
 use Rattle.version_graph.specs.Edges.{working}

@@ -1,5 +1,6 @@
 pub mod Act
 pub mod Kept
+pub mod Undo
 pub mod Spoken
 pub mod Bounds
 pub mod Texts

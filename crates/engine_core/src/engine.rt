@@ -13,6 +13,8 @@ ghost use Rattle.storage_law.specs.Canonical.{SameStored};
 ghost use Rattle.db_state.specs.Fields.{storage_in, IsDatabase};
 ghost use Rattle.db_state.specs.Laws.{IsRestored};
 ghost use Rattle.write_propagation.specs.Bounds.{PlansWithin};
+ghost use Rattle.write_propagation.specs.Capacity.{HoldsAsMuch};
+ghost use Rattle.write_propagation.specs.Undo.{IsRevertible, Restores};
 ghost use Rattle.engine_state.specs.Replies.{IsReply};
 ghost use Rattle.engine_statements.specs.Statements.{Planned, wrote};
 ghost use Rattle.engine_statements.specs.Calls.{planned_view, TakesWrite};
@@ -22,10 +24,12 @@ ghost use Rattle.engine_core.specs.Act.{act, acted, acted_data, is_built as is_b
 ghost use Rattle.engine_core.specs.Bounds.{InsertTakes, PlansInsert};
 ghost use Rattle.engine_core.specs.Kept.{data_of, empty_state, state_of, Answers, Follows, MayFlip};
 ghost use Rattle.engine_core.specs.Spoken.{TextsCome};
+ghost use Rattle.engine_core.specs.Undo.{acted_write, AnswersWrite, LeavesWrite};
 
 use crate::built::is_built;
 use crate::spent::counter_at;
 use crate::writing::write_through;
+use crate::written::Written;
 use db_state::{Db, states_are_stored_once};
 use engine_layouts::{flip_operator, materialize, show_layout};
 use engine_state::Reply;
@@ -39,7 +43,7 @@ use std::alloc::Global;
 use std::marker::Model;
 use std::mem;
 use std::sync::ledger::Ledger;
-use write_propagation::RowWrite;
+use write_propagation::{RowWrite, Undo, revert};
 
 /// A database with all its versions, under a layout.
 #[derive(Drop)]
@@ -172,6 +176,46 @@ impl Engine {
         ensures same { OnErr result (self.new ≡ self.old) }
     {
         flip_operator(alloc, &mut self.database, operator, steps)
+    }
+
+    /// Carries out an INSERT, UPDATE or DELETE as `event` does, and gives what takes it back beside its
+    /// reply. After an error nothing has changed but what tables can hold without memory, which grows
+    /// at most.
+    pub fn write_undoable<L: Ledger>(
+        &mut self,
+        alloc: Global,
+        statement: &Statement,
+        steps: &mut Steps<L>,
+    ) -> Result<Written, Fault<Refusal>>
+        requires texts { TextsWithin text_limit (statement_view statement.now) }
+        ensures answers { AnswersWrite (acted_write (data_of self.old)
+            (statement_view statement.now)) result (data_of self.new) }
+        ensures leaves { LeavesWrite (λ written. written.undo) self.old self.new result }
+        ensures built { IfOk result (λ written. AreBuiltOn written.undo.ids.next
+            self.new.graph.edges) }
+        ensures same { OnErr result (data_of self.new ≡ data_of self.old) }
+        ensures layout { Follows self.old self.new }
+        ensures reply { IfOk result (λ written. IsReply written.reply) }
+        ensures ordinary { (p : Planned) → planned_write (data_of self.old)
+            (statement_view statement.now) ≡ Ok p
+            → OnOk result (IsOrdinary (data_of self.old) p (data_of self.new)) }
+        ensures steps { InsertTakes (data_of self.old) (statement_view statement.now) steps.old
+            steps.new }
+    {
+        // That the layout stays where the graph does rests on it.
+        self.versions_always_agree();
+        let plan = self.plan(alloc, statement, steps)?;
+        self.write(alloc, plan, steps)
+    }
+
+    /// Takes a write back with what it left: all is as it was before it. It takes no memory.
+    pub fn take_back(&mut self, alloc: Global, undo: Undo)
+        requires revertible { IsRevertible any_meaning self.old undo }
+        requires built { AreBuiltOn undo.ids.next self.old.graph.edges }
+        ensures restores { Restores any_meaning self.old undo self.new }
+        ensures capacity { HoldsAsMuch self.old self.new }
+    {
+        revert(alloc, &mut self.database, undo);
     }
 
     // Carries out a statement of a form that is built.
@@ -315,8 +359,8 @@ impl Engine {
     {
         // That the layout stays where the graph does rests on it.
         self.versions_always_agree();
-        let plan = self.plan(alloc, statement, steps)?;
-        self.write(alloc, plan, steps)
+        let written = self.write_undoable(alloc, statement, steps)?;
+        Ok(written.reply)
     }
 
     // What a statement makes of its version's table.
@@ -361,14 +405,17 @@ impl Engine {
         alloc: Global,
         plan: WritePlan,
         steps: &mut Steps<L>,
-    ) -> Result<Reply, Fault<Refusal>>
+    ) -> Result<Written, Fault<Refusal>>
         requires { TakesWrite self.old plan }
-        ensures answers { Answers (wrote (data_of self.old)
+        ensures answers { AnswersWrite (wrote (data_of self.old)
             (planned_view self.old plan)) result
             (data_of self.new) }
+        ensures leaves { LeavesWrite (λ written. written.undo) self.old self.new result }
+        ensures built { IfOk result (λ written. AreBuiltOn written.undo.ids.next
+            self.new.graph.edges) }
         ensures same { OnErr result (data_of self.new ≡ data_of self.old) }
         ensures layout { Follows self.old self.new }
-        ensures reply { IsReply plan.reply → IfOk result IsReply }
+        ensures reply { IsReply plan.reply → IfOk result (λ written. IsReply written.reply) }
         ensures ordinary { OnOk result (IsOrdinary (data_of self.old)
             (planned_view self.old plan)
             (data_of self.new)) }
@@ -392,7 +439,7 @@ impl Engine {
             ids,
         };
         match write_through(alloc, &mut self.database, written, steps) {
-            Ok(()) => Ok(reply),
+            Ok(undo) => Ok(Written { reply, undo }),
             Err(Fault::Refused(spent)) => Err(spent.refused()),
             Err(Fault::Memory(memory)) => Err(Fault::Memory(memory)),
         }

@@ -15,7 +15,7 @@
 //! The crate must not know how statements are written, or where their bytes come from and where the
 //! lines go.
 //!
-//! Lemmas that crates above may use stand in proofs/: `TextLaws` and `LaidLaws`.
+//! Lemmas that crates above may use stand in proofs/: `TextLaws`, `LaidLaws` and `UndoLaws`.
 #![tactic(auto)]
 
 mod built;
@@ -25,8 +25,10 @@ mod refusal_line;
 mod reply_lines;
 mod spent;
 mod writing;
+mod written;
 
 pub use engine::Engine;
 pub use laws::{moves_restore, moves_store_targets, replies_are_lines};
 pub use refusal_line::refusal_text;
 pub use reply_lines::reply_text;
+pub use written::Written;

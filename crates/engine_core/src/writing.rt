@@ -10,6 +10,7 @@ ghost use Rattle.version_model.specs.Databases.{Writes};
 ghost use Rattle.db_state.specs.Fields.{database_for};
 ghost use Rattle.write_propagation.specs.Bounds.{PlansWithin};
 ghost use Rattle.write_propagation.specs.Plans.{rows_written};
+ghost use Rattle.engine_core.specs.Undo.{done_of, LeavesWrite};
 
 use db_state::Db;
 use expr_lang::Steps;
@@ -17,16 +18,16 @@ use op_any::AnyOp;
 use par_base::{Fault, IdsSpent};
 use std::alloc::Global;
 use std::sync::ledger::Ledger;
-use write_propagation::{RowWrite, commit, plan};
+use write_propagation::{RowWrite, Undo, commit, plan};
 
-/// Makes changes in a table of a live working set, and carries them along the walk. After an error
-/// nothing has changed but the room of tables.
+/// Makes changes in a table of a live working set, carries them along the walk, and gives what takes
+/// them back. After an error nothing has changed but the room of tables.
 pub fn write_through<L: Ledger>(
     alloc: Global,
     database: &mut Db<AnyOp>,
     written: RowWrite,
     steps: &mut Steps<L>,
-) -> Result<(), Fault<IdsSpent>>
+) -> Result<Undo, Fault<IdsSpent>>
     requires lives { In written.set (numbers database.old.graph.edges) }
     requires may { MayWrite database.old.graph.edges (database_for any_meaning database.old).state
         written.set written.table (rows_written any_meaning database.old written) written.ids.next }
@@ -36,12 +37,14 @@ pub fn write_through<L: Ledger>(
     requires limit { written.ids.limit ≡ database.old.ids.limit }
     ensures writes { Writes any_meaning (database_for any_meaning database.old) written.set
         written.table (rows_written any_meaning database.old written)
-        written.ids.next result (database_for any_meaning database.new) }
+        written.ids.next (done_of result) (database_for any_meaning database.new) }
     ensures layout { database.new.layout ≡ database.old.layout }
+    ensures leaves { LeavesWrite (λ undo. undo) database.old database.new result }
     ensures steps { PlansWithin any_meaning database.old.graph.edges written.set written.changes
         steps.old steps.new }
 {
+    // That what is left leads back to the old database rests on it.
+    let _graph = database.graph();
     let plan = plan(alloc, database, written, steps)?;
-    let _ = commit(alloc, database, plan);
-    Ok(())
+    Ok(commit(alloc, database, plan))
 }

@@ -22,6 +22,7 @@ use Rattle.kept_changes.proofs.ChangesLaws.{no_changes}
 use Rattle.write_propagation.specs.Plans.{IsSame}
 use Rattle.write_propagation.specs.Undo.{Undoes}
 use Rattle.write_propagation.specs.declared.undo.Undo.{Undo}
+use Rattle.write_propagation.proofs.LeadLemmas.{same_self}
 
 tables_before : (old before now : List (Numbered TableState)) (back : List (Numbered (List Change))) → numbers_in before ≡ numbers_in old → ((n : ℕ) → rows_at before n ≡ rows_at old n) → TablesLeadBack before now back → TablesLeadBack old now back
 tables_before old before now back listed rows led = record {
@@ -61,3 +62,7 @@ undoes_before meaning old before now undo is same undoes =
         memories = memories_before old.memories before.memories now.memories undo.memories same.memories same.memory led.memories;
       };
     }
+
+-- a database is the same as itself
+pub same_again : {O : Type 0} (d : Parts O) → IsSame d d
+same_again d = same_self d

@@ -1,4 +1,4 @@
-use Rattle.std.proofs.Common.{◌≡◌, ◌++◌, string_bytes, flat_map, take}
+use Rattle.std.proofs.Common.{◌≡◌, string_bytes, flat_map, take}
 use Rattle.engine_core.specs.Texts.{write_bytes}
 use Rattle.engine_core.proofs.reply_lines.committed_text.Given as goal
 

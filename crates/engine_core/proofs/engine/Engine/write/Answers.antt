@@ -12,6 +12,9 @@ use Rattle.version_model.specs.Writes.{MayWrite}
 use Rattle.version_model.specs.Databases.{Writes}
 use Rattle.engine_statements.specs.Calls.{rows_after}
 use Rattle.write_propagation.specs.Bounds.{PlansWithin}
+use Rattle.engine_core.specs.Undo.{done_of}
+use Rattle.write_propagation.proofs.HoldLaws.{holds_self}
+use Rattle.write_propagation.proofs.UndoLaws.{same_again}
 use Rattle.engine_core.proofs.LeftLemmas.{built_written}
 use Rattle.engine_core.proofs.WriteLemmas.{above_already, both_stay, ordinary_then, write_follows, written_then}
 use Rattle.engine_core.proofs.engine.Engine.write.Goals as goal
@@ -51,27 +54,27 @@ returns-in-Ok-clause-layout g c =
     let w = c.args.plan in
     let n = c.in_ok-ids.ids.next in
     let new = c.write_through.new.database in
-    let writes = subst (λ (x : Parts AnyView). Writes any_meaning (database_for any_meaning x) w.set w.table (rows_after x w) n c.write_through.result (database_for any_meaning new)) c.self.view_is c.write_through.ensures.writes in
+    let writes = subst (λ (x : Parts AnyView). Writes any_meaning (database_for any_meaning x) w.set w.table (rows_after x w) n (done_of c.write_through.result) (database_for any_meaning new)) c.self.view_is c.write_through.ensures.writes in
     let layout = subst (λ (x : Parts AnyView). new.layout ≡ x.layout) c.self.view_is c.write_through.ensures.layout in
-    write_follows c.args.self.now new w.set w.table (rows_after c.args.self.now w) n c.write_through.result c.versions_always_agree.ensures.stored writes layout
+    write_follows c.args.self.now new w.set w.table (rows_after c.args.self.now w) n (done_of c.write_through.result) c.versions_always_agree.ensures.stored writes layout
 
 pub returns-in-Err-Refused-clause-layout : goal.returns-in-Err-Refused-clause-layout
 returns-in-Err-Refused-clause-layout g c =
     let w = c.args.plan in
     let n = c.in_ok-ids.ids.next in
     let new = c.write_through.new.database in
-    let writes = subst (λ (x : Parts AnyView). Writes any_meaning (database_for any_meaning x) w.set w.table (rows_after x w) n c.write_through.result (database_for any_meaning new)) c.self.view_is c.write_through.ensures.writes in
+    let writes = subst (λ (x : Parts AnyView). Writes any_meaning (database_for any_meaning x) w.set w.table (rows_after x w) n (done_of c.write_through.result) (database_for any_meaning new)) c.self.view_is c.write_through.ensures.writes in
     let layout = subst (λ (x : Parts AnyView). new.layout ≡ x.layout) c.self.view_is c.write_through.ensures.layout in
-    write_follows c.args.self.now new w.set w.table (rows_after c.args.self.now w) n c.write_through.result c.versions_always_agree.ensures.stored writes layout
+    write_follows c.args.self.now new w.set w.table (rows_after c.args.self.now w) n (done_of c.write_through.result) c.versions_always_agree.ensures.stored writes layout
 
 pub returns-clause-layout : goal.returns-clause-layout
 returns-clause-layout g c =
     let w = c.args.plan in
     let n = c.in_ok-ids.ids.next in
     let new = c.write_through.new.database in
-    let writes = subst (λ (x : Parts AnyView). Writes any_meaning (database_for any_meaning x) w.set w.table (rows_after x w) n c.write_through.result (database_for any_meaning new)) c.self.view_is c.write_through.ensures.writes in
+    let writes = subst (λ (x : Parts AnyView). Writes any_meaning (database_for any_meaning x) w.set w.table (rows_after x w) n (done_of c.write_through.result) (database_for any_meaning new)) c.self.view_is c.write_through.ensures.writes in
     let layout = subst (λ (x : Parts AnyView). new.layout ≡ x.layout) c.self.view_is c.write_through.ensures.layout in
-    write_follows c.args.self.now new w.set w.table (rows_after c.args.self.now w) n c.write_through.result c.versions_always_agree.ensures.stored writes layout
+    write_follows c.args.self.now new w.set w.table (rows_after c.args.self.now w) n (done_of c.write_through.result) c.versions_always_agree.ensures.stored writes layout
 
 pub returns-in_err-ids-clause-steps : goal.returns-in_err-ids-clause-steps
 returns-in_err-ids-clause-steps g c local = omega arith
@@ -94,5 +97,10 @@ invariant_of-self g c =
     let next : n ≡ w.next = ap (λ i. i.next) c.in_ok-ids.ensures.ok.0 in
     let may = subst (λ (m : ℕ). MayWrite k.graph.edges (state_for any_meaning k) w.set w.table rows m) (sym next) c.requires.may in
     let new = c.write_through.new.database in
-    let writes = subst (λ (x : Parts AnyView). Writes any_meaning (database_for any_meaning x) w.set w.table (rows_after x w) n c.write_through.result (database_for any_meaning new)) c.self.view_is c.write_through.ensures.writes in
-    built_written k new w.set w.table rows n c.write_through.result c.versions_always_agree.ensures.graph.edges c.versions_always_agree.ensures.agree may writes (subst (λ (x : Parts AnyView). AreBuiltOn x.ids.next x.graph.edges) c.self.view_is c.self.invariant)
+    let writes = subst (λ (x : Parts AnyView). Writes any_meaning (database_for any_meaning x) w.set w.table (rows_after x w) n (done_of c.write_through.result) (database_for any_meaning new)) c.self.view_is c.write_through.ensures.writes in
+    built_written k new w.set w.table rows n (done_of c.write_through.result) c.versions_always_agree.ensures.graph.edges c.versions_always_agree.ensures.agree may writes (subst (λ (x : Parts AnyView). AreBuiltOn x.ids.next x.graph.edges) c.self.view_is c.self.invariant)
+
+pub returns-in_err-ids-clause-leaves : goal.returns-in_err-ids-clause-leaves
+returns-in_err-ids-clause-leaves g c =
+    let p = err_from_is_err_and c.from_residual.result c.from_residual.ensures.1 in
+    rw p.1 (same_again c.args.self.now, holds_self c.args.self.now)
