@@ -2,3 +2,4 @@ pub mod ActLaws
 mod GoalLemmas
 mod EndLemmas
 mod MoverLemmas
+mod WriteLemmas

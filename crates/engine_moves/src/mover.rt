@@ -5,12 +5,17 @@ ghost use Rattle.statements.specs.Views.{statement_view, Materialize};
 ghost use Rattle.statements.specs.Texts.{TextsWithin};
 ghost use Rattle.engine_core.specs.Kept.{data_of, Answers};
 ghost use Rattle.engine_core.specs.Spoken.{TextsCome};
+ghost use Rattle.engine_core.specs.Undo.{acted_write, AnswersWrite, LeavesWrite};
+ghost use Rattle.op_any.specs.BuiltOn.{AreBuiltOn};
+ghost use Rattle.op_any.specs.Operators.{any_meaning};
+ghost use Rattle.write_propagation.specs.Capacity.{HoldsAsMuch};
+ghost use Rattle.write_propagation.specs.Undo.{IsRevertible, Restores};
 ghost use Rattle.engine_state.specs.Replies.{IsReply};
 ghost use Rattle.migration.specs.Pending.{IsPending};
 ghost use Rattle.engine_moves.specs.Act.{act, at_once, is_materialize as is_materialize_lem, moved, started, stepped};
 ghost use Rattle.engine_moves.specs.Moving.{moving_of};
 
-use engine_core::Engine;
+use engine_core::{Engine, Written};
 use engine_state::Reply;
 use expr_lang::Steps;
 use migration::{keep_pending, next_flip, pending_without, start_move, steps_are_flips};
@@ -21,6 +26,7 @@ use std::alloc::Global;
 use std::marker::Model;
 use std::mem;
 use std::sync::ledger::Ledger;
+use write_propagation::Undo;
 
 /// An engine, and the operators whose data are still to go to their other side, ascending. Where
 /// there are none, no move is pending.
@@ -123,6 +129,39 @@ impl Mover {
             Statement::Step => self.step(alloc, steps),
             statement => self.carry_out(alloc, session, statement, steps),
         }
+    }
+
+    /// Carries out an INSERT, UPDATE or DELETE, and gives what takes it back beside its reply. After an
+    /// error nothing has changed but what tables can hold without memory, which grows at most.
+    pub fn write_undoable<L: Ledger>(
+        &mut self,
+        alloc: Global,
+        statement: &Statement,
+        steps: &mut Steps<L>,
+    ) -> Result<Written, Fault<Refusal>>
+        requires texts { TextsWithin text_limit (statement_view statement.now) }
+        ensures answers { AnswersWrite (acted_write (data_of self.old.database)
+            (statement_view statement.now)) result (data_of self.new.database) }
+        ensures leaves { LeavesWrite (λ written. written.undo) self.old.database self.new.database
+            result }
+        ensures built { IfOk result (λ written. AreBuiltOn written.undo.ids.next
+            self.new.database.graph.edges) }
+        ensures same { OnErr result (moving_of self.new ≡ moving_of self.old) }
+        ensures pending { self.new.pending ≡ self.old.pending }
+        ensures reply { IfOk result (λ written. IsReply written.reply) }
+    {
+        self.engine.write_undoable(alloc, statement, steps)
+    }
+
+    /// Takes a write back with what it left: all is as it was before it. It takes no memory.
+    pub fn take_back(&mut self, alloc: Global, undo: Undo)
+        requires revertible { IsRevertible any_meaning self.old.database undo }
+        requires built { AreBuiltOn undo.ids.next self.old.database.graph.edges }
+        ensures restores { Restores any_meaning self.old.database undo self.new.database }
+        ensures capacity { HoldsAsMuch self.old.database self.new.database }
+        ensures pending { self.new.pending ≡ self.old.pending }
+    {
+        self.engine.take_back(alloc, undo);
     }
 
     // Carries out a MATERIALIZE.

@@ -4,3 +4,4 @@ mod AloneLemmas
 mod SessionLemmas
 mod CountLemmas
 mod FullLemmas
+mod WriteLemmas

@@ -9,6 +9,7 @@ use Rattle.statements.specs.Views.{StatementView, Use, Session, Advise}
 use Rattle.engine_state.specs.SharedChecks.{known_version}
 use Rattle.engine_state.specs.declared.reply.Reply.{Reply}
 use Rattle.engine_state.specs.declared.reply.Reply.TheVariants.{Done, Rows}
+use Rattle.engine_core.specs.Undo.{acted_write}
 use Rattle.engine_moves.specs.Act.{act as act_in_full}
 use Rattle.engine_moves.specs.Moving.{Moving}
 use Rattle.layout_planner.specs.Best.{best}
@@ -50,6 +51,10 @@ abbrev pub counted : Standing → Bool → StatementView → Checked (Answer × 
 counted s csv statement =
     act_in_full (moving_in s) statement then λ answer.
     Ok (answer_of csv answer.0, behind s (is_move statement) (accessed s.laid.database statement) answer.1)
+
+-- a write in full, as it is carried out, but that no access is counted
+abbrev pub written_in : Standing → StatementView → Checked (Reply × Standing)
+written_in s statement = acted_write s.laid.database statement then λ answer. Ok (answer.0, record s { laid = record s.laid { database = answer.1 } })
 
 -- one event: USE, SESSION and ADVISE by what is kept beside the data, and every other statement as it says in full
 abbrev pub act : Standing → StatementView → Checked (Answer × Standing)

@@ -9,6 +9,7 @@ pub use Rattle.engine_core.specs.Spoken
 pub use Rattle.engine_core.specs.Texts as EngineCoreTexts
 pub use Rattle.engine_core.specs.Act as EngineCoreAct
 pub use Rattle.engine_core.specs.Kept
+pub use Rattle.engine_core.specs.Undo
 pub use Rattle.engine_core.specs.KeptTexts
 pub use Rattle.engine_core.specs.Laid
 pub use Rattle.engine_moves.specs.Act as EngineMovesAct

@@ -8,17 +8,22 @@ ghost use Rattle.layout_planner.specs.Best.{best as best_lem};
 ghost use Rattle.engine_core.specs.Kept.{state_of};
 ghost use Rattle.engine_state.specs.Replies.{IsReply};
 ghost use Rattle.engine_core.specs.Spoken.{TextsCome};
+ghost use Rattle.engine_core.specs.Undo.{AnswersWrite, LeavesWrite};
+ghost use Rattle.op_any.specs.BuiltOn.{AreBuiltOn};
+ghost use Rattle.op_any.specs.Operators.{any_meaning};
+ghost use Rattle.write_propagation.specs.Capacity.{HoldsAsMuch};
+ghost use Rattle.write_propagation.specs.Undo.{IsRevertible, Restores};
 ghost use Rattle.engine_sessions.specs.InFull.{in_full as in_full_lem, wants_csv as wants_csv_lem};
 ghost use Rattle.engine_moves.specs.Pending.{IsPending};
 ghost use Rattle.engine_sessions.specs.Standing.{begun, begun_with, kept_in, standing_of, used_by};
-ghost use Rattle.engine_sessions.specs.Act.{act, advised, answer_of as answer_of_lem, best_name as best_name_lem, counted, used, Answers};
+ghost use Rattle.engine_sessions.specs.Act.{act, advised, answer_of as answer_of_lem, best_name as best_name_lem, counted, used, written_in, Answers};
 ghost use Rattle.engine_sessions.specs.Calls.{IsAnswer};
 
 use crate::Answer;
 use crate::counts::{count_access, is_move, keep_behind};
 use crate::in_full::{in_full, wants_csv};
 use crate::uses::{VersionInUse, find_use, use_version};
-use engine_core::Engine;
+use engine_core::{Engine, Written};
 use engine_moves::Mover;
 use engine_state::{Reply, known_set};
 use expr_lang::Steps;
@@ -28,6 +33,7 @@ use statements::Statement;
 use std::alloc::Global;
 use std::mem;
 use std::sync::ledger::Ledger;
+use write_propagation::Undo;
 
 /// An engine with the move that is pending, the accesses of its table versions, the versions in use,
 /// and the session in which the next statement is given.
@@ -154,6 +160,42 @@ impl Sessions {
             Statement::Advise { name } => self.advise(alloc, &name),
             statement => self.carry_out(alloc, statement, steps),
         }
+    }
+
+    /// Carries out an INSERT, UPDATE or DELETE that is told in full, counts no access, and gives what
+    /// takes it back beside its reply. After an error nothing has changed but what tables can hold
+    /// without memory, which grows at most.
+    pub fn write_undoable<L: Ledger>(
+        &mut self,
+        alloc: Global,
+        statement: &Statement,
+        steps: &mut Steps<L>,
+    ) -> Result<Written, Fault<Refusal>>
+        requires texts { TextsWithin text_limit (statement_view statement.now) }
+        ensures answers { AnswersWrite (written_in (standing_of self.old)
+            (statement_view statement.now)) result (standing_of self.new) }
+        ensures leaves { LeavesWrite (λ written. written.undo) (kept_in self.old)
+            (kept_in self.new) result }
+        ensures built { IfOk result (λ written. AreBuiltOn written.undo.ids.next
+            (kept_in self.new).graph.edges) }
+        ensures beside { standing_of self.new ≡ record (standing_of self.old)
+            { laid = state_of (kept_in self.new) } }
+        ensures same { OnErr result (standing_of self.new ≡ standing_of self.old) }
+        ensures reply { IfOk result (λ written. IsReply written.reply) }
+    {
+        self.mover.write_undoable(alloc, statement, steps)
+    }
+
+    /// Takes a write back with what it left: all is as it was before it. It takes no memory.
+    pub fn take_back(&mut self, alloc: Global, undo: Undo)
+        requires revertible { IsRevertible any_meaning (kept_in self.old) undo }
+        requires built { AreBuiltOn undo.ids.next (kept_in self.old).graph.edges }
+        ensures restores { Restores any_meaning (kept_in self.old) undo (kept_in self.new) }
+        ensures capacity { HoldsAsMuch (kept_in self.old) (kept_in self.new) }
+        ensures beside { standing_of self.new ≡ record (standing_of self.old)
+            { laid = state_of (kept_in self.new) } }
+    {
+        self.mover.take_back(alloc, undo);
     }
 
     // Carries out a USE.
