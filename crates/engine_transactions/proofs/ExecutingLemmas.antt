@@ -1,0 +1,119 @@
+-- What the engine shows after a write, after one that is taken back, and after an error.
+use Rattle.std.proofs.Common.{◌≡◌, ℕ, ◌≤◌, max, List, [], ◌∷◌, ◌++◌, Bool, not, Result, Ok, Err, refl, sym, ap, ◌∙◌, subst}
+use Rattle.std.proofs.lemmas.List.{reverse-append}
+use mathlib.Core.List.{reverse}
+use Rattle.par_base.specs.Checked.{Checked, ◌then◌}
+use Rattle.layout_rules.specs.declared.layout.Layout.{Layout}
+use Rattle.version_graph.specs.Edges.{Drawn, is_in}
+use Rattle.version_graph.specs.Sets.{Each, In, Within}
+use Rattle.version_graph.proofs.SetLaws.{each_more}
+use Rattle.op_any.specs.BuiltOn.{AreBuiltOn}
+use Rattle.op_any.specs.Operators.{AnyView, any_meaning}
+use Rattle.version_model.specs.Kept.{numbers_in}
+use Rattle.db_state.specs.declared.parts.Parts.{Parts}
+use Rattle.write_propagation.specs.Capacity.{HoldsAtLeast}
+use Rattle.write_propagation.specs.Plans.{IsSame}
+use Rattle.write_propagation.specs.Undo.{IsAgain, StaysUndoable, Undoes}
+use Rattle.write_propagation.specs.declared.undo.Undo.{Undo}
+use Rattle.write_propagation.proofs.HoldLaws.{holds_more}
+use Rattle.session_tx.specs.Calls.{after_run, last_number}
+use Rattle.session_tx.specs.Meaning.{Ran, Standing as Executed, Unsettled}
+use Rattle.engine_state.specs.declared.reply.WriteReply.{WriteReply}
+use Rattle.engine_state.specs.AnyDatabase.{AnyDatabase}
+use Rattle.engine_core.specs.Kept.{data_of, state_of}
+use Rattle.engine_core.specs.Laid.{Laid}
+use Rattle.engine_sessions.specs.Standing.{Standing as SessionsStanding, kept_in, standing_of}
+use Rattle.engine_sessions.specs.declared.sessions.Sessions.{Sessions}
+use Rattle.engine_transactions.specs.Executing.{HaveNumbers, IsRunTo, RunsTo, Shows}
+use Rattle.engine_transactions.specs.History.{dropped_in, history_of, last_change, number_in}
+use Rattle.engine_transactions.specs.declared.executing.Executing.{Executing}
+use Rattle.engine_transactions.specs.declared.history.ChangeNumbers.{ChangeNumbers}
+use Rattle.engine_transactions.specs.declared.table_read.TableRead.{TableRead}
+
+-- the runs lead back from every database that has the same rows and holds at least as much
+pub runs_stay : StaysUndoable any_meaning → (now again : Parts AnyView) → IsSame now again → HoldsAtLeast now again → (us : List Undo) (s : SessionsStanding) (rs : List (Unsettled SessionsStanding TableRead)) → RunsTo now us s rs → RunsTo again us s rs
+runs_stay stay now again same holds [] s [] h = tt
+runs_stay stay now again same holds [] s (r ∷ rs) h = absurd h
+runs_stay stay now again same holds (u ∷ us) s [] h = absurd h
+runs_stay stay now again same holds (u ∷ us) s (r ∷ rs) h = (
+  h.0,
+  (
+    record {
+      undoes = stay h.0 now again u h.1.0.undoes same holds;
+      holds = holds_more h.0 now again h.1.0.holds holds;
+      built = subst (λ (d : Drawn AnyView). AreBuiltOn u.ids.next d.edges) (sym same.graph) h.1.0.built;
+      stood = h.1.0.stood;
+      changes = h.1.0.changes;
+    },
+    h.1.1,
+  ),
+)
+
+-- the same numbers, whatever tables have one besides
+pub record SameNumbers (old new : ChangeNumbers) : Type 0 where
+  pub last : new.last ≡ old.last
+  pub changed : (t : ℕ) → number_in new.changed t ≡ number_in old.changed t
+  pub more : Within (numbers_in old.changed) (numbers_in new.changed)
+  pub dropped : new.dropped ≡ old.dropped
+
+pub same_change : (old new : ChangeNumbers) → SameNumbers old new → (read : TableRead) → last_change (history_of new) read ≡ last_change (history_of old) read
+same_change old new same read =
+    ap (λ (n : ℕ). max n (dropped_in new.dropped read.version)) (same.changed read.table)
+    ∙ ap (λ ds. max (number_in old.changed read.table) (dropped_in ds read.version)) same.dropped
+
+pub numbers_stay : (old new : List ℕ) (us : List Undo) → Within old new → HaveNumbers old us → HaveNumbers new us
+numbers_stay old new us more have = each_more (λ (u : Undo). Within u.changed old) (λ (u : Undo). Within u.changed new) (λ u h t i. more t (h t i)) us have
+
+-- AFTER AN ERROR: the same is shown where the sessions show the same, over a database that has the same rows and holds at least as much
+pub shows_again : StaysUndoable any_meaning → (old new : Executing) (s : Executed SessionsStanding TableRead) → standing_of new.sessions ≡ standing_of old.sessions → IsSame (kept_in old.sessions) (kept_in new.sessions) → HoldsAtLeast (kept_in old.sessions) (kept_in new.sessions)
+    → SameNumbers old.numbers new.numbers → new.unsettled.items ≡ old.unsettled.items → Shows old s → Shows new s
+shows_again stay old new s standing same holds numbers unsettled h = record {
+  state = h.state ∙ sym standing;
+  history = h.history ∙ sym numbers.last;
+  last = λ read. h.last read ∙ sym (same_change old.numbers new.numbers numbers read);
+  runs =
+      subst (λ (us : List Undo). RunsTo (kept_in new.sessions) (reverse us) s.state s.unsettled) (sym unsettled)
+      (runs_stay stay (kept_in old.sessions) (kept_in new.sessions) same holds (reverse old.unsettled.items) s.state s.unsettled h.runs);
+  numbers =
+      subst (λ (us : List Undo). HaveNumbers (numbers_in new.numbers.changed) (reverse us)) (sym unsettled)
+      (numbers_stay (numbers_in old.numbers.changed) (numbers_in new.numbers.changed) (reverse old.unsettled.items) numbers.more h.numbers);
+  dropped = λ name. subst (λ ds. dropped_in ds name ≤ new.numbers.last) (sym numbers.dropped) (subst (λ (n : ℕ). dropped_in old.numbers.dropped name ≤ n) (sym numbers.last) (h.dropped name));
+  within = subst (λ (n : ℕ). n ≤ last_number) (sym numbers.last) h.within;
+}
+
+-- the state that is there again
+pub again_state : (before again : Parts AnyView) → IsAgain any_meaning before again → state_of again ≡ state_of before
+again_state before again is =
+    let laid : AnyDatabase → List ℕ → Laid = λ d l. record { database = d; layout = l } in
+    ap (λ (d : AnyDatabase). laid d again.layout.operators) is.database ∙ ap (λ (l : Layout). laid (data_of before) l.operators) is.same.layout
+
+-- what sessions show once a write is taken back
+pub standing_again : (first written again : Sessions) → standing_of written ≡ record (standing_of first) { laid = state_of (kept_in written) } → standing_of again ≡ record (standing_of written) { laid = state_of (kept_in again) } → IsAgain any_meaning (kept_in first) (kept_in again) → standing_of again ≡ standing_of first
+standing_again first written again one two is =
+    two
+    ∙ ap (λ (s : SessionsStanding). record s { laid = state_of (kept_in again) }) one
+    ∙ ap (λ (l : Laid). record (standing_of first) { laid = l }) (again_state (kept_in first) (kept_in again) is)
+
+-- ---- after a write
+
+-- AFTER A WRITE: what takes it back stands before the other runs
+pub shows_run : (old new : Executing) (s : Executed SessionsStanding TableRead) (undo : Undo) (ran : Ran SessionsStanding TableRead WriteReply) → ran.next ≡ standing_of new.sessions → standing_of new.sessions ≡ record (standing_of old.sessions) { laid = state_of (kept_in new.sessions) }
+    → ((read : TableRead) → ran.changes read ≡ is_in read.table undo.changed) → Undoes any_meaning (kept_in old.sessions) (kept_in new.sessions) undo → HoldsAtLeast (kept_in old.sessions) (kept_in new.sessions) → AreBuiltOn undo.ids.next (kept_in new.sessions).graph.edges
+    → SameNumbers old.numbers new.numbers → Within undo.changed (numbers_in new.numbers.changed) → new.unsettled.items ≡ old.unsettled.items ++ undo ∷ [] → Shows old s → Shows new (after_run s ran)
+shows_run old new s undo ran next beside changes undoes holds built numbers kept behind h =
+    let turned : reverse new.unsettled.items ≡ undo ∷ reverse old.unsettled.items = ap reverse behind ∙ reverse-append old.unsettled.items (undo ∷ []) in
+    let before : s.state ≡ record ran.next { laid = state_of (kept_in old.sessions) } =
+    h.state ∙ ap (λ (x : SessionsStanding). record x { laid = state_of (kept_in old.sessions) }) (sym (next ∙ beside)) in
+    record {
+      state = next;
+      history = h.history ∙ sym numbers.last;
+      last = λ read. h.last read ∙ sym (same_change old.numbers new.numbers numbers read);
+      runs =
+          subst (λ (us : List Undo). RunsTo (kept_in new.sessions) us ran.next (after_run s ran).unsettled) (sym turned)
+          (kept_in old.sessions, (record { undoes = undoes; holds = holds; built = built; stood = before; changes = changes }, h.runs));
+      numbers =
+          subst (λ (us : List Undo). HaveNumbers (numbers_in new.numbers.changed) us) (sym turned)
+          (kept, numbers_stay (numbers_in old.numbers.changed) (numbers_in new.numbers.changed) (reverse old.unsettled.items) numbers.more h.numbers);
+      dropped = λ name. subst (λ ds. dropped_in ds name ≤ new.numbers.last) (sym numbers.dropped) (subst (λ (n : ℕ). dropped_in old.numbers.dropped name ≤ n) (sym numbers.last) (h.dropped name));
+      within = subst (λ (n : ℕ). n ≤ last_number) (sym numbers.last) h.within;
+    }

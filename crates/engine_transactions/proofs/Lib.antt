@@ -1,0 +1,4 @@
+mod RowLemmas
+mod ExecutingLemmas
+mod SettleLemmas
+mod NumberLemmas

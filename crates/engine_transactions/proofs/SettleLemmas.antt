@@ -1,0 +1,137 @@
+-- What the engine shows once runs are settled.
+use Rattle.std.specs.List.{list_any}
+use Rattle.std.proofs.Common.{◌≡◌, if◌then◌else◌, ℕ, zero, suc, ◌+◌, ◌≤◌, ◌==◌, ◌||◌, max, min, Bool, true, false, not, List, [], ◌∷◌, ◌++◌, length, refl, sym, ap, ◌∙◌, subst, arith}
+use Rattle.std.proofs.lemmas.Bool.{eq-eqb, false≢true}
+use Rattle.std.proofs.lemmas.List.{reverse-append}
+use mathlib.Core.List.{reverse}
+use Rattle.version_graph.specs.Edges.{is_in}
+use Rattle.op_law.proofs.OnlyLaws.{by_test}
+use Rattle.op_any.specs.Operators.{AnyView}
+use Rattle.version_model.specs.Kept.{numbers_in}
+use Rattle.db_state.specs.declared.parts.Parts.{Parts}
+use Rattle.write_propagation.specs.declared.undo.Undo.{Undo}
+use Rattle.session_tx.specs.Calls.{is_changed, last_number, next_number, AnyChanged, IsSettled}
+use Rattle.session_tx.specs.Meaning.{Standing as Executed, Unsettled}
+use Rattle.engine_sessions.specs.Standing.{Standing as SessionsStanding, kept_in}
+use Rattle.engine_transactions.specs.Executing.{has_changes, is_changed_by, HasSettled, RunsTo, Shows}
+use Rattle.engine_transactions.specs.History.{dropped_in, history_of, last_change, number_in}
+use Rattle.engine_transactions.specs.declared.executing.Executing.{Executing}
+use Rattle.engine_transactions.specs.declared.history.ChangeNumbers.{ChangeNumbers}
+use Rattle.engine_transactions.specs.declared.table_read.TableRead.{TableRead}
+
+-- ---- tests of lists
+
+either_turned : (a b : Bool) → a || b ≡ b || a
+either_turned true true = refl
+either_turned true false = refl
+either_turned false true = refl
+either_turned false false = refl
+
+either_last : (a b c : Bool) → (a || b) || c ≡ a || (b || c)
+either_last true b c = refl
+either_last false b c = refl
+
+none_right : (a : Bool) → a || false ≡ a
+none_right true = refl
+none_right false = refl
+
+module _ {X : Type 0} (test : X → Bool) where
+  any_append : (xs ys : List X) → list_any test (xs ++ ys) ≡ list_any test xs || list_any test ys
+  any_append [] ys = refl
+  any_append (x ∷ xs) ys = ap (λ (b : Bool). test x || b) (any_append xs ys) ∙ sym (either_last (test x) (list_any test xs) (list_any test ys))
+
+  pub any_reverse : (xs : List X) → list_any test (reverse xs) ≡ list_any test xs
+  any_reverse [] = refl
+  any_reverse (x ∷ xs) =
+      ap (λ (l : List X). list_any test l) (reverse-append (x ∷ []) xs)
+      ∙ any_append (reverse xs) (x ∷ [])
+      ∙ ap (λ (b : Bool). list_any test (reverse xs) || b) (none_right (test x))
+      ∙ ap (λ (b : Bool). b || test x) (any_reverse xs)
+      ∙ either_turned (list_any test xs) (test x)
+
+-- ---- what runs changed
+
+changed_is : (now : Parts AnyView) (us : List Undo) (s : SessionsStanding) (rs : List (Unsettled SessionsStanding TableRead)) → RunsTo now us s rs → (read : TableRead) → is_changed rs read ≡ is_changed_by us read.table
+changed_is now [] s [] h read = refl
+changed_is now [] s (r ∷ rs) h read = absurd h
+changed_is now (u ∷ us) s [] h read = absurd h
+changed_is now (u ∷ us) s (r ∷ rs) h read =
+    ap (λ (b : Bool). b || is_changed rs read) (h.1.0.changes read)
+    ∙ ap (λ (b : Bool). is_in read.table u.changed || b) (changed_is h.0 us r.before rs h.1.1 read)
+
+some_there : (t : ℕ) (ts : List ℕ) → is_in t ts ≡ true → not (length ts == 0) ≡ true
+some_there t [] h = absurd (false≢true h)
+some_there t (x ∷ xs) h = grind arith
+
+any_has : (us : List Undo) (t : ℕ) → is_changed_by us t ≡ true → has_changes us ≡ true
+any_has [] t h = absurd (false≢true h)
+any_has (u ∷ us) t h =
+    by_test (is_in t u.changed)
+    (λ e. ap (λ (b : Bool). b || has_changes us) (some_there t u.changed e))
+    (λ e. ap (λ (b : Bool). not (length u.changed == 0) || b) (any_has us t (sym (ap (λ (b : Bool). b || is_changed_by us t) e) ∙ h)) ∙ either_turned (not (length u.changed == 0)) true)
+
+first_in : (ts : List ℕ) → not (length ts == 0) ≡ true → (t : ℕ) × (is_in t ts ≡ true)
+first_in [] h = absurd (false≢true h)
+first_in (t ∷ ts) h = (t, ap (λ (b : Bool). b || is_in t ts) (eq-eqb t t refl))
+
+has_any : (us : List Undo) → has_changes us ≡ true → (t : ℕ) × (is_changed_by us t ≡ true)
+has_any [] h = absurd (false≢true h)
+has_any (u ∷ us) h =
+    by_test (not (length u.changed == 0))
+    (λ e. let one = first_in u.changed e in (one.0, ap (λ (b : Bool). b || is_changed_by us one.0) one.1))
+    (λ e. let more = has_any us (sym (ap (λ (b : Bool). b || has_changes us) e) ∙ h) in (more.0, ap (λ (b : Bool). is_in more.0 u.changed || b) more.1 ∙ either_turned (is_in more.0 u.changed) true))
+
+-- ---- numbers
+
+pub not_less : (n : ℕ) → n ≤ last_number → n ≤ next_number n
+not_less n h = omega (arith, h)
+
+greater : (a b : ℕ) → b ≤ a → max a b ≡ a
+greater a b h = omega (arith, h)
+
+is_false : (b : Bool) → (b ≡ true → ⊥) → b ≡ false
+is_false true h = absurd (h refl)
+is_false false h = refl
+
+-- SETTLED: the state stays, and each table that a run gave other rows has the new number
+module _ (old new : Executing) (s : Executed SessionsStanding TableRead) (shows : Shows old s) (now : Parts AnyView) (settled : HasSettled old.numbers old.unsettled.items new.numbers) where
+  abbrev us : List Undo
+  us = old.unsettled.items
+
+  abbrev next : Executed SessionsStanding TableRead
+  next = record { state = s.state; history = new.numbers.last; last = λ read. last_change (history_of new.numbers) read; unsettled = [] }
+
+  by_runs : (read : TableRead) → is_changed s.unsettled read ≡ is_changed_by us read.table
+  by_runs read = changed_is (kept_in old.sessions) (reverse us) s.state s.unsettled shows.runs read ∙ any_reverse (λ (u : Undo). is_in read.table u.changed) us
+
+  if_any : has_changes us ≡ true → new.numbers.last ≡ next_number s.history
+  if_any h = settled.last ∙ ap (λ (b : Bool). if b then next_number old.numbers.last else old.numbers.last) h ∙ ap next_number (sym shows.history)
+
+  if_none : has_changes us ≡ false → new.numbers.last ≡ s.history
+  if_none h = settled.last ∙ ap (λ (b : Bool). if b then next_number old.numbers.last else old.numbers.last) h ∙ sym shows.history
+
+  up : old.numbers.last ≤ new.numbers.last
+  up = by_test (has_changes us)
+      (λ e. subst (λ (n : ℕ). old.numbers.last ≤ n) (sym (settled.last ∙ ap (λ (b : Bool). if b then next_number old.numbers.last else old.numbers.last) e)) (not_less old.numbers.last shows.within))
+      (λ e. subst (λ (n : ℕ). old.numbers.last ≤ n) (sym (settled.last ∙ ap (λ (b : Bool). if b then next_number old.numbers.last else old.numbers.last) e)) (omega arith))
+
+  low : (name : List ℕ) → dropped_in new.numbers.dropped name ≤ new.numbers.last
+  low name = subst (λ ds. dropped_in ds name ≤ new.numbers.last) (sym settled.dropped) (omega (arith, shows.dropped name, up))
+
+  pub is_settled : IsSettled s next
+  is_settled = record {
+    state = refl;
+    unsettled = refl;
+    rises = λ any. if_any (any_has us any.mark.table (sym (by_runs any.mark) ∙ any.changed));
+    stays = λ none. if_none (is_false (has_changes us) (λ h.
+        let some = has_any us h in
+        none (record { mark = record { version = []; name = []; table = some.0 }; changed = by_runs (record { version = []; name = []; table = some.0 }) ∙ some.1 })));
+    changed = λ read h.
+        let here : number_in new.numbers.changed read.table ≡ new.numbers.last = settled.changed read.table ∙ ap (λ (b : Bool). if b then new.numbers.last else number_in old.numbers.changed read.table) (sym (by_runs read) ∙ h) in
+        ap (λ (n : ℕ). max n (dropped_in new.numbers.dropped read.version)) here ∙ greater new.numbers.last (dropped_in new.numbers.dropped read.version) (low read.version);
+    others = λ read h.
+        let here : number_in new.numbers.changed read.table ≡ number_in old.numbers.changed read.table = settled.changed read.table ∙ ap (λ (b : Bool). if b then new.numbers.last else number_in old.numbers.changed read.table) (sym (by_runs read) ∙ h) in
+        ap (λ (n : ℕ). max n (dropped_in new.numbers.dropped read.version)) here
+        ∙ ap (λ ds. max (number_in old.numbers.changed read.table) (dropped_in ds read.version)) settled.dropped
+        ∙ sym (shows.last read);
+  }

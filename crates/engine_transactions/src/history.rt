@@ -1,0 +1,109 @@
+//! When table versions and names changed last.
+ghost use Rattle.std.specs.Prelude.{◌≡◌, ◌==◌, ℕ, OnOk, if◌then◌else◌};
+ghost use Rattle.version_graph.specs.Edges.{is_in};
+ghost use Rattle.version_graph.specs.Sets.{In, Within};
+ghost use Rattle.version_model.specs.Kept.{numbers_in};
+ghost use Rattle.engine_transactions.specs.History.{dropped_in, history_of, last_change as last_change_lem, number_in};
+
+use crate::TableRead;
+use par_base::{List, Memory, Name};
+use version_model::{Numbered, place_of, value_of};
+
+/// The last number at which a version with this name was dropped.
+#[derive(Drop)]
+pub struct NameDrop {
+    pub name: Name,
+    pub at: u64,
+}
+
+/// The number of the last statement that changed a table or the graph; and of each table version and
+/// name the number of the last one that changed or dropped it. A number 0 says as much as none.
+#[derive(Drop)]
+pub struct ChangeNumbers {
+    pub last: u64,
+    pub changed: List<Numbered<u64>>,
+    pub dropped: List<NameDrop>,
+}
+
+// The number under a table.
+fn number_at(changed: &[Numbered<u64>], table: u32) -> u64
+    ensures { result ≡ number_in changed.now table }
+{
+    match value_of(changed, table) {
+        Some(number) => *number,
+        None => 0,
+    }
+}
+
+// The number of the last drop of a version with this name.
+fn drop_of(dropped: &[NameDrop], name: &Name) -> u64
+    ensures { result ≡ dropped_in dropped.now name.now }
+{
+    match dropped
+        .iter()
+        .find(|one| name.as_str() == one.name.as_str())
+    {
+        Some(one) => one.at,
+        None => 0,
+    }
+}
+
+/// The last number at which what was read has changed. It takes one comparison for each table and name
+/// that ever changed.
+pub(crate) fn last_change(numbers: &ChangeNumbers, read: &TableRead) -> u64
+    ensures { result ≡ last_change_lem (history_of numbers.now) read.now }
+{
+    let changed = number_at(numbers.changed.as_slice(), read.table);
+    changed.max(drop_of(numbers.dropped.as_slice(), &read.version))
+}
+
+// A number under a table that has none: 0, which says as much.
+fn keep_number(changed: &mut List<Numbered<u64>>, table: u32) -> Result<(), Memory>
+    ensures same { (t : ℕ) → number_in changed.new t ≡ number_in changed.old t }
+    ensures more { Within (numbers_in changed.old) (numbers_in changed.new) }
+    ensures ok { OnOk result (In table (numbers_in changed.new)) }
+{
+    if place_of(changed.as_slice(), table).is_some() {
+        return Ok(());
+    }
+    changed.push(Numbered {
+        number: table,
+        value: 0,
+    })
+}
+
+/// Numbers under all of these tables. What they say stays.
+pub(crate) fn keep_numbers(changed: &mut List<Numbered<u64>>, tables: &[u32]) -> Result<(), Memory>
+    ensures same { (t : ℕ) → number_in changed.new t ≡ number_in changed.old t }
+    ensures more { Within (numbers_in changed.old) (numbers_in changed.new) }
+    ensures ok { OnOk result (Within tables.now (numbers_in changed.new)) }
+{
+    for table in tables {
+        keep_number(changed, *table)?;
+    }
+    Ok(())
+}
+
+// Another number under a table, where it has one.
+fn set_number(changed: &mut Vec<Numbered<u64>>, table: u32, at: u64)
+    ensures rows { In table (numbers_in changed.old.items) → (t : ℕ)
+        → number_in changed.new.items t
+        ≡ (if t == table then at else number_in changed.old.items t) }
+    ensures numbers { numbers_in changed.new.items ≡ numbers_in changed.old.items }
+{
+    if let Some(place) = place_of(changed.as_slice(), table) {
+        changed[place].value = at;
+    }
+}
+
+/// Another number under each of these tables, where it has one. It takes no memory.
+pub(crate) fn set_numbers(changed: &mut Vec<Numbered<u64>>, tables: &[u32], at: u64)
+    ensures rows { Within tables.now (numbers_in changed.old.items) → (t : ℕ)
+        → number_in changed.new.items t
+        ≡ (if is_in t tables.now then at else number_in changed.old.items t) }
+    ensures numbers { numbers_in changed.new.items ≡ numbers_in changed.old.items }
+{
+    for table in tables {
+        set_number(changed, *table, at);
+    }
+}
