@@ -43,12 +43,18 @@ use std::alloc::Global;
 use std::marker::Model;
 use std::mem;
 use std::sync::ledger::Ledger;
+use table_keys::TableKeys;
+use version_model::Numbered;
 use write_propagation::{RowWrite, Undo, revert};
 
-/// A database with all its versions, under a layout.
+/// A database with all its versions, under a layout, and the keys that are kept of some of its tables.
+///
+/// The keys are those of the tables as the versions show them, whatever is stored. Contracts see the
+/// database alone.
 #[derive(Drop)]
 pub struct Engine {
     database: Db<AnyOp>,
+    keys: Vec<Numbered<TableKeys>>,
 }
 
 impl Model for Engine {
@@ -57,6 +63,9 @@ impl Model for Engine {
     ghost use Rattle.std.specs.Coded.{codes};
     ghost use Rattle.db_state.specs.declared.parts.Parts.{Parts};
     ghost use Rattle.op_any.specs.BuiltOn.{AreBuiltOn};
+    ghost use Rattle.op_any.specs.Operators.{any_meaning};
+    ghost use Rattle.db_state.specs.Fields.{state_for};
+    ghost use Rattle.kept_keys.specs.Kept.{AreKeysOf};
 
     ghost Value = { Parts AnyView };
 
@@ -64,7 +73,8 @@ impl Model for Engine {
 
     ghost view = { λ it. it.database };
 
-    ghost invariant = { λ it. AreBuiltOn it.database.ids.next it.database.graph.edges };
+    ghost invariant = { λ it. AreBuiltOn it.database.ids.next it.database.graph.edges
+        × AreKeysOf (state_for any_meaning it.database).tables it.keys.items };
 }
 
 impl Engine {
@@ -73,15 +83,17 @@ impl Engine {
         ensures { state_of result ≡ empty_state limits.max_id }
     {
         let database = Db::new(alloc, limits.max_id);
-        Engine { database }
+        let keys = Vec::new(alloc);
+        Engine { database, keys }
     }
 
     /// The engine of a database whose operators are each what its own text builds. It takes no memory.
-    pub fn over(database: Db<AnyOp>) -> Engine
+    pub fn over(alloc: Global, database: Db<AnyOp>) -> Engine
         requires { AreBuiltOn database.ids.next database.graph.edges }
         ensures { result ≡ database }
     {
-        Engine { database }
+        let keys = Vec::new(alloc);
+        Engine { database, keys }
     }
 
     /// The database with its layout, whose operators may be told by their texts alone: each is what
@@ -292,6 +304,7 @@ impl Engine {
                 operators,
             } => self.create(alloc, name, from, operators.as_slice(), steps),
             Statement::DropVersion { name } => {
+                self.keys = Vec::new(alloc);
                 drop_version(alloc, &mut self.database, name, steps)?;
                 Ok(Reply::Done)
             }
@@ -327,6 +340,7 @@ impl Engine {
         // That the layout stays where the graph does rests on it.
         self.versions_always_agree();
         let name = name.copy(alloc)?;
+        self.keys = Vec::new(alloc);
         create_version(
             alloc,
             &mut self.database,
@@ -438,7 +452,7 @@ impl Engine {
             changes,
             ids,
         };
-        match write_through(alloc, &mut self.database, written, steps) {
+        match write_through(alloc, &mut self.database, &mut self.keys, written, steps) {
             Ok(undo) => Ok(Written { reply, undo }),
             Err(Fault::Refused(spent)) => Err(spent.refused()),
             Err(Fault::Memory(memory)) => Err(Fault::Memory(memory)),

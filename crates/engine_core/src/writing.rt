@@ -7,24 +7,30 @@ ghost use Rattle.op_law.specs.Calls.{first_refused};
 ghost use Rattle.op_any.specs.Operators.{any_meaning};
 ghost use Rattle.version_model.specs.Writes.{MayWrite};
 ghost use Rattle.version_model.specs.Databases.{Writes};
-ghost use Rattle.db_state.specs.Fields.{database_for};
+ghost use Rattle.db_state.specs.Fields.{database_for, state_for};
+ghost use Rattle.kept_keys.specs.Kept.{AreKeysOf};
 ghost use Rattle.write_propagation.specs.Bounds.{PlansWithin};
 ghost use Rattle.write_propagation.specs.Plans.{rows_written};
 ghost use Rattle.engine_core.specs.Undo.{done_of, LeavesWrite};
 
 use db_state::Db;
 use expr_lang::Steps;
+use kept_keys::commit_keys;
 use op_any::AnyOp;
 use par_base::{Fault, IdsSpent};
 use std::alloc::Global;
 use std::sync::ledger::Ledger;
+use table_keys::TableKeys;
+use version_model::Numbered;
 use write_propagation::{RowWrite, Undo, commit, plan};
 
-/// Makes changes in a table of a live working set, carries them along the walk, and gives what takes
-/// them back. After an error nothing has changed but the room of tables.
+/// Makes changes in a table of a live working set, carries them along the walk, also to the keys that
+/// are kept, and gives what takes them back. After an error nothing has changed but the room of tables
+/// and what was made ready.
 pub fn write_through<L: Ledger>(
     alloc: Global,
     database: &mut Db<AnyOp>,
+    keys: &mut Vec<Numbered<TableKeys>>,
     written: RowWrite,
     steps: &mut Steps<L>,
 ) -> Result<Undo, Fault<IdsSpent>>
@@ -35,16 +41,20 @@ pub fn write_through<L: Ledger>(
         written.changes }
     requires drawn { written.ids.next ≤ first_refused database.old.ids }
     requires limit { written.ids.limit ≡ database.old.ids.limit }
+    requires right { AreKeysOf (state_for any_meaning database.old).tables keys.old.items }
     ensures writes { Writes any_meaning (database_for any_meaning database.old) written.set
         written.table (rows_written any_meaning database.old written)
         written.ids.next (done_of result) (database_for any_meaning database.new) }
     ensures layout { database.new.layout ≡ database.old.layout }
     ensures leaves { LeavesWrite (λ undo. undo) database.old database.new result }
+    ensures right { AreKeysOf (state_for any_meaning database.new).tables keys.new.items }
     ensures steps { PlansWithin any_meaning database.old.graph.edges written.set written.changes
         steps.old steps.new }
 {
     // That what is left leads back to the old database rests on it.
     let _graph = database.graph();
-    let plan = plan(alloc, database, written, steps)?;
-    Ok(commit(alloc, database, plan))
+    let plan = plan(alloc, database, keys.as_mut_slice(), written, steps)?;
+    let undo = commit(alloc, database, plan);
+    commit_keys(keys.as_mut_slice());
+    Ok(undo)
 }

@@ -43,7 +43,7 @@ fn resumed(alloc: Global, loaded: Loaded) -> Sessions
         counts,
         pending,
     } = loaded;
-    Sessions::resume(alloc, Engine::over(database), counts, pending)
+    Sessions::resume(alloc, Engine::over(alloc, database), counts, pending)
 }
 
 // What a run starts with over the database whose dump the bytes are.

@@ -39,6 +39,8 @@ use Rattle.db_state.specs.Fields.{IsDatabase, database_for, state_for, storage_i
 use Rattle.db_state.specs.declared.parts.Parts.{Parts}
 use Rattle.db_state.proofs.FieldLaws.{IsShaped, Store, is_database}
 use Rattle.kept_changes.specs.Changes.{IsMemoryAt, IsOldAt, IsSideAt, changes_at, pair_changes_at, sides_at}
+use Rattle.table_keys.specs.States.{KeysState}
+use Rattle.write_propagation.specs.Keys.{KeysLead}
 use Rattle.write_propagation.specs.Plans.{IsSame, Plans, Puts}
 use Rattle.write_propagation.specs.Room.{HasOld}
 use Rattle.write_propagation.specs.declared.plans.Plan.{Plan}
@@ -171,6 +173,10 @@ puts_same d new last plan same puts = record {
   aux = λ n. puts.aux n ∙ ap (λ (x : Tables). changed_tables x (sides_at plan.auxes n)) (same.aux n ∙ no_changes (auxes_at d.aux n));
   memory = λ n. puts.memory n ∙ ap (λ (x : Pairs). changed_pairs x (pair_changes_at plan.memories n)) (same.memory n);
 }
+
+-- what leads from a database leads from the same one
+pub keys_same : {O : Type 0} (meaning : O → Meaning) (d new : Parts O) (keys : List (Numbered KeysState)) (plan : Plan) → IsSame d new → KeysLead meaning d keys plan → KeysLead meaning new keys plan
+keys_same meaning d new keys plan same lead = record { ready = lead.ready; leads = λ last puts after both. lead.leads last (puts_same d new last plan same puts) after both }
 
 -- the old rows that a plan names are there in the same database
 pub changes_same : {O : Type 0} (d new : Parts O) (plan : Plan) → IsSame d new → HasOld d plan → HasOld new plan

@@ -1,6 +1,6 @@
 -- The plan of what was made of what is seen of a tree is the plan of the whole write.
 use Rattle.std.specs.Option.{option_map_or}
-use Rattle.std.proofs.Common.{◌≡◌, ℕ, ◌<◌, ◌≤◌, List, [], Bool, true, false, map, Ok, Err, Option, inl, inr, refl, sym, ap, ◌∙◌, subst, filter}
+use Rattle.std.proofs.Common.{◌≡◌, ℕ, ◌<◌, ◌≤◌, List, [], Bool, true, false, if◌then◌else◌, map, Ok, Err, Option, inl, inr, refl, sym, ap, ◌∙◌, subst, filter}
 use Rattle.par_base.specs.declared.fault.Fault.{Fault}
 use Rattle.par_base.specs.declared.fault.Fault.TheVariants.{Refused, Memory as OutOfMemory}
 use Rattle.par_base.specs.declared.refusal.IdsSpent.{IdsSpent}
@@ -10,7 +10,8 @@ use Rattle.row_store.specs.declared.change.Change.{Change}
 use Rattle.version_graph.specs.Sets.{Distinct, Each, In}
 use Rattle.version_graph.specs.Forest.{Crossing, Link, crossing, forest}
 use Rattle.version_graph.specs.declared.parts.Placed.{Placed}
-use Rattle.version_graph.proofs.SetLaws.{each_at, each_of, in_map, is_in_true}
+use Rattle.std.proofs.lemmas.Bool.{false≢true}
+use Rattle.version_graph.proofs.SetLaws.{each_at, each_of, in_map, in_of_test, is_in_true}
 use Rattle.version_graph.proofs.TableLaws.{in_filter}
 use Rattle.version_graph.proofs.WalkStepLaws.{in_reverse}
 use Rattle.layout_rules.proofs.ChangeLaws.{filter_in, link_number}
@@ -28,7 +29,7 @@ use Rattle.row_changes.specs.declared.change.SideChanges.{SideChanges}
 use Rattle.row_changes.specs.Touched.{AllPass}
 use Rattle.row_changes.proofs.DifferenceLaws.{differences_of_part, differences_fit, differences_make, part_makes, whole_old}
 use Rattle.changes_walk.specs.Changing.{latest_changes}
-use Rattle.version_model.specs.Kept.{latest_of, newer_pairs, pairs_at, pairs_now, rows_at, auxes_at, numbers_in}
+use Rattle.version_model.specs.Kept.{Database, latest_of, newer_pairs, pairs_at, pairs_now, rows_at, auxes_at, numbers_in}
 use Rattle.version_model.specs.Sound.{IsSound}
 use Rattle.version_model.specs.States.{State, headings}
 use Rattle.version_model.specs.Steps.{directed, pair_in, run}
@@ -41,11 +42,16 @@ use Rattle.version_graph.specs.Edges.{is_in, numbers}
 use Rattle.storage_law.specs.Storage.{StandsOver, aux_of, stored_way}
 use Rattle.db_state.specs.Fields.{IsDatabase, state_for, storage_in}
 use Rattle.db_state.specs.declared.parts.Parts.{Parts}
+use Rattle.table_keys.specs.States.{KeysState}
+use Rattle.kept_keys.specs.Kept.{AreKeysOf, changes_in}
+use Rattle.kept_keys.specs.Changed.{IsPrepared}
+use Rattle.kept_keys.proofs.KeptLaws.{committed_right, prepared_ready}
 use Rattle.kept_changes.specs.Changes.{changes_at, sides_at, pair_changes_at, IsMemoryAt, IsOldAt, IsSideAt}
 use Rattle.pair_changes.specs.declared.change.PairChange.{PairChange}
 use Rattle.pair_changes.specs.Changed.{changed_pairs}
 use Rattle.write_propagation.specs.Calls.{stored_in}
 use Rattle.write_propagation.specs.Making.{IsMaking, IsPlanOf, MakesWrite, MayPlan, made_over, seen_write}
+use Rattle.write_propagation.specs.Keys.{KeysLead}
 use Rattle.write_propagation.specs.Plans.{Plans, rows_written}
 use Rattle.write_propagation.specs.Room.{HasOld}
 use Rattle.write_propagation.specs.Told.{TellsApart, TellsChanged, has_change}
@@ -151,6 +157,26 @@ module _ {O : Type 0} (meaning : O → Meaning) (laws : (o : O) → Laws (meanin
   module _ (making : Making) (is : IsMaking meaning d tree w test making) where
     stood : (e : Link O) → In e (forest es) → auxes_at d.aux e.number ≡ aux_of meaning s (over e)
     stood e i = (each_at (λ (f : Link O). StandsOver meaning (headings es) (storage_in d) s (stored_way d.layout.operators f)) (forest es) e i good.stands.edges).aux
+
+    -- ---- every table of the tree, and all others
+
+    -- the changes that were made of a table of the tree
+    abbrev made_in : ℕ → List Change
+    made_in = changes_in tree.tables making.made.tables
+
+    tables_old : (t : ℕ) → AreOld (s.tables t) (made_in t)
+    tables_old t =
+        elim (is_in t tree.tables) as (λ b. is_in t tree.tables ≡ b → AreOld (s.tables t) (if b then latest_changes making.made.tables t else [])) [
+          | true ↦ λ e. has_rows t (latest_changes making.made.tables t) (in_of_test t tree.tables e) (is.pass t) _ (is.tables t) (is.fits t).1
+          | false ↦ λ e. tt
+        ] refl
+
+    tables_after : (t : ℕ) → changed (s.tables t) (made_in t) ≡ end.tables t
+    tables_after t =
+        elim (is_in t tree.tables) as (λ b. is_in t tree.tables ≡ b → changed (s.tables t) (if b then latest_changes making.made.tables t else []) ≡ end.tables t) [
+          | true ↦ λ e. makes_rows t (latest_changes making.made.tables t) (in_of_test t tree.tables e) (is.pass t) _ (is.tables t) (ap (λ (x : State). x.tables t) is.made)
+          | false ↦ λ e. sym (same_table t (λ i. false≢true (sym e ∙ is_in_true t tree.tables i)))
+        ] refl
 
     module _ (plan : Plan) (for : IsPlanOf meaning d tree test making plan) where
       -- the changes of a table are the last ones that were made
@@ -268,6 +294,15 @@ module _ {O : Type 0} (meaning : O → Meaning) (laws : (o : O) → Laws (meanin
           let makes : changed (s.tables t) last ≡ end.tables t = makes_rows t last own (is.pass t) _ (is.tables t) (ap (λ (x : State). x.tables t) is.made) in
           told (test t) (listed test t tree.tables own) (tells_apart (s.tables t) (end.tables t) last (good.sound.well.tables t).0 (is.fits t).0 old makes))
           (λ other. told false (unlisted test t tree.tables other) (same_table t other))
+
+      -- KEPT KEYS THAT WERE MADE READY LEAD TO THOSE OF THE NEW STATE
+      pub keys_lead : (keys : List (Numbered KeysState)) → AreKeysOf s.tables keys → Each (IsPrepared tree.tables making.made.tables) keys → KeysLead meaning d keys plan
+      keys_lead keys right prepared = record {
+        ready = prepared_ready s.tables tree.tables making.made.tables keys tables_old right prepared;
+        leads = λ new puts after both.
+            subst (λ (x : State). AreKeysOf x.tables after) (sym (ap (λ (x : Database O). x.state) (planned.1 new puts).1))
+            (committed_right s.tables end.tables tree.tables making.made.tables keys after tables_after right prepared both);
+      }
 
       -- and each change has the old row of its table
       pub has_old : HasOld d plan

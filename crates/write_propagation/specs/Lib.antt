@@ -7,3 +7,4 @@ pub mod Undo
 pub mod Calls
 pub mod Making
 pub mod Bounds
+pub mod Keys

@@ -8,6 +8,8 @@ ghost use Rattle.op_law.specs.Calls.{first_refused};
 ghost use Rattle.op_law.specs.Identifiers.{IdsRise};
 ghost use Rattle.version_model.specs.Writes.{MayWrite};
 ghost use Rattle.db_state.specs.Fields.{database_for, state_for};
+ghost use Rattle.kept_keys.specs.Kept.{AreKeysOf};
+ghost use Rattle.kept_keys.specs.Changed.{Both, IsSameKeys};
 ghost use Rattle.db_state.specs.Parts.{passes, AreLocalAt, Ascends, MaySee, SeenWithin};
 ghost use Rattle.write_propagation.specs.Bounds.{PlansWithin};
 ghost use Rattle.write_propagation.specs.Capacity.{HoldsAtLeast};
@@ -15,6 +17,7 @@ ghost use Rattle.write_propagation.specs.Plans.{rows_written, IsSame, Plans};
 ghost use Rattle.write_propagation.specs.Room.{HasOld, IsReadyFor};
 ghost use Rattle.write_propagation.specs.Told.{TellsChanged};
 ghost use Rattle.write_propagation.specs.Making.{IsPlanOf, MayChangeAuxes, MayPlan};
+ghost use Rattle.write_propagation.specs.Keys.{KeysLead};
 
 use crate::copies::kept_of;
 use crate::differing::{table_changes, tree_aux_changes};
@@ -26,11 +29,14 @@ use crate::told::changed_tables;
 use crate::tree::{Tree, tree_of};
 use db_state::{Db, Sight, sight_over};
 use expr_lang::Steps;
+use kept_keys::prepare_keys;
 use op_law::Operator;
 use par_base::{Fault, IdsSpent, List, Memory};
 use row_store::Changes;
 use std::alloc::Global;
 use std::sync::ledger::Ledger;
+use table_keys::TableKeys;
+use version_model::Numbered;
 
 // The identifiers that the changes name.
 fn named_ids(alloc: Global, changes: &Changes) -> Result<List<u64>, Memory>
@@ -79,10 +85,11 @@ fn plan_of<O: Operator, L: Ledger>(
     })
 }
 
-// The plan of a write that is made of what is seen of its tree.
+// The plan of a write that is made of what is seen of its tree, for which the kept keys are made ready.
 fn plan_seen<O: Operator, L: Ledger>(
     alloc: Global,
     db: &Db<O>,
+    keys: &mut [Numbered<TableKeys>],
     tree: &Tree,
     written: RowWrite,
     sight: Sight<'_>,
@@ -92,13 +99,18 @@ fn plan_seen<O: Operator, L: Ledger>(
     requires sees { MaySee O.meaning db.now.graph.edges tree.now.operators sight }
     requires named { AllPass (passes sight) written.changes }
     requires rise { ChangesRise 0 written.changes }
+    requires right { AreKeysOf (state_for O.meaning db.now).tables keys.old }
     ensures plans { Plans O.meaning db.now written.set written.table
         (rows_written O.meaning db.now written) written.ids.next result }
     ensures tells { IfOk result (TellsChanged O.meaning db.now written) }
     ensures old { IfOk result (HasOld db.now) }
+    ensures keys { IfOk result (KeysLead O.meaning db.now keys.new) }
+    ensures kept { Both IsSameKeys keys.old keys.new }
     ensures steps { SeenWithin 16 sight.entry (length tree.now.operators) steps.old steps.new }
 {
     let making = make_write(alloc, db, tree, written, sight, steps)?;
+    let tables = tree.tables.as_slice();
+    prepare_keys(alloc, keys, tables, making.made.tables.as_slice())?;
     let plan = plan_of(alloc, db, tree, making, sight, steps)?;
     Ok(plan)
 }
@@ -108,26 +120,31 @@ fn plan_seen<O: Operator, L: Ledger>(
 fn plan_tree<O: Operator, L: Ledger>(
     alloc: Global,
     db: &Db<O>,
+    keys: &mut [Numbered<TableKeys>],
     tree: &Tree,
     written: RowWrite,
     steps: &mut Steps<L>,
 ) -> Result<Plan, Fault<IdsSpent>>
-    requires { MayPlan O.meaning db.now tree.now written }
+    requires may { MayPlan O.meaning db.now tree.now written }
+    requires right { AreKeysOf (state_for O.meaning db.now).tables keys.old }
     ensures plans { Plans O.meaning db.now written.set written.table
         (rows_written O.meaning db.now written) written.ids.next result }
     ensures tells { IfOk result (TellsChanged O.meaning db.now written) }
     ensures old { IfOk result (HasOld db.now) }
+    ensures keys { IfOk result (KeysLead O.meaning db.now keys.new) }
+    ensures kept { Both IsSameKeys keys.old keys.new }
     ensures steps { AreLocalAt O.meaning db.now.graph.edges tree.now.operators
         → steps.new ≤ steps.old + 16 * (length written.changes * length tree.now.operators) }
 {
     let ids = named_ids(alloc, &written.changes)?;
     let named = Sight::Of(ids.as_slice());
     let sight = sight_over(db.graph(), tree.operators.as_slice(), named);
-    plan_seen(alloc, db, tree, written, sight, steps)
+    plan_seen(alloc, db, keys, tree, written, sight, steps)
 }
 
 /// What it takes to make changes in a table of a live working set, and to carry them to all tables that
-/// hang together with it. It changes no contents, and makes room for all that is to be put in.
+/// hang together with it. It changes no contents, and makes room for all that is to be put in. Kept
+/// keys of these tables are made ready for their changes.
 ///
 /// Where every operator between these tables treats each identifier by itself, it reads and makes the
 /// rows of the identifiers that the changes name, in each of the tables, and no others. Of the at most
@@ -137,6 +154,7 @@ fn plan_tree<O: Operator, L: Ledger>(
 pub fn plan<O: Operator + Drop, L: Ledger>(
     alloc: Global,
     db: &mut Db<O>,
+    keys: &mut [Numbered<TableKeys>],
     written: RowWrite,
     steps: &mut Steps<L>,
 ) -> Result<Plan, Fault<IdsSpent>>
@@ -146,10 +164,13 @@ pub fn plan<O: Operator + Drop, L: Ledger>(
     requires old { AreOld ((state_for O.meaning db.old).tables written.table) written.changes }
     requires drawn { written.ids.next ≤ first_refused db.old.ids }
     requires limit { written.ids.limit ≡ db.old.ids.limit }
+    requires right { AreKeysOf (state_for O.meaning db.old).tables keys.old }
     ensures plans { Plans O.meaning db.new written.set written.table
         (rows_written O.meaning db.old written) written.ids.next result }
     ensures tells { IfOk result (TellsChanged O.meaning db.old written) }
     ensures ready { IfOk result (IsReadyFor db.new) }
+    ensures keys { IfOk result (KeysLead O.meaning db.new keys.new) }
+    ensures right { AreKeysOf (state_for O.meaning db.new).tables keys.new }
     ensures same { IsSame db.old db.new }
     ensures data { database_for O.meaning db.new ≡ database_for O.meaning db.old }
     ensures capacity { HoldsAtLeast db.old db.new }
@@ -157,7 +178,7 @@ pub fn plan<O: Operator + Drop, L: Ledger>(
         steps.new }
 {
     let tree = tree_of(alloc, db.graph(), written.set, written.table)?;
-    let plan = plan_tree(alloc, db, &tree, written, steps)?;
+    let plan = plan_tree(alloc, db, keys, &tree, written, steps)?;
     make_room(alloc, db, &plan)?;
     Ok(plan)
 }

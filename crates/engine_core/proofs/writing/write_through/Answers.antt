@@ -1,8 +1,14 @@
-use Rattle.std.proofs.Common.{ℕ, List, Ok, Err, sym, subst, ◌∙◌}
+use Rattle.std.proofs.Common.{◌≡◌, ℕ, List, ◌++◌, length, take, drop, Ok, Err, refl, ap, sym, subst, ◌∙◌}
+use Rattle.std.proofs.lemmas.List.{take_at}
 use Rattle.std.proofs.lemmas.Result.{err_from_is_err_and}
 use Rattle.op_any.specs.Operators.{any_meaning}
+use Rattle.version_graph.specs.Sets.{Each}
 use Rattle.version_model.specs.Databases.{Writes}
-use Rattle.db_state.specs.Fields.{database_for}
+use Rattle.version_model.specs.declared.numbered.Numbered.{Numbered}
+use Rattle.table_keys.specs.States.{KeysState}
+use Rattle.kept_keys.specs.Changed.{Both, CommitsKeys, IsReadyOver}
+use Rattle.db_state.specs.Fields.{database_for, state_for}
+use Rattle.kept_keys.specs.Kept.{AreKeysOf}
 use Rattle.engine_state.specs.AnyDatabase.{AnyDatabase}
 use Rattle.write_propagation.specs.Plans.{rows_written}
 use Rattle.version_graph.specs.Edges.{is_in}
@@ -12,6 +18,36 @@ use Rattle.write_propagation.proofs.UndoLaws.{undoes_before}
 use Rattle.write_propagation.proofs.PlanLaws.{may_commit, puts_layout}
 use Rattle.engine_core.proofs.WriteLemmas.{plan_refused, plan_writes}
 use Rattle.engine_core.proofs.writing.write_through.Goals as goal
+
+-- a slice that fills a list takes its place
+filled : {X : Type 0} (n : ℕ) (made items : List X) → n ≡ length items → length made ≡ length items → take n (made ++ drop (length made) items) ≡ made
+filled {X} n made items all same =
+    ap (λ (k : ℕ). take k (made ++ drop (length made) items)) (all ∙ sym same) ∙ take_at made (drop (length made) items) (length made) refl
+
+pub commit_keys-requires : goal.commit_keys-requires
+commit_keys-requires g c =
+    let was = c.args.keys.now in
+    let long = c.plan.auto.keys ∙ ap (λ (l : List (Numbered KeysState)). length l) c.as_mut_slice.ensures.value in
+    let is = c.as_mut_slice-2.ensures.value ∙ filled was.len c.plan.new.keys was.items was.ok.0 long in
+    subst (λ (l : List (Numbered KeysState)). Each IsReadyOver l) (sym is) c.in_ok-plan.ensures.keys.ready
+
+pub returns-clause-right : goal.returns-clause-right
+returns-clause-right g c =
+    let was = c.args.keys.now in
+    let long = c.plan.auto.keys ∙ ap (λ (l : List (Numbered KeysState)). length l) c.as_mut_slice.ensures.value in
+    let mid = filled was.len c.plan.new.keys was.items was.ok.0 long in
+    let is = c.as_mut_slice-2.ensures.value ∙ mid in
+    let all = was.ok.0 ∙ sym long ∙ ap (λ (l : List (Numbered KeysState)). length l) (sym mid) in
+    let last = c.commit_keys.auto.items ∙ ap (λ (l : List (Numbered KeysState)). length l) c.as_mut_slice-2.ensures.value in
+    subst (AreKeysOf (state_for any_meaning c.commit.new.db).tables) (sym (filled was.len c.commit_keys.new.items _ all last))
+    (c.in_ok-plan.ensures.keys.leads c.commit.new.db c.commit.ensures.puts c.commit_keys.new.items
+    (subst (λ (l : List (Numbered KeysState)). Both CommitsKeys l c.commit_keys.new.items) is c.commit_keys.ensures))
+
+pub returns-in_err-plan-clause-right : goal.returns-in_err-plan-clause-right
+returns-in_err-plan-clause-right g c =
+    let was = c.args.keys.now in
+    let long = c.plan.auto.keys ∙ ap (λ (l : List (Numbered KeysState)). length l) c.as_mut_slice.ensures.value in
+    subst (AreKeysOf (state_for any_meaning c.plan.new.db).tables) (sym (filled was.len c.plan.new.keys was.items was.ok.0 long)) c.in_err-plan.ensures.right
 
 pub returns-in_err-plan-clause-writes : goal.returns-in_err-plan-clause-writes
 returns-in_err-plan-clause-writes g c =

@@ -1,11 +1,17 @@
-use Rattle.std.proofs.Common.{length, arith}
+use Rattle.std.proofs.Common.{List, ℕ, length, subst, arith}
 use Rattle.std.proofs.lemmas.Result.{err_from_is_err_and}
+use Rattle.row_store.specs.declared.change.Change.{Change}
+use Rattle.version_graph.specs.Sets.{Each}
+use Rattle.version_model.specs.declared.numbered.Numbered.{Numbered}
+use Rattle.kept_keys.specs.Changed.{IsPrepared}
+use Rattle.kept_keys.proofs.KeptLaws.{both_same, same_right}
+use Rattle.db_state.specs.Fields.{state_for}
 use Rattle.db_state.specs.Parts.{passes}
 use Rattle.db_state.proofs.BoundLaws.{seen_less, seen_sum}
 use Rattle.write_propagation.proofs.AuxLemmas.{sees_rise}
 use Rattle.write_propagation.proofs.SeenLemmas.{may_change_auxes}
 use Rattle.write_propagation.proofs.ShownLemmas.{shown}
-use Rattle.write_propagation.proofs.PlanLemmas.{has_old, planned, refused, tells_changed}
+use Rattle.write_propagation.proofs.PlanLemmas.{has_old, keys_lead, planned, refused, tells_changed}
 use Rattle.write_propagation.proofs.planning.plan_seen.Goals as goal
 
 pub returns-in_err-making-clause-plans : goal.returns-in_err-making-clause-plans
@@ -60,3 +66,20 @@ returns-in_err-plan-clause-steps g c = seen_sum 8 8 c.args.sight (length c.args.
 
 pub returns-clause-steps : goal.returns-clause-steps
 returns-clause-steps g c = seen_sum 8 8 c.args.sight (length c.args.tree.now.operators) c.args.steps.now c.make_write.new.steps c.plan_of.new.steps c.in_ok-making.ensures.steps c.in_ok-plan.ensures.steps
+
+pub returns-in_err-making-clause-kept : goal.returns-in_err-making-clause-kept
+returns-in_err-making-clause-kept g c = both_same c.args.keys.now
+
+pub returns-clause-keys : goal.returns-clause-keys
+returns-clause-keys g c =
+    let m = g.O.Operator.meaning in
+    let laws = g.met.O.Operator.laws in
+    let d = c.args.db.now in
+    let may = c.requires.may in
+    let tree = c.args.tree.now in
+    let making = c.in_ok-making.making in
+    let shows = shown m laws d may.kept tree c.args.written may c.args.sight c.requires.sees c.requires.named in
+    let ready = subst (λ (l : List ℕ). Each (IsPrepared l c.as_slice.result.now) c.prepare_keys.new.items) c.as_slice-tables.ensures c.in_ok-prepare_keys.ensures.ok in
+    let prepared = subst (λ (l : List (Numbered (List Change))). Each (IsPrepared tree.tables l) c.prepare_keys.new.items) c.as_slice.ensures ready in
+    keys_lead m laws d may.kept tree c.args.written may (passes c.args.sight) shows making c.in_ok-making.ensures.makes c.in_ok-plan.plan c.in_ok-plan.ensures.plans c.prepare_keys.new.items
+    (same_right (state_for m d).tables c.args.keys.now c.prepare_keys.new.items c.requires.right c.in_ok-prepare_keys.ensures.same) prepared

@@ -5,6 +5,7 @@ use Rattle.version_graph.specs.Edges.{Drawn}
 use Rattle.db_state.specs.Parts.{AreLocalAt, MaySee, SeenWithin, passes}
 use Rattle.db_state.specs.declared.sight.Sight.{Sight}
 use Rattle.db_state.specs.declared.sight.Sight.TheVariants.{Of}
+use Rattle.kept_keys.proofs.KeptLaws.{both_same}
 use Rattle.write_propagation.proofs.SeenLemmas.{named_pass, pass_wider, steps_named}
 use Rattle.write_propagation.proofs.planning.plan_tree.Goals as goal
 
@@ -29,3 +30,6 @@ returns-clause-steps g c local =
     let here = subst (λ (ns : List ℕ). AreLocalAt g.O.Operator.meaning c.graph.result.now.edges ns) (sym c.as_slice-2.ensures) (subst (λ (x : Drawn _). AreLocalAt g.O.Operator.meaning x.edges c.args.tree.now.operators) (sym c.graph.ensures.graph) local) in
     let took = subst (λ (x : Sight). SeenWithin 16 x n c.args.steps.now c.plan_seen.new.steps) (c.sight_over-sight.ensures.same here) c.plan_seen.ensures.steps in
     steps_named c.args.written.changes c.as_slice.result.now (c.as_slice.ensures ∙ c.in_ok-ids.ensures.value) n 16 c.args.steps.now c.plan_seen.new.steps (omega arith) took
+
+pub returns-in_err-ids-clause-kept : goal.returns-in_err-ids-clause-kept
+returns-in_err-ids-clause-kept g c = both_same c.args.keys.now

@@ -97,8 +97,10 @@ invariant_of-self g c =
     let next : n ≡ w.next = ap (λ i. i.next) c.in_ok-ids.ensures.ok.0 in
     let may = subst (λ (m : ℕ). MayWrite k.graph.edges (state_for any_meaning k) w.set w.table rows m) (sym next) c.requires.may in
     let new = c.write_through.new.database in
-    let writes = subst (λ (x : Parts AnyView). Writes any_meaning (database_for any_meaning x) w.set w.table (rows_after x w) n (done_of c.write_through.result) (database_for any_meaning new)) c.self.view_is c.write_through.ensures.writes in
-    built_written k new w.set w.table rows n (done_of c.write_through.result) c.versions_always_agree.ensures.graph.edges c.versions_always_agree.ensures.agree may writes (subst (λ (x : Parts AnyView). AreBuiltOn x.ids.next x.graph.edges) c.self.view_is c.self.invariant)
+    let writes = subst (λ (x : Parts AnyView). Writes any_meaning (database_for any_meaning x) w.set w.table (rows_after x w) n (done_of c.write_through.result) (database_for any_meaning new)) c.self.view_is c.write_through.ensures.writes in (
+      built_written k new w.set w.table rows n (done_of c.write_through.result) c.versions_always_agree.ensures.graph.edges c.versions_always_agree.ensures.agree may writes (subst (λ (x : Parts AnyView). AreBuiltOn x.ids.next x.graph.edges) c.self.view_is c.self.invariant.0),
+      c.write_through.ensures.right,
+    )
 
 pub returns-in_err-ids-clause-leaves : goal.returns-in_err-ids-clause-leaves
 returns-in_err-ids-clause-leaves g c =
