@@ -92,33 +92,48 @@ module _ (k : FkParts) (P : ℕ → Bool) (s t near : Rows) (n : ℕ) (goals : B
       ∙ how_same k (row_of s p) (alone k s t p) p (rows_only P t) t (k.first row) (k.second row) (λ v at. far_in k P s t goals refs p v e at)
 
   -- the least row that its T part may share
-  shared_part : (p : ℕ) (row : List Value) → P p ≡ true → row_of near p ≡ Some row → same_row (k.second row) k.null_second ≡ false
+  shared_part : (p : ℕ) (row : List Value) → P p ≡ true → row_of near p ≡ Some row → how k s t p row ≡ Some None → same_row (k.second row) k.null_second ≡ false
       → least_in k (rows_only P s) (rows_only P t) (rows_only P t) (k.second row) ≡ least_in k s t t (k.second row)
-  shared_part p row e at some =
+  shared_part p row e at key some =
       least_part P (may_share k s t) (may_share k (rows_only P s) (rows_only P t)) t (k.second row)
-      (λ q v pass. ap not (alone_in k P s t goals refs q pass)) (λ q is. least p row q e at some is)
+      (λ q v pass. ap not (alone_in k P s t goals refs q pass)) (λ q is. least p row q e at key some is)
+
+  -- it draws the same, whatever its key is to be
+  draws_part : (p : ℕ) (row : List Value) → P p ≡ true → row_of near p ≡ Some row → (h : Option (Option Value)) → how k s t p row ≡ h
+      → draws_for k h (least_in k (rows_only P s) (rows_only P t) (rows_only P t) (k.second row)) (same_row (k.second row) k.null_second) ≡ draws_for k h (least_in k s t t (k.second row)) (same_row (k.second row) k.null_second)
+  draws_part p row e at None key = refl
+  draws_part p row e at (Some (Some f)) key = refl
+  draws_part p row e at (Some None) key =
+      by_test (same_row (k.second row) k.null_second)
+      (λ null. draws_null k (Some None) (least_in k (rows_only P s) (rows_only P t) (rows_only P t) (k.second row)) (same_row (k.second row) k.null_second) null
+      ∙ sym (draws_null k (Some None) (least_in k s t t (k.second row)) (same_row (k.second row) k.null_second) null))
+      (λ some. ap (λ (o : Option ℕ). draws_for k (Some None) o (same_row (k.second row) k.null_second)) (shared_part p row e at key some))
 
   -- it needs the same
   pub part_needs : (p : ℕ) (row : List Value) → row_of near p ≡ Some row → P p ≡ true → needs k (rows_only P s) (rows_only P t) p row ≡ needs k s t p row
   part_needs p row at e =
       ap (λ (h : Option (Option Value)). draws_for k h (least_in k (rows_only P s) (rows_only P t) (rows_only P t) (k.second row)) (same_row (k.second row) k.null_second)) (how_part p row e)
-      ∙ by_test (same_row (k.second row) k.null_second)
-      (λ null. draws_null k (how k s t p row) (least_in k (rows_only P s) (rows_only P t) (rows_only P t) (k.second row)) (same_row (k.second row) k.null_second) null
-      ∙ sym (draws_null k (how k s t p row) (least_in k s t t (k.second row)) (same_row (k.second row) k.null_second) null))
-      (λ some. ap (λ (o : Option ℕ). draws_for k (how k s t p row) o (same_row (k.second row) k.null_second)) (shared_part p row e at some))
+      ∙ draws_part p row e at (how k s t p row) refl
 
   -- and refers to the same
-  ref_part : (d : List (List Value)) (p : ℕ) (row : List Value) → P p ≡ true → row_of near p ≡ Some row → ref k (rows_only P s) (rows_only P t) n d (k.second row) ≡ ref k s t n d (k.second row)
-  ref_part d p row e at = by_test (same_row (k.second row) k.null_second)
+  ref_part : (d : List (List Value)) (p : ℕ) (row : List Value) → P p ≡ true → row_of near p ≡ Some row → how k s t p row ≡ Some None → ref k (rows_only P s) (rows_only P t) n d (k.second row) ≡ ref k s t n d (k.second row)
+  ref_part d p row e at key = by_test (same_row (k.second row) k.null_second)
       (λ null. rw null refl)
-      (λ some. ap (λ (o : Option ℕ). cond (same_row (k.second row) k.null_second) Null (Reference (id_or (n + place d (k.second row)) o))) (shared_part p row e at some))
+      (λ some. ap (λ (o : Option ℕ). cond (same_row (k.second row) k.null_second) Null (Reference (id_or (n + place d (k.second row)) o))) (shared_part p row e at key some))
+
+  -- so does the row of new S that it makes, whatever its key is to be
+  near_part : (d : List (List Value)) (p : ℕ) (row : List Value) → P p ≡ true → row_of near p ≡ Some row → (h : Option (Option Value)) → how k s t p row ≡ h
+      → near_row k h (ref k (rows_only P s) (rows_only P t) n d (k.second row)) (k.first row) ≡ near_row k h (ref k s t n d (k.second row)) (k.first row)
+  near_part d p row e at None key = refl
+  near_part d p row e at (Some (Some f)) key = refl
+  near_part d p row e at (Some None) key = ap (λ (f : Value). near_row k (Some None) f (k.first row)) (ref_part d p row e at key)
 
   -- so new S has the same there
   part_row : (d : List (List Value)) (p : ℕ) (o : Cell) → P p ≡ true → row_of near p ≡ o → in_cell o (made_row k (rows_only P s) (rows_only P t) n d p) ≡ in_cell o (made_row k s t n d p)
   part_row d p None e at = refl
   part_row d p (Some row) e at =
       ap (λ (h : Option (Option Value)). near_row k h (ref k (rows_only P s) (rows_only P t) n d (k.second row)) (k.first row)) (how_part p row e)
-      ∙ ap (λ (f : Value). near_row k (how k s t p row) f (k.first row)) (ref_part d p row e at)
+      ∙ near_part d p row e at (how k s t p row) refl
 
   -- the part of new S
   pub part_first : (d : List (List Value)) → RiseFrom 0 near → new_s k (rows_only P s) (rows_only P t) n d (rows_only P near) ≡ rows_only P (new_s k s t n d near)

@@ -77,6 +77,12 @@ module _ (k : FkParts) (w a b z : ℕ) (well : FkWell k w a b z) (s t : Rows) (s
       ap (λ (c : Cell). how_in k c (alone k s t p) p t (k.first row) (k.second row)) none ∙ ap (λ (u : Bool). how_in k None u p t (k.first row) (k.second row)) al
       ∙ ap (λ (u : Bool). cond u None (Some (Some (Reference p)))) same)
 
+  -- so it is to get none
+  pub still_keeps : (p : ℕ) (row : List Value) → joined k s t p ≡ Some row → how k s t p row ≡ Some None → ⊥
+  still_keeps p row e key = by_option (row_of s p)
+      (λ none. let bad : None ≡ Some None = sym (how_t p row none e) ∙ key in absurd (cc))
+      (λ v at. let bad : Some (Some (k.key v)) ≡ Some None = sym (how_s p v row at e) ∙ key in absurd (cc))
+
   -- so it needs nothing
   pub still_needs : (p : ℕ) (row : List Value) → joined k s t p ≡ Some row → needs k s t p row ≡ false
   still_needs p row e = by_option (row_of s p)
@@ -133,7 +139,7 @@ module _ (k : FkParts) (P : ℕ → Bool) (s t near : Rows) (n : ℕ) (goals : B
       sym (ap (λ (u : Bool). goal_of (cond u Null (Reference (id_or (n + place d (k.second row)) (least_in k s t t (k.second row)))))) some) ∙ goal in
       by_option (least_in k s t t (k.second row))
       (λ none. passed (n + place d (k.second row)) q (high (n + place d (k.second row)) (omega arith)) (ap (λ (o : Option ℕ). Some (id_or (n + place d (k.second row)) o)) (sym none) ∙ to))
-      (λ i found. passed i q (least p row i e at some found) (ap (λ (o : Option ℕ). Some (id_or (n + place d (k.second row)) o)) (sym found) ∙ to)))
+      (λ i found. passed i q (least p row i e at is some found) (ap (λ (o : Option ℕ). Some (id_or (n + place d (k.second row)) o)) (sym found) ∙ to)))
 
 -- a row of new S that passes refers to what passes, or to no old row of T
 pub made_goal : (k : FkParts) (w a b z : ℕ) (well : FkWell k w a b z) (P : ℕ → Bool) (s t near : Rows) (n : ℕ) → RowsWide w near → BringsGoals k P s t → BringsShared k P near s t → ((q : ℕ) → n ≤ q → P q ≡ true)

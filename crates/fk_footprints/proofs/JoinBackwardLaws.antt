@@ -55,29 +55,40 @@ module _ (k : FkParts) where
   t_at : (t made : Rows) (q : ℕ) → row_of (t_from t made) q ≡ or_else (row_of t q) (row_of made q)
   t_at t made q = two_at t made (join_second_from t made) q (λ e f. ap (λ (c : Cell). or_else c (row_of made q)) e ∙ f)
 
-module _ (k : FkParts) (P : ℕ → Bool) (s t near : Rows) (n : ℕ) (goals : BringsGoals k P s t) (least : BringsLeast k P near t) where
+module _ (k : FkParts) (P : ℕ → Bool) (s t near : Rows) (n : ℕ) (goals : BringsGoals k P s t) (least : BringsLeast k P near s t) where
   -- the key that a row keeps
   kept_in : (p : ℕ) (c : Cell) (y : List Value) → P p ≡ true → row_of s p ≡ c → key_kept k c (rows_only P t) y ≡ key_kept k c t y
   kept_in p None y e at = refl
   kept_in p (Some v) y e at = ap (λ (c : Cell). stays_at (k.key v) c y) (goal_in k P s t goals p v e at)
 
   -- the least row of its T part
-  least_in : (p : ℕ) (row : List Value) → P p ≡ true → row_of near p ≡ Some row → first_with (rows_only P t) (k.second row) ≡ first_with t (k.second row)
-  least_in p row e at = first_part P t (k.second row) (λ q is. least p row q e at is)
+  least_in : (p : ℕ) (row : List Value) → P p ≡ true → row_of near p ≡ Some row → key_kept k (row_of s p) t (k.second row) ≡ None → first_with (rows_only P t) (k.second row) ≡ first_with t (k.second row)
+  least_in p row e at key = first_part P t (k.second row) (λ q is. least p row q e at key is)
+
+  -- what is drawn and referred to is the same, whatever key is kept
+  draws_part : (p : ℕ) (row : List Value) → P p ≡ true → row_of near p ≡ Some row → (o : Option Value) → key_kept k (row_of s p) t (k.second row) ≡ o
+      → draws_join o (first_with (rows_only P t) (k.second row)) ≡ draws_join o (first_with t (k.second row))
+  draws_part p row e at (Some f) key = refl
+  draws_part p row e at None key = ap (draws_join None) (least_in p row e at key)
+
+  key_part : (d : List (List Value)) (p : ℕ) (row : List Value) → P p ≡ true → row_of near p ≡ Some row → (o : Option Value) → key_kept k (row_of s p) t (k.second row) ≡ o
+      → value_or (ref_join k (rows_only P t) n d (k.second row)) o ≡ value_or (ref_join k t n d (k.second row)) o
+  key_part d p row e at (Some f) key = refl
+  key_part d p row e at None key = ap (λ (o : Option ℕ). Reference (id_or (n + place d (k.second row)) o)) (least_in p row e at key)
 
   -- a row that passes needs the same
   part_needs : (p : ℕ) (row : List Value) → row_of near p ≡ Some row → P p ≡ true → needs_join k (rows_only P s) (rows_only P t) p row ≡ needs_join k s t p row
   part_needs p row at e =
       ap (λ (c : Cell). draws_join (key_kept k c (rows_only P t) (k.second row)) (first_with (rows_only P t) (k.second row))) (row_in P s p e)
       ∙ ap (λ (o : Option Value). draws_join o (first_with (rows_only P t) (k.second row))) (kept_in p (row_of s p) (k.second row) e refl)
-      ∙ ap (draws_join (key_kept k (row_of s p) t (k.second row))) (least_in p row e at)
+      ∙ draws_part p row e at (key_kept k (row_of s p) t (k.second row)) refl
 
   -- new S has the same there
   part_row : (d : List (List Value)) (p : ℕ) (o : Cell) → P p ≡ true → row_of near p ≡ o → join_first_in k o (row_of s p) (rows_only P t) n d ≡ join_first_in k o (row_of s p) t n d
   part_row d p None e at = ap (λ (x : Cell). left_in x (row_of s p)) (join_in k P s t goals p (row_of s p) e refl)
   part_row d p (Some row) e at =
       ap (λ (o : Option Value). Some (k.put (k.first row) (value_or (ref_join k (rows_only P t) n d (k.second row)) o))) (kept_in p (row_of s p) (k.second row) e refl)
-      ∙ ap (λ (o : Option ℕ). Some (k.put (k.first row) (value_or (Reference (id_or (n + place d (k.second row)) o)) (key_kept k (row_of s p) t (k.second row))))) (least_in p row e at)
+      ∙ ap (λ (f : Value). Some (k.put (k.first row) f)) (key_part d p row e at (key_kept k (row_of s p) t (k.second row)) refl)
 
   -- the part of new S
   part_first : (d : List (List Value)) → RiseFrom 0 near → RiseFrom 0 s → s_from k (rows_only P s) (rows_only P t) n d (rows_only P near) ≡ rows_only P (s_from k s t n d near)
@@ -124,6 +135,10 @@ module _ (k : FkParts) (w a b z : ℕ) (well : FkWell k w a b z) (s t : Rows) (s
       let first : k.first row ≡ k.part v = ap k.first is ∙ well.first_join _ _ lp lu in
       let same : same_row (k.second row) u ≡ true = subst (λ (x : List Value). same_row x u ≡ true) (sym second) (row_same u) in
       f v es (sym first) (ap (λ (c : Cell). key_kept k c t (k.second row)) es ∙ ap (λ (c : Cell). stays_at (k.key v) c (k.second row)) at ∙ ap (λ (q : Bool). cond q (Some (k.key v)) None) same)))
+
+  -- a row of R that is as it was keeps its key
+  pub still_keeps : (p : ℕ) (row : List Value) → joined_row k (row_of s p) t ≡ Some row → key_kept k (row_of s p) t (k.second row) ≡ None → ⊥
+  still_keeps p row e none = row_back p row e (λ v es part kept. let bad : Some (k.key v) ≡ None = sym kept ∙ none in absurd (cc))
 
   -- a row of R that is as it was needs nothing
   still_needs : (p : ℕ) (row : List Value) → joined_row k (row_of s p) t ≡ Some row → needs_join k s t p row ≡ false

@@ -4,7 +4,7 @@ mod DrawPartLemmas
 mod ReferPartLemmas
 mod DecomposePartLemmas
 mod DecomposeDrawLemmas
-mod DecomposeRowLemmas
+pub mod DecomposeRowLemmas
 pub mod JoinForwardLaws
 pub mod JoinBackwardLaws
 pub mod DecomposeForwardLaws
