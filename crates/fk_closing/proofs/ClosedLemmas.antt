@@ -26,7 +26,9 @@ use Rattle.fk_footprints.specs.Closed.{BringsGoals, SeesNoChange, BringsWitness}
 use Rattle.fk_closing.specs.Found.{AreAmong}
 use Rattle.fk_closing.specs.Told.{changes_at, is_changed}
 use Rattle.fk_closing.specs.Looking.{goal_at, HasGoal, HasLeast, HasRefs}
-use Rattle.fk_closing.specs.Brought.{Rule, Witnessed}
+use Rattle.fk_closing.specs.Brought.{Witnessed}
+use Rattle.fk_closing.specs.Keys.{AreFkKeys, KeyRows}
+use Rattle.fk_closing.proofs.KeyLemmas.{refs_of_keys}
 use Rattle.fk_closing.specs.Begins.{BeginsAtRows, BeginsAtTables}
 use Rattle.fk_closing.proofs.ToldLemmas.{new_or_old, unchanged, named, named_passes, pass_at, new_first, new_second}
 
@@ -76,7 +78,7 @@ goals_closed k place key st n ids sound goals p v q pass at goal =
 
 module _ (k : FkParts) (place : ℕ) (key : (v : List Value) → k.key v ≡ value_at place v) (st : Tables) (near : TableChanges) (n : ℕ) (begin ids : List ℕ)
     (rise : AllRise st) (fit : AreChangesOf st near) (new_sound : TablesSound n (changed_tables st near))
-    (begins : BeginsAtTables place (first_table st) near begin) (among : AreAmong begin ids)
+    (keys : KeyRows) (are : AreFkKeys place st keys) (begins : BeginsAtTables place keys.keys near begin) (among : AreAmong begin ids)
     (goals : (q : ℕ) (v : List Value) → has_id ids q ≡ true → row_of (first_table st) q ≡ Some v → HasGoal place ids v) where
   pub new_goals_closed : BringsGoals k (passes ids n) (first_table (changed_tables st near)) (second_table (changed_tables st near))
   new_goals_closed p v q pass at goal =
@@ -92,39 +94,36 @@ module _ (k : FkParts) (place : ℕ) (key : (v : List Value) → k.key v ≡ val
       new_second st near q rise fit
       ∙ by_test (is_changed (changes_at near 1) q)
       (λ e.
-      let refs = named (HasRefs place (first_table st) begin) (changes_at near 1) q begins.refs e in
+      let refs = refs_of_keys place st keys are begin q (named (HasRefs 0 keys.keys begin) (changes_at near 1) q begins.refs e) in
       let here = passing ids n p (among p (refs p v at (goal_here k place key v q goal))) in
       absurd (false≢true (sym out ∙ here)))
       (λ e. unchanged (changes_at near 1) q (row_of (second_table st) q) e)
 
 -- a witness for each row of T
 
-pub witness_closed : (k : FkParts) (rule : Rule) → ((v : List Value) → k.key v ≡ value_at rule.place v) → (st side : Tables) (near : TableChanges) (n : ℕ) (ids : List ℕ)
-    → AllRise side → AreChangesOf side near → TablesSound n st → EachPass (has_id ids) near → ((q : ℕ) → rule.changed q ≡ is_changed (changes_at near 0) q)
-    → ((q p : ℕ) (v : List Value) → has_id ids q ≡ true → rule.changed p ≡ false → row_of (first_table st) p ≡ Some v → goal_at rule.place v ≡ Some q → Witnessed rule (first_table st) q ids)
+pub witness_closed : (k : FkParts) (place : ℕ) (changed : ℕ → Bool) → ((v : List Value) → k.key v ≡ value_at place v) → (st side : Tables) (near : TableChanges) (n : ℕ) (ids : List ℕ)
+    → AllRise side → AreChangesOf side near → TablesSound n st → EachPass (has_id ids) near → ((q : ℕ) → changed q ≡ is_changed (changes_at near 0) q)
+    → ((q p : ℕ) (v : List Value) → has_id ids q ≡ true → changed p ≡ false → row_of (first_table st) p ≡ Some v → goal_at place v ≡ Some q → Witnessed place changed (first_table st) q ids)
     → BringsWitness k (passes ids n) (first_table st) (second_table st) (first_table side) (first_table (changed_tables side near))
-witness_closed k rule key st side near n ids rise fit sound touches changed witness q u p v pass at out is goal =
+witness_closed k place changed key st side near n ids rise fit sound touches same witness q u p v pass at out is goal =
     let here = listed ids n (second_table st) q u (sound1 n st sound) pass at in
-    let w = witness q p v here (changed p ∙ unnamed ids n near 0 p touches out) is (ap goal_of (sym (key v)) ∙ goal) in
+    let w = witness q p v here (same p ∙ unnamed ids n near 0 p touches out) is (ap goal_of (sym (key v)) ∙ goal) in
     record {
       id = w.id;
       row = w.refers.row;
       passed = passing ids n w.id w.among;
       at = w.refers.at;
       goal = ap goal_of (key w.refers.row) ∙ w.refers.goal;
-      still = new_first side near w.id rise fit ∙ unchanged (changes_at near 0) w.id (row_of (first_table side) w.id) (sym (changed w.id) ∙ w.stays);
+      still = new_first side near w.id rise fit ∙ unchanged (changes_at near 0) w.id (row_of (first_table side) w.id) (sym (same w.id) ∙ w.stays);
     }
 
--- the least row of T with the T part of each row of new R
-pub least_closed : (second : List Value → List Value) (changed : ℕ → Bool) (keys : Rows) (side : Tables) (near : TableChanges) (n : ℕ) (begin ids : List ℕ)
-    → AllRise side → AreChangesOf side near → TablesSound n (changed_tables side near) → ((q : ℕ) → changed q ≡ is_changed (changes_at near 0) q)
+-- the least row of T with the T part of each row of new R that isn't as it was
+pub least_closed : (second : List Value → List Value) (keys : Rows) (side : Tables) (near : TableChanges) (n : ℕ) (begin ids : List ℕ) → AllRise side → AreChangesOf side near
     → BeginsAtRows second keys near begin → AreAmong begin ids
-    → ((q : ℕ) (row : List Value) → has_id ids q ≡ true → changed q ≡ false → row_of (first_table side) q ≡ Some row → HasLeast second keys ids row)
-    → (p : ℕ) (row : List Value) (g : ℕ) → passes ids n p ≡ true → row_of (first_table (changed_tables side near)) p ≡ Some row → IsLeastFrom keys (second row) 0 (Some g) → passes ids n g ≡ true
-least_closed second changed keys side near n begin ids rise fit sound same begins among least p row g pass at is =
-    let here = listed ids n (first_table (changed_tables side near)) p row (sound0 n (changed_tables side near) sound) pass at in
+    → (p : ℕ) (row : List Value) (g : ℕ) → row_of (first_table (changed_tables side near)) p ≡ Some row → (row_of (first_table side) p ≡ Some row → ⊥) → IsLeastFrom keys (second row) 0 (Some g) → passes ids n g ≡ true
+least_closed second keys side near n begin ids rise fit begins among p row g at other is =
     let e : after (changes_at near 0) p (row_of (first_table side) p) ≡ Some row = sym (new_first side near p rise fit) ∙ at in
     passing ids n g (elim (new_or_old (HasLeast second keys begin) (changes_at near 0) p (row_of (first_table side) p) row begins.least e) [
       | inl new ↦ among g (new g is)
-      | inr old ↦ least p row here (same p ∙ old.0) old.1 g is
+      | inr old ↦ absurd (other old.1)
     ])

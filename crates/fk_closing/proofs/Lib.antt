@@ -1,6 +1,7 @@
 mod FoundLemmas
 mod ToldLemmas
 mod LookLemmas
+mod KeyLemmas
 mod BroughtLemmas
 mod ClosedLemmas
 mod CallLemmas

@@ -1,36 +1,24 @@
 -- Look-ups by value: what their answers say of the rows of S and T.
-use Rattle.std.proofs.Common.{◌≡◌, ℕ, zero, suc, ◌+◌, ◌≤◌, ◌==◌, List, [], ◌∷◌, Bool, true, false, not, ◌&&◌, slice_index_or, Option, Some, None, refl, ap, sym, ◌∙◌, subst, arith}
-use Rattle.std.proofs.lemmas.Bool.{false≢true, eqb-true}
+use Rattle.std.proofs.Common.{◌≡◌, ℕ, ◌+◌, ◌<◌, ◌≤◌, ◌==◌, List, [], ◌∷◌, length, Bool, true, false, not, ◌&&◌, Option, is_some, Some, None, refl, ap, sym, ◌∙◌, subst, arith}
+use Rattle.std.proofs.lemmas.Bool.{cases_lt, false≢true, eqb-true}
+use mathlib.Core.Logic.{inl, inr}
 use Rattle.par_base.specs.declared.value.Value.{Value}
 use Rattle.par_base.specs.declared.value.Value.TheVariants.{Null, Int, Text, Reference}
 use Rattle.par_base.specs.SameRows.{same_row}
 use Rattle.par_base.specs.inner.SameLaws.{row_equal, row_same}
 use Rattle.row_store.specs.Rows.{Rows, RiseFrom, row_of}
 use Rattle.row_store.specs.inner.FoundRows.{own_row, later, from_at}
+use Rattle.op_law.specs.Tables.{RowsWide}
 use Rattle.op_law.specs.Local.{rows_only}
 use Rattle.op_law.proofs.OnlyLaws.{by_test, row_in, row_out}
-use Rattle.row_parts.specs.RowCells.{is_there, map_cell}
-use Rattle.row_parts.specs.RowEdits.{value_at}
-use Rattle.foreign_keys.specs.KeyParts.{FkParts}
+use Rattle.op_law.proofs.SoundLaws.{wide_at}
 use Rattle.foreign_keys.specs.References.{goal_of, referred}
+use Rattle.foreign_keys.specs.inner.ReferenceLemmas.{referred_by, referrer}
 use Rattle.foreign_keys.specs.Least.{least_with}
 use Rattle.op_fk_join.specs.Join.{first_with}
-use Rattle.op_fk_decompose.specs.Decompose.{alone, least_in}
-use Rattle.key_index.specs.Tables.{key_in, keys_in}
 use Rattle.key_index.specs.Found.{IsLeastFrom}
-use Rattle.key_reads.specs.Keys.{parts_at, shared_rows}
-use Rattle.fk_closing.specs.Looking.{goal_at, Refers, IsNextRef}
-
--- the value at a place, and null where there is none
-at_place : (place : ℕ) (row : List Value) → slice_index_or row place Null ≡ value_at place row
-at_place place [] = refl
-at_place zero (v ∷ vs) = refl
-at_place (suc place) (v ∷ vs) = at_place place vs
-
--- the key of an identifier is that of its row
-keys_at : (columns : List ℕ) (rows : Rows) (q : ℕ) → row_of (keys_in columns rows) q ≡ map_cell (key_in columns) (row_of rows q)
-keys_at columns [] q = refl
-keys_at columns (r ∷ rs) q = by_test (r.0 == q) (λ e. rw e refl) (λ e. rw e (keys_at columns rs q))
+use Rattle.fk_closing.specs.Keys.{key_parts}
+use Rattle.fk_closing.specs.Looking.{goal_at, IsNextRef}
 
 -- a value that leads to q is the reference to q
 reference_of : (v : Value) (q : ℕ) → goal_of v ≡ Some q → v ≡ Reference q
@@ -39,32 +27,32 @@ reference_of Null q e = absurd (cc)
 reference_of (Int i) q e = absurd (cc)
 reference_of (Text t) q e = absurd (cc)
 
-module _ (place : ℕ) (s : Rows) (q : ℕ) where
-  -- a row of S that refers to q has the reference to q as its key
-  to_key : (p : ℕ) (v : List Value) → row_of s p ≡ Some v → goal_at place v ≡ Some q → row_of (keys_in (place ∷ []) s) p ≡ Some (Reference q ∷ [])
-  to_key p v at goal =
-      keys_at (place ∷ []) s p ∙ ap (map_cell (key_in (place ∷ []))) at
-      ∙ ap (λ (x : Value). Some (x ∷ [])) (at_place place v ∙ reference_of (value_at place v) q goal)
+module _ (keys : Rows) (one : RowsWide 1 keys) (q : ℕ) where
+  -- a key that leads to q is the reference to q alone
+  single : (w : List Value) → length w ≡ 1 → goal_at 0 w ≡ Some q → w ≡ Reference q ∷ []
+  single [] long goal = absurd (omega arith)
+  single (x ∷ []) long goal = ap (λ (v : Value). v ∷ []) (reference_of x q goal)
+  single (x ∷ y ∷ ys) long goal = absurd (omega arith)
 
-  -- and the other way round
-  of_key_in : (p : ℕ) (o : Option (List Value)) → row_of s p ≡ o → map_cell (key_in (place ∷ [])) o ≡ Some (Reference q ∷ []) → Refers place s q p
-  of_key_in p None at e = absurd (cc)
-  of_key_in p (Some v) at e =
-      let keys : slice_index_or v place Null ∷ [] ≡ Reference q ∷ [] = cc in
-      let head : slice_index_or v place Null ≡ Reference q = cc in
-      record { row = v; at = at; goal = ap goal_of (sym (at_place place v) ∙ head) }
-
-  of_key : (p : ℕ) → row_of (keys_in (place ∷ []) s) p ≡ Some (Reference q ∷ []) → Refers place s q p
-  of_key p e = of_key_in p (row_of s p) refl (sym (keys_at (place ∷ []) s p) ∙ e)
+  to_key : (p : ℕ) (w : List Value) → row_of keys p ≡ Some w → goal_at 0 w ≡ Some q → row_of keys p ≡ Some (Reference q ∷ [])
+  to_key p w at goal = at ∙ ap Some (single w (wide_at 1 keys p w one at) goal)
 
   -- THE LEAST ROW THAT REFERS, from the least one with the key
-  pub next_is : (from : ℕ) (found : Option ℕ) → IsLeastFrom (keys_in (place ∷ []) s) (Reference q ∷ []) from found → IsNextRef place s q from found
+  pub next_is : (from : ℕ) (found : Option ℕ) → IsLeastFrom keys (Reference q ∷ []) from found → IsNextRef 0 keys q from found
   next_is from None none = λ p v low at goal. none p low (to_key p v at goal)
   next_is from (Some w) is = record {
-    refers = of_key w is.1;
+    refers = record { row = Reference q ∷ []; at = is.1; goal = refl };
     behind = is.0;
     least = λ p v low at goal. is.2 p low (to_key p v at goal);
   }
+
+-- WHETHER A ROW REFERS, from the least one that does
+pub refers_is : (keys : Rows) (q : ℕ) (found : Option ℕ) → RiseFrom 0 keys → IsNextRef 0 keys q 0 found → is_some found ≡ referred key_parts keys q
+refers_is keys q None rise none =
+    by_test (referred key_parts keys q)
+    (λ yes. let f = referrer key_parts 0 keys q rise yes in absurd (none f.id f.row (omega arith) f.at f.goal))
+    (λ no. sym no)
+refers_is keys q (Some w) rise is = sym (referred_by key_parts keys w q is.refers.row is.refers.at is.refers.goal)
 
 -- there is one least identifier
 pub least_one : (rows : Rows) (key : List Value) (from : ℕ) (o : Option ℕ) (g : ℕ) → IsLeastFrom rows key from o → IsLeastFrom rows key from (Some g) → o ≡ Some g
@@ -144,16 +132,40 @@ first_is rows b g rise e =
     subst (λ (xs : Rows). IsLeastFrom xs b 0 (Some g)) (all_meant rows)
     (least_is (λ q. true) (λ q. true) (λ q. refl) rows b g rise (sym (first_least rows b) ∙ e))
 
--- who is referred to is told by the foreign keys alone
-referred_by_key : (k j : FkParts) (s : Rows) (q : ℕ) → ((v : List Value) → k.key v ≡ j.key v) → referred k s q ≡ referred j s q
-referred_by_key k j [] q same = refl
-referred_by_key k j (r ∷ rs) q same = rw (same r.1, referred_by_key k j rs q same) refl
+-- what is none of those that are there is none
+pub none_of : (o : Option ℕ) → ((x : ℕ) → o ≡ Some x → ⊥) → o ≡ None
+none_of None other = refl
+none_of (Some x) other = absurd (other x refl)
 
--- so is who is alone
-alone_by_key : (k j : FkParts) (s t : Rows) (q : ℕ) → ((v : List Value) → k.key v ≡ j.key v) → alone k s t q ≡ alone j s t q
-alone_by_key k j s t q same = ap (λ (b : Bool). is_there (row_of t q) && (not (is_there (row_of s q)) && not b)) (referred_by_key k j s q same)
+-- the least row that isn't alone, where those before it are
+module _ (is_alone : ℕ → Bool) (rows : Rows) (key : List Value) (from : ℕ) (passed : (p : ℕ) → p < from → row_of rows p ≡ Some key → is_alone p ≡ true) where
+  -- a row that is meant isn't before
+  behind_all : (p : ℕ) → not (is_alone p) ≡ true → row_of rows p ≡ Some key → from ≤ p
+  behind_all p meant at =
+      elim (cases_lt p from) [
+        | inl low ↦ let bad : not (is_alone p) ≡ false = ap not (passed p low at) in absurd (false≢true (sym bad ∙ meant))
+        | inr high ↦ high
+      ]
 
--- THE LEAST ROW THAT MAY BE SHARED is the least one with this key
-pub shared_is : (k : FkParts) (place : ℕ) (s t : Rows) (b : List Value) (g : ℕ) → ((v : List Value) → k.key v ≡ value_at place v) → RiseFrom 0 t → least_in k s t t b ≡ Some g → IsLeastFrom (shared_rows place s t) b 0 (Some g)
-shared_is k place s t b g key rise e =
-    least_is (λ q. not (alone (parts_at place) s t q)) (λ q. not (alone k s t q)) (λ q. ap not (alone_by_key k (parts_at place) s t q key)) t b g rise e
+  pub shared_found : (id : ℕ) → IsLeastFrom rows key from (Some id) → is_alone id ≡ false → IsLeastFrom (rows_only (λ q. not (is_alone q)) rows) key 0 (Some id)
+  shared_found id is alone_not = (
+    omega arith,
+    row_in (λ q. not (is_alone q)) rows id (ap not alone_not) ∙ is.1,
+    λ p low at.
+        by_test (not (is_alone p))
+        (λ meant. let there = sym (row_in (λ q. not (is_alone q)) rows p meant) ∙ at in is.2 p (behind_all p meant there) there)
+        (λ other. let none = row_out (λ q. not (is_alone q)) rows p other in absurd (cc)),
+  )
+
+  pub shared_none : IsLeastFrom rows key from None → IsLeastFrom (rows_only (λ q. not (is_alone q)) rows) key 0 None
+  shared_none none = λ p low at.
+      by_test (not (is_alone p))
+      (λ meant. let there = sym (row_in (λ q. not (is_alone q)) rows p meant) ∙ at in none p (behind_all p meant there) there)
+      (λ other. let gone = row_out (λ q. not (is_alone q)) rows p other in absurd (cc))
+
+  pub passed_more : (id : ℕ) → IsLeastFrom rows key from (Some id) → is_alone id ≡ true → (p : ℕ) → p < id + 1 → row_of rows p ≡ Some key → is_alone p ≡ true
+  passed_more id is alone_is p low at =
+      elim (cases_lt p from) [
+        | inl before ↦ passed p before at
+        | inr high ↦ let up = is.2 p high at in let same : id ≡ p = omega (arith, up, low) in subst (λ (x : ℕ). is_alone x ≡ true) same alone_is
+      ]

@@ -42,3 +42,14 @@ pub(crate) fn add_some(ids: &mut List<u64>, id: Option<u64>) -> Result<(), Memor
         None => Ok(()),
     }
 }
+
+/// Adds these identifiers.
+pub(crate) fn add_all(ids: &mut List<u64>, more: &[u64]) -> Result<(), Memory>
+    ensures all { OnOk result (AreAmong more.now ids.new) }
+    ensures stay { OnOk result (AreAmong ids.old ids.new) }
+{
+    for id in more {
+        ids.push(*id)?;
+    }
+    Ok(())
+}

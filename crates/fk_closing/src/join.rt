@@ -1,77 +1,82 @@
 //! JOIN ON FK: the identifiers that a write through it has to see.
-ghost use Rattle.std.specs.Prelude.{◌≡◌, IfOk};
-ghost use Rattle.op_law.specs.Meaning.{exchanged, flip};
+ghost use Rattle.std.specs.Prelude.{IfOk};
+ghost use Rattle.op_law.specs.Meaning.{flip};
 ghost use Rattle.op_fk_join.specs.Columns.{join_columns};
-ghost use Rattle.fk_closing.specs.Calls.{AreFootprint, CloseJoin, CloseJoinBack};
+ghost use Rattle.fk_closing.specs.Calls.{AreFootprint, CloseJoin, CloseJoinBack, JoinBackWitnesses, JoinWitnesses};
+ghost use Rattle.fk_closing.specs.Found.{AreAmong};
 
 use crate::begins::{begin_at_rows, begin_at_tables};
 use crate::close::close;
 use crate::rules::Rules;
 use crate::told::{changed_ids, changes_at};
-use key_reads::{KeyRead, Keys};
+use crate::{Among, FkKeys};
 use op_fk_join::JoinFk;
 use par_base::{List, Memory};
 use row_changes::SideChanges;
 use std::alloc::Global;
 
-/// A footprint of changes to the sources: what they name, to what old and new rows of S refer, and
-/// the rows of S that refer to changed rows of T.
+/// A footprint of changes to the sources, which holds what is wanted: what they name, to what old and
+/// new rows of S refer, and the rows of S that refer to changed rows of T. For each row of T it holds a
+/// row of S that refers to it and isn't changed.
 ///
-/// It takes a look-up for each identifier that is found and each that changes name.
-pub fn join_footprint<V: KeyRead>(
+/// It takes two look-ups for each identifier that is found, one for each that changes name, and one
+/// more for each changed row that is passed over.
+pub fn join_footprint(
     alloc: Global,
     operator: &JoinFk,
+    keys: &FkKeys<'_>,
     near: &SideChanges,
-    old: &mut V,
+    wanted: &[u64],
 ) -> Result<List<u64>, Memory>
     ensures closed { let it = operator.now in IfOk result
-        (CloseJoin it.first it.second it.place near.now.tables (V.pair old.old)) }
+        (CloseJoin it.first it.second it.place keys.now near.now.tables) }
+    ensures witness { let it = operator.now in IfOk result
+        (JoinWitnesses it.first it.second it.place keys.now near.now.tables) }
     ensures foot { let it = operator.now in IfOk result
-        (AreFootprint (join_columns it.first it.second it.place) near.now.tables (V.pair old.old)) }
-    ensures same { V.pair old.new ≡ V.pair old.old }
+        (AreFootprint (join_columns it.first it.second it.place) (λ p. p.source) it.place keys.now
+        near.now.tables) }
+    ensures holds { IfOk result (AreAmong wanted.now) }
 {
     let changed = changed_ids(alloc, changes_at(near, 0))?;
-    let begin = begin_at_tables(alloc, old, false, operator.place, near)?;
+    let begin = begin_at_tables(alloc, keys, operator.place, near, wanted)?;
     let rules = Rules {
-        parts: operator,
-        place: operator.place,
-        target: false,
+        keys,
         changed: &changed,
-        least: None,
-        has_witness: false,
+        has_witness: true,
     };
-    let ids = close(alloc, &rules, old, begin.as_slice())?;
+    let ids = close(alloc, &rules, begin.as_slice())?;
     Ok(ids)
 }
 
-/// A footprint of changes to the target: what they name, the least row of T with the T part of each
-/// row of R that is found, and to what old rows of S refer.
+/// A footprint of changes to the target, which holds what is wanted: what they name, for each new row
+/// of R the least row of T with its T part, and to what old rows of S refer. For each row of T it holds
+/// a row of S that refers to it and isn't changed.
 ///
-/// It takes two look-ups for each identifier that is found and each that changes name.
-pub fn join_back_footprint<V: KeyRead>(
+/// It takes two look-ups for each identifier that is found, one for each that changes name, and one
+/// more for each changed row that is passed over.
+pub fn join_back_footprint(
     alloc: Global,
     operator: &JoinFk,
+    keys: &FkKeys<'_>,
     near: &SideChanges,
-    old: &mut V,
+    wanted: &[u64],
 ) -> Result<List<u64>, Memory>
     ensures closed { let it = operator.now in IfOk result
-        (CloseJoinBack it.first it.second it.place near.now.tables
-        (exchanged (V.pair old.old))) }
+        (CloseJoinBack it.first it.second it.place keys.now near.now.tables) }
+    ensures witness { let it = operator.now in IfOk result
+        (JoinBackWitnesses it.first it.second it.place keys.now near.now.tables) }
     ensures foot { let it = operator.now in IfOk result
-        (AreFootprint (flip (join_columns it.first it.second it.place)) near.now.tables
-        (exchanged (V.pair old.old))) }
-    ensures same { V.pair old.new ≡ V.pair old.old }
+        (AreFootprint (flip (join_columns it.first it.second it.place)) (λ p. p.target) it.place
+        keys.now near.now.tables) }
+    ensures holds { IfOk result (AreAmong wanted.now) }
 {
     let changed = changed_ids(alloc, changes_at(near, 0))?;
-    let begin = begin_at_rows(alloc, operator, old, false, Keys::Values, near)?;
+    let begin = begin_at_rows(alloc, operator, keys, Among::All, near, wanted)?;
     let rules = Rules {
-        parts: operator,
-        place: operator.place,
-        target: false,
+        keys,
         changed: &changed,
-        least: Some(Keys::Values),
-        has_witness: false,
+        has_witness: true,
     };
-    let ids = close(alloc, &rules, old, begin.as_slice())?;
+    let ids = close(alloc, &rules, begin.as_slice())?;
     Ok(ids)
 }

@@ -1,9 +1,7 @@
 use Rattle.std.proofs.Common.{◌++◌, [], ◌∷◌, List, take, ap, sym, ◌∙◌, subst}
 use Rattle.std.proofs.lemmas.List.{take_more}
 use Rattle.row_store.specs.declared.change.Change.{Change}
-use Rattle.op_law.specs.Meaning.{PairState}
-use Rattle.operator_changes.specs.Pairs.{side_at}
-use Rattle.key_reads.specs.Keys.{keys_of}
+use Rattle.fk_closing.specs.Keys.{keys_among}
 use Rattle.fk_closing.specs.Looking.{HasLeast}
 use Rattle.fk_closing.specs.Told.{AllOf, OfNew}
 use Rattle.fk_closing.proofs.ToldLemmas.{all_more, all_then}
@@ -16,15 +14,12 @@ loop-change-preserved g c =
     let i = c.loop-change.change-index in
     let d = c.change-item.result in
     let second = (g.P.RowParts.parts c.args.parts.now).second in
-    let keys : PairState → _ = λ (p : PairState). keys_of c.args.keys (side_at c.args.target p) in
-    let now = g.V.PairRead.pair c.args.old.now in
+    let all = keys_among c.args.among c.args.keys.now in
     let new = c.add_least.new.ids in
     let more = c.in_ok-add_least.ensures.stay in
-    let one = subst (λ (p : PairState). OfNew (HasLeast second (keys p) new) d) inv.same c.in_ok-add_least.ensures.least in
     let taken = take_more cs i d c.loop-change-test.true ∙ ap (λ (x : Change). take i cs ++ x ∷ []) (sym c.change-item.is) in
-    let old = all_then (OfNew (HasLeast second (keys now) c.loop-change.ids)) (OfNew (HasLeast second (keys now) new)) (take i cs) (λ x has row e to is. more to (has row e to is)) inv.least in
+    let old = all_then (OfNew (HasLeast second all c.loop-change.ids)) (OfNew (HasLeast second all new)) (take i cs) (λ x has row e to is. more to (has row e to is)) inv.least in
     record {
-      least = subst (λ (xs : List Change). AllOf (OfNew (HasLeast second (keys now) new)) xs) (sym taken) (all_more (OfNew (HasLeast second (keys now) new)) (take i cs) d old one);
+      least = subst (λ (xs : List Change). AllOf (OfNew (HasLeast second all new)) xs) (sym taken) (all_more (OfNew (HasLeast second all new)) (take i cs) d old c.in_ok-add_least.ensures.least);
       stay = λ q h. more q (inv.stay q h);
-      same = c.in_ok-add_least.ensures.same ∙ inv.same;
     }

@@ -1,20 +1,17 @@
-use Rattle.std.proofs.Common.{◌≡◌, ℕ, List, true, ◌∙◌, subst}
+use Rattle.std.proofs.Common.{◌≡◌, ℕ, List, true, subst}
 use mathlib.Core.Logic.{inl, inr}
-use Rattle.op_law.specs.Meaning.{PairState}
 use Rattle.op_law.specs.Identifiers.{has_id}
-use Rattle.fk_closing.specs.Brought.{rule_of, IsBrought}
+use Rattle.fk_closing.specs.Brought.{IsBrought}
 use Rattle.fk_closing.proofs.FoundLemmas.{end_is}
 use Rattle.fk_closing.proofs.BroughtLemmas.{brought_more}
 use Rattle.fk_closing.proofs.close.close.Goals as goal
 
 pub loop-id-preserved : goal.loop-id-preserved
-loop-id-preserved g c =
+loop-id-preserved c =
     let inv = c.loop-id.invariant in
     let more = c.in_ok-follow.ensures.more in
-    let rule = rule_of g.P.RowParts.parts c.args.rules.now in
-    let now = g.V.PairRead.pair c.args.old.now in
+    let rule = c.args.rules.now in
     let found = c.follow.new.found in
-    let own = subst (λ (p : PairState). IsBrought rule p c.in-Some.id found) inv.same c.in_ok-follow.ensures.all in
     record {
       ids = more.ids;
       begins = λ q h. more.stay q (inv.begins q h);
@@ -23,13 +20,12 @@ loop-id-preserved g c =
             | inr left ↦ inl left
             | inl old ↦
                 elim (inv.followed q old) [
-                  | inr done ↦ inr (brought_more rule now q c.loop-id.found found more.stay done)
+                  | inr done ↦ inr (brought_more rule q c.loop-id.found found more.stay done)
                   | inl was ↦
                       elim (end_is c.pop.new.self c.in-Some.id q (subst (λ (xs : List ℕ). has_id xs q ≡ true) c.in-Some.ensures was)) [
                         | inl rest ↦ inl (more.remain q rest)
-                        | inr same ↦ inr (subst (λ (x : ℕ). IsBrought rule now x found) same own)
+                        | inr same ↦ inr (subst (λ (x : ℕ). IsBrought rule x found) same c.in_ok-follow.ensures.all)
                       ]
                 ]
           ];
-      same = c.in_ok-follow.ensures.same ∙ inv.same;
     }

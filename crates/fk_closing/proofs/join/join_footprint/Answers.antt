@@ -1,27 +1,33 @@
-use Rattle.std.proofs.Common.{◌-◌, ℕ, List, sym, subst}
-use Rattle.op_law.specs.Meaning.{PairState}
-use Rattle.op_tables.specs.SideTables.{first_table}
-use Rattle.op_fk_join.specs.Columns.{side_parts}
+use Rattle.std.proofs.Common.{◌≡◌, ℕ, List, true, sym, subst, ap, ◌∙◌}
+use Rattle.op_law.specs.Identifiers.{has_id}
 use Rattle.fk_footprints.proofs.JoinForwardLaws.{closed_join}
+use Rattle.row_store.specs.declared.change.Change.{Change}
+use Rattle.fk_closing.specs.Told.{changes_at, is_changed}
 use Rattle.fk_closing.specs.Begins.{BeginsAtTables}
-use Rattle.fk_closing.specs.Brought.{IsClosing}
-use Rattle.fk_closing.proofs.CallLemmas.{join_rule, join_closes}
+use Rattle.fk_closing.proofs.CallLemmas.{join_closes, join_witness}
 use Rattle.fk_closing.proofs.join.join_footprint.Goals as goal
 
 pub returns-clause-closed : goal.returns-clause-closed
-returns-clause-closed g c n may =
+returns-clause-closed c p n are may =
     let it = c.args.operator.now in
-    let p = g.V.PairRead.pair c.args.old.now in
-    let k = side_parts (it.first - 1) it.second it.place in
-    let begin = c.as_slice.result.now in
-    let ids = c.in_ok-ids.ids in
-    let begins = subst (λ (xs : List ℕ). BeginsAtTables it.place (first_table p.source) c.args.near.now.tables xs) (sym c.as_slice.ensures) c.in_ok-begin.ensures.begins in
-    let closing = subst (λ (x : PairState). IsClosing (join_rule k.second it.place c.in_ok-changed.changed) x begin ids) c.in_ok-begin.ensures.same c.in_ok-ids.ensures.closed in
-    join_closes it.place c.args.near.now.tables p n c.in_ok-changed.changed begin ids it.first it.second may begins closing
+    let near = c.args.near.now.tables in
+    let begins = subst (λ (xs : List ℕ). BeginsAtTables it.place c.args.keys.now.keys near xs) (sym c.as_slice.ensures) c.in_ok-begin.ensures.begins in
+    join_closes it.place c.args.keys.now near p n c.in_ok-changed.changed c.as_slice.result.now c.in_ok-ids.ids it.first it.second are may begins c.in_ok-ids.ensures
 
 -- and so a footprint
 pub returns-clause-foot : goal.returns-clause-foot
-returns-clause-foot g c n may =
+returns-clause-foot c p n are may =
     let it = c.args.operator.now in
-    let p = g.V.PairRead.pair c.args.old.now in
-    closed_join it.first it.second it.place c.args.near.now.tables p n c.in_ok-ids.ids may (returns-clause-closed g c n may)
+    closed_join it.first it.second it.place c.args.near.now.tables p n c.in_ok-ids.ids may (returns-clause-closed c p n are may)
+
+pub returns-clause-holds : goal.returns-clause-holds
+returns-clause-holds c q has =
+    c.in_ok-ids.ensures.begins q (subst (λ (xs : List ℕ). has_id xs q ≡ true) (sym c.as_slice.ensures) (c.in_ok-begin.ensures.wanted q has))
+
+pub returns-clause-witness : goal.returns-clause-witness
+returns-clause-witness c p n are may =
+    let it = c.args.operator.now in
+    let near = c.args.near.now.tables in
+    let changed : (q : ℕ) → has_id c.in_ok-changed.changed q ≡ is_changed (changes_at near 0) q = λ q. c.in_ok-changed.ensures q ∙ ap (λ (cs : List Change). is_changed cs q) c.changes_at.ensures in
+    let begins = subst (λ (xs : List ℕ). BeginsAtTables it.place c.args.keys.now.keys near xs) (sym c.as_slice.ensures) c.in_ok-begin.ensures.begins in
+    join_witness it.place c.args.keys.now near p n c.in_ok-changed.changed c.as_slice.result.now c.in_ok-ids.ids it.first it.second are may begins changed c.in_ok-ids.ensures
