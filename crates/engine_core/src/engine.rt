@@ -227,6 +227,8 @@ impl Engine {
         ensures restores { Restores any_meaning self.old undo self.new }
         ensures capacity { HoldsAsMuch self.old self.new }
     {
+        // Keys are those of the state that goes; none are always right.
+        self.keys = Vec::new(alloc);
         revert(alloc, &mut self.database, undo);
     }
 
