@@ -39,8 +39,8 @@ returns-clause-right g c =
     let is = c.as_mut_slice-2.ensures.value ∙ mid in
     let all = was.ok.0 ∙ sym long ∙ ap (λ (l : List (Numbered KeysState)). length l) (sym mid) in
     let last = c.commit_keys.auto.items ∙ ap (λ (l : List (Numbered KeysState)). length l) c.as_mut_slice-2.ensures.value in
-    subst (AreKeysOf (state_for any_meaning c.commit.new.db).tables) (sym (filled was.len c.commit_keys.new.items _ all last))
-    (c.in_ok-plan.ensures.keys.leads c.commit.new.db c.commit.ensures.puts c.commit_keys.new.items
+    subst (AreKeysOf (state_for any_meaning c.commit-undo.new.db).tables) (sym (filled was.len c.commit_keys.new.items _ all last))
+    (c.in_ok-plan.ensures.keys.leads c.commit-undo.new.db c.commit-undo.ensures.puts c.commit_keys.new.items
     (subst (λ (l : List (Numbered KeysState)). Both CommitsKeys l c.commit_keys.new.items) is c.commit_keys.ensures))
 
 pub returns-in_err-plan-clause-right : goal.returns-in_err-plan-clause-right
@@ -58,8 +58,8 @@ returns-in_err-plan-clause-writes g c =
     let writes = plan_refused n w.set w.table (rows_written any_meaning d w) w.ids.next c.in_err-plan.field-0.0 c.in_err-plan.ensures.plans in
     rw (p.1, p.2) (subst (λ (x : AnyDatabase). Writes any_meaning x w.set w.table (rows_written any_meaning d w) w.ids.next (Err c.in_err-plan.field-0.0) (database_for any_meaning n)) c.in_err-plan.ensures.data writes)
 
-pub commit-requires : goal.commit-requires
-commit-requires g c =
+pub commit-undo-requires : goal.commit-undo-requires
+commit-undo-requires g c =
     let w = c.args.written in
     may_commit any_meaning c.plan.new.db w.set w.table (rows_written any_meaning c.args.database.now w) w.ids.next c.in_ok-plan.plan c.in_ok-plan.ensures.plans c.in_ok-plan.ensures.ready
 
@@ -67,14 +67,14 @@ pub returns-clause-writes : goal.returns-clause-writes
 returns-clause-writes g c =
     let w = c.args.written in
     let d = c.args.database.now in
-    let writes = plan_writes c.plan.new.db c.commit.new.db c.in_ok-plan.plan w.set w.table (rows_written any_meaning d w) w.ids.next c.in_ok-plan.ensures.plans c.commit.ensures.puts in
-    subst (λ (x : AnyDatabase). Writes any_meaning x w.set w.table (rows_written any_meaning d w) w.ids.next (Ok tt) (database_for any_meaning c.commit.new.db)) c.in_ok-plan.ensures.data writes
+    let writes = plan_writes c.plan.new.db c.commit-undo.new.db c.in_ok-plan.plan w.set w.table (rows_written any_meaning d w) w.ids.next c.in_ok-plan.ensures.plans c.commit-undo.ensures.puts in
+    subst (λ (x : AnyDatabase). Writes any_meaning x w.set w.table (rows_written any_meaning d w) w.ids.next (Ok tt) (database_for any_meaning c.commit-undo.new.db)) c.in_ok-plan.ensures.data writes
 
 pub returns-in_err-plan-clause-layout : goal.returns-in_err-plan-clause-layout
 returns-in_err-plan-clause-layout g c = c.in_err-plan.ensures.same.layout
 
 pub returns-clause-layout : goal.returns-clause-layout
-returns-clause-layout g c = puts_layout c.plan.new.db c.commit.new.db c.in_ok-plan.plan c.commit.ensures.puts ∙ c.in_ok-plan.ensures.same.layout
+returns-clause-layout g c = puts_layout c.plan.new.db c.commit-undo.new.db c.in_ok-plan.plan c.commit-undo.ensures.puts ∙ c.in_ok-plan.ensures.same.layout
 
 pub returns-in_err-plan-clause-leaves : goal.returns-in_err-plan-clause-leaves
 returns-in_err-plan-clause-leaves g c =
@@ -86,15 +86,15 @@ returns-clause-leaves g c =
     let w = c.args.written in
     let d = c.args.database.now in
     let mid = c.plan.new.db in
-    let new = c.commit.new.db in
-    let undo = c.commit.result in
-    let writes = plan_writes mid new c.in_ok-plan.plan w.set w.table (rows_written any_meaning d w) w.ids.next c.in_ok-plan.ensures.plans c.commit.ensures.puts in
+    let new = c.commit-undo.new.db in
+    let undo = c.commit-undo.result in
+    let writes = plan_writes mid new c.in_ok-plan.plan w.set w.table (rows_written any_meaning d w) w.ids.next c.in_ok-plan.ensures.plans c.commit-undo.ensures.puts in
     let wrote = subst (λ (x : AnyDatabase). Writes any_meaning x w.set w.table (rows_written any_meaning d w) w.ids.next (Ok tt) (database_for any_meaning new)) c.in_ok-plan.ensures.data writes in (
       record {
-        undoes = undoes_before any_meaning d mid new undo c.graph-graph.ensures.kept c.in_ok-plan.ensures.same c.commit.ensures.undoes;
+        undoes = undoes_before any_meaning d mid new undo c.graph-graph.ensures.kept c.in_ok-plan.ensures.same c.commit-undo.ensures.undoes;
         changed = λ t.
-            subst (λ (l : List ℕ). TellsApart ((database_for any_meaning d).state.tables t) ((database_for any_meaning new).state.tables t) (is_in t l)) (sym c.commit.ensures.changed)
+            subst (λ (l : List ℕ). TellsApart ((database_for any_meaning d).state.tables t) ((database_for any_meaning new).state.tables t) (is_in t l)) (sym c.commit-undo.ensures.changed)
             (subst (λ (x : AnyDatabase). TellsApart ((database_for any_meaning d).state.tables t) (x.state.tables t) (is_in t c.in_ok-plan.plan.changed)) (sym wrote.1) (c.in_ok-plan.ensures.tells t));
       },
-      holds_more d mid new c.in_ok-plan.ensures.capacity (holds_enough mid new c.commit.ensures.capacity),
+      holds_more d mid new c.in_ok-plan.ensures.capacity (holds_enough mid new c.commit-undo.ensures.capacity),
     )
