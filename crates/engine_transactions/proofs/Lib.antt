@@ -1,3 +1,4 @@
+mod TestLemmas
 mod RowLemmas
 mod ExecutingLemmas
 mod SettleLemmas

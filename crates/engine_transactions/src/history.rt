@@ -1,5 +1,8 @@
 //! When table versions and names changed last.
 ghost use Rattle.std.specs.Prelude.{◌≡◌, ◌==◌, ℕ, OnOk, if◌then◌else◌};
+ghost use Rattle.std.specs.List.{find};
+ghost use Rattle.std.specs.Option.{option_copied};
+ghost use Rattle.std.specs.Str.{bytes_eq};
 ghost use Rattle.version_graph.specs.Edges.{is_in};
 ghost use Rattle.version_graph.specs.Sets.{In, Within};
 ghost use Rattle.version_model.specs.Kept.{numbers_in};
@@ -7,6 +10,7 @@ ghost use Rattle.engine_transactions.specs.History.{dropped_in, history_of, last
 
 use crate::TableRead;
 use par_base::{List, Memory, Name};
+use std::iter::Iterator;
 use version_model::{Numbered, place_of, value_of};
 
 /// The last number at which a version with this name was dropped.
@@ -35,14 +39,25 @@ fn number_at(changed: &[Numbered<u64>], table: u32) -> u64
     }
 }
 
+// Whether a version with this name was dropped.
+fn is_drop_of(one: &NameDrop, name: &Name) -> bool
+    ensures { result ≡ bytes_eq name.now one.now.name }
+{
+    name.as_str().as_bytes() == one.name.as_str().as_bytes()
+}
+
+// The first drop of a version with this name.
+fn drop_named<'a>(dropped: &'a [NameDrop], name: &Name) -> Option<&'a NameDrop>
+    ensures { option_copied result ≡ find (λ one. bytes_eq name.now one.name) dropped.entry.now }
+{
+    dropped.iter().find(|one| is_drop_of(one, name))
+}
+
 // The number of the last drop of a version with this name.
 fn drop_of(dropped: &[NameDrop], name: &Name) -> u64
     ensures { result ≡ dropped_in dropped.now name.now }
 {
-    match dropped
-        .iter()
-        .find(|one| name.as_str() == one.name.as_str())
-    {
+    match drop_named(dropped, name) {
         Some(one) => one.at,
         None => 0,
     }
