@@ -5,6 +5,7 @@ use Rattle.std.proofs.lemmas.Bool.{eq-eqb, false≢true}
 use Rattle.std.proofs.lemmas.List.{reverse-append}
 use mathlib.Core.List.{reverse}
 use Rattle.version_graph.specs.Edges.{is_in}
+use Rattle.version_graph.specs.Sets.{Each, Within}
 use Rattle.op_law.proofs.OnlyLaws.{by_test}
 use Rattle.op_any.specs.Operators.{AnyView}
 use Rattle.version_model.specs.Kept.{numbers_in}
@@ -12,44 +13,19 @@ use Rattle.db_state.specs.declared.parts.Parts.{Parts}
 use Rattle.write_propagation.specs.declared.undo.Undo.{Undo}
 use Rattle.session_tx.specs.Calls.{is_changed, last_number, next_number, AnyChanged, IsSettled}
 use Rattle.session_tx.specs.Meaning.{Standing as Executed, Unsettled}
-use Rattle.engine_sessions.specs.Standing.{Standing as SessionsStanding, kept_in}
-use Rattle.engine_transactions.specs.Executing.{has_changes, is_changed_by, HasSettled, RunsTo, Shows}
+use Rattle.engine_sessions.specs.Standing.{Standing as SessionsStanding, kept_in, standing_of}
+use Rattle.engine_transactions.proofs.TestLemmas.{any_more, any_reverse, chosen_twice, either_turned}
+use Rattle.engine_transactions.specs.Executing.{has_changes, is_changed_by, HasSettled, HaveNumbers, RunsTo, Shows}
 use Rattle.engine_transactions.specs.History.{dropped_in, history_of, last_change, number_in}
 use Rattle.engine_transactions.specs.declared.executing.Executing.{Executing}
 use Rattle.engine_transactions.specs.declared.history.ChangeNumbers.{ChangeNumbers}
 use Rattle.engine_transactions.specs.declared.table_read.TableRead.{TableRead}
 
--- ---- tests of lists
-
-either_turned : (a b : Bool) → a || b ≡ b || a
-either_turned true true = refl
-either_turned true false = refl
-either_turned false true = refl
-either_turned false false = refl
-
-either_last : (a b c : Bool) → (a || b) || c ≡ a || (b || c)
-either_last true b c = refl
-either_last false b c = refl
-
-none_right : (a : Bool) → a || false ≡ a
-none_right true = refl
-none_right false = refl
-
-module _ {X : Type 0} (test : X → Bool) where
-  any_append : (xs ys : List X) → list_any test (xs ++ ys) ≡ list_any test xs || list_any test ys
-  any_append [] ys = refl
-  any_append (x ∷ xs) ys = ap (λ (b : Bool). test x || b) (any_append xs ys) ∙ sym (either_last (test x) (list_any test xs) (list_any test ys))
-
-  pub any_reverse : (xs : List X) → list_any test (reverse xs) ≡ list_any test xs
-  any_reverse [] = refl
-  any_reverse (x ∷ xs) =
-      ap (λ (l : List X). list_any test l) (reverse-append (x ∷ []) xs)
-      ∙ any_append (reverse xs) (x ∷ [])
-      ∙ ap (λ (b : Bool). list_any test (reverse xs) || b) (none_right (test x))
-      ∙ ap (λ (b : Bool). b || test x) (any_reverse xs)
-      ∙ either_turned (list_any test xs) (test x)
-
 -- ---- what runs changed
+
+is_false : (b : Bool) → (b ≡ true → ⊥) → b ≡ false
+is_false true h = absurd (h refl)
+is_false false h = refl
 
 changed_is : (now : Parts AnyView) (us : List Undo) (s : SessionsStanding) (rs : List (Unsettled SessionsStanding TableRead)) → RunsTo now us s rs → (read : TableRead) → is_changed rs read ≡ is_changed_by us read.table
 changed_is now [] s [] h read = refl
@@ -81,20 +57,33 @@ has_any (u ∷ us) h =
     (λ e. let one = first_in u.changed e in (one.0, ap (λ (b : Bool). b || is_changed_by us one.0) one.1))
     (λ e. let more = has_any us (sym (ap (λ (b : Bool). b || has_changes us) e) ∙ h) in (more.0, ap (λ (b : Bool). is_in more.0 u.changed || b) more.1 ∙ either_turned (is_in more.0 u.changed) true))
 
+-- where none of the runs gave a table other rows nothing is settled
+pub none_settled : (numbers : ChangeNumbers) (us : List Undo) → has_changes us ≡ false → HasSettled numbers us numbers
+none_settled numbers us none = record {
+  last = sym (ap (λ (b : Bool). if b then next_number numbers.last else numbers.last) none);
+  changed = λ t. sym (ap (λ (b : Bool). if b then numbers.last else number_in numbers.changed t) (is_false (is_changed_by us t) (λ e. false≢true (sym none ∙ any_has us t e))));
+  dropped = refl;
+}
+
+-- one more run gave these tables other rows
+pub changed_more : (us : List Undo) (u : Undo) (t last old : ℕ) → (if is_in t u.changed then last else (if is_changed_by us t then last else old)) ≡ (if is_changed_by (us ++ u ∷ []) t then last else old)
+changed_more us u t last old =
+    chosen_twice (is_changed_by us t) (is_in t u.changed) last old
+    ∙ ap (λ (b : Bool). if b then last else old) (sym (any_more (λ (x : Undo). is_in t x.changed) us u))
+
 -- ---- numbers
 
 pub not_less : (n : ℕ) → n ≤ last_number → n ≤ next_number n
 not_less n h = omega (arith, h)
 
+at_most : (n : ℕ) → next_number n ≤ last_number
+at_most n = omega arith
+
 greater : (a b : ℕ) → b ≤ a → max a b ≡ a
 greater a b h = omega (arith, h)
 
-is_false : (b : Bool) → (b ≡ true → ⊥) → b ≡ false
-is_false true h = absurd (h refl)
-is_false false h = refl
-
 -- SETTLED: the state stays, and each table that a run gave other rows has the new number
-module _ (old new : Executing) (s : Executed SessionsStanding TableRead) (shows : Shows old s) (now : Parts AnyView) (settled : HasSettled old.numbers old.unsettled.items new.numbers) where
+module _ (old new : Executing) (s : Executed SessionsStanding TableRead) (shows : Shows old s) (settled : HasSettled old.numbers old.unsettled.items new.numbers) where
   abbrev us : List Undo
   us = old.unsettled.items
 
@@ -135,3 +124,39 @@ module _ (old new : Executing) (s : Executed SessionsStanding TableRead) (shows 
         ∙ ap (λ ds. max (number_in old.numbers.changed read.table) (dropped_in ds read.version)) settled.dropped
         ∙ sym (shows.last read);
   }
+
+  capped : new.numbers.last ≤ last_number
+  capped = by_test (has_changes us)
+      (λ e. subst (λ (n : ℕ). n ≤ last_number) (sym (settled.last ∙ ap (λ (b : Bool). if b then next_number old.numbers.last else old.numbers.last) e)) (at_most old.numbers.last))
+      (λ e. subst (λ (n : ℕ). n ≤ last_number) (sym (settled.last ∙ ap (λ (b : Bool). if b then next_number old.numbers.last else old.numbers.last) e)) shows.within)
+
+  pub shows_settled : new.sessions ≡ old.sessions → new.unsettled.items ≡ [] → Shows new next
+  shows_settled same none = record {
+    state = shows.state ∙ ap standing_of (sym same);
+    history = refl;
+    last = λ read. refl;
+    runs = subst (λ (l : List Undo). RunsTo (kept_in new.sessions) (reverse l) s.state []) (sym none) tt;
+    numbers = subst (λ (l : List Undo). HaveNumbers (numbers_in new.numbers.changed) (reverse l)) (sym none) tt;
+    dropped = low;
+    within = capped;
+  }
+
+-- ---- in the other order
+
+module _ {X : Type 0} (P : X → Type 0) where
+  each_left : (xs ys : List X) → Each P (xs ++ ys) → Each P xs
+  each_left [] ys h = tt
+  each_left (x ∷ xs) ys h = (h.0, each_left xs ys h.1)
+
+  each_right : (xs ys : List X) → Each P (xs ++ ys) → Each P ys
+  each_right [] ys h = h
+  each_right (x ∷ xs) ys h = each_right xs ys h.1
+
+  each_turned : (xs : List X) → Each P (reverse xs) → Each P xs
+  each_turned [] h = tt
+  each_turned (x ∷ xs) h =
+      let both = subst (λ (l : List X). Each P l) (reverse-append (x ∷ []) xs) h in
+      ((each_right (reverse xs) (x ∷ []) both).0, each_turned xs (each_left (reverse xs) (x ∷ []) both))
+
+pub have_turned : (tables : List ℕ) (us : List Undo) → HaveNumbers tables (reverse us) → HaveNumbers tables us
+have_turned tables us h = each_turned (λ (u : Undo). Within u.changed tables) us h
