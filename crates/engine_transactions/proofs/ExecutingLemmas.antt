@@ -1,5 +1,5 @@
 -- What the engine shows after a write, after one that is taken back, and after an error.
-use Rattle.std.proofs.Common.{◌≡◌, ℕ, ◌≤◌, max, List, [], ◌∷◌, ◌++◌, Bool, not, Result, Ok, Err, refl, sym, ap, ◌∙◌, subst}
+use Rattle.std.proofs.Common.{◌≡◌, ℕ, ◌≤◌, max, length, arith, List, [], ◌∷◌, ◌++◌, Bool, not, Result, Ok, Err, refl, sym, ap, ◌∙◌, subst}
 use Rattle.std.proofs.lemmas.List.{reverse-append}
 use mathlib.Core.List.{reverse}
 use Rattle.par_base.specs.Checked.{Checked, ◌then◌}
@@ -11,12 +11,12 @@ use Rattle.op_any.specs.BuiltOn.{AreBuiltOn}
 use Rattle.op_any.specs.Operators.{AnyView, any_meaning}
 use Rattle.version_model.specs.Kept.{numbers_in}
 use Rattle.db_state.specs.declared.parts.Parts.{Parts}
-use Rattle.write_propagation.specs.Capacity.{HoldsAtLeast}
+use Rattle.write_propagation.specs.Capacity.{HoldsAsMuch, HoldsAtLeast}
 use Rattle.write_propagation.specs.Plans.{IsSame}
-use Rattle.write_propagation.specs.Undo.{IsAgain, StaysUndoable, Undoes}
+use Rattle.write_propagation.specs.Undo.{IsAgain, Restores, StaysUndoable, Undoes}
 use Rattle.write_propagation.specs.declared.undo.Undo.{Undo}
-use Rattle.write_propagation.proofs.HoldLaws.{holds_more}
-use Rattle.session_tx.specs.Calls.{after_run, last_number}
+use Rattle.write_propagation.proofs.HoldLaws.{holds_enough, holds_more}
+use Rattle.session_tx.specs.Calls.{after_run, before_runs, last_number, taken_back}
 use Rattle.session_tx.specs.Meaning.{Ran, Standing as Executed, Unsettled}
 use Rattle.engine_state.specs.declared.reply.WriteReply.{WriteReply}
 use Rattle.engine_state.specs.AnyDatabase.{AnyDatabase}
@@ -117,3 +117,34 @@ shows_run old new s undo ran next beside changes undoes holds built numbers kept
       dropped = λ name. subst (λ ds. dropped_in ds name ≤ new.numbers.last) (sym numbers.dropped) (subst (λ (n : ℕ). dropped_in old.numbers.dropped name ≤ n) (sym numbers.last) (h.dropped name));
       within = subst (λ (n : ℕ). n ≤ last_number) (sym numbers.last) h.within;
     }
+
+-- ---- after a write is taken back
+
+module _ (stay : StaysUndoable any_meaning) (old new : Executing) (u : Undo) (restores : Restores any_meaning (kept_in old.sessions) u (kept_in new.sessions)) (much : HoldsAsMuch (kept_in old.sessions) (kept_in new.sessions))
+    (beside : standing_of new.sessions ≡ record (standing_of old.sessions) { laid = state_of (kept_in new.sessions) }) (numbers : new.numbers ≡ old.numbers) where
+  turned : old.unsettled.items ≡ new.unsettled.items ++ u ∷ [] → reverse old.unsettled.items ≡ u ∷ reverse new.unsettled.items
+  turned behind = ap reverse behind ∙ reverse-append new.unsettled.items (u ∷ [])
+
+  back : (s : Executed SessionsStanding TableRead) (rs : List (Unsettled SessionsStanding TableRead)) → 1 ≤ length rs → Shows old s → RunsTo (kept_in old.sessions) (u ∷ reverse new.unsettled.items) s.state rs → HaveNumbers (numbers_in old.numbers.changed) (u ∷ reverse new.unsettled.items) → Shows new (before_runs s rs)
+  back s [] some h runs have = absurd (omega (arith, some))
+  back s (r ∷ rs) some h runs have =
+      let again = restores runs.0 runs.1.0.undoes in
+      let holds = holds_more runs.0 (kept_in old.sessions) (kept_in new.sessions) runs.1.0.holds (holds_enough (kept_in old.sessions) (kept_in new.sessions) much) in
+      record {
+        state =
+            runs.1.0.stood
+            ∙ ap (λ (l : Laid). record s.state { laid = l }) (sym (again_state runs.0 (kept_in new.sessions) again))
+            ∙ ap (λ (x : SessionsStanding). record x { laid = state_of (kept_in new.sessions) }) h.state
+            ∙ sym beside;
+        history = h.history ∙ ap (λ (n : ChangeNumbers). n.last) (sym numbers);
+        last = λ read. h.last read ∙ ap (λ (n : ChangeNumbers). last_change (history_of n) read) (sym numbers);
+        runs = runs_stay stay runs.0 (kept_in new.sessions) again.same holds (reverse new.unsettled.items) r.before rs runs.1.1;
+        numbers = subst (λ (n : ChangeNumbers). HaveNumbers (numbers_in n.changed) (reverse new.unsettled.items)) (sym numbers) have.1;
+        dropped = λ name. subst (λ (n : ChangeNumbers). dropped_in n.dropped name ≤ n.last) (sym numbers) (h.dropped name);
+        within = subst (λ (n : ChangeNumbers). n.last ≤ last_number) (sym numbers) h.within;
+      }
+
+  pub shows_back : (s : Executed SessionsStanding TableRead) → old.unsettled.items ≡ new.unsettled.items ++ u ∷ [] → Shows old s → 1 ≤ length s.unsettled → Shows new (taken_back s)
+  shows_back s behind h some =
+      back s s.unsettled some h (subst (λ (us : List Undo). RunsTo (kept_in old.sessions) us s.state s.unsettled) (turned behind) h.runs)
+      (subst (λ (us : List Undo). HaveNumbers (numbers_in old.numbers.changed) us) (turned behind) h.numbers)

@@ -122,6 +122,8 @@ impl Executor for Executing {
     }
 
     fn take_back(&mut self) {
+        // That the runs before can still be taken back rests on it.
+        writes_stay_undoable::<AnyOp>();
         let alloc = *self.unsettled.allocator();
         if let Some(undo) = self.unsettled.pop() {
             self.sessions.take_back(alloc, undo);
