@@ -3,6 +3,11 @@ use Rattle.std.proofs.Common.{◌≡◌, ℕ, ◌≤◌, max, length, arith, Lis
 use Rattle.std.proofs.lemmas.List.{reverse-append}
 use mathlib.Core.List.{reverse}
 use Rattle.par_base.specs.Checked.{Checked, ◌then◌}
+use Rattle.par_base.specs.declared.fault.Fault.{Fault}
+use Rattle.par_base.specs.declared.fault.Fault.TheVariants.{Memory, Refused}
+use Rattle.par_base.specs.declared.refusal.Refusal.{Refusal}
+use Rattle.statements.specs.Views.{StatementView, statement_view}
+use Rattle.statements.specs.declared.statement.Statement.{Statement}
 use Rattle.layout_rules.specs.declared.layout.Layout.{Layout}
 use Rattle.version_graph.specs.Edges.{Drawn, is_in}
 use Rattle.version_graph.specs.Sets.{Each, In, Within}
@@ -16,16 +21,21 @@ use Rattle.write_propagation.specs.Plans.{IsSame}
 use Rattle.write_propagation.specs.Undo.{IsAgain, Restores, StaysUndoable, Undoes}
 use Rattle.write_propagation.specs.declared.undo.Undo.{Undo}
 use Rattle.write_propagation.proofs.HoldLaws.{holds_enough, holds_more}
-use Rattle.session_tx.specs.Calls.{after_run, before_runs, last_number, taken_back}
+use Rattle.session_tx.specs.Calls.{after_run, before_runs, last_number, taken_back, LeadsRun}
 use Rattle.session_tx.specs.Meaning.{Ran, Standing as Executed, Unsettled}
+use Rattle.engine_state.specs.declared.reply.Reply.{Reply}
 use Rattle.engine_state.specs.declared.reply.WriteReply.{WriteReply}
 use Rattle.engine_state.specs.AnyDatabase.{AnyDatabase}
 use Rattle.engine_core.specs.Kept.{data_of, state_of}
 use Rattle.engine_core.specs.Laid.{Laid}
+use Rattle.engine_core.specs.Undo.{AnswersWrite, TellsTables}
+use Rattle.engine_sessions.specs.Act.{written_in}
 use Rattle.engine_sessions.specs.Standing.{Standing as SessionsStanding, kept_in, standing_of}
 use Rattle.engine_sessions.specs.declared.sessions.Sessions.{Sessions}
 use Rattle.engine_transactions.specs.Executing.{HaveNumbers, IsRunTo, RunsTo, Shows}
-use Rattle.engine_transactions.specs.History.{dropped_in, history_of, last_change, number_in}
+use Rattle.engine_transactions.specs.History.{dropped_in, has_changed, history_of, last_change, number_in}
+use Rattle.engine_transactions.specs.Meaning.{means, means_kept, write_reply}
+use Rattle.engine_transactions.proofs.RowLemmas.{told}
 use Rattle.engine_transactions.specs.declared.executing.Executing.{Executing}
 use Rattle.engine_transactions.specs.declared.history.ChangeNumbers.{ChangeNumbers}
 use Rattle.engine_transactions.specs.declared.table_read.TableRead.{TableRead}
@@ -148,3 +158,35 @@ module _ (stay : StaysUndoable any_meaning) (old new : Executing) (u : Undo) (re
   shows_back s behind h some =
       back s s.unsettled some h (subst (λ (us : List Undo). RunsTo (kept_in old.sessions) us s.state s.unsettled) (turned behind) h.runs)
       (subst (λ (us : List Undo). HaveNumbers (numbers_in old.numbers.changed) us) (turned behind) h.numbers)
+
+-- ---- a run
+
+-- AFTER AN ERROR BEHIND A WRITE: the write is taken back, and the same is shown as before it
+pub again_back : StaysUndoable any_meaning → (old new : Executing) (s : Executed SessionsStanding TableRead) (written : Sessions) (undo : Undo) → Undoes any_meaning (kept_in old.sessions) (kept_in written) undo → HoldsAtLeast (kept_in old.sessions) (kept_in written) → standing_of written ≡ record (standing_of old.sessions) { laid = state_of (kept_in written) }
+    → Restores any_meaning (kept_in written) undo (kept_in new.sessions) → HoldsAsMuch (kept_in written) (kept_in new.sessions) → standing_of new.sessions ≡ record (standing_of written) { laid = state_of (kept_in new.sessions) }
+    → SameNumbers old.numbers new.numbers → new.unsettled.items ≡ old.unsettled.items → Shows old s → Shows new s
+again_back stay old new s written undo undoes holds one restores much two numbers unsettled h =
+    let is = restores (kept_in old.sessions) undoes in
+    shows_again stay old new s (standing_again old.sessions written new.sessions one two is) is.same
+    (holds_more (kept_in old.sessions) (kept_in written) (kept_in new.sessions) holds (holds_enough (kept_in written) (kept_in new.sessions) much)) numbers unsettled h
+
+-- what a reply and the next standing give
+abbrev pub made_of : SessionsStanding → Reply × SessionsStanding → WriteReply → Ran SessionsStanding TableRead WriteReply
+made_of s answer reply = record { done = reply; next = answer.1; changes = λ read. has_changed s.laid.database answer.1.laid.database read.table }
+
+pub meant : (s : SessionsStanding) (x : StatementView) (answer : Reply × SessionsStanding) (reply : Checked WriteReply) → written_in s x ≡ Ok answer → write_reply answer.0 ≡ reply → means s x ≡ (reply then λ r. Ok (made_of s answer r))
+meant s x answer reply written is =
+    ap (λ (m : Checked (Reply × SessionsStanding)). m then λ a. write_reply a.0 then λ r. Ok (made_of s a r)) written
+    ∙ ap (λ (m : Checked WriteReply). m then λ r. Ok (made_of s answer r)) is
+
+-- a write that came to an error
+pub run_fails : (Stands : Executed SessionsStanding TableRead → Type 0) (s : Executed SessionsStanding TableRead) (write : Statement) (next : SessionsStanding) (fault : Fault Refusal) → AnswersWrite (written_in s.state (statement_view write)) (Err fault) next → Stands s → LeadsRun Stands means_kept s write (Err fault)
+run_fails Stands s write next (Refused r) answers stands =
+    (ap (λ (m : Checked (Reply × SessionsStanding)). m then λ a. write_reply a.0 then λ w. Ok (made_of s.state a w)) answers, stands)
+run_fails Stands s write next (Memory m) answers stands = stands
+
+-- the run tells what it changed
+pub tells_run : (old written : Sessions) (state : SessionsStanding) (undo : Undo) → state ≡ standing_of old → TellsTables (data_of (kept_in old)) (data_of (kept_in written)) undo.changed → (read : TableRead) → has_changed state.laid.database (standing_of written).laid.database read.table ≡ is_in read.table undo.changed
+tells_run old written state undo same tells read =
+    ap (λ (x : SessionsStanding). has_changed x.laid.database (standing_of written).laid.database read.table) same
+    ∙ told ((data_of (kept_in old)).state.tables read.table) ((data_of (kept_in written)).state.tables read.table) (is_in read.table undo.changed) (tells read.table)
