@@ -1,5 +1,5 @@
 -- What the engine shows after a write, after one that is taken back, and after an error.
-use Rattle.std.proofs.Common.{◌≡◌, ℕ, ◌≤◌, max, length, arith, List, [], ◌∷◌, ◌++◌, Bool, not, Result, Ok, Err, refl, sym, ap, ◌∙◌, subst}
+use Rattle.std.proofs.Common.{◌≡◌, ℕ, ◌≤◌, max, length, arith, List, [], ◌∷◌, ◌++◌, Ok, Err, sym, ap, ◌∙◌, subst}
 use Rattle.std.proofs.lemmas.List.{reverse-append}
 use mathlib.Core.List.{reverse}
 use Rattle.par_base.specs.Checked.{Checked, ◌then◌}
@@ -10,7 +10,7 @@ use Rattle.statements.specs.Views.{StatementView, statement_view}
 use Rattle.statements.specs.declared.statement.Statement.{Statement}
 use Rattle.layout_rules.specs.declared.layout.Layout.{Layout}
 use Rattle.version_graph.specs.Edges.{Drawn, is_in}
-use Rattle.version_graph.specs.Sets.{Each, In, Within}
+use Rattle.version_graph.specs.Sets.{Within}
 use Rattle.version_graph.proofs.SetLaws.{each_more}
 use Rattle.op_any.specs.BuiltOn.{AreBuiltOn}
 use Rattle.op_any.specs.Operators.{AnyView, any_meaning}
@@ -32,7 +32,7 @@ use Rattle.engine_core.specs.Undo.{AnswersWrite, TellsTables}
 use Rattle.engine_sessions.specs.Act.{written_in}
 use Rattle.engine_sessions.specs.Standing.{Standing as SessionsStanding, kept_in, standing_of}
 use Rattle.engine_sessions.specs.declared.sessions.Sessions.{Sessions}
-use Rattle.engine_transactions.specs.Executing.{HaveNumbers, IsRunTo, RunsTo, Shows}
+use Rattle.engine_transactions.specs.Executing.{HaveNumbers, RunsTo, Shows}
 use Rattle.engine_transactions.specs.History.{dropped_in, has_changed, history_of, last_change, number_in}
 use Rattle.engine_transactions.specs.Meaning.{means, means_kept, write_reply}
 use Rattle.engine_transactions.proofs.RowLemmas.{told}

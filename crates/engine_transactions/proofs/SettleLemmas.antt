@@ -1,6 +1,5 @@
 -- What the engine shows once runs are settled.
-use Rattle.std.specs.List.{list_any}
-use Rattle.std.proofs.Common.{◌≡◌, if◌then◌else◌, ℕ, zero, suc, ◌+◌, ◌≤◌, ◌==◌, ◌||◌, max, min, Bool, true, false, not, List, [], ◌∷◌, ◌++◌, length, refl, sym, ap, ◌∙◌, subst, arith}
+use Rattle.std.proofs.Common.{◌≡◌, if◌then◌else◌, ℕ, ◌≤◌, ◌==◌, ◌||◌, max, Bool, true, false, not, List, [], ◌∷◌, ◌++◌, length, refl, sym, ap, ◌∙◌, subst, arith}
 use Rattle.std.proofs.lemmas.Bool.{eq-eqb, false≢true}
 use Rattle.std.proofs.lemmas.List.{reverse-append}
 use mathlib.Core.List.{reverse}
@@ -11,7 +10,7 @@ use Rattle.op_any.specs.Operators.{AnyView}
 use Rattle.version_model.specs.Kept.{numbers_in}
 use Rattle.db_state.specs.declared.parts.Parts.{Parts}
 use Rattle.write_propagation.specs.declared.undo.Undo.{Undo}
-use Rattle.session_tx.specs.Calls.{is_changed, last_number, next_number, AnyChanged, IsSettled}
+use Rattle.session_tx.specs.Calls.{is_changed, last_number, next_number, IsSettled}
 use Rattle.session_tx.specs.Meaning.{Standing as Executed, Unsettled}
 use Rattle.engine_sessions.specs.Standing.{Standing as SessionsStanding, kept_in, standing_of}
 use Rattle.engine_transactions.proofs.TestLemmas.{any_more, any_reverse, chosen_twice, either_turned}

@@ -3,7 +3,6 @@ use Rattle.std.specs.Prelude.{◌≡◌, ℕ, ◌==◌, ◌++◌, not, List, [],
 use Rattle.std.specs.List.{zip}
 use Rattle.par_base.specs.Checked.{Checked}
 use Rattle.statements.specs.Views.{StatementView, Begin, Commit, Delete, Import, Insert, Rollback, Select, Update}
-use Rattle.engine_state.specs.declared.reply.Reply.{Reply}
 use Rattle.engine_state.specs.declared.reply.Reply.TheVariants.{Committed, Deleted, Inserted, Updated}
 use Rattle.engine_state.specs.declared.reply.WriteReply.{WriteReply}
 use Rattle.engine_state.specs.declared.reply.WriteReply.TheVariants as write
@@ -11,7 +10,7 @@ use Rattle.engine_sessions.specs.Act.{act as act_beside}
 use Rattle.engine_sessions.specs.Standing.{Standing as SessionsStanding}
 use Rattle.engine_sessions.specs.declared.answer.Answer.{Answer}
 use Rattle.engine_sessions.specs.declared.answer.Answer.TheVariants.{Plain}
-use Rattle.engine_transactions.specs.Standing.{OpenView, Standing, TransactionView}
+use Rattle.engine_transactions.specs.Standing.{OpenView, Standing}
 use Rattle.engine_transactions.specs.Act.{act, at_hand, named_at}
 
 -- ---- the second script

@@ -1,5 +1,5 @@
 -- One more run is settled.
-use Rattle.std.proofs.Common.{◌++◌, [], ◌∷◌, if◌then◌else◌, ℕ, Bool, List, get_or, take, sym, ap, subst, ◌∙◌}
+use Rattle.std.proofs.Common.{◌++◌, [], ◌∷◌, if◌then◌else◌, ℕ, List, take, sym, ap, subst, ◌∙◌}
 use Rattle.std.proofs.lemmas.List.{take_more}
 use Rattle.version_graph.specs.Edges.{is_in}
 use Rattle.version_graph.specs.Sets.{In, Within}

@@ -1,6 +1,6 @@
 -- A number stands there, or a 0 comes behind the others.
 use Rattle.std.specs.List.{position}
-use Rattle.std.proofs.Common.{◌≡◌, ℕ, ◌==◌, List, refl, sym, ap, subst, ◌∙◌}
+use Rattle.std.proofs.Common.{ℕ, ◌==◌, List, refl, sym, ap, subst, ◌∙◌}
 use Rattle.version_graph.specs.Sets.{In}
 use Rattle.version_model.specs.Kept.{numbers_in}
 use Rattle.version_model.specs.declared.numbered.Numbered.{Numbered}

@@ -1,6 +1,6 @@
 -- The number under the table is another one, and no other changes.
 use Rattle.std.specs.List.{position}
-use Rattle.std.proofs.Common.{◌≡◌, ℕ, ◌==◌, List, slice_set, sym, ap, ◌∙◌}
+use Rattle.std.proofs.Common.{ℕ, ◌==◌, List, slice_set, sym, ap, ◌∙◌}
 use Rattle.version_model.specs.Kept.{numbers_in}
 use Rattle.version_model.specs.declared.numbered.Numbered.{Numbered}
 use Rattle.version_model.proofs.NumberedLaws.{numbers_set}

@@ -1,9 +1,8 @@
 -- One more table has the number.
-use Rattle.std.proofs.Common.{◌==◌, ◌++◌, [], ◌∷◌, if◌then◌else◌, ℕ, Bool, List, get_or, take, sym, ap, subst, ◌∙◌}
+use Rattle.std.proofs.Common.{◌==◌, if◌then◌else◌, ℕ, Bool, List, get_or, take, sym, ap, subst, ◌∙◌}
 use Rattle.std.proofs.lemmas.List.{take_more}
 use Rattle.version_graph.specs.Edges.{is_in}
 use Rattle.version_graph.specs.Sets.{In}
-use Rattle.version_model.specs.Kept.{numbers_in}
 use Rattle.engine_transactions.specs.History.{number_in}
 use Rattle.engine_transactions.proofs.NumberLemmas.{in_item}
 use Rattle.engine_transactions.proofs.TestLemmas.{any_more, chosen_twice}

@@ -1,8 +1,6 @@
 -- A run, and what an error leaves.
-use Rattle.std.proofs.Common.{◌≡◌, ◌++◌, [], ◌∷◌, ℕ, List, Ok, Err, refl, sym, ap, subst, ◌∙◌}
+use Rattle.std.proofs.Common.{◌≡◌, ℕ, List, Ok, Err, refl, sym, subst}
 use Rattle.std.proofs.lemmas.Result.{err_from_is_err_and}
-use Rattle.par_base.specs.declared.fault.Fault.{Fault}
-use Rattle.par_base.specs.declared.refusal.Refusal.{Refusal}
 use Rattle.statements.specs.Views.{statement_view}
 use Rattle.statements.specs.declared.statement.Statement.{Statement}
 use Rattle.version_graph.specs.Sets.{Within}
@@ -15,7 +13,6 @@ use Rattle.engine_sessions.specs.Act.{written_in}
 use Rattle.engine_sessions.specs.Standing.{Standing as SessionsStanding, kept_in, standing_of}
 use Rattle.session_tx.specs.Calls.{after_run}
 use Rattle.engine_transactions.specs.Executing.{Shows}
-use Rattle.engine_transactions.specs.Meaning.{means_kept}
 use Rattle.engine_transactions.specs.declared.executing.Executing.{Executing}
 use Rattle.engine_transactions.proofs.ExecutingLemmas.{again_back, made_of, meant, run_fails, shows_again, shows_run, tells_run}
 use Rattle.engine_transactions.proofs.executing.ExecutingExecutor.run.Goals as goal
@@ -58,11 +55,10 @@ returns-in-Err-write_reply g c = λ s h.
     let x = statement_view c.args.write.now in
     let answers : written_in s.state x ≡ Ok (reply, standing_of w) =
     subst (λ (st : SessionsStanding). written_in st x ≡ Ok (reply, standing_of w)) (sym h.state)
-    (subst (λ (p : Statement). written_in (standing_of old.sessions) (statement_view p) ≡ Ok (reply, standing_of w)) c.statement.ensures.value c.in_ok-reply.ensures.answers) in
-    (
+    (subst (λ (p : Statement). written_in (standing_of old.sessions) (statement_view p) ≡ Ok (reply, standing_of w)) c.statement.ensures.value c.in_ok-reply.ensures.answers) in (
       meant s.state x (reply, standing_of w) (Err c.in-Err-write_reply.refusal) answers c.in-Err-write_reply.ensures.err,
       again_back c.writes_stay_undoable.ensures old new s w u leaves.0.undoes leaves.1 c.write_undoable.ensures.beside back.restores back.capacity back.beside
-      (record { last = refl; changed = c.keep_numbers.ensures.same; more = c.keep_numbers.ensures.more; dropped = refl }) refl h,
+          (record { last = refl; changed = c.keep_numbers.ensures.same; more = c.keep_numbers.ensures.more; dropped = refl }) refl h,
     )
 
 pub returns-in-Ok-push : goal.returns-in-Ok-push
@@ -78,8 +74,7 @@ returns-in-Ok-push g c = λ s h.
     subst (λ (st : SessionsStanding). written_in st x ≡ Ok (reply, standing_of w)) (sym h.state)
     (subst (λ (p : Statement). written_in (standing_of old.sessions) (statement_view p) ≡ Ok (reply, standing_of w)) c.statement.ensures.value c.in_ok-reply.ensures.answers) in
     let ran = made_of s.state (reply, standing_of w) c.in-Ok.done in
-    let kept = subst (λ (l : List ℕ). Within l (numbers_in c.keep_numbers.new.changed)) c.as_slice.ensures c.in_default.ensures.ok in
-    (
+    let kept = subst (λ (l : List ℕ). Within l (numbers_in c.keep_numbers.new.changed)) c.as_slice.ensures c.in_default.ensures.ok in (
       after_run s ran,
       (
         record {
@@ -89,7 +84,7 @@ returns-in-Ok-push g c = λ s h.
           leaves = refl;
         },
         shows_run old new s u ran refl c.write_undoable.ensures.beside (tells_run old.sessions w s.state u h.state leaves.0.changed) leaves.0.undoes leaves.1 c.in_ok-reply.ensures.built
-        (record { last = refl; changed = c.keep_numbers.ensures.same; more = c.keep_numbers.ensures.more; dropped = refl }) kept c.in-Ok-push.ensures.items h,
+            (record { last = refl; changed = c.keep_numbers.ensures.same; more = c.keep_numbers.ensures.more; dropped = refl }) kept c.in-Ok-push.ensures.items h,
       ),
     )
 
