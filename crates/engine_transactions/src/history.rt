@@ -10,7 +10,6 @@ ghost use Rattle.engine_transactions.specs.History.{dropped_in, history_of, last
 
 use crate::TableRead;
 use par_base::{List, Memory, Name};
-use std::iter::Iterator;
 use version_model::{Numbered, place_of, value_of};
 
 /// The last number at which a version with this name was dropped.
@@ -39,7 +38,7 @@ fn number_at(changed: &[Numbered<u64>], table: u32) -> u64
     }
 }
 
-// Whether a version with this name was dropped.
+// Whether it is the drop of a version with this name.
 fn is_drop_of(one: &NameDrop, name: &Name) -> bool
     ensures { result ≡ bytes_eq name.now one.now.name }
 {
