@@ -5,35 +5,27 @@ ghost use Rattle.expr_lang.specs.Operations.{text_limit};
 ghost use Rattle.statements.specs.Views.{op_view, statement_view};
 ghost use Rattle.statements.specs.Texts.{IsTextWithin, OpTexts, TextsWithin};
 ghost use Rattle.version_graph.specs.Edges.{IsGraph};
-ghost use Rattle.par_base.specs.Checked.{◌then◌, Gives};
+ghost use Rattle.par_base.specs.Checked.{◌then◌};
 ghost use Rattle.op_any.specs.BuiltOn.{AreBuiltOn};
 ghost use Rattle.op_any.specs.Operators.{any_meaning};
 ghost use Rattle.version_model.specs.Sound.{IsSound};
 ghost use Rattle.storage_law.specs.Canonical.{SameStored};
 ghost use Rattle.db_state.specs.Fields.{storage_in, IsDatabase};
 ghost use Rattle.db_state.specs.Laws.{IsRestored};
-ghost use Rattle.write_propagation.specs.Bounds.{PlansWithin};
-ghost use Rattle.write_propagation.specs.Capacity.{HoldsAsMuch};
-ghost use Rattle.write_propagation.specs.Undo.{IsRevertible, Restores};
 ghost use Rattle.engine_state.specs.Replies.{IsReply};
 ghost use Rattle.engine_statements.specs.Statements.{Planned, wrote};
-ghost use Rattle.engine_statements.specs.Calls.{planned_view, TakesWrite};
 ghost use Rattle.engine_versions.specs.Evolve.{created};
 ghost use Rattle.engine_layouts.specs.Laid.{flipped_laid, materialized};
 ghost use Rattle.engine_core.specs.Act.{act, acted, acted_data, is_built as is_built_statement, planned_write, IsOrdinary};
-ghost use Rattle.engine_core.specs.Bounds.{InsertTakes, PlansInsert};
+ghost use Rattle.engine_core.specs.Bounds.{InsertTakes};
 ghost use Rattle.engine_core.specs.Kept.{data_of, empty_state, state_of, Answers, Follows, MayFlip};
 ghost use Rattle.engine_core.specs.Spoken.{TextsCome};
-ghost use Rattle.engine_core.specs.Undo.{acted_write, AnswersWrite, LeavesWrite};
 
 use crate::built::is_built;
-use crate::spent::counter_at;
-use crate::writing::write_through;
-use crate::written::Written;
 use db_state::{Db, states_are_stored_once};
 use engine_layouts::{flip_operator, materialize, show_layout};
 use engine_state::Reply;
-use engine_statements::{WritePlan, plan_delete, plan_insert, plan_update, select_rows};
+use engine_statements::select_rows;
 use engine_versions::{create_version, drop_version};
 use expr_lang::Steps;
 use op_any::AnyOp;
@@ -45,7 +37,6 @@ use std::mem;
 use std::sync::ledger::Ledger;
 use table_keys::TableKeys;
 use version_model::Numbered;
-use write_propagation::{RowWrite, Undo, revert};
 
 /// A database with all its versions, under a layout, and the keys that are kept of some of its tables.
 ///
@@ -53,8 +44,8 @@ use write_propagation::{RowWrite, Undo, revert};
 /// database alone.
 #[derive(Drop)]
 pub struct Engine {
-    database: Db<AnyOp>,
-    keys: Vec<Numbered<TableKeys>>,
+    pub(crate) database: Db<AnyOp>,
+    pub(crate) keys: Vec<Numbered<TableKeys>>,
 }
 
 impl Model for Engine {
@@ -188,48 +179,6 @@ impl Engine {
         ensures same { OnErr result (self.new ≡ self.old) }
     {
         flip_operator(alloc, &mut self.database, operator, steps)
-    }
-
-    /// Carries out an INSERT, UPDATE or DELETE as `event` does, and gives what takes it back beside its
-    /// reply. After an error nothing has changed but what tables can hold without memory, which grows
-    /// at most.
-    pub fn write_undoable<L: Ledger>(
-        &mut self,
-        alloc: Global,
-        statement: &Statement,
-        steps: &mut Steps<L>,
-    ) -> Result<Written, Fault<Refusal>>
-        requires texts { TextsWithin text_limit (statement_view statement.now) }
-        ensures answers { AnswersWrite (acted_write (data_of self.old)
-            (statement_view statement.now)) result (data_of self.new) }
-        ensures leaves { LeavesWrite (λ written. written.undo) self.old self.new result }
-        ensures built { IfOk result (λ written. AreBuiltOn written.undo.ids.next
-            self.new.graph.edges) }
-        ensures same { OnErr result (data_of self.new ≡ data_of self.old) }
-        ensures layout { Follows self.old self.new }
-        ensures reply { IfOk result (λ written. IsReply written.reply) }
-        ensures ordinary { (p : Planned) → planned_write (data_of self.old)
-            (statement_view statement.now) ≡ Ok p
-            → OnOk result (IsOrdinary (data_of self.old) p (data_of self.new)) }
-        ensures steps { InsertTakes (data_of self.old) (statement_view statement.now) steps.old
-            steps.new }
-    {
-        // That the layout stays where the graph does rests on it.
-        self.versions_always_agree();
-        let plan = self.plan(alloc, statement, steps)?;
-        self.write(alloc, plan, steps)
-    }
-
-    /// Takes a write back with what it left: all is as it was before it. It takes no memory.
-    pub fn take_back(&mut self, alloc: Global, undo: Undo)
-        requires revertible { IsRevertible any_meaning self.old undo }
-        requires built { AreBuiltOn undo.ids.next self.old.graph.edges }
-        ensures restores { Restores any_meaning self.old undo self.new }
-        ensures capacity { HoldsAsMuch self.old self.new }
-    {
-        // Keys are those of the state that goes; none are always right.
-        self.keys = Vec::new(alloc);
-        revert(alloc, &mut self.database, undo);
     }
 
     // Carries out a statement of a form that is built.
@@ -377,87 +326,5 @@ impl Engine {
         self.versions_always_agree();
         let written = self.write_undoable(alloc, statement, steps)?;
         Ok(written.reply)
-    }
-
-    // What a statement makes of its version's table.
-    fn plan<L: Ledger>(
-        &self,
-        alloc: Global,
-        statement: &Statement,
-        steps: &mut Steps<L>,
-    ) -> Result<WritePlan, Fault<Refusal>>
-        requires texts { TextsWithin text_limit (statement_view statement.now) }
-        ensures gives { Gives (planned_view self.now) result
-            (planned_write (data_of self.now) (statement_view statement.now)) }
-        ensures taken { IfOk result (TakesWrite self.now) }
-        ensures insert { PlansInsert (statement_view statement.now) result steps.old steps.new }
-    {
-        match statement {
-            Statement::Insert { table, rows } => {
-                plan_insert(alloc, &self.database, table, rows.as_slice())
-            }
-            Statement::Update {
-                table,
-                assignments,
-                filter,
-            } => plan_update(
-                alloc,
-                &self.database,
-                table,
-                assignments.as_slice(),
-                filter,
-                steps,
-            ),
-            Statement::Delete { table, filter } => {
-                plan_delete(alloc, &self.database, table, filter, steps)
-            }
-            _ => Err(Fault::Refused(Refusal::NotBuilt)),
-        }
-    }
-
-    // Makes the changes of a statement, and carries them along the walk.
-    fn write<L: Ledger>(
-        &mut self,
-        alloc: Global,
-        plan: WritePlan,
-        steps: &mut Steps<L>,
-    ) -> Result<Written, Fault<Refusal>>
-        requires { TakesWrite self.old plan }
-        ensures answers { AnswersWrite (wrote (data_of self.old)
-            (planned_view self.old plan)) result
-            (data_of self.new) }
-        ensures leaves { LeavesWrite (λ written. written.undo) self.old self.new result }
-        ensures built { IfOk result (λ written. AreBuiltOn written.undo.ids.next
-            self.new.graph.edges) }
-        ensures same { OnErr result (data_of self.new ≡ data_of self.old) }
-        ensures layout { Follows self.old self.new }
-        ensures reply { IsReply plan.reply → IfOk result (λ written. IsReply written.reply) }
-        ensures ordinary { OnOk result (IsOrdinary (data_of self.old)
-            (planned_view self.old plan)
-            (data_of self.new)) }
-        ensures steps { PlansWithin any_meaning self.old.graph.edges plan.set plan.changes steps.old
-            steps.new }
-    {
-        // What follows in the other versions rests on it.
-        self.versions_always_agree();
-        let WritePlan {
-            set,
-            table,
-            changes,
-            next,
-            reply,
-        } = plan;
-        let ids = counter_at(self.database.ids(), next)?;
-        let written = RowWrite {
-            set,
-            table,
-            changes,
-            ids,
-        };
-        match write_through(alloc, &mut self.database, &mut self.keys, written, steps) {
-            Ok(undo) => Ok(Written { reply, undo }),
-            Err(Fault::Refused(spent)) => Err(spent.refused()),
-            Err(Fault::Memory(memory)) => Err(Fault::Memory(memory)),
-        }
     }
 }

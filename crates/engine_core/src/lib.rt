@@ -24,6 +24,7 @@ mod laws;
 mod refusal_line;
 mod reply_lines;
 mod spent;
+mod undoable;
 mod writing;
 mod written;
 

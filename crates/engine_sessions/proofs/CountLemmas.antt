@@ -54,7 +54,7 @@ module _ (p : TableCount → Bool) where
       go rest true is = subst (λ (l : List TableCount). Rises n (tables_counted l)) (sym (kept c cs is)) (rise.0, rest)
       go rest false is = subst (λ (l : List TableCount). Rises n (tables_counted l)) (sym (gone c cs is)) (lower (tables_counted (filter p cs)) n c.table rise.0 rest)
 
-  ascends_kept : (cs : List TableCount) → Ascends (tables_counted cs) → Ascends (tables_counted (filter p cs))
+  pub ascends_kept : (cs : List TableCount) → Ascends (tables_counted cs) → Ascends (tables_counted (filter p cs))
   ascends_kept [] up = tt
   ascends_kept (c ∷ cs) up = go (ascends_kept cs) (p c) refl
     where
@@ -121,7 +121,7 @@ module _ (new : TableCount) where
       go true on = subst (λ (l : List TableCount). Rises new.table (tables_counted l)) (sym (kept above c cs on)) (ltb-true new.table c.table on, rises_kept above cs c.table up)
       go false off = subst (λ (l : List TableCount). Rises new.table (tables_counted l)) (sym (gone above c cs off)) (rises_above_it cs c.table up)
 
-  ascends_put : (cs : List TableCount) → Ascends (tables_counted cs) → Ascends (tables_counted (put cs))
+  pub ascends_put : (cs : List TableCount) → Ascends (tables_counted cs) → Ascends (tables_counted (put cs))
   ascends_put [] up = tt
   ascends_put (c ∷ cs) up = go (below c) refl
     where
@@ -138,7 +138,7 @@ some_more count = go (nat_le greatest_count count)
     go true = omega arith
     go false = omega arith
 
-each_raised : (counts : List TableCount) (t : ℕ) → Each (λ (c : TableCount). 1 ≤ c.count) counts → (c : TableCount) → In c (raised counts t) → 1 ≤ c.count
+pub each_raised : (counts : List TableCount) (t : ℕ) → Each (λ (c : TableCount). 1 ≤ c.count) counts → (c : TableCount) → In c (raised counts t) → 1 ≤ c.count
 each_raised counts t each c i =
     let new : TableCount = record { table = t; count = one_more (count_of counts t) } in
     elim (in_append c (filter (below new) counts) (new ∷ filter (above new) counts) i) as (λ _. 1 ≤ c.count) [

@@ -1,6 +1,6 @@
 -- Statements in full.
-use Rattle.std.specs.Prelude.{Option}
-use Rattle.std.proofs.Common.{◌≡◌, ℕ, List, ◌++◌, refl, ap, subst, ◌∙◌}
+use Rattle.std.specs.Prelude.{IfOk, Option}
+use Rattle.std.proofs.Common.{◌≡◌, ℕ, List, ◌++◌, Result, Ok, Err, refl, ap, sym, subst, ◌∙◌}
 use Rattle.expr_lang.specs.Operations.{text_limit}
 use Rattle.statements.specs.declared.statement.Statement.{Statement}
 use Rattle.statements.specs.declared.statement.Statement.TheVariants as statement
@@ -60,6 +60,11 @@ full_texts used (Unwatch number) is = is
 full_texts used Begin is = is
 full_texts used Commit is = is
 full_texts used Rollback is = is
+
+-- whatever a call makes of it in full
+pub full_within : {E : Type 0} (r : Result Statement E) (used : Option (List ℕ)) (x : StatementView) → TextsWithin text_limit x → IfOk r (λ made. statement_view made ≡ in_full used x) → IfOk r (λ made. TextsWithin text_limit (statement_view made))
+full_within (Ok made) used x is full = subst (λ (y : StatementView). TextsWithin text_limit y) (sym full) (full_texts used x is)
+full_within (Err e) used x is full = tt
 
 -- it tells the same operators
 pub full_operators : (used : Option (List ℕ)) (x : StatementView) → operators_in (in_full used x) ≡ operators_in x

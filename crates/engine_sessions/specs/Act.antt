@@ -1,14 +1,16 @@
 -- One event in a session: the answer or refusal of a statement, and what stands behind it.
-use Rattle.std.specs.Prelude.{ℕ, Bool, true, List, Option, Result, Ok}
+use Rattle.std.specs.Prelude.{ℕ, Bool, true, List, Option, Result, Ok, Err}
 use Rattle.std.specs.Option.{option_map_or}
 use Rattle.par_base.specs.declared.fault.Fault.{Fault}
 use Rattle.par_base.specs.declared.refusal.Refusal.{Refusal}
 use Rattle.par_base.specs.Checked.{Checked, Gives, ◌then◌}
 use Rattle.version_graph.specs.Edges.{set_named}
-use Rattle.statements.specs.Views.{StatementView, Use, Session, Advise}
+use Rattle.par_base.specs.declared.refusal.Refusal.TheVariants.{NotBuilt}
+use Rattle.statements.specs.Views.{StatementView, Advise, Select, Session, Use}
 use Rattle.engine_state.specs.SharedChecks.{known_version}
 use Rattle.engine_state.specs.declared.reply.Reply.{Reply}
 use Rattle.engine_state.specs.declared.reply.Reply.TheVariants.{Done, Rows}
+use Rattle.engine_statements.specs.Statements.{acted_select}
 use Rattle.engine_core.specs.Undo.{acted_write}
 use Rattle.engine_moves.specs.Act.{act as act_in_full}
 use Rattle.engine_moves.specs.Moving.{Moving}
@@ -51,6 +53,11 @@ abbrev pub counted : Standing → Bool → StatementView → Checked (Answer × 
 counted s csv statement =
     act_in_full (moving_in s) statement then λ answer.
     Ok (answer_of csv answer.0, behind s (is_move statement) (accessed s.laid.database statement) answer.1)
+
+-- a SELECT in full, but that no access is counted; no other statement is one
+abbrev pub read_in : Standing → Bool → StatementView → Checked Answer
+read_in s csv (Select name items filter plain) = acted_select s.laid.database name items filter then λ answer. Ok (answer_of csv answer.0)
+read_in s csv _ = Err NotBuilt
 
 -- a write in full, as it is carried out, but that no access is counted
 abbrev pub written_in : Standing → StatementView → Checked (Reply × Standing)

@@ -19,3 +19,4 @@ pub use Rattle.engine_moves.specs.MigrationSides
 pub use Rattle.engine_state.specs.AnyDatabase
 pub use Rattle.engine_state.specs.SharedChecks
 pub use Rattle.engine_state.specs.declared.reply.Reply
+pub use Rattle.engine_core.specs.Laws as EngineCoreLaws

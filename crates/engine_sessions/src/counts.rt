@@ -22,7 +22,8 @@ fn one_more(count: u64) -> u64
     if count == u64::MAX { count } else { count + 1 }
 }
 
-fn copy(alloc: Global, counts: &[TableCount]) -> Result<List<TableCount>, Memory>
+/// The same counts once more.
+pub fn copy_counts(alloc: Global, counts: &[TableCount]) -> Result<List<TableCount>, Memory>
     ensures { IfOk result (λ made. made ≡ counts.now) }
 {
     let mut made = List::new(alloc);
@@ -58,8 +59,9 @@ fn push_above(counts: &[TableCount], table: u32, made: &mut List<TableCount>) ->
     Ok(())
 }
 
-// The counts with one access more of a table.
-fn raise(alloc: Global, counts: &[TableCount], table: u32) -> Result<List<TableCount>, Memory>
+/// The counts with one access more of a table. It takes time in the number of tables that were
+/// accessed.
+pub fn raise(alloc: Global, counts: &[TableCount], table: u32) -> Result<List<TableCount>, Memory>
     ensures { IfOk result (λ made. made ≡ raised counts.now table) }
 {
     let mut made = List::new(alloc);
@@ -81,8 +83,9 @@ fn number_of(alloc: Global, database: &Db<AnyOp>, name: &TableName) -> Result<Op
     }
 }
 
-// The table version that a statement in full reads or writes.
-fn find_accessed(
+/// The table version that a statement in full reads or writes. It takes time in the number of the
+/// version's tables.
+pub fn find_accessed(
     alloc: Global,
     database: &Db<AnyOp>,
     statement: &Statement,
@@ -112,7 +115,7 @@ pub fn count_access(
 {
     match find_accessed(alloc, database, statement)? {
         Some(table) => raise(alloc, counts, table),
-        None => copy(alloc, counts),
+        None => copy_counts(alloc, counts),
     }
 }
 

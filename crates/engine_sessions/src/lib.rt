@@ -10,8 +10,11 @@
 //! tells the cost of each version of a tree by these counts. By the laws of `specs/Laws.antt` a
 //! statement that names its version is answered by the data alone, whatever is in use, is pending
 //! and was counted, sessions change nothing else of what stands, and what is counted are tables that
-//! live. `Sessions::resume` goes on from counts and a pending move that were kept. `answer_text` gives the lines of answers. The crate must not know how
-//! statements are written, how data is stored, or where lines go.
+//! live. `Sessions::resume` goes on from counts and a pending move that were kept. `answer_text` gives
+//! the lines of answers. For transactions, `Sessions::in_full` tells a statement in full,
+//! `Sessions::read` answers a SELECT and counts no access, `Sessions::write_undoable` writes what
+//! `Sessions::take_back` takes back, and accesses are counted in advance and put in afterwards. The
+//! crate must not know how statements are written, how data is stored, or where lines go.
 #![tactic(auto)]
 
 mod answer;
@@ -24,7 +27,9 @@ mod uses;
 
 pub use answer::Answer;
 pub use answer_lines::answer_text;
-pub use engine_core::{Engine, refusal_text};
+pub use counts::{copy_counts, count_access, find_accessed, keep_behind, raise};
+pub use engine_core::{Engine, moves_store_targets, refusal_text, replies_are_lines};
+pub use in_full::wants_csv;
 pub use laws::{
     counts_stay_beside_the_graph, full_statements_need_the_data_alone,
     named_statements_need_no_session, uses_are_each_sessions_own,

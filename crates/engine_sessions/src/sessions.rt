@@ -10,13 +10,14 @@ ghost use Rattle.engine_state.specs.Replies.{IsReply};
 ghost use Rattle.engine_core.specs.Spoken.{TextsCome};
 ghost use Rattle.engine_core.specs.Undo.{AnswersWrite, LeavesWrite};
 ghost use Rattle.op_any.specs.BuiltOn.{AreBuiltOn};
+ghost use Rattle.par_base.specs.Checked.{Gives};
 ghost use Rattle.op_any.specs.Operators.{any_meaning};
 ghost use Rattle.write_propagation.specs.Capacity.{HoldsAsMuch};
 ghost use Rattle.write_propagation.specs.Undo.{IsRevertible, Restores};
 ghost use Rattle.engine_sessions.specs.InFull.{in_full as in_full_lem, wants_csv as wants_csv_lem};
 ghost use Rattle.engine_moves.specs.Pending.{IsPending};
 ghost use Rattle.engine_sessions.specs.Standing.{begun, begun_with, kept_in, standing_of, used_by};
-ghost use Rattle.engine_sessions.specs.Act.{act, advised, answer_of as answer_of_lem, best_name as best_name_lem, counted, used, written_in, Answers};
+ghost use Rattle.engine_sessions.specs.Act.{act, advised, answer_of as answer_of_lem, best_name as best_name_lem, counted, read_in, used, written_in, Answers};
 ghost use Rattle.engine_sessions.specs.Calls.{IsAnswer};
 
 use crate::Answer;
@@ -26,6 +27,7 @@ use crate::uses::{VersionInUse, find_use, use_version};
 use engine_core::{Engine, Written};
 use engine_moves::Mover;
 use engine_state::{Reply, known_set};
+use engine_statements::select_rows;
 use expr_lang::Steps;
 use layout_planner::{TableCount, VersionCost, best, costs};
 use par_base::{Fault, List, Memory, Name, Refusal};
@@ -113,6 +115,62 @@ impl Sessions {
         ensures { result.now ≡ (standing_of self.now).counts }
     {
         self.counts.as_slice()
+    }
+
+    /// The session in which the next statement is given. It does no work.
+    pub fn session(&self) -> u8
+        ensures { result ≡ (standing_of self.now).session }
+    {
+        self.session
+    }
+
+    /// Puts counts in place of those that are kept. It takes no memory.
+    pub fn put_counts(&mut self, counts: List<TableCount>)
+        ensures standing { standing_of self.new ≡ record (standing_of self.old)
+            { counts = counts } }
+        ensures engine { kept_in self.new ≡ kept_in self.old }
+    {
+        self.counts = counts;
+    }
+
+    /// What a statement says in full in the session at hand. It takes time in the length of an
+    /// IMPORT's text, and else none.
+    pub fn in_full(&self, alloc: Global, statement: Statement) -> Result<Statement, Memory>
+        requires { TextsWithin text_limit (statement_view statement) }
+        ensures full { IfOk result (λ made. statement_view made ≡ in_full_lem
+            (used_by (standing_of self.now).uses (standing_of self.now).session)
+            (statement_view statement)) }
+        ensures texts { IfOk result (λ made. TextsWithin text_limit (statement_view made)) }
+    {
+        let used = find_use(self.uses.as_slice(), self.session);
+        in_full(alloc, used, statement)
+    }
+
+    /// Answers a SELECT that is told in full, with its rows as CSV or not. It counts no access.
+    pub fn read<L: Ledger>(
+        &self,
+        alloc: Global,
+        statement: &Statement,
+        csv: bool,
+        steps: &mut Steps<L>,
+    ) -> Result<Answer, Fault<Refusal>>
+        ensures gives { Gives (λ answer. answer) result (read_in (standing_of self.now) csv
+            (statement_view statement.now)) }
+        ensures answer { IfOk result IsAnswer }
+    {
+        match statement {
+            Statement::Select {
+                table,
+                items,
+                filter,
+                ..
+            } => {
+                let database = self.engine().database();
+                let reply = select_rows(alloc, database, table, items, filter, steps)?;
+                Ok(answer_of(reply, csv))
+            }
+            _ => Err(Fault::Refused(Refusal::NotBuilt)),
+        }
     }
 
     /// The operators whose data are still to go to their other side, ascending: they lead to a valid
@@ -252,8 +310,7 @@ impl Sessions {
         ensures limit { (kept_in self.new).ids.limit ≡ (kept_in self.old).ids.limit }
     {
         let csv = wants_csv(&statement);
-        let used = find_use(self.uses.as_slice(), self.session);
-        let statement = in_full(alloc, used, statement)?;
+        let statement = self.in_full(alloc, statement)?;
         let moves = is_move(&statement);
         let database = self.engine().database();
         let counts = match count_access(alloc, database, self.counts.as_slice(), &statement) {

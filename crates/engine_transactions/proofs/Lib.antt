@@ -1,5 +1,19 @@
 mod TestLemmas
 mod RowLemmas
+mod NumberLemmas
 mod ExecutingLemmas
 mod SettleLemmas
-mod NumberLemmas
+mod PlaceLemmas
+mod FreshLemmas
+mod DropLemmas
+mod OpenLemmas
+mod KindLemmas
+mod MeansLemmas
+mod CommitLemmas
+mod WroteLemmas
+mod AtOnceLemmas
+mod KeptLemmas
+pub use Rattle.engine_sessions.proofs.TextLaws
+pub use Rattle.engine_sessions.proofs.CountLaws
+mod AccessLemmas
+mod LeftLemmas

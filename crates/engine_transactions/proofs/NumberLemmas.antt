@@ -38,7 +38,7 @@ in_more (y ∷ ys) x = inr (in_more ys x)
 
 -- ---- what has a place
 
-value_in : (items : List (Numbered ℕ)) (k v : ℕ) → value_of items k ≡ Some v → In k (numbers_in items)
+pub value_in : (items : List (Numbered ℕ)) (k v : ℕ) → value_of items k ≡ Some v → In k (numbers_in items)
 value_in [] k v h = absurd (cc)
 value_in (x ∷ xs) k v h =
     by_test (k == x.number)

@@ -22,7 +22,7 @@ use Rattle.engine_transactions.specs.declared.table_read.TableRead.{TableRead}
 
 -- ---- what runs changed
 
-is_false : (b : Bool) → (b ≡ true → ⊥) → b ≡ false
+pub is_false : (b : Bool) → (b ≡ true → ⊥) → b ≡ false
 is_false true h = absurd (h refl)
 is_false false h = refl
 
@@ -75,7 +75,7 @@ changed_more us u t last old =
 pub not_less : (n : ℕ) → n ≤ last_number → n ≤ next_number n
 not_less n h = omega (arith, h)
 
-at_most : (n : ℕ) → next_number n ≤ last_number
+pub at_most : (n : ℕ) → next_number n ≤ last_number
 at_most n = omega arith
 
 greater : (a b : ℕ) → b ≤ a → max a b ≡ a

@@ -1,5 +1,5 @@
 -- One event, with transactions: the answer or refusal of a statement, and what stands behind it.
-use Rattle.std.specs.Prelude.{ℕ, ◌==◌, ◌++◌, Bool, not, List, [], ◌∷◌, codes, length, map, slice_get, filter_map, Option, Some, None, Result, Ok, Err, if◌then◌else◌}
+use Rattle.std.specs.Prelude.{ℕ, ◌==◌, ◌++◌, Bool, false, not, List, [], ◌∷◌, codes, length, map, slice_get, filter_map, Option, Some, None, Result, Ok, Err, if◌then◌else◌}
 use Rattle.std.specs.Option.{option_map_or}
 use Rattle.par_base.specs.declared.fault.Fault.{Fault}
 use Rattle.par_base.specs.declared.refusal.Refusal.{Refusal}
@@ -17,7 +17,7 @@ use Rattle.engine_state.specs.AnyDatabase.{AnyDatabase}
 use Rattle.engine_moves.specs.Act.{act as act_in_full}
 use Rattle.engine_state.specs.declared.reply.Reply.TheVariants.{Committed, Done, Kept}
 use Rattle.engine_state.specs.declared.reply.WriteReply.{WriteReply}
-use Rattle.engine_sessions.specs.Accesses.{accessed, raised}
+use Rattle.engine_sessions.specs.Accesses.{accessed, kept_behind, raised}
 use Rattle.engine_sessions.specs.Act.{act as act_beside, answer_of}
 use Rattle.engine_statements.specs.Found.{Found, found}
 use Rattle.engine_sessions.specs.InFull.{in_full, name_in_full}
@@ -100,10 +100,10 @@ abbrev pub raised_all : List TableCount → List ℕ → List TableCount
 raised_all counts [] = counts
 raised_all counts (t ∷ ts) = raised_all (raised counts t) ts
 
--- behind the runs of its writes: they stay, all its accesses are counted, and they are one event
+-- behind the runs of its writes: they stay, all its accesses are counted, of those of tables that live, and they are one event
 abbrev pub behind_commit : Standing → TransactionView → List (Ran SessionsStanding TableRead WriteReply) → Standing
 behind_commit s t runs = record {
-  sessions = record (end_of s.sessions runs) { counts = raised_all s.sessions.counts (accesses_of s.sessions.laid.database t) };
+  sessions = record (end_of s.sessions runs) { counts = kept_behind false (end_of s.sessions runs).laid.database.graph.edges (raised_all s.sessions.counts (accesses_of s.sessions.laid.database t)) };
   history = with_writes s.history s.sessions.laid.database (any_changed s.sessions runs);
   opens = without_open s.opens s.sessions.session;
 }

@@ -3,4 +3,31 @@ pub mod Standing
 pub mod Meaning
 pub mod Executing
 pub mod Act
+pub mod Begun
 pub mod Serial
+pub mod Opens
+pub mod Kinds
+pub mod Calls
+pub mod Kept
+pub use Rattle.engine_sessions.specs.Spoken
+pub use Rattle.engine_sessions.specs.EngineCoreTexts
+pub use Rattle.engine_sessions.specs.KeptTexts
+pub use Rattle.engine_sessions.specs.Texts as EngineSessionsTexts
+pub use Rattle.engine_sessions.specs.declared.answer.Answer
+pub use Rattle.engine_sessions.specs.Standing as EngineSessionsStanding
+pub use Rattle.engine_sessions.specs.Laws as EngineSessionsLaws
+pub use Rattle.engine_sessions.specs.Kept as EngineSessionsKept
+pub use Rattle.engine_sessions.specs.Laid
+pub use Rattle.engine_sessions.specs.Act as EngineSessionsAct
+pub use Rattle.engine_sessions.specs.AnyDatabase
+pub use Rattle.engine_sessions.specs.Undo
+pub use Rattle.engine_sessions.specs.Reply
+pub use Rattle.engine_sessions.specs.EngineMovesAct
+pub use Rattle.engine_sessions.specs.Moving
+pub use Rattle.engine_sessions.specs.InFull
+pub use Rattle.engine_sessions.specs.Pending
+pub use Rattle.engine_sessions.specs.EngineCoreAct
+pub use Rattle.engine_sessions.specs.SharedChecks
+pub use Rattle.engine_sessions.specs.MigrationSides
+pub use Rattle.engine_sessions.specs.Accesses
+pub use Rattle.engine_core.specs.Laws as EngineCoreLaws

@@ -1,5 +1,5 @@
 -- Where the statements of a script stand: what sessions keep, what changed when, and the open transactions.
-use Rattle.std.specs.Prelude.{ℕ, ◌==◌, not, List, [], ◌∷◌, ◌++◌, filter, Option}
+use Rattle.std.specs.Prelude.{ℕ, ◌==◌, not, List, [], ◌∷◌, ◌++◌, filter, if◌then◌else◌, Option}
 use Rattle.std.specs.List.{find}
 use Rattle.statements.specs.Views.{StatementView}
 use Rattle.session_tx.specs.Transactions.{TransactionState}
@@ -40,9 +40,11 @@ open_of opens session = find (λ (o : OpenView). o.session == session) opens
 abbrev pub without_open : List OpenView → ℕ → List OpenView
 without_open opens session = filter (λ (o : OpenView). not (o.session == session)) opens
 
--- with this one in its place
+-- with this one in its place, or behind the others where it has none
 abbrev pub with_open : List OpenView → ℕ → TransactionView → List OpenView
-with_open opens session transaction = without_open opens session ++ record { session = session; transaction = transaction } ∷ []
+with_open [] session transaction = record { session = session; transaction = transaction } ∷ []
+with_open (o ∷ os) session transaction =
+    if o.session == session then record { session = session; transaction = transaction } ∷ os else o ∷ with_open os session transaction
 
 -- with one read more, at this number
 abbrev pub with_read : TransactionView → TableRead → ℕ → TransactionView

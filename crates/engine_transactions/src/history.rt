@@ -1,15 +1,19 @@
 //! When table versions and names changed last.
-ghost use Rattle.std.specs.Prelude.{◌≡◌, ◌==◌, ℕ, OnOk, if◌then◌else◌};
-ghost use Rattle.std.specs.List.{find};
+ghost use Rattle.std.specs.Prelude.{◌≡◌, ◌<◌, ◌≤◌, ◌==◌, ℕ, List, length, Some, IfOk, OnOk, if◌then◌else◌};
+ghost use Rattle.std.specs.List.{find, position};
 ghost use Rattle.std.specs.Option.{option_copied};
 ghost use Rattle.std.specs.Str.{bytes_eq};
 ghost use Rattle.version_graph.specs.Edges.{is_in};
 ghost use Rattle.version_graph.specs.Sets.{In, Within};
 ghost use Rattle.version_model.specs.Kept.{numbers_in};
-ghost use Rattle.engine_transactions.specs.History.{dropped_in, history_of, last_change as last_change_lem, number_in};
+ghost use Rattle.session_tx.specs.Calls.{last_number};
+ghost use Rattle.engine_transactions.specs.History.{dropped_in, history_of, last_change as last_change_lem, number_in, with_drop};
+ghost use Rattle.engine_transactions.specs.Calls.{DropsArePast};
 
 use crate::TableRead;
 use par_base::{List, Memory, Name};
+use std::alloc::Global;
+use std::mem;
 use version_model::{Numbered, place_of, value_of};
 
 /// The last number at which a version with this name was dropped.
@@ -120,4 +124,50 @@ pub(crate) fn set_numbers(changed: &mut Vec<Numbered<u64>>, tables: &[u32], at: 
     for table in tables {
         set_number(changed, *table, at);
     }
+}
+
+fn place_of_drop(dropped: &[NameDrop], name: &Name) -> Option<usize>
+    ensures { result ≡ position (λ one. bytes_eq name.now one.name) dropped.now }
+{
+    dropped.iter().position(|one| is_drop_of(one, name))
+}
+
+/// A number under a name: 0 where it has none, which says as much. It gives the number's place.
+pub(crate) fn keep_drop(
+    alloc: Global,
+    dropped: &mut List<NameDrop>,
+    name: &Name,
+) -> Result<usize, Memory>
+    ensures same { (other : List ℕ) → dropped_in dropped.new other
+        ≡ dropped_in dropped.old other }
+    ensures place { IfOk result (λ place. position (λ one. bytes_eq name.now one.name) dropped.new
+        ≡ Some place) }
+    ensures within { IfOk result (λ place. place < length dropped.new) }
+{
+    if let Some(place) = place_of_drop(dropped.as_slice(), name) {
+        return Ok(place);
+    }
+    let place = dropped.len();
+    dropped.push(NameDrop {
+        name: name.copy(alloc)?,
+        at: 0,
+    })?;
+    Ok(place)
+}
+
+/// The next number, under the name at a place. It takes no memory.
+pub(crate) fn number_drop(alloc: Global, numbers: &mut ChangeNumbers, place: usize)
+    requires { place < length numbers.old.dropped }
+    ensures history { (name : List ℕ)
+        → position (λ one. bytes_eq name one.name) numbers.old.dropped ≡ Some place
+        → history_of numbers.new ≡ with_drop (history_of numbers.old) name }
+    ensures past { (name : List ℕ)
+        → position (λ one. bytes_eq name one.name) numbers.old.dropped ≡ Some place
+        → numbers.old.last ≤ last_number → DropsArePast numbers.old → DropsArePast numbers.new }
+{
+    let last = numbers.last.saturating_add(1);
+    let mut dropped = mem::replace(&mut numbers.dropped, List::new(alloc)).into_vec();
+    dropped[place].at = last;
+    numbers.dropped = List::from_vec(dropped);
+    numbers.last = last;
 }

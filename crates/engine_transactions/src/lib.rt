@@ -1,18 +1,33 @@
 //! Transactions of sessions: what BEGIN, COMMIT and ROLLBACK do over the engine with its sessions.
 //!
-//! It has the definitions (`specs/Act.antt`, and `specs/Serial.antt` for the law of one after the other)
-//! and the engine as an executor of writes (`specs/Executing.antt`): a write that a transaction keeps is
-//! run by `Sessions::write_undoable` and taken back by `Sessions::take_back`. The call that carries out
-//! statements in transactions is still to come. The crate must not know how statements are written, or
-//! how data is stored.
+//! To the crates above it promises that `Transactions::event` answers and leaves exactly what the model
+//! does (`specs/Act.antt`). A SELECT in a transaction is answered at once and noted with its history
+//! number, a write is kept in full, a COMMIT runs the kept writes as one event or is refused and leaves
+//! all as it was, and every other statement acts at once, as outside a transaction. A write is run by
+//! `Sessions::write_undoable` and taken back by `Sessions::take_back`: so the engine is an executor of
+//! writes (`specs/Executing.antt`), on which commits stand. `specs/Serial.antt` has the law of one after
+//! the other. The crate must not know how statements are written, or how data is stored.
 #![tactic(auto)]
 
+mod accesses;
+mod at_once;
+mod commit;
 mod executing;
 mod history;
+mod kept;
 mod kept_write;
+mod open_transaction;
+mod statement_kind;
 mod table_read;
+mod transactions;
 
+pub use engine_sessions::{
+    Engine, Sessions, answer_text, counts_stay_beside_the_graph, named_statements_need_no_session,
+    refusal_text, replies_are_lines,
+};
 pub use executing::Executing;
 pub use history::{ChangeNumbers, NameDrop};
 pub use kept_write::KeptWrite;
+pub use open_transaction::OpenTransaction;
 pub use table_read::TableRead;
+pub use transactions::Transactions;

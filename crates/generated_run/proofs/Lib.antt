@@ -2,5 +2,4 @@ mod RunLemmas
 pub use Rattle.script_run.proofs.EndLaws
 pub use Rattle.script_run.proofs.FrontLaws
 pub use Rattle.script_run.proofs.CutLaws
-pub use Rattle.script_run.proofs.MoveLaws
 pub use Rattle.script_run.proofs.OutputLaws

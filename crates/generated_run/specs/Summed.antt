@@ -39,11 +39,11 @@ abbrev pub summed : Standing → Standing → List StatementView → Summary
 summed from to statements = record {
   statements = length statements;
   refused = refused_in from statements;
-  tasks = rows_at to.laid.database (table_of (codes "tasky") (codes "task"));
-  todos = rows_at to.laid.database (table_of (codes "do!") (codes "todo"));
-  new_tasks = rows_at to.laid.database (table_of (codes "tasky2") (codes "task"));
-  authors = rows_at to.laid.database (table_of (codes "tasky2") (codes "author"));
-  next = to.laid.database.state.next;
+  tasks = rows_at to.sessions.laid.database (table_of (codes "tasky") (codes "task"));
+  todos = rows_at to.sessions.laid.database (table_of (codes "do!") (codes "todo"));
+  new_tasks = rows_at to.sessions.laid.database (table_of (codes "tasky2") (codes "task"));
+  authors = rows_at to.sessions.laid.database (table_of (codes "tasky2") (codes "author"));
+  next = to.sessions.laid.database.state.next;
 }
 
 -- the data behind the generated script of so many numbers, and its summary

@@ -10,4 +10,6 @@ mod counting;
 mod run;
 
 pub use run::run_generated;
-pub use script_run::{End, Engine, Sessions, Stream, named_statements_need_no_session, run_source};
+pub use script_run::{
+    End, Engine, Sessions, Stream, Transactions, named_statements_need_no_session, run_source,
+};

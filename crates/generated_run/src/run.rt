@@ -6,7 +6,8 @@ ghost use Rattle.statements.specs.Texts.{TextsWithin};
 ghost use Rattle.op_any.specs.Operators.{any_meaning};
 ghost use Rattle.db_state.specs.Fields.{database_for};
 ghost use Rattle.script_run.specs.Spoken.{TextsCome};
-ghost use Rattle.script_run.specs.Standing.{kept_in, standing_of};
+ghost use Rattle.script_run.specs.TransactionsKept.{kept_in};
+ghost use Rattle.script_run.specs.TransactionsCalls.{standing_of};
 ghost use Rattle.script_run.specs.Act.{act};
 ghost use Rattle.script_generator.specs.Generated.{generated_script};
 ghost use Rattle.script_run.specs.Kept.{Keeps};
@@ -20,7 +21,7 @@ use expr_lang::Steps;
 use op_any::AnyOp;
 use par_base::{Fault, Memory};
 use script_generator::{Summary, generated, summed_tables};
-use script_run::Sessions;
+use script_run::Transactions;
 use statements::Statement;
 use std::alloc::Global;
 use std::marker::Brand;
@@ -36,20 +37,20 @@ struct Tally {
 // Carries out a statement, and tells how many refusals it met: one or none.
 fn count_refusals<L: Ledger>(
     alloc: Global,
-    sessions: &mut Sessions,
+    transactions: &mut Transactions,
     statement: Statement,
     steps: &mut Steps<L>,
 ) -> Result<u64, Memory>
     requires { TextsWithin text_limit (statement_view statement) }
     ensures count { IfOk result (λ count. count
-        ≡ refusals (act (standing_of sessions.old) (statement_view statement))) }
-    ensures next { OnOk result (standing_of sessions.new ≡ next_state (standing_of sessions.old)
-        (act (standing_of sessions.old) (statement_view statement))) }
-    ensures texts { TextsCome (statement_view statement) (kept_in sessions.old).graph.edges
-        (kept_in sessions.new).graph.edges }
-    ensures limit { (kept_in sessions.new).ids.limit ≡ (kept_in sessions.old).ids.limit }
+        ≡ refusals (act (standing_of transactions.old) (statement_view statement))) }
+    ensures next { OnOk result (standing_of transactions.new ≡ next_state (standing_of transactions.old)
+        (act (standing_of transactions.old) (statement_view statement))) }
+    ensures texts { TextsCome (statement_view statement) (kept_in transactions.old).graph.edges
+        (kept_in transactions.new).graph.edges }
+    ensures limit { (kept_in transactions.new).ids.limit ≡ (kept_in transactions.old).ids.limit }
 {
-    match sessions.event(alloc, statement, steps) {
+    match transactions.event(alloc, statement, steps) {
         Ok(_) => Ok(0),
         Err(Fault::Refused(_)) => Ok(1),
         Err(Fault::Memory(memory)) => Err(memory),
@@ -59,21 +60,21 @@ fn count_refusals<L: Ledger>(
 // Carries out each statement of the script of `n` numbers.
 fn run_all<L: Ledger>(
     alloc: Global,
-    sessions: &mut Sessions,
+    transactions: &mut Transactions,
     n: u32,
     steps: &mut Steps<L>,
 ) -> Result<Tally, Memory>
-    ensures tally { IfOk result (Tallies (standing_of sessions.old) (generated_script n)) }
-    ensures end { OnOk result (standing_of sessions.new
-        ≡ generated_end (standing_of sessions.old) n) }
-    ensures keeps { Keeps (kept_in sessions.old) (kept_in sessions.new) }
+    ensures tally { IfOk result (Tallies (standing_of transactions.old) (generated_script n)) }
+    ensures end { OnOk result (standing_of transactions.new
+        ≡ generated_end (standing_of transactions.old) n) }
+    ensures keeps { Keeps (kept_in transactions.old) (kept_in transactions.new) }
 {
     let mut tally = Tally {
         statements: 0,
         refused: 0,
     };
     while let Some(statement) = generated(alloc, n, tally.statements)? {
-        let refused = count_refusals(alloc, sessions, statement, steps)?;
+        let refused = count_refusals(alloc, transactions, statement, steps)?;
         tally.refused += refused;
         tally.statements += 1;
     }
@@ -104,7 +105,7 @@ fn sum_up<L: Ledger>(
 // The same with steps of its own.
 fn run_counted<L: Ledger>(
     alloc: Global,
-    sessions: &mut Sessions,
+    transactions: &mut Transactions,
     n: u32,
     blank: Blank,
 ) -> Result<Summary, Memory>
@@ -112,24 +113,33 @@ fn run_counted<L: Ledger>(
     requires parts { blank.parts ≡ L.parts }
     requires one { blank.parts ≡ 1 }
     ensures summary { IfOk result (λ summary. summary
-        ≡ generated_summary (standing_of sessions.old) n) }
-    ensures end { OnOk result (standing_of sessions.new
-        ≡ generated_end (standing_of sessions.old) n) }
-    ensures keeps { Keeps (kept_in sessions.old) (kept_in sessions.new) }
+        ≡ generated_summary (standing_of transactions.old) n) }
+    ensures end { OnOk result (standing_of transactions.new
+        ≡ generated_end (standing_of transactions.old) n) }
+    ensures keeps { Keeps (kept_in transactions.old) (kept_in transactions.new) }
 {
     let mut steps = Steps::<L>::new(blank);
-    let tally = run_all(alloc, sessions, n, &mut steps)?;
-    sum_up(alloc, sessions.engine().database(), tally, &mut steps)
+    let tally = run_all(alloc, transactions, n, &mut steps)?;
+    sum_up(
+        alloc,
+        transactions.sessions().engine().database(),
+        tally,
+        &mut steps,
+    )
 }
 
-/// Carries out the generated script of `n` numbers from where the sessions stand, and gives its
+/// Carries out the generated script of `n` numbers from where the engine stands, and gives its
 /// summary. It takes the time of its statements, one after the other, and keeps none of them.
-pub fn run_generated(alloc: Global, sessions: &mut Sessions, n: u32) -> Result<Summary, Memory>
+pub fn run_generated(
+    alloc: Global,
+    transactions: &mut Transactions,
+    n: u32,
+) -> Result<Summary, Memory>
     ensures summary { IfOk result (λ summary. summary
-        ≡ generated_summary (standing_of sessions.old) n) }
-    ensures end { OnOk result (standing_of sessions.new
-        ≡ generated_end (standing_of sessions.old) n) }
-    ensures keeps { Keeps (kept_in sessions.old) (kept_in sessions.new) }
+        ≡ generated_summary (standing_of transactions.old) n) }
+    ensures end { OnOk result (standing_of transactions.new
+        ≡ generated_end (standing_of transactions.old) n) }
+    ensures keeps { Keeps (kept_in transactions.old) (kept_in transactions.new) }
 {
-    run_counted::<Brand>(alloc, sessions, n, Blank::new(1))
+    run_counted::<Brand>(alloc, transactions, n, Blank::new(1))
 }

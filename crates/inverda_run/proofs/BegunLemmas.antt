@@ -5,7 +5,8 @@ use Rattle.std.specs.Io.KnownBytes.{Appends}
 use Rattle.bidel_script.specs.Script.{Over}
 use Rattle.bidel_script.proofs.UniqueLaws.{one_comes}
 use Rattle.generated_run.specs.EngineCoreTexts.{line}
-use Rattle.generated_run.specs.Standing.{Standing, empty_standing}
+use Rattle.generated_run.specs.Standing.{Standing}
+use Rattle.generated_run.specs.Begun.{empty_standing}
 use Rattle.script_generator.specs.Summary.{summary_lines}
 use Rattle.generated_run.specs.Summed.{generated_end, generated_summary}
 use Rattle.run_words.specs.Words.{Asked, Says}

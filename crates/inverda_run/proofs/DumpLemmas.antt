@@ -4,7 +4,8 @@ use Rattle.std.proofs.Common.{◌≡◌, ℕ, List, [], length, Bool, true, fals
 use Rattle.std.proofs.lemmas.Bool.{leb-false, leb-true}
 use Rattle.serde_json.specs.Data.{Data}
 use Rattle.serde_json.specs.Read.{read}
-use Rattle.generated_run.specs.Standing.{Standing, begun_with}
+use Rattle.generated_run.specs.Standing.{Standing}
+use Rattle.generated_run.specs.Begun.{begun_with}
 use Rattle.dump_formats.specs.Laws.{DumpsAreOfOneRun}
 use Rattle.dump_formats.specs.Stands.{StandsFor}
 use Rattle.generated_run.specs.EngineCoreTexts.{line}
@@ -34,13 +35,13 @@ one_start one file max_id s t a b =
 
 pub loads_dumped : OneStart → LoadsTheDumped
 loads_dumped one s t text dump within loaded =
-    one text s.laid.database.limit t _ loaded
+    one text s.sessions.laid.database.limit t _ loaded
     (record {
       bytes = text;
       within = within;
       holds = refl;
       kept = dump.kept;
       dump = dump.dump;
-      limit_is = sym (ap (λ (k : Standing). k.laid.database.limit) dump.state);
+      limit_is = sym (ap (λ (k : Standing). k.sessions.laid.database.limit) dump.state);
       state = dump.state;
     })

@@ -65,7 +65,7 @@ module _ (words : List (List ℕ)) (told told' : Told) (left : Option (List ℕ)
 module _ (words : List (List ℕ)) (told told' : Told) (left left' : Option (List ℕ)) (read read' : ℕ) (held : Option (List ℕ)) (put filed filed' : ℕ)
     (asked : Asked) (from to : Standing) (starts : Starts words told asked from) where
   -- it came to its end: by what the sink was given of it, and what is known where nothing more was put, or the line on a long dump
-  module _ (between held' : Option (List ℕ)) (put' : ℕ) (carried : Carried asked from to left left' held between) (limit_stays : to.laid.database.limit ≡ asked.max_id) (same : read' ≡ read)
+  module _ (between held' : Option (List ℕ)) (put' : ℕ) (carried : Carried asked from to left left' held between) (limit_stays : to.sessions.laid.database.limit ≡ asked.max_id) (same : read' ≡ read)
       (none : held' ≡ between → Begun words told left held held')
       (long : (name : List ℕ) → asked.dump ≡ Some name → IsLongDump to → PutsFront between held' (line (codes "too long")) → Begun words told left held held') where
     abbrev There : End → Type 0
@@ -155,7 +155,7 @@ module _ (words : List (List ℕ)) (told told' : Told) (left left' : Option (Lis
   script_ends held' put' files script.TooLong n h = (ofStart h, files)
 
   -- it came to its end
-  pub finish_ends : (between held' : Option (List ℕ)) (put' : ℕ) → Done from to left left' held between → to.laid.database.limit ≡ asked.max_id → read' ≡ read → (e : End) → Finishes to asked.dump told' between held' put put' filed filed' e
+  pub finish_ends : (between held' : Option (List ℕ)) (put' : ℕ) → Done from to left left' held between → to.sessions.laid.database.limit ≡ asked.max_id → read' ≡ read → (e : End) → Finishes to asked.dump told' between held' put put' filed filed' e
       → Ends words told told' left left' read read' held held' put put' filed filed' e
   finish_ends between held' put' done limit_stays same e h =
       finishes_so words told told' left left' read read' held put filed filed' asked from to starts between held' put' (source own done) limit_stays same

@@ -11,8 +11,11 @@ use Rattle.op_any.specs.BuiltOn.{AreBuiltOn}
 use Rattle.db_state.specs.declared.parts.Parts.{Parts}
 use Rattle.layout_planner.specs.declared.planning.TableCount.{TableCount}
 use Rattle.generated_run.specs.EngineCoreKept.{state_of}
-use Rattle.generated_run.specs.Sessions.{Sessions}
-use Rattle.generated_run.specs.Standing.{Standing, begun_with, kept_in, standing_of}
+use Rattle.generated_run.specs.Transactions.{Kept as Transactions}
+use Rattle.generated_run.specs.Standing.{Standing}
+use Rattle.generated_run.specs.Begun.{begun_with}
+use Rattle.generated_run.specs.TransactionsKept.{kept_in}
+use Rattle.generated_run.specs.TransactionsCalls.{standing_of}
 use Rattle.generated_run.specs.EngineCoreTexts.{line}
 use Rattle.dump_formats.specs.Formats.{dump_text}
 use Rattle.dump_formats.specs.Texts.{AreFromTexts, AreSpelled}
@@ -23,8 +26,8 @@ use Rattle.inverda_run.specs.Calls.{DumpsTo, EndStays, Finishes, IsLongDump, Put
 use Rattle.inverda_run.specs.declared.end.End.{End}
 use Rattle.inverda_run.specs.declared.end.End.TheVariants as end
 
--- the bytes that are written are the dump of where the sessions stand
-pub is_dumped : (s : Sessions) (found : Parts AnyView) (counts : List TableCount) (pending bytes text : List ℕ) → found ≡ kept_in s → counts ≡ (standing_of s).counts → pending ≡ (standing_of s).pending → bytes ≡ text
+-- the bytes that are written are the dump of where the transactions stand
+pub is_dumped : (s : Transactions) (found : Parts AnyView) (counts : List TableCount) (pending bytes text : List ℕ) → found ≡ kept_in s → counts ≡ (standing_of s).sessions.counts → pending ≡ (standing_of s).sessions.pending → bytes ≡ text
     → text ≡ dump_text (state_of found).database found.layout.operators counts pending
     → (AreFromTexts found.ids.next found.graph.edges → IsDumpOf text (record { database = found; counts = counts; pending = pending }))
     → AreSpelled (kept_in s).graph.edges → AreBuiltOn (kept_in s).ids.next (kept_in s).graph.edges → IsDumpText (standing_of s) bytes

@@ -2,6 +2,7 @@ mod LoadedLemmas
 mod DumpLemmas
 mod TwoRunLemmas
 mod ScriptLawLemmas
+mod SerialLawLemmas
 mod FileLemmas
 mod StartedLemmas
 mod FinishLemmas

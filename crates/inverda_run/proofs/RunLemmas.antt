@@ -35,7 +35,7 @@ stays_from old was is e same h = subst (λ (n : ℕ). EndStays n is e) same h
 -- ---- the end
 
 pub finished : (words : List (List ℕ)) (told told' : Told) (left left' : Option (List ℕ)) (read read' : ℕ) (held between held' : Option (List ℕ)) (put was put' filed was_filed filed' : ℕ)
-    → SayOneThing → OneStart → (asked : Asked) (from to : Standing) → Starts words told asked from → asked.generate ≡ None → Done from to left left' held between → to.laid.database.limit ≡ asked.max_id → read' ≡ read → was ≡ put → was_filed ≡ filed
+    → SayOneThing → OneStart → (asked : Asked) (from to : Standing) → Starts words told asked from → asked.generate ≡ None → Done from to left left' held between → to.sessions.laid.database.limit ≡ asked.max_id → read' ≡ read → was ≡ put → was_filed ≡ filed
     → (e : End) → Finishes to asked.dump told' between held' was put' was_filed filed' e → Ends words told told' left left' read read' held held' put put' filed filed' e
 finished words told told' left left' read read' held between held' put was put' filed was_filed filed' one start asked from to starts own done limit_stays same put_is filed_is e finishes =
     subst (λ (n : ℕ). Ends words told told' left left' read read' held held' n put' filed filed' e) put_is

@@ -9,12 +9,15 @@ use Rattle.op_any.specs.Operators.{any_meaning}
 use Rattle.db_state.specs.Fields.{IsDatabase}
 use Rattle.dump_formats.specs.Stands.{StandsFor}
 use Rattle.dump_formats.specs.declared.loaded.Loaded.{Loaded as Kept}
-use Rattle.generated_run.specs.Standing.{Standing, begun_again}
+use Rattle.generated_run.specs.Standing.{Standing}
+use Rattle.generated_run.specs.Begun.{begun_again}
 use Rattle.generated_run.specs.Output.{joined, out, state_after}
 use Rattle.run_words.specs.Words.{Asked}
-use Rattle.run_laws.specs.Kept.{DatabasesAreKept, EmptyIsKept, IsKept}
-use Rattle.run_laws.specs.Said.{AreSaid, SaidNeedNoSession, nothing_said}
-use Rattle.run_laws.specs.Scripts.{ScriptsAreOrdinary, ScriptsStayKept}
+use Rattle.script_laws.specs.SessionLawsKept.{DatabasesAreKept, EmptyIsKept, IsKept}
+use Rattle.script_laws.specs.SessionLawsSaid.{AreSaid, nothing_said}
+use Rattle.script_laws.specs.Kept.{IsKeptAt}
+use Rattle.script_laws.specs.Said.{SaidNeedNoSession}
+use Rattle.script_laws.specs.Scripts.{ScriptsAreOrdinary, ScriptsStayKept}
 use Rattle.inverda_run.specs.Laws.{LoadsTheDumped}
 use Rattle.inverda_run.specs.ScriptLaws.{RunsAreOrdinary, RunsStayKept, SaidRunsAreOne}
 use Rattle.inverda_run.specs.Starts.{StartsBy, Told}
@@ -24,16 +27,16 @@ use Rattle.inverda_run.proofs.TwoRunLemmas.{begins_there, told_differ, two_runs}
 -- ---- where a run starts
 
 -- what stands for a dump of either format is valid
-stands_database : {d : Data} {kept : Kept} → StandsFor d kept → IsDatabase any_meaning kept.database
+pub stands_database : {d : Data} {kept : Kept} → StandsFor d kept → IsDatabase any_meaning kept.database
 stands_database (inl first) = first.database.database
 stands_database (inr second) = second.database.database
 
 module _ (empty : EmptyIsKept) (loaded : DatabasesAreKept) where
-  start_kept : (told : Told) (load : Option (List ℕ)) (max_id : ℕ) (from : Standing) → StartsBy told load max_id from → IsKept from.laid.database
-  start_kept told None max_id from is = subst (λ (s : Standing). IsKept s.laid.database) (sym is) (empty max_id)
-  start_kept told (Some name) max_id from is = subst (λ (s : Standing). IsKept s.laid.database) (sym is.state) (loaded is.kept.database (stands_database is.dump.2))
+  start_kept : (told : Told) (load : Option (List ℕ)) (max_id : ℕ) (from : Standing) → StartsBy told load max_id from → IsKeptAt from
+  start_kept told None max_id from is = subst IsKeptAt (sym is) (record { database = empty max_id; writes = tt })
+  start_kept told (Some name) max_id from is = subst IsKeptAt (sym is.state) (record { database = loaded is.kept.database (stands_database is.dump.2); writes = tt })
 
-  starts_kept : (words : List (List ℕ)) (told : Told) (asked : Asked) (from : Standing) → Starts words told asked from → IsKept from.laid.database
+  starts_kept : (words : List (List ℕ)) (told : Told) (asked : Asked) (from : Standing) → Starts words told asked from → IsKeptAt from
   starts_kept words told asked from starts = start_kept told asked.load asked.max_id from starts.start
 
   pub runs_stay_kept : ScriptsStayKept → RunsStayKept
@@ -48,11 +51,11 @@ module _ (empty : EmptyIsKept) (loaded : DatabasesAreKept) where
 -- ---- two runs
 
 pub said_runs : LoadsTheDumped → SaidNeedNoSession → SaidRunsAreOne
-said_runs loads law words words' told mid told' left left' more more' held between held' first second name file dumps load is same one other are =
+said_runs loads law words words' told mid told' left left' more more' held between held' first second name file dumps load is same one other none are =
     let begins = begins_there loads first second name file dumps load is same in
     let xs : List StatementView = other.statements in
-    let said : AreSaid (begun_again first.to) nothing_said xs = subst (λ (s : Standing). AreSaid s nothing_said xs) begins are in
-    let again = law first.to xs said in
+    let said : AreSaid (begun_again first.to).sessions nothing_said xs = subst (λ (s : Standing). AreSaid s.sessions nothing_said xs) begins are in
+    let again = law first.to xs none said in
     let both = two_runs first.from one.statements xs in
     let out_is : out second.from xs ≡ out (state_after first.from one.statements) xs =
     ap (λ (s : Standing). out s xs) begins ∙ ap joined again.0 ∙ ap (λ (s : Standing). out s xs) one.next in

@@ -3,7 +3,8 @@ use Rattle.std.specs.Prelude.{◌<◌, Option, Some, None, IsSome}
 use Rattle.std.proofs.Common.{◌≡◌, ℕ, List, length, refl, sym, ap, subst, ◌∙◌, arith}
 use Rattle.outside.specs.FileTold.{ToldAs}
 use Rattle.dump_formats.specs.Stands.{IsDumpOf}
-use Rattle.generated_run.specs.Standing.{Standing, empty_standing}
+use Rattle.generated_run.specs.Standing.{Standing}
+use Rattle.generated_run.specs.Begun.{empty_standing}
 use Rattle.run_words.specs.Words.{Asked, Says}
 use Rattle.run_words.specs.Laws.{SayOneThing}
 use Rattle.generated_run.specs.Statuses.{limit}
@@ -122,12 +123,12 @@ pub starts_empty : (words : List (List ℕ)) (told : Told) (asked : Asked) (from
 starts_empty words told asked from n s is = subst (λ (l : Option (List ℕ)). StartsBy told l asked.max_id from) (loads_none words asked n s.says is) s.start
 
 -- the greatest identifier is the one that the words name
-pub starts_limit : (words : List (List ℕ)) (told : Told) (asked : Asked) (from : Standing) → Starts words told asked from → from.laid.database.limit ≡ asked.max_id
+pub starts_limit : (words : List (List ℕ)) (told : Told) (asked : Asked) (from : Standing) → Starts words told asked from → from.sessions.laid.database.limit ≡ asked.max_id
 starts_limit words told asked from s = go asked.load s.start
   where
-    go : (load : Option (List ℕ)) → StartsBy told load asked.max_id from → from.laid.database.limit ≡ asked.max_id
-    go None is = ap (λ (s : Standing). s.laid.database.limit) is
-    go (Some name) loaded = ap (λ (s : Standing). s.laid.database.limit) loaded.state ∙ loaded.limit_is
+    go : (load : Option (List ℕ)) → StartsBy told load asked.max_id from → from.sessions.laid.database.limit ≡ asked.max_id
+    go None is = ap (λ (s : Standing). s.sessions.laid.database.limit) is
+    go (Some name) loaded = ap (λ (s : Standing). s.sessions.laid.database.limit) loaded.state ∙ loaded.limit_is
 
 -- words that say nothing load nothing and start nothing
 pub nothing_refused : (words : List (List ℕ)) (told : Told) → SayNothing words → ToldNoDump words told → ⊥

@@ -4,16 +4,17 @@ use Rattle.std.proofs.Common.{◌≡◌, ℕ, List, length, take, codes, sym, ap
 use Rattle.outside.specs.Causes.{Rose, RoseOnce}
 use Rattle.bidel_script.specs.Script.{Outcome, Over, Fault, Long, Open}
 use Rattle.bidel_script.proofs.UniqueLaws.{one_comes}
-use Rattle.generated_run.specs.Standing.{Standing, empty_standing}
+use Rattle.generated_run.specs.Standing.{Standing}
+use Rattle.generated_run.specs.Begun.{empty_standing}
 use Rattle.generated_run.specs.Summed.{generated_end}
 use Rattle.run_words.specs.Words.{Asked}
 use Rattle.run_words.specs.Laws.{SayOneThing}
-use Rattle.generated_run.specs.Moves.{MovesUnseen}
+use Rattle.script_laws.specs.Moves.{MovesUnseen}
 use Rattle.generated_run.specs.Output.{state_after}
 use Rattle.generated_run.specs.Statuses.{AnswersScript, Done, FirstReplies, Had, Passed, Stopped, StoppedOfAll, Taken, Unread, above, early, failed, limit, whole}
 use Rattle.generated_run.proofs.EndLaws.{done_answers, done_told, had_done, had_passed, had_stopped}
 use Rattle.generated_run.proofs.CutLaws.{passed_first, stopped_of_all, unread_first}
-use Rattle.generated_run.proofs.MoveLaws.{moves_unseen}
+use Rattle.script_laws.proofs.MoveLaws.{moves_unseen}
 use Rattle.inverda_run.specs.Starts.{Told, dump_of}
 use Rattle.inverda_run.specs.Statuses.{Carried, Loads, LongDump, LongLoad, OfStart, Ran, RefusedDump, RunsSource, SayNothing, Starts, StaysBut, source, generated}
 use Rattle.inverda_run.specs.Decided.{DumpFits, Early, Told', ToldGenerated, ToldLonger, ToldNoDump, ToldWhole, no_fault, of_source as of_source_fault, of_load, of_dump}

@@ -4,8 +4,10 @@ use Rattle.std.specs.Io.KnownBytes.{Appends}
 use Rattle.outside.specs.Causes.{Rose}
 use Rattle.outside.specs.FileTold.{IsMissing, ToldAs}
 use Rattle.generated_run.specs.Laws.{HasCounts}
-use Rattle.generated_run.specs.Sessions.{Sessions}
-use Rattle.generated_run.specs.Standing.{Standing, kept_in, standing_of}
+use Rattle.generated_run.specs.Transactions.{Kept as Transactions}
+use Rattle.generated_run.specs.Standing.{Standing}
+use Rattle.generated_run.specs.TransactionsKept.{kept_in}
+use Rattle.generated_run.specs.TransactionsCalls.{standing_of}
 use Rattle.generated_run.specs.EngineCoreTexts.{line}
 use Rattle.dump_formats.specs.Texts.{AreSpelled}
 use Rattle.script_generator.specs.Summary.{summary_lines}
@@ -34,35 +36,35 @@ pub record HoldsNoDump (file : Option (Option (List ℕ))) : Type 0 where
   pub none : NoDump bytes
 
 -- what a run starts with: its operators are spelled, and its counts are those beside its graph
-pub record IsStart (sessions : Sessions) : Type 0 where
-  pub spelled : AreSpelled (kept_in sessions).graph.edges
-  pub counted : HasCounts (standing_of sessions)
+pub record IsStart (transactions : Transactions) : Type 0 where
+  pub spelled : AreSpelled (kept_in transactions).graph.edges
+  pub counted : HasCounts (standing_of transactions).sessions
 
 -- what a run starts with, or why there is nothing: the file that is loaded holds no dump, is too long, or couldn't be read
-abbrev pub Begins : Told → Option (List ℕ) → ℕ → ℕ → ℕ → Result Sessions NotBegun → Type 0
-Begins told load max_id was is (Ok sessions) = StartsBy told load max_id (standing_of sessions) × IsStart sessions × (is ≡ was)
+abbrev pub Begins : Told → Option (List ℕ) → ℕ → ℕ → ℕ → Result Transactions NotBegun → Type 0
+Begins told load max_id was is (Ok transactions) = StartsBy told load max_id (standing_of transactions) × IsStart transactions × (is ≡ was)
 Begins told load max_id was is (Err begins.Memory) = is ≡ was
 Begins told load max_id was is (Err begins.Refused) = (name : List ℕ) × (load ≡ Some name) × HoldsNoDump (told name) × (is ≡ was)
 Begins told load max_id was is (Err begins.TooLong) = (name : List ℕ) × (load ≡ Some name) × IsLonger limit (told name) × (is ≡ was)
 Begins told load max_id was is (Err begins.Fault) = (name : List ℕ) × (load ≡ Some name) × Rose was is
 
 -- what is read from bytes stands for them
-pub record IsLoaded (bytes : List ℕ) (max_id : ℕ) (sessions : Sessions) : Type 0 where
+pub record IsLoaded (bytes : List ℕ) (max_id : ℕ) (transactions : Transactions) : Type 0 where
   pub kept : Kept
   pub dump : IsDumpOf bytes kept
   pub limit_is : kept.database.ids.limit ≡ max_id
-  pub state : standing_of sessions ≡ begun_from kept
+  pub state : standing_of transactions ≡ begun_from kept
 
 -- what a run starts with over the database whose dump the bytes are, or that they are none
-abbrev pub LoadsSessions : List ℕ → ℕ → Result Sessions NotBegun → Type 0
-LoadsSessions bytes max_id (Ok sessions) = IsLoaded bytes max_id sessions × IsStart sessions
+abbrev pub LoadsSessions : List ℕ → ℕ → Result Transactions NotBegun → Type 0
+LoadsSessions bytes max_id (Ok transactions) = IsLoaded bytes max_id transactions × IsStart transactions
 LoadsSessions bytes max_id (Err begins.Memory) = ⊤
 LoadsSessions bytes max_id (Err begins.Refused) = NoDump bytes
 LoadsSessions bytes max_id (Err _) = ⊥
 
 -- what a run starts with over the database whose dump the file holds, or why there is nothing
-abbrev pub BeginsLoaded : Option (Option (List ℕ)) → ℕ → ℕ → ℕ → Result Sessions NotBegun → Type 0
-BeginsLoaded file max_id was is (Ok sessions) = Loaded file max_id (standing_of sessions) × IsStart sessions × (is ≡ was)
+abbrev pub BeginsLoaded : Option (Option (List ℕ)) → ℕ → ℕ → ℕ → Result Transactions NotBegun → Type 0
+BeginsLoaded file max_id was is (Ok transactions) = Loaded file max_id (standing_of transactions) × IsStart transactions × (is ≡ was)
 BeginsLoaded file max_id was is (Err begins.Memory) = is ≡ was
 BeginsLoaded file max_id was is (Err begins.Refused) = HoldsNoDump file × (is ≡ was)
 BeginsLoaded file max_id was is (Err begins.TooLong) = IsLonger limit file × (is ≡ was)
@@ -126,7 +128,7 @@ EndsGenerated from n dump told held held' put put' filed filed' e =
     ((e ≡ end.Memory) × (held' ≡ held) × (put' ≡ put) × (filed' ≡ filed))
     ⊎ ((e ≡ end.Unwritten) × Rose put put' × PutsFront held held' (summary_lines (generated_summary from n)) × (filed' ≡ filed))
     ⊎ ((between : Option (List ℕ)) × Appends held between (summary_lines (generated_summary from n))
-    × ((generated_end from n).laid.database.limit ≡ from.laid.database.limit)
+    × ((generated_end from n).sessions.laid.database.limit ≡ from.sessions.laid.database.limit)
     × Finishes (generated_end from n) dump told between held' put put' filed filed' e)
 
 -- a file is as it was, or it is the one that is written, and the run is done or a call on the files failed

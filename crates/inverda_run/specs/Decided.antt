@@ -2,7 +2,8 @@
 use Rattle.std.specs.Prelude.{◌≡◌, ◌++◌, ◌≤◌, ◌<◌, ◌⊎◌, ℕ, nat_le, List, [], take, length, Option, Some, None, codes, ⊤}
 use Rattle.outside.specs.Causes.{Rose}
 use Rattle.bidel_script.specs.Script.{Outcome, Over}
-use Rattle.generated_run.specs.Standing.{Standing, empty_standing}
+use Rattle.generated_run.specs.Standing.{Standing}
+use Rattle.generated_run.specs.Begun.{empty_standing}
 use Rattle.generated_run.specs.EngineCoreTexts.{line}
 use Rattle.run_words.specs.Words.{Asked, Says}
 use Rattle.script_generator.specs.Summary.{summary_lines}

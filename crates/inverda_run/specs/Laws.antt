@@ -1,13 +1,16 @@
 -- Two runs, the second from the dump of the first, are one.
-use Rattle.std.specs.Prelude.{◌≡◌, ◌++◌, ◌≤◌, ℕ, List, length, Option, Some}
+use Rattle.std.specs.Prelude.{◌≡◌, ◌++◌, ◌≤◌, ℕ, List, [], length, Option, Some}
 use Rattle.std.specs.Io.KnownBytes.{Appends}
 use Rattle.std.specs.List.{All}
 use Rattle.statements.specs.Views.{StatementView}
-use Rattle.generated_run.specs.Standing.{DifferInSessions, Standing, begun_again}
+use Rattle.version_graph.specs.Sets.{Each}
+use Rattle.generated_run.specs.Standing.{Standing}
+use Rattle.generated_run.specs.Begun.{DifferInSessions, begun_again}
 use Rattle.generated_run.specs.Laws.{IsNamed}
 use Rattle.generated_run.specs.Output.{out, state_after}
 use Rattle.generated_run.specs.Statuses.{Done, limit}
 use Rattle.inverda_run.specs.Starts.{IsDumpText, Loaded, Told}
+use Rattle.script_laws.specs.Said.{ActsAtOnce}
 use Rattle.inverda_run.specs.Decided.{Behind}
 use Rattle.inverda_run.specs.Statuses.{Ran}
 
@@ -20,29 +23,31 @@ abbrev pub OneStart : Type 0
 OneStart = (file : List ℕ) (max_id : ℕ) (s t : Standing) → Loaded (Some (Some file)) max_id s → Loaded (Some (Some file)) max_id t → s ≡ t
 
 -- what a run dumps, within the limit, is loaded as where that run stood, where both have the same greatest identifier: the second one
--- begins there, with no version in use
+-- begins there, with no version in use, no history and no open transaction
 abbrev pub LoadsTheDumped : Type 0
-LoadsTheDumped = (s t : Standing) (text : List ℕ) → IsDumpText s text → length text ≤ limit → Loaded (Some (Some text)) s.laid.database.limit t → t ≡ begun_again s
+LoadsTheDumped = (s t : Standing) (text : List ℕ) → IsDumpText s text → length text ≤ limit → Loaded (Some (Some text)) s.sessions.laid.database.limit t → t ≡ begun_again s
 
 -- TWO RUNS ARE ONE: the replies to the statements of both are those of one run of both scripts, and so is the state behind them
 abbrev pub TwoRuns : Type 0
 TwoRuns = (s : Standing) (first second : List StatementView)
     → (out s (first ++ second) ≡ out s first ++ out (state_after s first) second) × (state_after s (first ++ second) ≡ state_after (state_after s first) second)
 
--- statements that name their versions are answered over what was loaded as without the dump between
+-- where no transaction is open, statements that name their versions and are none of transactions are answered over what was loaded as
+-- without the dump between
 abbrev pub BeginsAgain : Type 0
-BeginsAgain = (s : Standing) (statements : List StatementView) → All IsNamed statements
+BeginsAgain = (s : Standing) (statements : List StatementView) → s.opens ≡ [] → All IsNamed statements → Each ActsAtOnce statements
     → (out (begun_again s) statements ≡ out s statements) × DifferInSessions (state_after (begun_again s) statements) (state_after s statements)
 
 -- IN ONE SENTENCE: a run was done that dumped to a file, and then one that loaded the file, both with the same greatest identifier, and went
--- on behind what the first had put. Where the statements of the second name their versions, the two have put what one run of both scripts
--- puts, advice too, and have left the same data, the same counts and the same pending.
+-- on behind what the first had put. Where no transaction was open behind the first, and the statements of the second name their versions and
+-- are none of transactions, the two have put what one run of both scripts puts, advice too, and have left the same data, the same counts
+-- and the same pending.
 abbrev pub RunsAreOne : Type 0
 RunsAreOne = (words words' : List (List ℕ)) (told mid told' : Told) (left left' more more' held between held' : Option (List ℕ))
     → (first : Ran words told mid left left' held between) (second : Ran words' mid told' more more' between held')
     → (name file : List ℕ) → first.asked.dump ≡ Some name → second.asked.load ≡ Some name → mid name ≡ Some (Some file)
     → second.asked.max_id ≡ first.asked.max_id
     → (one : Done first.from first.to left left' held between) (other : Done second.from second.to more more' between held')
-    → All IsNamed other.statements
+    → first.to.opens ≡ [] → All IsNamed other.statements → Each ActsAtOnce other.statements
     → Appends held held' (out first.from (one.statements ++ other.statements))
     × DifferInSessions second.to (state_after first.from (one.statements ++ other.statements))

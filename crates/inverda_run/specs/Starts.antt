@@ -2,7 +2,8 @@
 use Rattle.std.specs.Prelude.{◌≡◌, ◌≤◌, ℕ, List, length, Option, Some, None}
 use Rattle.outside.specs.FileTold.{ToldAs}
 use Rattle.generated_run.specs.EngineCoreKept.{state_of}
-use Rattle.generated_run.specs.Standing.{Standing, begun_again, begun_with, empty_standing}
+use Rattle.generated_run.specs.Standing.{Standing}
+use Rattle.generated_run.specs.Begun.{begun_again, begun_with, empty_standing}
 use Rattle.dump_formats.specs.Formats.{dump_text}
 use Rattle.dump_formats.specs.Stands.{IsDumpOf}
 use Rattle.dump_formats.specs.declared.loaded.Loaded.{Loaded as Kept}
@@ -33,7 +34,7 @@ StartsBy told (Some name) max_id from = Loaded (told name) max_id from
 
 -- THE DUMP OF WHERE A RUN STANDS, as text: each has one
 abbrev pub dump_of : Standing → List ℕ
-dump_of to = dump_text to.laid.database to.laid.layout to.counts to.pending
+dump_of to = dump_text to.sessions.laid.database to.sessions.laid.layout to.sessions.counts to.sessions.pending
 
 -- the text is the dump of where a run stands, and a load reads from it what begins there again
 pub record IsDumpText (to : Standing) (text : List ℕ) : Type 0 where

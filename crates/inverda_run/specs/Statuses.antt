@@ -76,7 +76,7 @@ pub record Ran (words : List (List ℕ)) (told told' : Told) (left left' held he
   pub to : Standing
   pub starts : Starts words told asked from
   pub carried : Carried asked from to left left' held held'
-  pub limit_stays : to.laid.database.limit ≡ asked.max_id
+  pub limit_stays : to.sessions.laid.database.limit ≡ asked.max_id
   pub written : Written asked.dump told' to
 
 -- the loaded bytes are no dump

@@ -1,6 +1,7 @@
 //! What a run starts with.
 ghost use Rattle.std.specs.Prelude.{◌≡◌, ◌≤◌, ℕ, List, option_map};
-ghost use Rattle.generated_run.specs.Standing.{kept_in, standing_of};
+ghost use Rattle.generated_run.specs.TransactionsKept.{kept_in};
+ghost use Rattle.generated_run.specs.TransactionsCalls.{standing_of};
 ghost use Rattle.op_any.specs.BuiltOn.{AreBuiltOn};
 ghost use Rattle.dump_formats.specs.Pending.{IsPending};
 ghost use Rattle.inverda_run.specs.Files.{MissesOnly};
@@ -11,7 +12,7 @@ use crate::file::{FileRead, read_file};
 use crate::limit::LIMIT;
 use dump_formats::{Loaded, load};
 use expr_lang::Steps;
-use generated_run::{Engine, Sessions};
+use generated_run::{Engine, Sessions, Transactions};
 use outside::Files;
 use par_base::{Fault, Limits};
 use std::alloc::Global;
@@ -32,7 +33,7 @@ pub enum NotBegun {
 }
 
 // The beginning over what was loaded.
-fn resumed(alloc: Global, loaded: Loaded) -> Sessions
+fn resumed(alloc: Global, loaded: Loaded) -> Transactions
     requires built { AreBuiltOn loaded.database.ids.next loaded.database.graph.edges }
     requires leads { IsPending loaded.database.graph.edges loaded.database.layout.operators loaded.pending }
     ensures standing { standing_of result ≡ begun_from loaded }
@@ -43,16 +44,17 @@ fn resumed(alloc: Global, loaded: Loaded) -> Sessions
         counts,
         pending,
     } = loaded;
-    Sessions::resume(alloc, Engine::over(alloc, database), counts, pending)
+    let engine = Engine::over(alloc, database);
+    Transactions::over(alloc, Sessions::resume(alloc, engine, counts, pending))
 }
 
 // What a run starts with over the database whose dump the bytes are.
-fn sessions_of<L: Ledger>(
+fn load_from<L: Ledger>(
     alloc: Global,
     bytes: &[u8],
     limits: Limits,
     blank: Blank,
-) -> Result<Sessions, NotBegun>
+) -> Result<Transactions, NotBegun>
     requires name { blank.name ≡ L.name }
     requires parts { blank.parts ≡ L.parts }
     requires one { blank.parts ≡ 1 }
@@ -72,7 +74,7 @@ fn load_engine<F: Files>(
     name: &str,
     limits: Limits,
     files: &mut F,
-) -> Result<Sessions, NotBegun>
+) -> Result<Transactions, NotBegun>
     ensures begins { BeginsLoaded (F.told files.old name.now) limits.max_id
         (F.faults files.old)
         (F.faults files.new) result }
@@ -83,7 +85,7 @@ fn load_engine<F: Files>(
 {
     match read_file(alloc, files, name, LIMIT) {
         Ok(FileRead::Whole(bytes)) => {
-            sessions_of::<Brand>(alloc, bytes.as_slice(), limits, Blank::new(1))
+            load_from::<Brand>(alloc, bytes.as_slice(), limits, Blank::new(1))
         }
         Ok(FileRead::TooLong) => Err(NotBegun::TooLong),
         Ok(FileRead::Fault) => Err(NotBegun::Fault),
@@ -97,7 +99,7 @@ pub fn begin<F: Files>(
     load: Option<&str>,
     limits: Limits,
     files: &mut F,
-) -> Result<Sessions, NotBegun>
+) -> Result<Transactions, NotBegun>
     ensures begins { Begins (F.told files.old) (option_map (λ s. s.now) load.entry)
         limits.max_id (F.faults files.old) (F.faults files.new) result }
     ensures same { (file : List ℕ) → F.told files.new file ≡ F.told files.old file }
@@ -107,6 +109,9 @@ pub fn begin<F: Files>(
 {
     match load {
         Some(name) => load_engine(alloc, name, limits, files),
-        None => Ok(Sessions::over(alloc, Engine::new(alloc, limits))),
+        None => {
+            let sessions = Sessions::over(alloc, Engine::new(alloc, limits));
+            Ok(Transactions::over(alloc, sessions))
+        }
     }
 }

@@ -6,7 +6,8 @@ use generated_run::named_statements_need_no_session;
 
 /// A run that loads what another one dumped goes on where that one ended, where both have the same
 /// greatest identifier: together they put what one run of both scripts puts, where the statements of
-/// the second name their versions, since what is in use isn't dumped. Wherever a run stands it has a
+/// the second name their versions and are none of transactions, since what is in use and the history
+/// aren't dumped, and no transaction was open behind the first. Wherever a run stands it has a
 /// dump, and a file that is loaded stands for one start.
 pub fn two_runs_are_one()
     ensures dump { EachStateHasADump }

@@ -24,9 +24,9 @@ mod generate;
 mod last;
 mod laws;
 mod limit;
-mod script_laws;
+mod run_laws;
 mod top;
 
 pub use laws::two_runs_are_one;
-pub use script_laws::{runs_are_ordinary, said_runs_are_one};
+pub use run_laws::{runs_are_ordinary, runs_are_serial, said_runs_are_one};
 pub use top::inverda;

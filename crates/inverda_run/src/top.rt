@@ -4,7 +4,7 @@ ghost use Rattle.std.specs.Io.KnownBytes.{Appends};
 ghost use Rattle.bidel_script.specs.Script.{Fault as Misspelled, Long, Open};
 ghost use Rattle.outside.specs.Causes.{Rose, RoseOnce};
 ghost use Rattle.generated_run.specs.EngineCoreTexts.{line};
-ghost use Rattle.generated_run.specs.Moves.{MovesUnseen};
+ghost use Rattle.script_laws.specs.Moves.{MovesUnseen};
 ghost use Rattle.generated_run.specs.Statuses.{AnswersScript, FirstReplies, Passed, Stopped, StoppedOfAll, Unread};
 ghost use Rattle.inverda_run.specs.Statuses.{Generates, LongDump, LongLoad, Misses, OfStart, Ran, RefusedDump, RunsSource, SayNothing, StaysBut, UnreadLoad, Untouched, UnwrittenDump};
 ghost use Rattle.inverda_run.specs.Decided.{Early, Told', ToldGenerated, ToldLonger, ToldNoDump, ToldWhole};
@@ -17,12 +17,12 @@ use crate::finish::finish;
 use crate::generate::generate;
 use crate::last::put_last;
 use crate::laws::two_runs_are_one;
-use crate::script_laws::{runs_are_ordinary, said_runs_are_one};
+use crate::run_laws::{runs_are_ordinary, runs_are_serial, said_runs_are_one};
 use generated_run::{End as ScriptEnd, Stream, run_source};
 use outside::{Files, Sink, Source};
 use par_base::{Fault, Limits};
-use run_laws::scripts_keep_counts;
 use run_words::{read_words, words_say_one_thing};
+use script_laws::scripts_keep_counts;
 use std::alloc::Global;
 
 // How a run ends that has carried out its script, but for a dump.
@@ -70,6 +70,7 @@ fn run<S: Source, K: Sink, F: Files>(
     scripts_keep_counts();
     // These are laws of every run: they take no time.
     runs_are_ordinary();
+    runs_are_serial();
     said_runs_are_one();
     let asked = match read_words(alloc, words) {
         Ok(asked) => asked,
@@ -79,19 +80,19 @@ fn run<S: Source, K: Sink, F: Files>(
     let limits = Limits {
         max_id: asked.max_id,
     };
-    let mut sessions = match begin(alloc, asked.load, limits, files) {
-        Ok(sessions) => sessions,
+    let mut transactions = match begin(alloc, asked.load, limits, files) {
+        Ok(transactions) => transactions,
         Err(NotBegun::Memory) => return End::Memory,
         Err(NotBegun::Refused) => return put_last(End::Refused, b"dump refused\n", out),
         Err(NotBegun::TooLong) => return put_last(End::LongLoad, b"too long\n", out),
         Err(NotBegun::Fault) => return put_last(End::UnreadLoad, b"file fault\n", out),
     };
     if let Some(n) = asked.generate {
-        return generate(alloc, &mut sessions, n, asked.dump, out, files);
+        return generate(alloc, &mut transactions, n, asked.dump, out, files);
     }
-    let mut stream = Stream::new(alloc, sessions);
+    let mut stream = Stream::new(alloc, transactions);
     match run_source(alloc, &mut stream, script, out) {
-        ScriptEnd::Done => finish(alloc, stream.sessions(), asked.dump, out, files),
+        ScriptEnd::Done => finish(alloc, stream.transactions(), asked.dump, out, files),
         end => ended(end),
     }
 }

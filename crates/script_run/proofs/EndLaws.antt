@@ -12,8 +12,8 @@ use Rattle.bidel_script.specs.Script.{IsScript, Comes, Outcome, Over, Fault, Lon
 use Rattle.bidel_script.proofs.ScriptLaws.{over_is_script}
 use Rattle.bidel_script.proofs.UniqueLaws.{one_comes}
 use Rattle.script_run.specs.Reading as reading
-use Rattle.engine_sessions.specs.EngineCoreTexts.{line}
-use Rattle.engine_sessions.specs.Standing.{Standing}
+use Rattle.engine_transactions.specs.EngineCoreTexts.{line}
+use Rattle.engine_transactions.specs.Standing.{Standing}
 use Rattle.script_run.specs.Output.{out}
 use Rattle.script_run.specs.Statuses as statuses
 use Rattle.script_run.specs.Statuses.{limit, Taken, whole, early, fault_line, last_line, WritesScript, Had, PutsFront, AnswersScript, Begun, BegunTaken, CutShort}

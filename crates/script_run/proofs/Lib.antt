@@ -7,5 +7,6 @@ mod ToldLemmas
 pub mod CutLaws
 pub mod EndLaws
 mod TextLemmas
-pub mod MoveLaws
 pub mod SpelledLaws
+pub use Rattle.engine_transactions.proofs.TextLaws
+pub use Rattle.engine_transactions.proofs.CountLaws

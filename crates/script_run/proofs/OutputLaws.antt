@@ -1,8 +1,8 @@
 -- The lines that answer statements, and the state behind them.
 use Rattle.std.proofs.Common.{◌≡◌, List, [], ◌∷◌, ◌++◌, ℕ, refl, sym, ap, ◌∙◌, append_assoc, append-nil}
 use Rattle.statements.specs.Views.{StatementView}
-use Rattle.engine_sessions.specs.Standing.{Standing}
-use Rattle.engine_sessions.specs.Act.{act}
+use Rattle.engine_transactions.specs.Standing.{Standing}
+use Rattle.engine_transactions.specs.Act.{act}
 use Rattle.script_run.specs.Output.{out, replies, text_of, next_state, state_after}
 
 pub state_after-more : (s : Standing) (sts : List StatementView) (st : StatementView)

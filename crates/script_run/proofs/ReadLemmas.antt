@@ -11,7 +11,7 @@ use Rattle.statements.specs.Views.{StatementView}
 use Rattle.bidel_script.specs.Script.{Comes, Open}
 use Rattle.script_stream.specs.Holding.{Holds, limit, place_in}
 use Rattle.script_stream.proofs.HoldLaws.{fed_size, first_ended, first_going, place_inside}
-use Rattle.engine_sessions.specs.Standing.{Standing}
+use Rattle.engine_transactions.specs.Standing.{Standing}
 use Rattle.script_run.specs.declared.stream.Stream.{Stream}
 use Rattle.script_run.specs.declared.stream.Next.TheVariants as next
 use Rattle.script_run.specs.declared.stream.Stop.{Stop}

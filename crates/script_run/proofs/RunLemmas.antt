@@ -2,7 +2,8 @@
 use Rattle.std.proofs.Common.{◌≡◌, ℕ, List, [], ◌∷◌, ◌++◌, Option, Bool, true, sym, ap, subst, ◌∙◌}
 use Rattle.std.specs.Io.KnownBytes.{Appends}
 use Rattle.std.proofs.KnownBytes.{Appends-nil, Appends-trans}
-use Rattle.engine_sessions.specs.Standing.{Standing, standing_of}
+use Rattle.engine_transactions.specs.Standing.{Standing}
+use Rattle.engine_transactions.specs.Calls.{standing_of}
 use Rattle.script_run.specs.declared.stream.Stream.{Stream}
 use Rattle.script_run.specs.Output.{out, replies}
 use Rattle.script_run.specs.Statuses.{PutsFront}
@@ -48,8 +49,8 @@ module _ (from : Standing) (left : Option (List ℕ)) (read : ℕ) where
     -- ---- nothing was put
 
     -- at what stands behind the statements
-    pub ran_stops : (left2 : Option (List ℕ)) (read2 : ℕ) (l : Last) → Reached left left2 read read2 r.statements l → standing_of new.sessions ≡ standing_of old.sessions
-        → RunsTo from (standing_of new.sessions) left left2 read read2 held mid l
+    pub ran_stops : (left2 : Option (List ℕ)) (read2 : ℕ) (l : Last) → Reached left left2 read read2 r.statements l → standing_of new.transactions ≡ standing_of old.transactions
+        → RunsTo from (standing_of new.transactions) left left2 read read2 held mid l
     ran_stops left2 read2 l reached same = record { statements = r.statements; reached = reached; put = r.put; next = same ∙ r.reads.stands.standing }
 
     -- where memory ran out
@@ -72,7 +73,7 @@ module _ (from : Standing) (left : Option (List ℕ)) (read : ℕ) where
     turn_reply same text refused g going held' was is turn.Unwritten p = (p.0, r.reads.taken.same, ran_part same text refused g held' p.1)
 
     -- a piece was taken
-    pub turn_piece : (left2 : Option (List ℕ)) (read2 : ℕ) (was is : ℕ) (t : Turn) → standing_of new.sessions ≡ standing_of old.sessions → Feeds from left left2 read read2 r.statements old new t
+    pub turn_piece : (left2 : Option (List ℕ)) (read2 : ℕ) (was is : ℕ) (t : Turn) → standing_of new.transactions ≡ standing_of old.transactions → Feeds from left left2 read read2 r.statements old new t
         → Turns from left left2 read read2 held mid was is old new t
     turn_piece left2 read2 was is turn.Goes same f = (ran_fed left2 read2 f.0, f.1, f.2)
     turn_piece left2 read2 was is (turn.Stops l) same f = ran_stops left2 read2 l f same

@@ -15,9 +15,11 @@ use Rattle.script_stream.specs.Giving as input
 use Rattle.script_stream.specs.Holding.{Holds, IsInput, limit}
 use Rattle.script_stream.proofs.HoldLaws.{fed_size}
 use Rattle.par_base.specs.declared.fault.Memory.{Memory}
-use Rattle.engine_sessions.specs.declared.sessions.Sessions.{Sessions}
-use Rattle.engine_sessions.specs.Standing.{Standing, kept_in, standing_of}
-use Rattle.engine_sessions.specs.Act.{act}
+use Rattle.engine_transactions.specs.declared.kept.Kept.{Kept as Transactions}
+use Rattle.engine_transactions.specs.Standing.{Standing}
+use Rattle.engine_transactions.specs.Kept.{kept_in}
+use Rattle.engine_transactions.specs.Calls.{standing_of}
+use Rattle.engine_transactions.specs.Act.{act}
 use Rattle.script_run.specs.declared.stream.Stream.{Stream}
 use Rattle.script_run.specs.declared.stream.Next.{Next}
 use Rattle.script_run.specs.declared.stream.Next.TheVariants as next
@@ -30,7 +32,7 @@ use Rattle.script_run.proofs.OutputLaws.{state_after-more}
 
 -- ---- nothing was fed
 
-pub stands_new : (s : Stream) → Holds [] [] s.input → s.input.ended ≡ false → s.passed ≡ false → Stands (standing_of s.sessions) [] [] s
+pub stands_new : (s : Stream) → Holds [] [] s.input → s.input.ended ≡ false → s.passed ≡ false → Stands (standing_of s.transactions) [] [] s
 unfolding state_after
 stands_new s holds going within = record {
   holds = holds;
@@ -152,7 +154,7 @@ module _ (fed : List ℕ) (answered : List StatementView) where
 module _ (from : Standing) (fed : List ℕ) (answered : List StatementView) (old new : Stream) (h : Stands from fed answered old) where
   -- the next statement was carried out
   pub gives_reply : (statement : StatementView) (n : Next) → FindsStatement fed answered old new statement → new.passed ≡ old.passed → new.ended ≡ old.ended
-      → standing_of new.sessions ≡ next_state (standing_of old.sessions) (act (standing_of old.sessions) statement) → IsReplyTo (act (standing_of old.sessions) statement) n
+      → standing_of new.transactions ≡ next_state (standing_of old.transactions) (act (standing_of old.transactions) statement) → IsReplyTo (act (standing_of old.transactions) statement) n
       → Gives from fed answered old new n
   gives_reply statement (next.Reply text refused) found passed ended stands reply =
       record {
@@ -172,7 +174,7 @@ module _ (from : Standing) (fed : List ℕ) (answered : List StatementView) (old
   gives_reply statement (next.Stop reason) found passed ended stands reply = absurd reply
 
   -- nothing more comes: the stream differs in its input alone
-  module _ (f : Found) (none : FindsNone fed answered old new f) (passed : new.passed ≡ old.passed) (ended : new.ended ≡ old.ended) (same : new.sessions ≡ old.sessions) where
+  module _ (f : Found) (none : FindsNone fed answered old new f) (passed : new.passed ≡ old.passed) (ended : new.ended ≡ old.ended) (same : new.transactions ≡ old.transactions) where
     pub stands_behind : Stands from fed answered new
     stands_behind = record {
       holds = none.holds;
@@ -218,8 +220,8 @@ module _ (old : Stream) (mid new : Input) (ended : old.ended ≡ true) (within :
   last_found (Err e) gives = tt
 
 module _ (old mid : Stream) (same : mid ≡ record old { input = mid.input }) where
-  abbrev pub sessions_same : mid.sessions ≡ old.sessions
-  sessions_same = ap (λ (x : Stream). x.sessions) same
+  abbrev pub transactions_same : mid.transactions ≡ old.transactions
+  transactions_same = ap (λ (x : Stream). x.transactions) same
 
   abbrev passed_same : mid.passed ≡ old.passed
   passed_same = ap (λ (x : Stream). x.passed) same
@@ -227,24 +229,24 @@ module _ (old mid : Stream) (same : mid ≡ record old { input = mid.input }) wh
   abbrev ended_same : mid.ended ≡ old.ended
   ended_same = ap (λ (x : Stream). x.ended) same
 
-  pub keeps_still : Keeps (kept_in old.sessions) (kept_in mid.sessions)
-  keeps_still = subst (λ (s : Sessions). Keeps (kept_in old.sessions) (kept_in s)) (sym sessions_same) (record { limit = refl; spelled = λ is. is })
+  pub keeps_still : Keeps (kept_in old.transactions) (kept_in mid.transactions)
+  keeps_still = subst (λ (s : Transactions). Keeps (kept_in old.transactions) (kept_in s)) (sym transactions_same) (record { limit = refl; spelled = λ is. is })
 
   -- a statement was carried out
-  pub replies_given : (statement : StatementView) (sessions : Sessions) (r : Result Next Memory)
+  pub replies_given : (statement : StatementView) (transactions : Transactions) (r : Result Next Memory)
       → ((from : Standing) (fed : List ℕ) (answered : List StatementView) → Stands from fed answered old → FindsStatement fed answered old mid statement)
-      → OnOk r (standing_of sessions ≡ next_state (standing_of mid.sessions) (act (standing_of mid.sessions) statement)) → IfOk r (IsReplyTo (act (standing_of mid.sessions) statement))
-      → IfOk r (λ n. (from : Standing) (fed : List ℕ) (answered : List StatementView) → Stands from fed answered old → Gives from fed answered old (record mid { sessions = sessions }) n)
-  replies_given statement sessions (Ok n) found next reply = λ from fed answered h.
+      → OnOk r (standing_of transactions ≡ next_state (standing_of mid.transactions) (act (standing_of mid.transactions) statement)) → IfOk r (IsReplyTo (act (standing_of mid.transactions) statement))
+      → IfOk r (λ n. (from : Standing) (fed : List ℕ) (answered : List StatementView) → Stands from fed answered old → Gives from fed answered old (record mid { transactions = transactions }) n)
+  replies_given statement transactions (Ok n) found next reply = λ from fed answered h.
       let f = found from fed answered h in
-      gives_reply from fed answered old (record mid { sessions = sessions }) h statement n (record { given = f.given; ends = f.ends }) passed_same ended_same
-      (subst (λ (s : Sessions). standing_of sessions ≡ next_state (standing_of s) (act (standing_of s) statement)) sessions_same next)
-      (subst (λ (s : Sessions). IsReplyTo (act (standing_of s) statement) n) sessions_same reply)
-  replies_given statement sessions (Err e) found next reply = tt
+      gives_reply from fed answered old (record mid { transactions = transactions }) h statement n (record { given = f.given; ends = f.ends }) passed_same ended_same
+      (subst (λ (s : Transactions). standing_of transactions ≡ next_state (standing_of s) (act (standing_of s) statement)) transactions_same next)
+      (subst (λ (s : Transactions). IsReplyTo (act (standing_of s) statement) n) transactions_same reply)
+  replies_given statement transactions (Err e) found next reply = tt
 
   module _ (from : Standing) (fed : List ℕ) (answered : List StatementView) (h : Stands from fed answered old) where
     behind : (f : Found) → FindsNone fed answered old mid f → Stands from fed answered mid
-    behind f none = stands_behind from fed answered old mid h f none passed_same ended_same sessions_same
+    behind f none = stands_behind from fed answered old mid h f none passed_same ended_same transactions_same
 
     pub gives_passed : FindsNone fed answered old mid found.More → old.passed ≡ true → Gives from fed answered old mid (next.Stop stop.TooLong)
     gives_passed none passed = (behind found.More none, inr (passes_limit from fed answered old mid h passed, none.there.0))

@@ -8,9 +8,10 @@ use Rattle.script_stream.specs.declared.input.Next.{Next as Found}
 use Rattle.script_stream.specs.declared.input.Next.TheVariants as found
 use Rattle.script_stream.specs.Holding.{Holds, limit, place_in}
 use Rattle.script_stream.specs.Giving.{GivesStatement, Stands as StandsInput}
-use Rattle.engine_sessions.specs.Standing.{Standing, standing_of}
-use Rattle.engine_sessions.specs.EngineCoreTexts.{line}
-use Rattle.engine_sessions.specs.declared.answer.Answer.{Answer}
+use Rattle.engine_transactions.specs.Standing.{Standing}
+use Rattle.engine_transactions.specs.Calls.{standing_of}
+use Rattle.engine_transactions.specs.EngineCoreTexts.{line}
+use Rattle.engine_transactions.specs.Answer.{Answer}
 use Rattle.script_run.specs.Output.{text_of, out, state_after}
 use Rattle.script_run.specs.Statuses.{Done, Stopped, Unread, Passed, PutsFront, CutShort, fault_line}
 use Rattle.script_run.specs.Streams.{is_refused}
@@ -107,7 +108,7 @@ pub record RanSoFar (from : Standing) (left left' : Option (List ℕ)) (read rea
 abbrev pub Turns : Standing → Option (List ℕ) → Option (List ℕ) → ℕ → ℕ → Option (List ℕ) → Option (List ℕ) → ℕ → ℕ → Stream → Stream → Turn → Type 0
 Turns from left left' read read' held held' was is old new turn.Goes =
     RanSoFar from left left' read read' held held' new × (room_in new < room_in old) × (new.going ≡ true)
-Turns from left left' read read' held held' was is old new (turn.Stops last) = RunsTo from (standing_of new.sessions) left left' read read' held held' last
+Turns from left left' read read' held held' was is old new (turn.Stops last) = RunsTo from (standing_of new.transactions) left left' read read' held held' last
 Turns from left left' read read' held held' was is old new turn.Memory = (read' ≡ read) × RunsFront from left held held'
 Turns from left left' read read' held held' was is old new turn.Unwritten = Rose was is × (read' ≡ read) × RunsFront from left held held'
 

@@ -1,12 +1,12 @@
 -- What a script's statements write.
 use Rattle.std.specs.Prelude.{ℕ, List, [], ◌∷◌, flat_map, Ok, Err}
 use Rattle.statements.specs.Views.{StatementView}
-use Rattle.engine_sessions.specs.Standing.{Standing}
+use Rattle.engine_transactions.specs.Standing.{Standing}
 use Rattle.par_base.specs.Checked.{Checked}
-use Rattle.engine_sessions.specs.Act.{act}
-use Rattle.engine_sessions.specs.EngineCoreTexts.{refusal_bytes}
-use Rattle.engine_sessions.specs.Texts.{answer_bytes}
-use Rattle.engine_sessions.specs.declared.answer.Answer.{Answer}
+use Rattle.engine_transactions.specs.Act.{act}
+use Rattle.engine_transactions.specs.EngineCoreTexts.{refusal_bytes}
+use Rattle.engine_transactions.specs.EngineSessionsTexts.{answer_bytes}
+use Rattle.engine_transactions.specs.Answer.{Answer}
 
 -- the lines that answer a statement
 abbrev pub text_of : Checked (Answer × Standing) → List ℕ

@@ -6,7 +6,7 @@ use Rattle.statements.specs.Views.{StatementView}
 use Rattle.bidel_script.specs.Places.{place_of}
 use Rattle.bidel_script.specs.Script.{Comes, Outcome, Over, Fault, Long, Open}
 use Rattle.script_stream.specs.Holding.{limit}
-use Rattle.engine_sessions.specs.Standing.{Standing}
+use Rattle.engine_transactions.specs.Standing.{Standing}
 use Rattle.script_run.specs.declared.stream.Stream.{Stream}
 use Rattle.script_run.specs.Streams.{Stands}
 

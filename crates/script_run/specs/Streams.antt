@@ -7,9 +7,10 @@ use Rattle.bidel_lex.specs.declared.tokens.Lexed.TheVariants as lexed
 use Rattle.bidel_script.specs.Places.{place_of}
 use Rattle.bidel_script.specs.Script.{Comes, Over, Fault, Long, Open}
 use Rattle.script_stream.specs.Holding.{Holds, limit, place_in}
-use Rattle.engine_sessions.specs.Standing.{Standing, standing_of}
-use Rattle.engine_sessions.specs.Act.{act}
-use Rattle.engine_sessions.specs.declared.answer.Answer.{Answer}
+use Rattle.engine_transactions.specs.Standing.{Standing}
+use Rattle.engine_transactions.specs.Calls.{standing_of}
+use Rattle.engine_transactions.specs.Act.{act}
+use Rattle.engine_transactions.specs.Answer.{Answer}
 use Rattle.script_run.specs.Output.{text_of, state_after}
 use Rattle.script_run.specs.declared.stream.Next.{Next}
 use Rattle.script_run.specs.declared.stream.Next.TheVariants as next
@@ -27,7 +28,7 @@ pub record Stands (from : Standing) (fed : List ℕ) (answered : List StatementV
   pub holds : Holds (take limit fed) answered s.input
   pub passed : s.passed ≡ nat_lt limit (length fed)
   pub ends : s.input.ended ≡ true → (s.ended ≡ true) × (s.passed ≡ false)
-  pub standing : standing_of s.sessions ≡ state_after from answered
+  pub standing : standing_of s.transactions ≡ state_after from answered
 
 -- something was fed, from some standing on
 abbrev pub IsStream : Stream → Type 0

@@ -3,14 +3,15 @@ ghost use Rattle.std.specs.Prelude.{◌≡◌, IfOk, OnOk};
 ghost use Rattle.expr_lang.specs.Operations.{text_limit};
 ghost use Rattle.statements.specs.Views.{statement_view};
 ghost use Rattle.statements.specs.Texts.{TextsWithin};
-ghost use Rattle.engine_sessions.specs.Spoken.{TextsCome};
-ghost use Rattle.engine_sessions.specs.Standing.{kept_in, standing_of};
-ghost use Rattle.engine_sessions.specs.Act.{act};
+ghost use Rattle.engine_transactions.specs.Spoken.{TextsCome};
+ghost use Rattle.engine_transactions.specs.Kept.{kept_in};
+ghost use Rattle.engine_transactions.specs.Calls.{standing_of};
+ghost use Rattle.engine_transactions.specs.Act.{act};
 ghost use Rattle.script_run.specs.Output.{next_state};
 ghost use Rattle.script_run.specs.Calls.{IsReplyTo};
 
 use crate::stream::Next;
-use engine_sessions::{Sessions, answer_text, refusal_text};
+use engine_transactions::{Transactions, answer_text, refusal_text};
 use expr_lang::Steps;
 use par_base::{Fault, Memory};
 use statements::Statement;
@@ -20,20 +21,20 @@ use std::sync::ledger::Ledger;
 /// Carries out a statement, and gives the lines that answer it.
 pub fn answer<L: Ledger>(
     alloc: Global,
-    sessions: &mut Sessions,
+    transactions: &mut Transactions,
     statement: Statement,
     steps: &mut Steps<L>,
 ) -> Result<Next, Memory>
     requires { TextsWithin text_limit (statement_view statement) }
-    ensures reply { IfOk result (IsReplyTo (act (standing_of sessions.old)
+    ensures reply { IfOk result (IsReplyTo (act (standing_of transactions.old)
         (statement_view statement))) }
-    ensures next { OnOk result (standing_of sessions.new ≡ next_state (standing_of sessions.old)
-        (act (standing_of sessions.old) (statement_view statement))) }
-    ensures texts { TextsCome (statement_view statement) (kept_in sessions.old).graph.edges
-        (kept_in sessions.new).graph.edges }
-    ensures limit { (kept_in sessions.new).ids.limit ≡ (kept_in sessions.old).ids.limit }
+    ensures next { OnOk result (standing_of transactions.new ≡ next_state (standing_of transactions.old)
+        (act (standing_of transactions.old) (statement_view statement))) }
+    ensures texts { TextsCome (statement_view statement) (kept_in transactions.old).graph.edges
+        (kept_in transactions.new).graph.edges }
+    ensures limit { (kept_in transactions.new).ids.limit ≡ (kept_in transactions.old).ids.limit }
 {
-    match sessions.event(alloc, statement, steps) {
+    match transactions.event(alloc, statement, steps) {
         Ok(answer) => Ok(Next::Reply {
             text: answer_text(alloc, &answer)?,
             refused: false,

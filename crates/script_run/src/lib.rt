@@ -10,13 +10,12 @@
 //! answer its statements and left the state behind them (`Done`); that a run which a fault, a failed
 //! read or too many bytes ended put the lines of the statements that are known to end before that,
 //! and its last line (`Stopped`, `Unread`, `Passed`); and that a run which memory or the sink ends has
-//! put a front of what it puts otherwise (`CutShort`). The laws say that the run of any bytes puts one
-//! text where nothing fails, and that with every MATERIALIZE struck out all other statements but
-//! SHOW LAYOUT have the same lines (`specs/Moves.antt`). The crate knows nothing of how statements are
-//! written, nor of files or options.
+//! put a front of what it puts otherwise (`CutShort`). The law says that the run of any bytes puts one
+//! text where nothing fails. The crate knows nothing of how statements are written, nor of files or
+//! options.
 //!
-//! Lemmas that the crate above may use stand in proofs/: `EndLaws`, `CutLaws`, `FrontLaws`,
-//! `OutputLaws`, `SpelledLaws` and `MoveLaws`.
+//! Lemmas that the crates above may use stand in proofs/: `EndLaws`, `CutLaws`, `FrontLaws`,
+//! `OutputLaws` and `SpelledLaws`.
 #![tactic(auto)]
 
 mod answer;
@@ -31,7 +30,10 @@ mod taking;
 mod turn;
 
 pub use end::End;
-pub use engine_sessions::{Engine, Sessions, named_statements_need_no_session};
-pub use laws::{moves_change_no_reply, text_is_one};
+pub use engine_transactions::{
+    Engine, Sessions, Transactions, counts_stay_beside_the_graph, named_statements_need_no_session,
+    replies_are_lines,
+};
+pub use laws::text_is_one;
 pub use source::run_source;
 pub use stream::{Next, Stop, Stream};

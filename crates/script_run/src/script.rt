@@ -1,6 +1,7 @@
 //! The statements of a source, and the last line.
 ghost use Rattle.std.specs.Prelude.{◌≡◌, ◌≤◌, []};
-ghost use Rattle.engine_sessions.specs.Standing.{kept_in, standing_of};
+ghost use Rattle.engine_transactions.specs.Kept.{kept_in};
+ghost use Rattle.engine_transactions.specs.Calls.{standing_of};
 ghost use Rattle.script_run.specs.Kept.{Keeps};
 ghost use Rattle.script_run.specs.Streams.{AwaitsBytes, Stands};
 ghost use Rattle.script_run.specs.Calls.{PutsLine, RunStays, Runs, last_text};
@@ -25,13 +26,13 @@ pub fn run_script<S: Source, K: Sink, L: Ledger>(
     requires name { blank.name ≡ L.name }
     requires parts { blank.parts ≡ L.parts }
     requires one { blank.parts ≡ 1 }
-    requires new { Stands (standing_of stream.old.sessions) [] [] stream.old }
+    requires new { Stands (standing_of stream.old.transactions) [] [] stream.old }
     requires awaits { AwaitsBytes stream.old }
-    ensures runs { Runs (standing_of stream.old.sessions) (standing_of stream.new.sessions)
+    ensures runs { Runs (standing_of stream.old.transactions) (standing_of stream.new.transactions)
         (S.left script.old) (S.left script.new) (S.faults script.old) (S.faults script.new)
         (K.held out.old) (K.held out.new) (K.faults out.old) (K.faults out.new) result }
     ensures stays { RunStays (K.faults out.old) (K.faults out.new) result }
-    ensures keeps { Keeps (kept_in stream.old.sessions) (kept_in stream.new.sessions) }
+    ensures keeps { Keeps (kept_in stream.old.transactions) (kept_in stream.new.transactions) }
     ensures later_read { S.faults script.old ≤ S.faults script.new }
     ensures later_write { K.faults out.old ≤ K.faults out.new }
 {

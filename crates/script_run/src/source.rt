@@ -1,6 +1,7 @@
 //! The run of a source.
 ghost use Rattle.std.specs.Prelude.{◌≡◌, ◌≤◌, []};
-ghost use Rattle.engine_sessions.specs.Standing.{kept_in, standing_of};
+ghost use Rattle.engine_transactions.specs.Kept.{kept_in};
+ghost use Rattle.engine_transactions.specs.Calls.{standing_of};
 ghost use Rattle.script_run.specs.Kept.{Keeps};
 ghost use Rattle.script_run.specs.Streams.{AwaitsBytes, Stands};
 ghost use Rattle.script_run.specs.Calls.{EndStays, Ends, end_of};
@@ -42,13 +43,13 @@ pub fn run_source<S: Source, K: Sink>(
     script: &mut S,
     out: &mut K,
 ) -> End
-    requires new { Stands (standing_of stream.old.sessions) [] [] stream.old }
+    requires new { Stands (standing_of stream.old.transactions) [] [] stream.old }
     requires awaits { AwaitsBytes stream.old }
-    ensures ends { Ends (standing_of stream.old.sessions) (standing_of stream.new.sessions)
+    ensures ends { Ends (standing_of stream.old.transactions) (standing_of stream.new.transactions)
         (S.left script.old) (S.left script.new) (S.faults script.old) (S.faults script.new)
         (K.held out.old) (K.held out.new) (K.faults out.old) (K.faults out.new) result }
     ensures stays { EndStays (K.faults out.old) (K.faults out.new) result }
-    ensures keeps { Keeps (kept_in stream.old.sessions) (kept_in stream.new.sessions) }
+    ensures keeps { Keeps (kept_in stream.old.transactions) (kept_in stream.new.transactions) }
     ensures later_read { S.faults script.old ≤ S.faults script.new }
     ensures later_write { K.faults out.old ≤ K.faults out.new }
 {

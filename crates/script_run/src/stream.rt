@@ -2,13 +2,15 @@
 ghost use Rattle.std.specs.Prelude.{◌≡◌, ◌≤◌, ◌++◌, ◌&&◌, ℕ, List, [], not, true, false, IfOk, OnOk, OnErr};
 ghost use Rattle.statements.specs.Views.{StatementView};
 ghost use Rattle.script_stream.specs.Holding.{place_in};
-ghost use Rattle.engine_sessions.specs.Standing.{Standing, kept_in, standing_of};
+ghost use Rattle.engine_transactions.specs.Standing.{Standing};
+ghost use Rattle.engine_transactions.specs.Kept.{kept_in};
+ghost use Rattle.engine_transactions.specs.Calls.{standing_of};
 ghost use Rattle.script_run.specs.Kept.{Keeps};
 ghost use Rattle.script_run.specs.Streams.{AwaitsBytes, Gives, IsStream, Stands, is_open_behind as is_open_behind_lem};
 ghost use Rattle.script_run.specs.Calls.{FindsNext};
 
 use crate::answer::answer;
-use engine_sessions::Sessions;
+use engine_transactions::Transactions;
 use expr_lang::Steps;
 use par_base::{Memory, Text};
 use script_stream::{Input, LIMIT, Next as Found};
@@ -19,7 +21,7 @@ use std::sync::ledger::Ledger;
 #[derive(Drop)]
 pub struct Stream {
     /// The engine, and the session in which the next statement is given.
-    pub sessions: Sessions,
+    pub transactions: Transactions,
     /// The bytes that were fed and not yet used, with their tokens, their place, and how many stand before them.
     pub input: Input,
     /// Whether more bytes were fed than a script may have.
@@ -64,13 +66,13 @@ fn is_open_behind(next: &Result<Next, Memory>) -> bool
 
 impl Stream {
     /// A stream to which nothing was fed, over an engine. It takes no memory.
-    pub fn new(alloc: Global, sessions: Sessions) -> Stream
-        ensures stands { Stands (standing_of result.sessions) [] [] result }
+    pub fn new(alloc: Global, transactions: Transactions) -> Stream
+        ensures stands { Stands (standing_of result.transactions) [] [] result }
         ensures awaits { AwaitsBytes result }
-        ensures sessions { result.sessions ≡ sessions }
+        ensures transactions { result.transactions ≡ transactions }
     {
         Stream {
-            sessions,
+            transactions,
             input: Input::new(alloc),
             passed: false,
             ended: false,
@@ -86,10 +88,10 @@ impl Stream {
     }
 
     /// The engine, behind all statements that were answered. It does no work.
-    pub fn sessions(&self) -> &Sessions
-        ensures { result.now ≡ self.now.sessions }
+    pub fn transactions(&self) -> &Transactions
+        ensures { result.now ≡ self.now.transactions }
     {
-        &self.sessions
+        &self.transactions
     }
 
     /// Feeds a piece, where all statements that the bytes before fix were answered and `next` wanted more. It takes the time of
@@ -171,14 +173,14 @@ impl Stream {
         ensures gives { IfOk result (λ next. (from : Standing) (fed : List ℕ)
             (answered : List StatementView) → Stands from fed answered self.old
             → Gives from fed answered self.old self.new next) }
-        ensures keeps { Keeps (kept_in self.old.sessions) (kept_in self.new.sessions) }
+        ensures keeps { Keeps (kept_in self.old.transactions) (kept_in self.new.transactions) }
         ensures same { self.new ≡ record self.old {
-          sessions = self.new.sessions;
+          transactions = self.new.transactions;
           input = self.new.input;
         } }
     {
         match self.find(alloc)? {
-            Found::Statement(statement) => answer(alloc, &mut self.sessions, statement, steps),
+            Found::Statement(statement) => answer(alloc, &mut self.transactions, statement, steps),
             Found::More if self.passed => Ok(Next::Stop(Stop::TooLong)),
             Found::More => Ok(Next::More),
             Found::End => Ok(Next::End),
@@ -196,9 +198,9 @@ impl Stream {
             (answered : List StatementView) → Stands from fed answered self.old
             → Gives from fed answered self.old self.new next) }
         ensures open { self.new.going ≡ is_open_behind_lem result }
-        ensures keeps { Keeps (kept_in self.old.sessions) (kept_in self.new.sessions) }
+        ensures keeps { Keeps (kept_in self.old.transactions) (kept_in self.new.transactions) }
         ensures same { self.new ≡ record self.old {
-          sessions = self.new.sessions;
+          transactions = self.new.transactions;
           input = self.new.input;
           going = self.new.going;
         } }

@@ -2,7 +2,7 @@
 ghost use Rattle.std.specs.Prelude.{◌≡◌, ◌≤◌, ◌<◌, ◌+◌, ℕ, List, Option, length, true};
 ghost use Rattle.statements.specs.Views.{StatementView};
 ghost use Rattle.script_stream.specs.Holding.{limit};
-ghost use Rattle.engine_sessions.specs.Standing.{Standing};
+ghost use Rattle.engine_transactions.specs.Standing.{Standing};
 ghost use Rattle.script_run.specs.Streams.{AwaitsBytes, IsStream};
 ghost use Rattle.script_run.specs.Reading.{Waits, piece_limit};
 ghost use Rattle.script_run.specs.Calls.{Feeds};
@@ -41,7 +41,7 @@ fn take_into<S: Source>(alloc: Global, stream: &mut Stream, source: &mut S, buf:
         → Waits from left (S.left source.old) was (S.faults source.old) sts stream.old
         → Feeds from left (S.left source.new) was (S.faults source.new) sts stream.old stream.new
         result }
-    ensures sessions { stream.new.sessions ≡ stream.old.sessions }
+    ensures transactions { stream.new.transactions ≡ stream.old.transactions }
     ensures later { S.faults source.old ≤ S.faults source.new }
 {
     let fed = stream.input.fed();
@@ -68,7 +68,7 @@ pub fn take_piece<S: Source>(alloc: Global, stream: &mut Stream, source: &mut S)
         → Waits from left (S.left source.old) was (S.faults source.old) sts stream.old
         → Feeds from left (S.left source.new) was (S.faults source.new) sts stream.old stream.new
         result }
-    ensures sessions { stream.new.sessions ≡ stream.old.sessions }
+    ensures transactions { stream.new.transactions ≡ stream.old.transactions }
     ensures later { S.faults source.old ≤ S.faults source.new }
 {
     let mut piece = [0u8; PIECE];

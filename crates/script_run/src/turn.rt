@@ -1,6 +1,7 @@
 //! One turn: what comes of the stream is put, or a piece is fed.
 ghost use Rattle.std.specs.Prelude.{◌≡◌, ◌≤◌, ℕ, List, Option, true};
-ghost use Rattle.engine_sessions.specs.Standing.{Standing, kept_in};
+ghost use Rattle.engine_transactions.specs.Standing.{Standing};
+ghost use Rattle.engine_transactions.specs.Kept.{kept_in};
 ghost use Rattle.script_run.specs.Kept.{Keeps};
 ghost use Rattle.script_run.specs.Streams.{IsStream};
 ghost use Rattle.script_run.specs.Calls.{PutsReply, RanSoFar, Turns, TurnStays, last_of as last_of_lem};
@@ -79,7 +80,7 @@ pub fn take_turn<S: Source, K: Sink, L: Ledger>(
         → Turns from left (S.left script.new) was (S.faults script.new) held (K.held out.new)
         (K.faults out.old) (K.faults out.new) stream.old stream.new result }
     ensures stays { TurnStays (K.faults out.old) (K.faults out.new) result }
-    ensures keeps { Keeps (kept_in stream.old.sessions) (kept_in stream.new.sessions) }
+    ensures keeps { Keeps (kept_in stream.old.transactions) (kept_in stream.new.transactions) }
     ensures later_read { S.faults script.old ≤ S.faults script.new }
     ensures later_write { K.faults out.old ≤ K.faults out.new }
 {

@@ -1,5 +1,6 @@
 //! Commits over two numbers.
-ghost use Rattle.std.specs.Prelude.{◌≡◌, []};
+ghost use Rattle.std.specs.Prelude.{◌≡◌};
+ghost use Rattle.session_tx.specs.Calls.{IsIdle};
 
 use crate::{Numbers, Side};
 use expr_lang::Steps;
@@ -70,6 +71,19 @@ fn is_wanted(answer: &Result<List<u64>, CommitFault>, wanted: Wanted) -> bool {
     }
 }
 
+// Commits over the two numbers, behind which nothing is unsettled again.
+fn commit_one<L: Ledger>(
+    alloc: Global,
+    transaction: &Transaction<(Side, u64), Side>,
+    numbers: &mut Numbers,
+    steps: &mut Steps<L>,
+) -> Result<List<u64>, Fault<CommitFault>>
+    requires idle { IsIdle (⟦<Numbers as Executor>⟧.stands numbers.old) }
+    ensures idle { IsIdle (⟦<Numbers as Executor>⟧.stands numbers.new) }
+{
+    commit_all(alloc, transaction, numbers, steps)
+}
+
 fn commit_each<L: Ledger>(
     rt: &impl Abort,
     alloc: Global,
@@ -85,7 +99,7 @@ fn commit_each<L: Ledger>(
     let mut steps = Steps::<L>::new(blank);
     for (given, wanted, both, after) in cases {
         let transaction = transaction_of(alloc, *given).map_err(|_| "memory ran out")?;
-        let answer = answered(commit_all(alloc, &transaction, &mut numbers, &mut steps))?;
+        let answer = answered(commit_one(alloc, &transaction, &mut numbers, &mut steps))?;
         assert!(rt; is_wanted(&answer, *wanted));
         assert_eq!(rt; numbers.both(), *both);
         assert_eq!(rt; numbers.history(), *after);

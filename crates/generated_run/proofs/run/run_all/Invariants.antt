@@ -1,5 +1,6 @@
 use Rattle.std.proofs.Common.{◌-◌, suc, length}
-use Rattle.script_run.specs.Standing.{kept_in, standing_of}
+use Rattle.script_run.specs.TransactionsKept.{kept_in}
+use Rattle.script_run.specs.TransactionsCalls.{standing_of}
 use Rattle.script_generator.specs.Generated.{generated_script}
 use Rattle.script_run.specs.Kept.{Keeps}
 use Rattle.generated_run.proofs.RunLemmas.{SoFar}
@@ -7,8 +8,8 @@ use Rattle.generated_run.proofs.run.run_all.Given as goal
 
 abbrev pub invariant-loop-statement : goal.invariant-loop-statement
 invariant-loop-statement g l = record {
-  so_far : SoFar (standing_of l.fn.sessions) (standing_of l.sessions) (generated_script l.n) l.tally;
-  keeps : Keeps (kept_in l.fn.sessions) (kept_in l.sessions);
+  so_far : SoFar (standing_of l.fn.transactions) (standing_of l.transactions) (generated_script l.n) l.tally;
+  keeps : Keeps (kept_in l.fn.transactions) (kept_in l.transactions);
 }
 
 abbrev pub decreases-loop-statement : goal.decreases-loop-statement

@@ -3,8 +3,10 @@ use Rattle.inverda_run.specs.declared.end.End.TheVariants as end
 use Rattle.std.proofs.Common.{◌≡◌, ◌⊎◌, inr, map, string_bytes, ℕ, refl, sym, subst, ◌∙◌, inl}
 use Rattle.dump_formats.specs.Texts.{AreSpelled}
 use Rattle.generated_run.specs.Laws.{HasCounts}
-use Rattle.generated_run.specs.Sessions.{Sessions}
-use Rattle.generated_run.specs.Standing.{kept_in, standing_of}
+use Rattle.generated_run.specs.Standing.{Standing}
+use Rattle.generated_run.specs.Transactions.{Kept as Transactions}
+use Rattle.generated_run.specs.TransactionsKept.{kept_in}
+use Rattle.generated_run.specs.TransactionsCalls.{standing_of}
 use Rattle.run_words.specs.Calls.{asked_of}
 use Rattle.inverda_run.specs.Statuses.{Starts}
 use Rattle.inverda_run.specs.Calls.{EndStays, Ends, MissesLoad}
@@ -68,17 +70,17 @@ returns-in-Done-clause-ends g c =
     let told = g.F.Files.told c.args.files.now in
     let asked = asked_of c.in-Ok.asked in
     let begins = c.in-Ok-begin.ensures.begins in
-    let from = standing_of c.in-Ok-begin.sessions in
+    let from = standing_of c.in-Ok-begin.transactions in
     let own = c.in_default.is in
     let starts : Starts words told asked from = record { says = c.in-Ok.ensures; start = begins.0 } in
-    let made = c.new-stream.ensures.sessions in
+    let made = c.new-stream.ensures.transactions in
     let ends = rw made at c.in-Done.ensures.ends in
     finished words told (g.F.Files.told c.finish.new.files) (g.S.Source.left c.args.script.now) (g.S.Source.left c.run_source.new.script) (g.S.Source.faults c.args.script.now) (g.S.Source.faults c.run_source.new.script)
     (g.K.Sink.held c.args.out.now) (g.K.Sink.held c.run_source.new.out) (g.K.Sink.held c.finish.new.out) (g.K.Sink.faults c.args.out.now) (g.K.Sink.faults c.run_source.new.out) (g.K.Sink.faults c.finish.new.out)
     (g.F.Files.faults c.args.files.now) (g.F.Files.faults c.begin.new.files) (g.F.Files.faults c.finish.new.files)
-    c.words_say_one_thing.ensures c.two_runs_are_one.ensures.start asked from (standing_of c.run_source.new.stream.sessions) starts own
+    c.words_say_one_thing.ensures c.two_runs_are_one.ensures.start asked from (standing_of c.run_source.new.stream.transactions) starts own
     ends.0 ((rw made at c.in-Done.ensures.keeps.limit) ∙ starts_limit words told asked from starts) ends.1 c.in-Done.ensures.stays begins.2 c.finish.result
-    (rw c.sessions.ensures at c.finish.ensures.finishes)
+    (rw c.transactions-in-Done.ensures at c.finish.ensures.finishes)
 
 pub returns : goal.returns
 returns g c =
@@ -96,14 +98,14 @@ returns g c =
     let filed = g.F.Files.faults c.args.files.now in
     let filed' = g.F.Files.faults c.begin.new.files in
     let asked = asked_of c.in-Ok.asked in
-    let from = standing_of c.in-Ok-begin.sessions in
+    let from = standing_of c.in-Ok-begin.transactions in
     let own = c.in_default.is in
     let starts : Starts words told asked from =
     record { says = c.in-Ok.ensures; start = c.in-Ok-begin.ensures.begins.0 } in
     record {
       ends = subst (λ (e : End). Ends words told told' left left' read read' held held' put put' filed filed' e) (sym c.ended.ensures)
-          (script_ends words told told' left left' read read' held put filed filed' c.words_say_one_thing.ensures c.two_runs_are_one.ensures.start asked from (standing_of c.run_source.new.stream.sessions) starts own
-          held' put' c.in-Ok-begin.ensures.begins.2 c.run_source.result c.in_default-run_source.not-Done (rw c.new-stream.ensures.sessions at c.run_source.ensures.ends));
+          (script_ends words told told' left left' read read' held put filed filed' c.words_say_one_thing.ensures c.two_runs_are_one.ensures.start asked from (standing_of c.run_source.new.stream.transactions) starts own
+          held' put' c.in-Ok-begin.ensures.begins.2 c.run_source.result c.in_default-run_source.not-Done (rw c.new-stream.ensures.transactions at c.run_source.ensures.ends));
       stays = subst (λ (e : End). EndStays put put' e) (sym c.ended.ensures) (script_stays put put' c.run_source.result c.run_source.ensures.stays);
       files = λ file. inl (c.begin.ensures.same file);
       misses = misses_loaded words told asked (g.F.Files.missing c.args.files.now) (g.F.Files.missing c.begin.new.files) c.in-Ok.ensures c.begin.ensures.missing;
@@ -116,8 +118,8 @@ returns g c =
 pub returns-in-Done-clause-stays : goal.returns-in-Done-clause-stays
 returns-in-Done-clause-stays g c =
     stays_from (g.K.Sink.faults c.args.out.now) (g.K.Sink.faults c.run_source.new.out) (g.K.Sink.faults c.finish.new.out) c.finish.result c.in-Done.ensures.stays
-    (finish_stays (standing_of c.run_source.new.stream.sessions) (asked_of c.in-Ok.asked).dump (g.F.Files.told c.finish.new.files) (g.K.Sink.held c.run_source.new.out) (g.K.Sink.held c.finish.new.out)
-    (g.K.Sink.faults c.run_source.new.out) (g.K.Sink.faults c.finish.new.out) (g.F.Files.faults c.begin.new.files) (g.F.Files.faults c.finish.new.files) c.finish.result (rw c.sessions.ensures at c.finish.ensures.finishes))
+    (finish_stays (standing_of c.run_source.new.stream.transactions) (asked_of c.in-Ok.asked).dump (g.F.Files.told c.finish.new.files) (g.K.Sink.held c.run_source.new.out) (g.K.Sink.held c.finish.new.out)
+    (g.K.Sink.faults c.run_source.new.out) (g.K.Sink.faults c.finish.new.out) (g.F.Files.faults c.begin.new.files) (g.F.Files.faults c.finish.new.files) c.finish.result (rw c.transactions-in-Done.ensures at c.finish.ensures.finishes))
 
 pub returns-in-Done-clause-untouched : goal.returns-in-Done-clause-untouched
 returns-in-Done-clause-untouched g c = λ n generates. absurd (source_touched (map string_bytes c.args.words.now) c.words_say_one_thing.ensures (asked_of c.in-Ok.asked) c.in-Ok.ensures c.in_default.is n generates)
@@ -128,7 +130,7 @@ returns-in-Some-clause-ends g c =
     let told = g.F.Files.told c.args.files.now in
     let asked = asked_of c.in-Ok.asked in
     let begins = c.in-Ok-begin.ensures.begins in
-    let from = standing_of c.in-Ok-begin.sessions in
+    let from = standing_of c.in-Ok-begin.transactions in
     let starts : Starts words told asked from = record { says = c.in-Ok.ensures; start = begins.0 } in
     generated_so words told (g.F.Files.told c.generate.new.files) (g.S.Source.left c.args.script.now) (g.S.Source.faults c.args.script.now) (g.K.Sink.held c.args.out.now) (g.K.Sink.held c.generate.new.out)
     (g.K.Sink.faults c.args.out.now) (g.K.Sink.faults c.generate.new.out) (g.F.Files.faults c.args.files.now) (g.F.Files.faults c.begin.new.files) (g.F.Files.faults c.generate.new.files)
@@ -136,15 +138,15 @@ returns-in-Some-clause-ends g c =
 
 pub finish-requires-clause-counted : goal.finish-requires-clause-counted
 finish-requires-clause-counted g c =
-    let ends = rw c.new-stream.ensures.sessions at c.in-Done.ensures.ends in
+    let ends = rw c.new-stream.ensures.transactions at c.in-Done.ensures.ends in
     let done = ends.0 in
-    subst (λ (s : Sessions). HasCounts (standing_of s)) (sym c.sessions.ensures)
-    (subst HasCounts (sym done.next) (c.scripts_keep_counts.ensures (standing_of c.in-Ok-begin.sessions) done.statements c.in-Ok-begin.ensures.begins.1.counted))
+    subst (λ (s : Transactions). HasCounts (standing_of s).sessions) (sym c.transactions-in-Done.ensures)
+    (subst (λ (k : Standing). HasCounts k.sessions) (sym done.next) (c.scripts_keep_counts.ensures (standing_of c.in-Ok-begin.transactions) done.statements c.in-Ok-begin.ensures.begins.1.counted))
 
 pub finish-requires-clause-spelled : goal.finish-requires-clause-spelled
 finish-requires-clause-spelled g c =
-    let keeps = rw c.new-stream.ensures.sessions at c.in-Done.ensures.keeps in
-    subst (λ (s : Sessions). AreSpelled (kept_in s).graph.edges) (sym c.sessions.ensures) (keeps.spelled c.in-Ok-begin.ensures.begins.1.spelled)
+    let keeps = rw c.new-stream.ensures.transactions at c.in-Done.ensures.keeps in
+    subst (λ (s : Transactions). AreSpelled (kept_in s).graph.edges) (sym c.transactions-in-Done.ensures) (keeps.spelled c.in-Ok-begin.ensures.begins.1.spelled)
 
 pub returns-in-Done-clause-files : goal.returns-in-Done-clause-files
 returns-in-Done-clause-files g c = λ file.

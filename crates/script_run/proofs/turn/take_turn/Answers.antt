@@ -1,5 +1,5 @@
 use Rattle.std.proofs.Common.{◌∙◌, ap, subst, sym}
-use Rattle.engine_sessions.specs.Standing.{standing_of}
+use Rattle.engine_transactions.specs.Calls.{standing_of}
 use Rattle.script_run.specs.declared.stream.Stream.{Stream}
 use Rattle.script_run.specs.declared.turn.Last.{Last}
 use Rattle.script_run.specs.Calls.{Reached}
@@ -29,7 +29,7 @@ returns-in-Ok-More-clause-turns g c = λ from left was held r.
     let feeds = c.take_piece.ensures.feeds from left was r.statements waits in
     turn_piece from left was (g.S.Source.left c.args.script.now) (g.S.Source.faults c.args.script.now) c.args.stream.now c.take_piece.new.stream held (g.K.Sink.held c.args.out.now) r
     (g.S.Source.left c.take_piece.new.source) (g.S.Source.faults c.take_piece.new.source) (g.K.Sink.faults c.args.out.now) (g.K.Sink.faults c.args.out.now) c.take_piece.result
-    (ap standing_of c.take_piece.ensures.sessions ∙ ap (λ (x : Stream). standing_of x.sessions) gives.1.0) (rw gives.1.0 at feeds)
+    (ap standing_of c.take_piece.ensures.transactions ∙ ap (λ (x : Stream). standing_of x.transactions) gives.1.0) (rw gives.1.0 at feeds)
 
 pub returns-in-Ok-End-clause-turns : goal.returns-in-Ok-End-clause-turns
 returns-in-Ok-End-clause-turns g c = λ from left was held r.

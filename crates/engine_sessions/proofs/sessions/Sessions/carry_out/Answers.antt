@@ -13,12 +13,12 @@ returns-in-Err-clause-texts g c = stay_within (statement_view c.args.statement) 
 
 pub event-requires : goal.event-requires
 event-requires g c =
-    record { texts = subst (λ (x : StatementView). TextsWithin text_limit x) (sym c.in_ok-statement.ensures) (full_texts _ (statement_view c.args.statement) c.requires.texts) }
+    record { texts = subst (λ (x : StatementView). TextsWithin text_limit x) (sym c.in_ok-statement.ensures.full) (full_texts _ (statement_view c.args.statement) c.requires.texts) }
 
 pub returns-in_err-reply-clause-texts : goal.returns-in_err-reply-clause-texts
 returns-in_err-reply-clause-texts g c =
-    full_come _ (statement_view c.args.statement) (statement_view c.in_ok-statement.statement) c.args.self.now.mover.database.graph.edges c.event.new.self.database.graph.edges c.in_ok-statement.ensures c.event.ensures.texts
+    full_come _ (statement_view c.args.statement) (statement_view c.in_ok-statement.statement) c.args.self.now.mover.database.graph.edges c.event.new.self.database.graph.edges c.in_ok-statement.ensures.full c.event.ensures.texts
 
 pub returns-clause-texts : goal.returns-clause-texts
 returns-clause-texts g c =
-    full_come _ (statement_view c.args.statement) (statement_view c.in_ok-statement.statement) c.args.self.now.mover.database.graph.edges c.event.new.self.database.graph.edges c.in_ok-statement.ensures c.event.ensures.texts
+    full_come _ (statement_view c.args.statement) (statement_view c.in_ok-statement.statement) c.args.self.now.mover.database.graph.edges c.event.new.self.database.graph.edges c.in_ok-statement.ensures.full c.event.ensures.texts

@@ -5,7 +5,7 @@ use Rattle.script_run.proofs.stream.Stream.new.Goals as goal
 
 pub returns-clause-stands : goal.returns-clause-stands
 returns-clause-stands c =
-    let s : Stream = record { sessions = c.args.sessions; input = c.new.result; passed = false; ended = false; going = true } in
+    let s : Stream = record { transactions = c.args.transactions; input = c.new.result; passed = false; ended = false; going = true } in
     stands_new s c.new.ensures.holds c.new.ensures.going refl
 
 pub returns-clause-awaits : goal.returns-clause-awaits

@@ -1,0 +1,135 @@
+-- What statements of transactions answer and leave.
+use Rattle.std.proofs.Common.{◌≡◌, if◌then◌else◌, ℕ, ◌==◌, Bool, true, false, not, List, length, Option, Some, None, option_map, Result, Ok, Err, refl, sym, ap, ◌∙◌}
+use Rattle.par_base.specs.Checked.{Checked, Gives, ◌then◌}
+use Rattle.par_base.specs.declared.fault.Fault.{Fault}
+use Rattle.par_base.specs.declared.fault.Fault.TheVariants.{Refused, Memory as OutOfMemory}
+use Rattle.par_base.specs.declared.refusal.Refusal.{Refusal}
+use Rattle.statements.specs.Views.{StatementView}
+use Rattle.session_tx.specs.Meaning.{Ran}
+use Rattle.session_tx.specs.declared.commit_fault.CommitFault.{CommitFault}
+use Rattle.std.specs.Prelude.{OnErr, is_some}
+use Rattle.std.proofs.lemmas.Bool.{false≢true}
+use Rattle.engine_state.specs.declared.reply.Reply.TheVariants.{Committed, Kept}
+use Rattle.engine_state.specs.declared.reply.WriteReply.{WriteReply}
+use Rattle.engine_sessions.specs.Standing.{Standing as SessionsStanding, standing_of as standing_beside}
+use Rattle.engine_sessions.specs.declared.answer.Answer.{Answer}
+use Rattle.engine_sessions.specs.declared.answer.Answer.TheVariants.{Plain}
+use Rattle.engine_transactions.specs.Act.{Answers, at_hand, committed, committed_as, kept_by, noted, with_transaction}
+use Rattle.engine_transactions.specs.History.{History}
+use Rattle.engine_transactions.specs.Kinds.{acted_by, at_once_with, graph_behind, kind_in, read_full, read_told}
+use Rattle.engine_transactions.specs.declared.statement_kind.StatementKind.{StatementKind}
+use Rattle.engine_transactions.specs.declared.statement_kind.StatementKind.TheVariants as kind
+use Rattle.engine_transactions.proofs.KindLemmas.{once_behind}
+use Rattle.engine_transactions.specs.Opens.{noted_in, with_changed}
+use Rattle.engine_transactions.proofs.OpenLemmas.{changed_open, same_changed}
+use Rattle.engine_sessions.specs.Act.{read_in}
+use Rattle.engine_transactions.specs.Calls.{CountsAll, CountsOpen, IsSame, standing_in}
+use Rattle.engine_transactions.specs.Standing.{OpenView, Standing, TransactionView, open_of, with_write, without_open}
+use Rattle.engine_transactions.specs.declared.executing.Executing.{Executing}
+use Rattle.engine_transactions.specs.declared.table_read.TableRead.{TableRead}
+
+-- ---- whether a transaction is open
+
+pub open_some : {X : Type 0} (f : OpenView → X) (o : Option OpenView) (x : X) → Some x ≡ option_map f o → (v : OpenView) × ((o ≡ Some v) × (x ≡ f v))
+open_some f (Some v) x h = (v, (refl, cc))
+open_some f None x h = absurd (cc)
+
+pub open_none : {X : Type 0} (f : OpenView → X) (o : Option OpenView) → None ≡ option_map f o → o ≡ None
+open_none f (Some v) h = absurd (cc)
+open_none f None h = refl
+
+-- ---- a COMMIT
+
+abbrev committed_so : List WriteReply → Standing → Checked (Answer × Standing)
+committed_so replies next = Ok (Plain (Committed replies), next)
+
+in_place : {replies made : List WriteReply} {s n : SessionsStanding} {h k : History} {o p : List OpenView} → replies ≡ made → n ≡ s → k ≡ h → p ≡ o → committed_so made (record { sessions = s; history = h; opens = o }) ≡ committed_so replies (record { sessions = n; history = k; opens = p })
+in_place gives sessions history opens =
+    let a = sym gives in
+    let b = sym sessions in
+    let c = sym history in
+    let d = sym opens in
+    λ i. committed_so (a i) (record { sessions = b i; history = c i; opens = d i })
+
+module _ (old new : Executing) (opens after : List OpenView) (ends : after ≡ without_open opens (standing_beside old.sessions).session) where
+  abbrev s : Standing
+  s = standing_in old opens
+
+  some_committed : (o : OpenView) (replies : List WriteReply) → CountsAll o.transaction old new (Ok replies) → committed s (Some o) ≡ Ok (Plain (Committed replies), standing_in new after)
+  some_committed o replies counts =
+      ap (λ (r : Result (List (Ran SessionsStanding TableRead WriteReply)) CommitFault). committed_as s o.transaction r) counts.commits
+      ∙ in_place counts.gives counts.sessions counts.history ends
+
+  pub was_committed : (o : Option OpenView) (replies : List WriteReply) → CountsOpen o old new (Ok replies) → committed s o ≡ Ok (Plain (Committed replies), standing_in new after)
+  was_committed (Some o) replies counts = some_committed o replies counts
+  was_committed None replies counts = absurd counts
+
+pub not_committed : (old new : Executing) (opens : List OpenView) (end : Standing) (o : Option OpenView) (fault : Fault Refusal) → CountsOpen o old new (Err fault) → Answers (committed (standing_in old opens) o) (Err fault) end
+not_committed old new opens end (Some o) (Refused refusal) counts =
+    ap (λ (r : Result (List (Ran SessionsStanding TableRead WriteReply)) CommitFault). committed_as (standing_in old opens) o.transaction r) counts.commits
+    ∙ ap (λ (r : Refusal). Err r) (sym counts.tells)
+not_committed old new opens end None (Refused refusal) counts = ap (λ (r : Refusal). Err r) (sym counts)
+not_committed old new opens end (Some o) (OutOfMemory memory) counts = tt
+not_committed old new opens end None (OutOfMemory memory) counts = tt
+
+-- ---- a kept write
+
+pub kept_some : (s : Standing) (t : TransactionView) (v : Option (List ℕ)) (full : StatementView) → is_some v ≡ true → kept_by s t v full ≡ Ok (Plain Kept, with_transaction s (with_write t full))
+kept_some s t (Some version) full some = refl
+kept_some s t None full some = absurd (false≢true some)
+
+-- ---- a SELECT
+
+abbrev read_answered : Standing → TransactionView → StatementView → Answer → Checked (Answer × Standing)
+read_answered s t full answer = Ok (answer, noted s t (read_told s.sessions.laid.database full))
+
+pub read_fails : (s : Standing) (t : TransactionView) (told : Bool) (full made : StatementView) (csv : Bool) (fault : Fault Refusal) (end : Standing) → csv ≡ told → made ≡ full → Gives (λ (answer : Answer). answer) (Err fault) (read_in s.sessions csv made) → Answers (read_full s t told full) (Err fault) end
+read_fails s t told full made csv (Refused r) end asked is gives =
+    let b = sym asked in
+    let x = sym is in
+    (λ i. (read_in s.sessions (b i) (x i)) then read_answered s t full) ∙ ap (λ (m : Checked Answer). m then read_answered s t full) gives
+read_fails s t told full made csv (OutOfMemory memory) end asked is gives = tt
+
+with_noted : (s : Standing) (o : OpenView) (r : Option TableRead) (opens : List OpenView) → open_of s.opens s.sessions.session ≡ Some o → opens ≡ with_changed s.opens s.sessions.session (λ t. noted_in t r s.history.last) → noted s o.transaction r ≡ record s { opens = opens }
+with_noted s o (Some read) opens at is = ap (λ (l : List OpenView). record s { opens = l }) (sym (is ∙ changed_open s.sessions.session (λ t. noted_in t (Some read) s.history.last) o s.opens at))
+with_noted s o None opens at is = ap (λ (l : List OpenView). record s { opens = l }) (sym (is ∙ same_changed s.opens s.sessions.session))
+
+abbrev answered_so : Answer → Standing → Checked (Answer × Standing)
+answered_so answer next = Ok (answer, next)
+
+pub read_noted : (s : Standing) (o : OpenView) (full made : StatementView) (told csv : Bool) (answer : Answer) (r : Option TableRead) (opens : List OpenView) → open_of s.opens s.sessions.session ≡ Some o → csv ≡ told → made ≡ full → read_in s.sessions csv made ≡ Ok answer → r ≡ read_told s.sessions.laid.database made
+    → (session : ℕ) → session ≡ s.sessions.session → opens ≡ with_changed s.opens session (λ t. noted_in t r s.history.last) → read_full s o.transaction told full ≡ answered_so answer (record s { opens = opens })
+read_noted s o full made told csv answer r opens at asked is gives read session own changed =
+    let next = changed ∙ ap (λ (n : ℕ). with_changed s.opens n (λ t. noted_in t r s.history.last)) own in
+    let b = sym asked in
+    let x = sym is in
+    (λ i. (read_in s.sessions (b i) (x i)) then read_answered s o.transaction full)
+    ∙ ap (λ (m : Checked Answer). m then read_answered s o.transaction full) gives
+    ∙ ap (λ (k : Option TableRead). answered_so answer (noted s o.transaction k)) (sym (read ∙ ap (λ (y : StatementView). read_told s.sessions.laid.database y) is))
+    ∙ ap (λ (n : Standing). answered_so answer n) (with_noted s o r opens at next)
+
+-- ---- after an error
+
+pub same_beside : {X E : Type 0} (r : Result X E) (old new : Executing) (opens : List OpenView) → OnErr r (IsSame old new) → OnErr r (standing_in new opens ≡ standing_in old opens)
+same_beside (Ok x) old new opens same = tt
+same_beside (Err e) old new opens same = same opens
+
+-- ---- outside a transaction
+
+abbrev pub writes : OpenView → Bool
+writes own = not (length own.transaction.writes == 0)
+
+pub at_none : (s : Standing) (session : ℕ) → session ≡ s.sessions.session → (o : Option Bool) → o ≡ None → o ≡ option_map writes (open_of s.opens session) → at_hand s ≡ None
+at_none s session own o none is = ap (λ (n : ℕ). open_of s.opens n) (sym own) ∙ open_none writes (open_of s.opens session) (sym none ∙ is)
+
+two_kinds : kind.Select ≡ kind.Write → ⊥
+two_kinds h = cc
+
+other_kinds : kind.Other ≡ kind.Write → ⊥
+other_kinds h = cc
+
+pub no_select : (x : StatementView) → kind_in x ≡ kind.Select → kind_in x ≡ kind.Write → ⊥
+no_select x is other = two_kinds (sym is ∙ other)
+
+pub other_acts : (s : Standing) (x : StatementView) → kind_in x ≡ kind.Other → at_once_with s x (graph_behind s x) ≡ acted_by (kind_in x) s x
+other_acts s x is = sym (once_behind s x (λ other. other_kinds (sym is ∙ other))) ∙ ap (λ (k : StatementKind). acted_by k s x) (sym is)

@@ -1,0 +1,135 @@
+-- Open transactions as they lie in memory, and as they are told.
+use Rattle.std.specs.List.{find, position}
+use Rattle.std.specs.Prelude.{OnErr, option_map}
+use Rattle.std.proofs.Common.{◌≡◌, if◌then◌else◌, ℕ, suc, ◌==◌, List, [], ◌∷◌, ◌++◌, Bool, true, false, not, cond, filter, length, map, Option, Some, None, Result, Ok, Err, slice_index_or, slice_set, refl, sym, ap, ◌∙◌}
+use Rattle.std.proofs.lemmas.Bool.{eqb-true}
+use Rattle.std.proofs.lemmas.List.{set-get_or}
+use Rattle.session_tx.specs.Transactions.{TransactionState}
+use Rattle.statements.specs.Views.{StatementView, statement_view}
+use Rattle.statements.specs.declared.statement.Statement.{Statement}
+use Rattle.engine_transactions.specs.Opens.{open_view, opens_view, transaction_view, with_changed}
+use Rattle.engine_transactions.specs.Standing.{OpenView, TransactionView, open_of, with_open, without_open}
+use Rattle.engine_transactions.specs.declared.open_transaction.OpenTransaction.{OpenTransaction}
+use Rattle.engine_transactions.specs.declared.table_read.TableRead.{TableRead}
+use Rattle.engine_transactions.proofs.PlaceLemmas.{none_put, put, set_put}
+
+-- ---- as they are told
+
+some_or : (b : Bool) (o : OpenTransaction) (rest : Option OpenTransaction) → cond b (Some (open_view o)) (option_map open_view rest) ≡ option_map open_view (cond b (Some o) rest)
+some_or true o rest = refl
+some_or false o rest = refl
+
+pub found_view : (opens : List OpenTransaction) (session : ℕ) → open_of (opens_view opens) session ≡ option_map open_view (find (λ (o : OpenTransaction). o.session == session) opens)
+found_view [] session = refl
+found_view (o ∷ os) session =
+    ap (λ (rest : Option OpenView). cond (o.session == session) (Some (open_view o)) rest) (found_view os session)
+    ∙ some_or (o.session == session) o (find (λ (p : OpenTransaction). p.session == session) os)
+
+kept_or : (b : Bool) (o : OpenTransaction) (rest : List OpenTransaction) → cond b (open_view o ∷ opens_view rest) (opens_view rest) ≡ opens_view (cond b (o ∷ rest) rest)
+kept_or true o rest = refl
+kept_or false o rest = refl
+
+pub without_view : (opens : List OpenTransaction) (session : ℕ) → opens_view (filter (λ (o : OpenTransaction). not (o.session == session)) opens) ≡ without_open (opens_view opens) session
+without_view [] session = refl
+without_view (o ∷ os) session =
+    sym (kept_or (not (o.session == session)) o (filter (λ (p : OpenTransaction). not (p.session == session)) os))
+    ∙ ap (λ (rest : List OpenView). cond (not (o.session == session)) (open_view o ∷ rest) rest) (without_view os session)
+
+-- ---- a session's transaction is changed in its place
+
+-- with another transaction
+abbrev pub other_transaction : (TransactionState Statement TableRead → TransactionState Statement TableRead) → OpenTransaction → OpenTransaction
+other_transaction change o = record { session = o.session; transaction = change o.transaction }
+
+module _ (session : ℕ) (change : TransactionState Statement TableRead → TransactionState Statement TableRead) (told : TransactionView → TransactionView) (same : (t : TransactionState Statement TableRead) → transaction_view (change t) ≡ told (transaction_view t)) where
+  abbrev own : OpenTransaction → Bool
+  own o = o.session == session
+
+  changed_or : (b : Bool) (o : OpenTransaction) (os others : List OpenTransaction) (rest : List OpenView) → opens_view others ≡ rest
+      → opens_view (cond b (other_transaction change o ∷ os) (o ∷ others)) ≡ (if b then record { session = o.session; transaction = told (transaction_view o.transaction) } ∷ opens_view os else open_view o ∷ rest)
+  changed_or true o os others rest is = ap (λ (t : TransactionView). record { session = o.session; transaction = t } ∷ opens_view os) (same o.transaction)
+  changed_or false o os others rest is = ap (λ (l : List OpenView). open_view o ∷ l) is
+
+  put_view : (opens : List OpenTransaction) → opens_view (put own (other_transaction change) opens) ≡ with_changed (opens_view opens) session told
+  put_view [] = refl
+  put_view (o ∷ os) = changed_or (o.session == session) o os (put own (other_transaction change) os) (with_changed (opens_view os) session told) (put_view os)
+
+  pub set_view : (opens : List OpenTransaction) (at : ℕ) (d : OpenTransaction) → position own opens ≡ Some at → opens_view (slice_set opens at (other_transaction change (slice_index_or opens at d))) ≡ with_changed (opens_view opens) session told
+  set_view opens at d found = ap opens_view (set_put own (other_transaction change) opens at d found) ∙ put_view opens
+
+  -- written over the one at its place
+  pub set_other : (opens : List OpenTransaction) (at : ℕ) (x : OpenTransaction) (t : TransactionState Statement TableRead) → x ≡ slice_index_or opens at x → t ≡ change x.transaction → position own opens ≡ Some at
+      → opens_view (slice_set opens at (record { session = x.session; transaction = t })) ≡ with_changed (opens_view opens) session told
+  set_other opens at x t here is found =
+      ap (λ (u : TransactionState Statement TableRead). opens_view (slice_set opens at (record { session = x.session; transaction = u }))) is
+      ∙ ap (λ (y : OpenTransaction). opens_view (slice_set opens at (other_transaction change y))) here
+      ∙ set_view opens at x found
+
+  pub none_view : (opens : List OpenTransaction) → position own opens ≡ None → opens_view opens ≡ with_changed (opens_view opens) session told
+  none_view opens found = sym (ap opens_view (none_put own (other_transaction change) opens found)) ∙ put_view opens
+
+-- one that isn't changed
+same_if : (b : Bool) (o : OpenView) (os rest : List OpenView) → rest ≡ os → (if b then o ∷ os else o ∷ rest) ≡ o ∷ os
+same_if true o os rest is = refl
+same_if false o os rest is = ap (λ (l : List OpenView). o ∷ l) is
+
+pub same_changed : (os : List OpenView) (session : ℕ) → with_changed os session (λ t. t) ≡ os
+same_changed [] session = refl
+same_changed (o ∷ os) session = same_if (o.session == session) o os (with_changed os session (λ t. t)) (same_changed os session)
+
+-- the same written over the one at its place
+pub set_same : (opens : List OpenTransaction) (at : ℕ) (x : OpenTransaction) (t : TransactionState Statement TableRead) → x ≡ slice_index_or opens at x → t ≡ x.transaction → slice_set opens at (record { session = x.session; transaction = t }) ≡ opens
+set_same opens at x t here is =
+    ap (λ (u : TransactionState Statement TableRead). slice_set opens at (record { session = x.session; transaction = u })) is
+    ∙ ap (λ (y : OpenTransaction). slice_set opens at y) here
+    ∙ set-get_or opens at x
+
+-- ---- what is told of it
+
+ok_some : (p o : OpenView) → Some p ≡ Some o → p ≡ o
+ok_some p o h = cc
+
+-- one that stands is another one
+changed_if : (session : ℕ) (change : TransactionView → TransactionView) (o p : OpenView) (os : List OpenView) (b : Bool) → (p.session == session) ≡ b → cond b (Some p) (open_of os session) ≡ Some o
+    → (open_of os session ≡ Some o → with_changed os session change ≡ with_open os session (change o.transaction))
+    → (if b then record p { transaction = change p.transaction } ∷ os else p ∷ with_changed os session change) ≡ (if b then record { session = session; transaction = change o.transaction } ∷ os else p ∷ with_open os session (change o.transaction))
+changed_if session change o p os true is found rest =
+    let own : p ≡ o = ok_some p o found in
+    λ i. record { session = eqb-true p.session session is i; transaction = change (own i).transaction } ∷ os
+changed_if session change o p os false is found rest = ap (λ (l : List OpenView). p ∷ l) (rest found)
+
+pub changed_open : (session : ℕ) (change : TransactionView → TransactionView) (o : OpenView) (os : List OpenView) → open_of os session ≡ Some o → with_changed os session change ≡ with_open os session (change o.transaction)
+changed_open session change o [] found = absurd (cc)
+changed_open session change o (p ∷ os) found = changed_if session change o p os (p.session == session) refl found (λ f. changed_open session change o os f)
+
+-- one that doesn't stands behind the others
+opened_if : (session : ℕ) (t : TransactionView) (p : OpenView) (os : List OpenView) (b : Bool) → cond b (Some p) (open_of os session) ≡ None → (open_of os session ≡ None → os ++ record { session = session; transaction = t } ∷ [] ≡ with_open os session t)
+    → p ∷ (os ++ record { session = session; transaction = t } ∷ []) ≡ (if b then record { session = session; transaction = t } ∷ os else p ∷ with_open os session t)
+opened_if session t p os true none rest = absurd (cc)
+opened_if session t p os false none rest = ap (λ (l : List OpenView). p ∷ l) (rest none)
+
+pub opened : (session : ℕ) (t : TransactionView) (os : List OpenView) → open_of os session ≡ None → os ++ record { session = session; transaction = t } ∷ [] ≡ with_open os session t
+opened session t [] none = refl
+opened session t (p ∷ os) none = opened_if session t p os (p.session == session) none (λ n. opened session t os n)
+
+-- one more behind the others
+pub view_more : (opens : List OpenTransaction) (o : OpenTransaction) → opens_view (opens ++ o ∷ []) ≡ opens_view opens ++ open_view o ∷ []
+view_more [] o = refl
+view_more (p ∷ os) o = ap (λ (l : List OpenView). open_view p ∷ l) (view_more os o)
+
+-- ---- writes of a transaction
+
+-- one more write is told behind the others
+pub write_more : (writes : List Statement) (x : Statement) → map statement_view (writes ++ x ∷ []) ≡ map statement_view writes ++ statement_view x ∷ []
+write_more [] x = refl
+write_more (y ∷ ys) x = ap (λ (l : List StatementView). statement_view y ∷ l) (write_more ys x)
+
+pub as_many : (writes : List Statement) → length (map statement_view writes) ≡ length writes
+as_many [] = refl
+as_many (x ∷ xs) = ap suc (as_many xs)
+
+-- ---- after an error
+
+pub err_keep : {X E P A : Type 0} (r : Result X E) → OnErr r A → (A → P) → OnErr r P
+err_keep (Ok x) a f = tt
+err_keep (Err e) a f = f a

@@ -1,6 +1,0 @@
-pub mod Lines
-pub mod Moves
-pub mod Said
-pub mod Kept
-pub mod Written
-pub mod Scripts

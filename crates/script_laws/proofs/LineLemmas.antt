@@ -1,0 +1,17 @@
+-- Each statement is answered by lines.
+use Rattle.std.specs.Prelude.{Ok, Err}
+use Rattle.par_base.specs.Checked.{Checked}
+use Rattle.script_run.specs.EngineCoreLaws.{EndsLine, RefusalsAreLines}
+use Rattle.session_laws.specs.Lines.{AnswersAreLines}
+use Rattle.script_run.specs.Answer.{Answer}
+use Rattle.script_run.specs.Act.{act}
+use Rattle.script_run.specs.Standing.{Standing}
+use Rattle.script_run.specs.Output.{text_of}
+use Rattle.script_laws.specs.Lines.{StatementsAreAnswered}
+
+told_ends : AnswersAreLines → RefusalsAreLines → (answer : Checked (Answer × Standing)) → EndsLine (text_of answer)
+told_ends answers refusals (Ok answer) = answers answer.0
+told_ends answers refusals (Err refusal) = refusals refusal
+
+pub statements_end : AnswersAreLines → RefusalsAreLines → StatementsAreAnswered
+statements_end answers refusals s statement = told_ends answers refusals (act s statement)

@@ -1,0 +1,10 @@
+pub mod Moves
+pub mod Stored
+pub mod Said
+pub mod Lines
+pub mod Kept
+pub mod Written
+pub mod Scripts
+pub use Rattle.session_laws.specs.Kept as SessionLawsKept
+pub use Rattle.session_laws.specs.Said as SessionLawsSaid
+pub use Rattle.session_laws.specs.Beside

@@ -1,5 +1,0 @@
-use Rattle.script_run.proofs.MoveLaws.{same_replies}
-use Rattle.script_run.proofs.laws.moves_change_no_reply.Goals as goal
-
-pub returns : goal.returns
-returns c s layout pending statements = same_replies statements s layout pending

@@ -1,0 +1,10 @@
+mod LineLemmas
+mod MoveLemmas
+mod SaidLemmas
+mod FoundLemmas
+mod NewRowLemmas
+mod SetLemmas
+mod PlanLemmas
+mod GrownLemmas
+mod KeptLemmas
+mod WrittenLemmas

@@ -1,0 +1,29 @@
+-- Statements that act at once, one after the other, with no transactions beside them.
+use Rattle.std.specs.Prelude.{ℕ, List, [], ◌∷◌, Ok, Err}
+use Rattle.par_base.specs.Checked.{Checked}
+use Rattle.statements.specs.Views.{StatementView}
+use Rattle.engine_sessions.specs.EngineCoreTexts.{refusal_bytes}
+use Rattle.engine_sessions.specs.Act.{act}
+use Rattle.engine_sessions.specs.Standing.{Standing}
+use Rattle.engine_sessions.specs.Texts.{answer_bytes}
+use Rattle.engine_sessions.specs.declared.answer.Answer.{Answer}
+
+-- the lines that answer a statement
+abbrev pub text_of : Checked (Answer × Standing) → List ℕ
+text_of (Ok answer) = answer_bytes answer.0
+text_of (Err refusal) = refusal_bytes refusal
+
+-- what stands behind it; a refused statement leaves all as it is
+abbrev pub next_state : Standing → Checked (Answer × Standing) → Standing
+next_state s (Ok answer) = answer.1
+next_state s (Err refusal) = s
+
+-- the reply to each of the statements, in order
+unfoldable pub replies : Standing → List StatementView → List (List ℕ)
+replies s [] = []
+replies s (statement ∷ statements) = text_of (act s statement) ∷ replies (next_state s (act s statement)) statements
+
+-- what stands behind the statements
+unfoldable pub state_after : Standing → List StatementView → Standing
+state_after s [] = s
+state_after s (statement ∷ statements) = state_after (next_state s (act s statement)) statements

@@ -1,0 +1,6 @@
+pub mod Beside
+pub mod Lines
+pub mod Moves
+pub mod Said
+pub mod Kept
+pub mod Written

@@ -1,0 +1,14 @@
+mod RiseLemmas
+mod SelectLemmas
+mod FoundLemmas
+mod LeaveLemmas
+mod OrderLemmas
+mod PlanLemmas
+mod TellLemmas
+mod FreshLemmas
+mod ActLemmas
+mod OpenLemmas
+mod CommitLemmas
+mod SerialLemmas
+mod BeginLemmas
+mod MeanLemmas
