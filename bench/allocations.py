@@ -14,7 +14,8 @@ import sys
 import tempfile
 
 TOP = os.path.dirname(os.path.dirname(os.path.abspath(__file__)))
-SCRIPTS = ["examples/tasky", "examples/moving", "examples/conditions", "examples/there_and_back", "examples/merge"]
+SCRIPTS = ["examples/tasky", "examples/moving", "examples/conditions", "examples/there_and_back", "examples/merge",
+           "examples/tutorial/22_watches"]
 
 # Counts the requests for memory and refuses the one whose number REFUSED has. At the end the count goes to the file COUNTED.
 REFUSING = r"""

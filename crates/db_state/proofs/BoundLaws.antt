@@ -1,5 +1,5 @@
 -- Reading what is seen, and making auxiliary tables of it, takes few steps.
-use Rattle.std.specs.Prelude.{◌&&◌, ◌||◌, ◌==◌}
+use Rattle.std.specs.Prelude.{◌&&◌, ◌||◌, ◌==◌, ⊤}
 use Rattle.std.proofs.Common.{◌≡◌, ℕ, ◌+◌, ◌*◌, ◌≤◌, List, [], ◌∷◌, ◌++◌, Bool, true, false, not, cond, map, length, Some, inl, inr, refl, sym, subst, arith}
 use Rattle.std.proofs.lemmas.Bool.{eqb-true, ne_eqb}
 use Rattle.std.proofs.lemmas.Nat.{mul-le}
@@ -13,7 +13,7 @@ use Rattle.op_law.specs.Calls.{StepsWithin}
 use Rattle.op_law.specs.Identifiers.{IdsRise, has_id}
 use Rattle.op_law.specs.Local.{only, rows_only}
 use Rattle.op_law.specs.Meaning.{Meaning, PairState}
-use Rattle.op_law.specs.Tables.{Tables}
+use Rattle.op_law.specs.Tables.{Heading, Tables}
 use Rattle.version_model.specs.Bounds.{AreAmong, HasOnly}
 use Rattle.version_model.specs.States.{State}
 use Rattle.version_model.specs.Steps.{directed, pair_in}
@@ -23,7 +23,7 @@ use Rattle.storage_law.specs.Storage.{stored_way}
 use Rattle.db_state.specs.Calls.{AuxesWithin, IsRelatedAt}
 use Rattle.db_state.specs.Parts.{AreLocalAt, Ascends, MaySee, SeenWithin, listed_in, passes, seen_of}
 use Rattle.db_state.specs.declared.sight.Sight.{Sight}
-use Rattle.db_state.specs.declared.sight.Sight.TheVariants.{All, Of}
+use Rattle.db_state.specs.declared.sight.Sight.TheVariants.{All, Of, Part}
 use Rattle.db_state.specs.inner.Passes.{SeesOver, passed_in}
 use Rattle.db_state.proofs.PartLaws.{rows_twice}
 
@@ -32,10 +32,12 @@ use Rattle.db_state.proofs.PartLaws.{rows_twice}
 pub seen_none : (most : ℕ) (sight : Sight) (count s : ℕ) → SeenWithin most sight count s s
 seen_none most All count s = tt
 seen_none most (Of ids) count s = omega arith
+seen_none most (Part ids) count s = tt
 
 pub seen_more : (most : ℕ) (sight : Sight) (a b s t u : ℕ) → SeenWithin most sight a s t → SeenWithin most sight b t u → SeenWithin most sight (a + b) s u
 seen_more most All a b s t u h k = tt
 seen_more most (Of ids) a b s t u h k = grind (arith, h, k)
+seen_more most (Part ids) a b s t u h k = tt
 
 pub seen_fewer : (most : ℕ) (sight : Sight) (a b s t : ℕ) → a ≤ b → SeenWithin most sight a s t → SeenWithin most sight b s t
 seen_fewer most All a b s t less h = tt
@@ -43,16 +45,19 @@ seen_fewer most (Of ids) a b s t less h =
     let count = mul-le (length ids.now) a (length ids.now) b (omega arith) less in
     let all = mul-le most (length ids.now * a) most (length ids.now * b) (omega arith) count in
     omega (arith, h, all)
+seen_fewer most (Part ids) a b s t less h = tt
 
 pub seen_less : (most more : ℕ) (sight : Sight) (a s t : ℕ) → most ≤ more → SeenWithin most sight a s t → SeenWithin more sight a s t
 seen_less most more All a s t less h = tt
 seen_less most more (Of ids) a s t less h =
     let all = mul-le most (length ids.now * a) more (length ids.now * a) less (omega arith) in
     omega (arith, h, all)
+seen_less most more (Part ids) a s t less h = tt
 
 pub seen_sum : (most more : ℕ) (sight : Sight) (a s t u : ℕ) → SeenWithin most sight a s t → SeenWithin more sight a t u → SeenWithin (most + more) sight a s u
 seen_sum most more All a s t u h k = tt
 seen_sum most more (Of ids) a s t u h k = grind (arith, h, k)
+seen_sum most more (Part ids) a s t u h k = tt
 
 -- ---- one operator
 
@@ -60,8 +65,19 @@ only_twice : (P : ℕ → Bool) (ts : Tables) → only P (only P ts) ≡ only P 
 only_twice P [] = refl
 only_twice P (t ∷ ts) = let a = rows_twice P t in let b = only_twice P ts in cc
 
+-- where steps are bounded, the operator treats each identifier by itself
+abbrev pub LocalOver : Sight → Meaning → Type 0
+LocalOver All m = ⊤
+LocalOver (Of ids) m = m.is_local ≡ true
+LocalOver (Part ids) m = ⊤
+
+pub local_over : {O : Type 0} (meaning : O → Meaning) (heading : ℕ → Heading) (s : State) (sight : Sight) (e : Link O) → SeesOver meaning heading s sight e → LocalOver sight (meaning e.operator)
+local_over meaning heading s All e sees = tt
+local_over meaning heading s (Of ids) e sees = sees
+local_over meaning heading s (Part ids) e sees = tt
+
 -- its near tables and auxiliary tables have no more identifiers than are seen
-pub crossed_within : (sight : Sight) (m : Meaning) (back : Bool) (rows : ℕ → Rows) (ns : List ℕ) (near whole aux : Tables) (s t : ℕ) → Ascends sight → SeesOver sight m
+pub crossed_within : (sight : Sight) (m : Meaning) (back : Bool) (rows : ℕ → Rows) (ns : List ℕ) (near whole aux : Tables) (s t : ℕ) → Ascends sight → LocalOver sight m
     → near ≡ map (seen_of sight rows) ns → aux ≡ only (passes sight) whole → StepsWithin (directed back m) 2 near aux s t → SeenWithin 2 sight 1 s t
 crossed_within All m back rows ns near whole aux s t rise local n a within = tt
 crossed_within (Of ids) m back rows ns near whole aux s t rise local n a within =
@@ -71,6 +87,7 @@ crossed_within (Of ids) m back rows ns near whole aux s t rise local n a within 
     let most = few_in_two ids.now near aux rise near_among aux_among in
     let own = within (way_local back m local) in
     omega (arith, most, own)
+crossed_within (Part ids) m back rows ns near whole aux s t rise local n a within = tt
 
 -- ---- the operators of a pass
 
@@ -161,9 +178,10 @@ module _ {O : Type 0} (meaning : O → Meaning) (es : List (Placed O)) (state : 
       some_same : (a b : Crossing O) → Some a ≡ Some b → a ≡ b
       some_same a b h = cc
 
-  pub auxes_seen : (sight : Sight) (ns : List ℕ) (s t : ℕ) → MaySee meaning es ns sight → ((k : ℕ) → rows_only (passes sight) (state.tables k) ≡ state.tables k) → AuxesWithin meaning es state ns s t → SeenWithin 8 sight (length ns) s t
+  pub auxes_seen : (sight : Sight) (ns : List ℕ) (s t : ℕ) → MaySee meaning es state ns sight → ((k : ℕ) → rows_only (passes sight) (state.tables k) ≡ state.tables k) → AuxesWithin meaning es state ns s t → SeenWithin 8 sight (length ns) s t
   auxes_seen All ns s t may has within = tt
   auxes_seen (Of ids) ns s t may has within = within ids.now may.0 may.1 has
+  auxes_seen (Part ids) ns s t may has within = tt
 
   -- of the first of some operators
   abbrev pub AuxesSoFar : List ℕ → ℕ → ℕ → ℕ → Type 0

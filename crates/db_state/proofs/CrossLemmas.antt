@@ -9,7 +9,7 @@ use Rattle.row_store.specs.States.{TableState}
 use Rattle.id_memory.specs.Pairs.{Pairs}
 use Rattle.id_memory.specs.States.{MemoryState}
 use Rattle.version_graph.specs.Sets.{In}
-use Rattle.version_graph.specs.Edges.{numbers}
+use Rattle.version_graph.specs.Edges.{is_in, numbers}
 use Rattle.version_graph.specs.Forest.{Crossing, Link, crossing, forest}
 use Rattle.version_graph.specs.declared.parts.Placed.{Placed}
 use Rattle.version_graph.proofs.SetLaws.{each_at}
@@ -68,7 +68,7 @@ module _ {O : Type 0} (meaning : O → Meaning) (laws : (o : O) → Laws (meanin
   abbrev storage : Storage
   storage = storage_seen sight (storage_in p)
 
-  module _ (e : Link O) (at : In e (forest p.graph.edges)) (sees : SeesOver sight (meaning e.operator)) (q : Crossing O) (over : q ≡ stored_way p.layout.operators e)
+  module _ (e : Link O) (at : In e (forest p.graph.edges)) (sees : SeesOver meaning (headings p.graph.edges) (state_for meaning p) sight e) (q : Crossing O) (over : q ≡ stored_way p.layout.operators e)
       (rows : ℕ → Rows) (right : (t : ℕ) → In t (stored_way p.layout.operators e).near → seen_of sight rows t ≡ s.tables t)
       (near : Tables) (n : ℕ) (number : e.number ≡ n) (aux part : Aux) (memory : MemoryState) (near_is : near ≡ map (seen_of sight rows) q.near) (aux_is : Some aux ≡ value_of p.aux n)
       (part_is : tables_of part ≡ only (passes sight) (tables_of aux)) (memory_is : Some memory ≡ value_of p.memories n) where
@@ -78,7 +78,7 @@ module _ {O : Type 0} (meaning : O → Meaning) (laws : (o : O) → Laws (meanin
         let way = stored_way p.layout.operators e in
         let whole = read_at meaning laws is.reads p.graph.edges (storage_in p) is.valid (state_for meaning p) is.stands e at in
         subst (λ (x : Crossing O). IsRead meaning (headings p.graph.edges) storage s x) (sym over) (record {
-          stands = seen_stands meaning laws (headings p.graph.edges) (storage_in p) (state_for meaning p) sight way sees whole.stands;
+          stands = seen_stands meaning laws (headings p.graph.edges) (storage_in p) (state_for meaning p) sight (is_in e.number p.layout.operators) e sees whole.stands;
           reads = whole.reads;
         })
 

@@ -4,21 +4,24 @@ use Rattle.std.proofs.lemmas.Bool.{cond-false, false≢true, ne_eqb}
 use Rattle.par_base.specs.declared.value.Value.{Value}
 use Rattle.row_store.specs.Rows.{Rows, row_of}
 use Rattle.version_graph.specs.Sets.{In}
-use Rattle.version_graph.specs.Forest.{Crossing, Link, forest}
+use Rattle.version_graph.specs.Forest.{Crossing, Link, crossing, forest}
 use Rattle.version_graph.specs.declared.parts.Placed.{Placed}
 use Rattle.op_law.specs.Tables.{Heading, Tables}
 use Rattle.op_law.specs.Laws.{Laws}
 use Rattle.op_law.specs.Local.{HalfLocal, only, pair_only, rows_only}
 use Rattle.op_law.specs.Meaning.{Meaning, PairState}
 use Rattle.op_law.specs.Premises.{IsPair}
-use Rattle.version_model.specs.States.{State}
+use Rattle.op_law.specs.Identifiers.{has_id}
+use Rattle.pair_parts.proofs.SplitLaws.{splits_anywhere, splits_behind}
+use Rattle.version_model.specs.States.{State, headings}
 use Rattle.version_model.specs.Steps.{directed, pair_in}
 use Rattle.version_model.proofs.RunLaws.{way_laws}
 use Rattle.storage_law.specs.Storage.{StandsOver, Storage, aux_of}
-use Rattle.db_state.specs.Parts.{Ascends, MaySee, passes, seen_of}
+use Rattle.storage_law.proofs.CanonicalLaws.{either_way}
+use Rattle.db_state.specs.Parts.{AreLocalAt, Ascends, MaySee, SplitsAt, SplitsOver, passes, seen_of}
 use Rattle.db_state.specs.inner.Passes.{SeesOver}
 use Rattle.db_state.specs.declared.sight.Sight.{Sight}
-use Rattle.db_state.specs.declared.sight.Sight.TheVariants.{All, Of}
+use Rattle.db_state.specs.declared.sight.Sight.TheVariants.{All, Of, Part}
 
 -- ---- tables
 
@@ -70,13 +73,27 @@ only_map P f (n ∷ ns) = ap (λ (ts : Tables). rows_only P (f n) ∷ ts) (only_
 
 -- ---- what may be seen
 
-pub ascends_of : {O : Type 0} (meaning : O → Meaning) (es : List (Placed O)) (ns : List ℕ) (sight : Sight) → MaySee meaning es ns sight → Ascends sight
-ascends_of meaning es ns All may = tt
-ascends_of meaning es ns (Of ids) may = may.0
+pub ascends_of : {O : Type 0} (meaning : O → Meaning) (es : List (Placed O)) (s : State) (ns : List ℕ) (sight : Sight) → MaySee meaning es s ns sight → Ascends sight
+ascends_of meaning es s ns All may = tt
+ascends_of meaning es s ns (Of ids) may = may.0
+ascends_of meaning es s ns (Part ids) may = may.0
 
-pub sees_of : {O : Type 0} (meaning : O → Meaning) (es : List (Placed O)) (ns : List ℕ) (sight : Sight) → MaySee meaning es ns sight → (e : Link O) → In e (forest es) → In e.number ns → SeesOver sight (meaning e.operator)
-sees_of {O} meaning es ns All may e at mine = tt
-sees_of {O} meaning es ns (Of ids) may e at mine = may.1 e at mine
+pub sees_of : {O : Type 0} (meaning : O → Meaning) (es : List (Placed O)) (s : State) (ns : List ℕ) (sight : Sight) → MaySee meaning es s ns sight
+    → (e : Link O) → In e (forest es) → In e.number ns → SeesOver meaning (headings es) s sight e
+sees_of {O} meaning es s ns All may e at mine = tt
+sees_of {O} meaning es s ns (Of ids) may e at mine = may.1 e at mine
+sees_of {O} meaning es s ns (Part ids) may e at mine = may.1 e at mine
+
+-- any identifiers split what local operators relate
+pub split_local : {O : Type 0} (meaning : O → Meaning) → ((o : O) → Laws (meaning o)) → (es : List (Placed O)) (ns : List ℕ) (P : ℕ → Bool) → AreLocalAt meaning es ns → (s : State) → SplitsAt meaning es s ns P
+split_local {O} meaning laws es ns P local s e at mine related =
+    splits_anywhere (meaning e.operator) (laws e.operator) P (map (headings es) e.sources) (map (headings es) e.targets) (pair_in s (crossing false e)) (local e at mine) related
+
+-- so any sight is read over them, of whatever state
+pub sees_local : {O : Type 0} (meaning : O → Meaning) → ((o : O) → Laws (meaning o)) → (es : List (Placed O)) (ns : List ℕ) (sight : Sight) → Ascends sight → AreLocalAt meaning es ns → (s : State) → MaySee meaning es s ns sight
+sees_local meaning laws es ns All rise local s = tt
+sees_local meaning laws es ns (Of ids) rise local s = (rise, local)
+sees_local meaning laws es ns (Part ids) rise local s = (rise, split_local meaning laws es ns (has_id ids.now) local s)
 
 -- ---- states and what is stored
 
@@ -119,15 +136,28 @@ module _ {O : Type 0} (meaning : O → Meaning) (laws : (o : O) → Laws (meanin
         memory = stands.memory;
       }
 
+  -- so is what identifiers that split it leave
+  split_stands : (sight : Sight) (back : Bool) (e : Link O) → SplitsOver meaning heading s (passes sight) e → StandsOver meaning heading storage s (crossing back e) → StandsOver meaning heading (storage_seen sight storage) (state_seen sight s) (crossing back e)
+  split_stands sight false e splits stands =
+      let own = splits stands.related in
+      part_stands sight (crossing false e) (own.related (map heading e.sources) (map heading e.targets) stands.related) own.at_source stands
+  split_stands sight true e splits stands =
+      let own = splits_behind (meaning e.operator) (passes sight) (pair_in s (crossing false e)) (splits (either_way meaning heading s true false e stands.related)) in
+      part_stands sight (crossing true e) (own.related (map heading e.targets) (map heading e.sources) stands.related) own.at_source stands
+
   -- WHAT IS SEEN OF WHAT IS STORED STANDS FOR WHAT IS SEEN OF THE STATE
-  pub seen_stands : (sight : Sight) (p : Crossing O) → SeesOver sight (meaning p.operator) → StandsOver meaning heading storage s p → StandsOver meaning heading (storage_seen sight storage) (state_seen sight s) p
-  seen_stands All p sees stands =
+  pub seen_stands : (sight : Sight) (back : Bool) (e : Link O) → SeesOver meaning heading s sight e → StandsOver meaning heading storage s (crossing back e)
+      → StandsOver meaning heading (storage_seen sight storage) (state_seen sight s) (crossing back e)
+  seen_stands All back e sees stands =
+      let p = crossing back e in
       let m = directed p.backward (meaning p.operator) in
       let whole = pair_all (pair_in s p) in
       part_stands All p (subst (λ (x : PairState). IsPair m (map heading p.near) (map heading p.far) x) (sym whole) stands.related)
       (ap (λ (x : PairState). m.aux_at_source x) whole ∙ sym (only_all (aux_of meaning s p))) stands
-  seen_stands (Of ids) p sees stands =
+  seen_stands (Of ids) back e sees stands =
+      let p = crossing back e in
       let m = directed p.backward (meaning p.operator) in
       let local : HalfLocal m = (way_laws p.backward (meaning p.operator) (laws p.operator)).local (way_local p.backward (meaning p.operator) sees) in
       part_stands (Of ids) p (local.related (passes (Of ids)) (map heading p.near) (map heading p.far) (pair_in s p) stands.related)
       (local.aux (passes (Of ids)) (map heading p.near) (map heading p.far) (pair_in s p) stands.related) stands
+  seen_stands (Part ids) back e sees stands = split_stands (Part ids) back e sees stands

@@ -133,8 +133,8 @@ module _ {O : Type 0} (meaning : O → Meaning) (p : Parts O) (is : IsDatabase m
           crosses = crosses p.graph.edges is.graph.edges f at has;
           tells = ap (λ (n : ℕ). record { operator = n; backward = has }) (sym l.2) ∙ ap (λ (b : Bool). record { operator = e.number; backward = b }) back;
           near = λ t j. may.near f l.1 mine t (subst (λ (b : Bool). In t (crossing b f).near) back j);
-          ascends = ascends_of meaning p.graph.edges pass.operators.now pass.sight may.may;
-          sees = sees_of meaning p.graph.edges pass.operators.now pass.sight may.may f at (in_of_test f.number pass.operators.now tests.0);
+          ascends = ascends_of meaning p.graph.edges (state_for meaning p) pass.operators.now pass.sight may.may;
+          sees = sees_of meaning p.graph.edges (state_for meaning p) pass.operators.now pass.sight may.may f at (in_of_test f.number pass.operators.now tests.0);
         }
 
     -- the pass went over it

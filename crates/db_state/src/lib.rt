@@ -5,9 +5,10 @@
 //! one sound state of the model without layout. `read_table` and `row_at` give that state's table
 //! and row from the tables on the way to storage alone. `read_over` reads tables over any operators
 //! that cover themselves: all rows, or the rows of some identifiers alone, where each of the
-//! operators treats each identifier by itself (`specs/Parts.antt`). The crates above change a
-//! database by `take_parts` and `put_parts` alone, so each of them proves that it leaves canonical
-//! storage. The crate knows operators by their laws alone, and nothing of names in statements.
+//! operators treats each identifier by itself, or where these identifiers split what each operator
+//! relates (`specs/Parts.antt`). The crates above change a database by `take_parts` and `put_parts`
+//! alone, so each of them proves that it leaves canonical storage. The crate knows operators by their
+//! laws alone, and nothing of names in statements.
 //!
 //! Lemmas that crates above may use stand in proofs/: `FieldLaws`, `FoundLaws`, `AuxLaws`, `OnceLaws`,
 //! `PartLaws`, `BoundLaws` and `PassLaws`.

@@ -1,6 +1,7 @@
 //! Which operators treat each identifier by itself.
 ghost use Rattle.std.specs.Prelude.{◌≡◌, ℕ, true, [], ◌∷◌};
 ghost use Rattle.version_graph.specs.Edges.{AreEdges};
+ghost use Rattle.version_model.specs.States.{State};
 ghost use Rattle.db_state.specs.Parts.{AreLocalAt, Ascends, MaySee, passes};
 
 use crate::Sight;
@@ -43,7 +44,7 @@ pub fn sight_over<'a, O: Operator>(
     sight: Sight<'a>,
 ) -> Sight<'a>
     requires { Ascends sight }
-    ensures may { MaySee O.meaning graph.now.edges operators.now result }
+    ensures may { (s : State) → MaySee O.meaning graph.now.edges s operators.now result }
     ensures seen { (id : ℕ) → passes sight.entry id ≡ true → passes result id ≡ true }
     ensures same { AreLocalAt O.meaning graph.now.edges operators.now → result ≡ sight.entry }
 {

@@ -131,7 +131,8 @@ fn pass_down<O: Operator, L: Ledger>(
     steps: &mut Steps<L>,
 ) -> Result<List<Numbered<Table>>, Memory>
     requires covers { CoversItself (forest db.now.graph.edges) db.now.layout.operators operators.now }
-    requires may { MaySee O.meaning db.now.graph.edges operators.now sight }
+    requires may { MaySee O.meaning db.now.graph.edges (state_for O.meaning db.now)
+        operators.now sight }
     ensures down { IfOk result (IsDown O.meaning db.now operators.now sight.entry) }
     ensures steps { SeenWithin 2 sight.entry (passed_in db.now.layout.operators
         operators.now true (forest db.now.graph.edges)) steps.old steps.new }
@@ -159,7 +160,8 @@ fn pass_up<O: Operator, L: Ledger>(
     steps: &mut Steps<L>,
 ) -> Result<(), Memory>
     requires covers { CoversItself (forest db.now.graph.edges) db.now.layout.operators operators.now }
-    requires may { MaySee O.meaning db.now.graph.edges operators.now sight }
+    requires may { MaySee O.meaning db.now.graph.edges (state_for O.meaning db.now)
+        operators.now sight }
     requires down { IsDown O.meaning db.now operators.now sight made.old }
     ensures read { OnOk result (AreRead O.meaning db.now operators.now sight.entry made.new) }
     ensures steps { SeenWithin 2 sight.entry (passed_in db.now.layout.operators
@@ -177,9 +179,10 @@ fn pass_up<O: Operator, L: Ledger>(
 }
 
 /// The far tables of these operators, read from what is stored, with the rows that are seen: all, or
-/// those of some identifiers, where each of the operators treats each identifier by itself. It takes
-/// time in the number of live operators for each. All rows of the near tables of each are copied; of
-/// a list of identifiers each is looked up in them.
+/// those of some identifiers, where each of the operators treats each identifier by itself, or where
+/// these split what each of them relates. It takes time in the number of live operators for each.
+/// All rows of the near tables of each are copied; of a list of identifiers each is looked up in
+/// them.
 pub fn read_over<O: Operator, L: Ledger>(
     alloc: Global,
     db: &Db<O>,
@@ -188,7 +191,8 @@ pub fn read_over<O: Operator, L: Ledger>(
     steps: &mut Steps<L>,
 ) -> Result<List<Numbered<Table>>, Memory>
     requires covers { CoversItself (forest db.now.graph.edges) db.now.layout.operators operators.now }
-    requires may { MaySee O.meaning db.now.graph.edges operators.now sight }
+    requires may { MaySee O.meaning db.now.graph.edges (state_for O.meaning db.now)
+        operators.now sight }
     ensures read { IfOk result (λ read. (t : ℕ)
         → In t (table_numbers (made_lem db.now.graph.edges))
         → Covers (forest db.now.graph.edges) db.now.layout.operators operators.now t

@@ -14,11 +14,14 @@ use row_store::Table;
 use std::alloc::Global;
 use version_model::{Numbered, latest_of, value_of};
 
-/// Which rows of each table are read: all, or those of these identifiers, which ascend.
+/// Which rows of each table are read: all, or those of these identifiers, which ascend. `Of` is for
+/// operators that treat each identifier by itself: what is made of few is bounded. `Part` is for any
+/// operators, where the identifiers split what each of them relates.
 #[derive(Clone, Copy)]
 pub enum Sight<'a> {
     All,
     Of(&'a [u64]),
+    Part(&'a [u64]),
 }
 
 // The row of an identifier, where there is one.
@@ -54,6 +57,7 @@ pub fn copy_seen(alloc: Global, table: &Table, sight: Sight<'_>) -> Result<Table
     match sight {
         Sight::All => table.copy(),
         Sight::Of(ids) => copy_rows_of(alloc, table, ids),
+        Sight::Part(ids) => copy_rows_of(alloc, table, ids),
     }
 }
 

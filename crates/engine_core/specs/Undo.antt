@@ -9,7 +9,7 @@ use Rattle.op_any.specs.Operators.{AnyView, any_meaning}
 use Rattle.db_state.specs.declared.parts.Parts.{Parts}
 use Rattle.write_propagation.specs.Capacity.{HoldsAtLeast}
 use Rattle.write_propagation.specs.Plans.{IsSame}
-use Rattle.write_propagation.specs.Told.{TellsApart}
+use Rattle.write_propagation.specs.Told.{CarriedLead, TellsApart}
 use Rattle.write_propagation.specs.Undo.{Undoes}
 use Rattle.write_propagation.specs.declared.undo.Undo.{Undo}
 use Rattle.engine_state.specs.AnyDatabase.{AnyDatabase}
@@ -27,10 +27,11 @@ acted_write s statement = planned_write s statement then λ p. wrote s p
 abbrev pub TellsTables : AnyDatabase → AnyDatabase → List ℕ → Type 0
 TellsTables old new changed = (t : ℕ) → TellsApart (old.state.tables t) (new.state.tables t) (is_in t changed)
 
--- what is left takes the write back, and tells the tables that got other rows
+-- what is left takes the write back, and tells the tables that got other rows, and by which changes
 pub record LeavesUndo (old new : Parts AnyView) (undo : Undo) : Type 0 where
   pub undoes : Undoes any_meaning old new undo
   pub changed : TellsTables (data_of old) (data_of new) undo.changed
+  pub carried : CarriedLead (data_of old).state.tables (data_of new).state.tables undo.changed undo.carried
 
 -- after an error nothing has changed but what can be held without memory, which grows at most
 abbrev pub LeavesWrite : {X E : Type 0} → (X → Undo) → Parts AnyView → Parts AnyView → Result X E → Type 0

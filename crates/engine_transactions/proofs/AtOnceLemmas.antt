@@ -16,7 +16,6 @@ use Rattle.engine_transactions.specs.History.{History, dropped_in, history_of}
 use Rattle.engine_transactions.specs.Kinds.{at_once_with, graph_behind}
 use Rattle.engine_transactions.specs.Standing.{Standing}
 use Rattle.engine_transactions.specs.declared.history.ChangeNumbers.{ChangeNumbers}
-use Rattle.engine_transactions.specs.declared.history.NameDrop.{NameDrop}
 
 -- the answer of the sessions, with the history behind it
 pub given_at_once : (s : Standing) (x : StatementView) (behind : SessionsStanding → History) (r : Result Answer (Fault Refusal)) (next : SessionsStanding) (h : History) → AnswersBeside (act_beside s.sessions x) r next → h ≡ behind next → Answers (at_once_with s x behind) r (record s { sessions = next; history = h })

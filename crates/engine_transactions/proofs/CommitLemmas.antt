@@ -1,6 +1,6 @@
 -- What settled runs leave.
 use Rattle.std.specs.List.{list_any}
-use Rattle.std.proofs.Common.{◌≡◌, if◌then◌else◌, ℕ, ◌≤◌, ◌||◌, max, Bool, true, false, List, [], ◌∷◌, ◌++◌, map, inl, inr, Result, Ok, Err, refl, sym, ap, subst, ◌∙◌, arith}
+use Rattle.std.proofs.Common.{◌≡◌, if◌then◌else◌, ℕ, ◌||◌, max, Bool, true, false, List, [], ◌∷◌, ◌++◌, map, inl, inr, Result, Ok, Err, refl, sym, ap, subst, ◌∙◌, arith}
 use Rattle.std.proofs.lemmas.Bool.{false≢true}
 use Rattle.std.proofs.lemmas.List.{reverse-append}
 use mathlib.Core.List.{reverse}
@@ -16,27 +16,23 @@ use Rattle.op_any.specs.Operators.{AnyView}
 use Rattle.version_model.specs.Kept.{numbers_in}
 use Rattle.db_state.specs.declared.parts.Parts.{Parts}
 use Rattle.write_propagation.specs.declared.undo.Undo.{Undo}
-use Rattle.session_tx.specs.Calls.{after_run, is_changed, last_number, next_number, AnyChanged, IsSettled}
+use Rattle.session_tx.specs.Calls.{after_run, is_changed, next_number, IsSettled}
 use Rattle.session_tx.specs.Commits.{after_runs, commit, read_fault, running, runs_of, unless, with_runs}
 use Rattle.session_tx.specs.Meaning.{Ran, Standing as Executed}
 use Rattle.session_tx.specs.Serial.{end_of}
 use Rattle.session_tx.specs.Transactions.{TransactionState}
-use Rattle.session_tx.specs.declared.commit_fault.CommitFault.{CommitFault}
 use Rattle.session_tx.proofs.FreshLaws.{after_history, after_last}
-use Rattle.engine_state.specs.AnyDatabase.{AnyDatabase}
 use Rattle.engine_state.specs.declared.reply.WriteReply.{WriteReply}
 use Rattle.engine_core.specs.KeptTexts.{texts_of}
-use Rattle.engine_core.specs.Spoken.{TextsCome, operators_in}
+use Rattle.engine_core.specs.Spoken.{operators_in}
 use Rattle.engine_sessions.specs.Standing.{Standing as SessionsStanding, kept_in, standing_of}
-use Rattle.engine_transactions.specs.Calls.{executed, standing_in, IsIdle, IsSame, Keeps}
+use Rattle.engine_transactions.specs.Calls.{executed, IsIdle, IsSame, Keeps}
 use Rattle.engine_transactions.specs.Executing.{HaveNumbers, RunsTo, Shows}
-use Rattle.engine_transactions.specs.History.{History, dropped_in, has_changed, history_of, last_change, number_in, with_changes, with_writes}
+use Rattle.engine_transactions.specs.History.{dropped_in, has_changed, history_of, last_change, number_in, with_changes, with_writes}
 use Rattle.engine_transactions.specs.Meaning.{any_changed, means, means_kept}
 use Rattle.engine_transactions.specs.Opens.{transaction_view}
-use Rattle.engine_transactions.specs.Standing.{OpenView}
 use Rattle.engine_transactions.specs.declared.executing.Executing.{Executing}
 use Rattle.engine_transactions.specs.declared.history.ChangeNumbers.{ChangeNumbers}
-use Rattle.engine_transactions.specs.declared.history.NameDrop.{NameDrop}
 use Rattle.engine_transactions.specs.declared.table_read.TableRead.{TableRead}
 use Rattle.engine_transactions.proofs.FreshLemmas.{above, dropped_out, longer, names_in, not_above, not_longer, number_out}
 use Rattle.engine_transactions.proofs.MeansLemmas.{Meant, graph_stays, is_meant, limit_stays, stays_outside}
@@ -315,13 +311,16 @@ module _ (old new : Executing) (idle : IsIdle old) (edges : AreEdges (kept_in ol
   idle_behind = is_idle new n shows settled.unsettled
 
 -- whatever leaves the same keeps operators and the greatest identifier
-pub keeps_same : (old new : Executing) (x : StatementView) → IsSame old new → Keeps x old new
-keeps_same old new x same =
-    let graph : (kept_in new.sessions).graph ≡ (kept_in old.sessions).graph = ap (λ st. st.sessions.laid.database.graph) (same []) in
+pub keeps_so : (old new : Executing) (x : StatementView) → standing_of new.sessions ≡ standing_of old.sessions → Keeps x old new
+keeps_so old new x same =
+    let graph : (kept_in new.sessions).graph ≡ (kept_in old.sessions).graph = ap (λ (s : SessionsStanding). s.laid.database.graph) same in
     record {
       texts = λ t i. in_right t (operators_in x) (texts_of (kept_in old.sessions).graph.edges) (subst (λ (g : Drawn AnyView). In t (texts_of g.edges)) graph i);
-      limit = ap (λ st. st.sessions.laid.database.limit) (same []);
+      limit = ap (λ (s : SessionsStanding). s.laid.database.limit) same;
     }
+
+pub keeps_same : (old new : Executing) (x : StatementView) → IsSame old new → Keeps x old new
+keeps_same old new x same = keeps_so old new x (ap (λ st. st.sessions) (same []))
 
 -- ---- statements as they lie in memory
 

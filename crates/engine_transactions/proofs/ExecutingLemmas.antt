@@ -34,6 +34,7 @@ use Rattle.engine_sessions.specs.Standing.{Standing as SessionsStanding, kept_in
 use Rattle.engine_sessions.specs.declared.sessions.Sessions.{Sessions}
 use Rattle.engine_transactions.specs.Executing.{HaveNumbers, RunsTo, Shows}
 use Rattle.engine_transactions.specs.History.{dropped_in, has_changed, history_of, last_change, number_in}
+use Rattle.engine_transactions.specs.Leads.{Leads}
 use Rattle.engine_transactions.specs.Meaning.{means, means_kept, write_reply}
 use Rattle.engine_transactions.proofs.RowLemmas.{told}
 use Rattle.engine_transactions.specs.declared.executing.Executing.{Executing}
@@ -54,6 +55,7 @@ runs_stay stay now again same holds (u ∷ us) s (r ∷ rs) h = (
       built = subst (λ (d : Drawn AnyView). AreBuiltOn u.ids.next d.edges) (sym same.graph) h.1.0.built;
       stood = h.1.0.stood;
       changes = h.1.0.changes;
+      leads = h.1.0.leads;
     },
     h.1.1,
   ),
@@ -109,18 +111,21 @@ standing_again first written again one two is =
 -- AFTER A WRITE: what takes it back stands before the other runs
 pub shows_run : (old new : Executing) (s : Executed SessionsStanding TableRead) (undo : Undo) (ran : Ran SessionsStanding TableRead WriteReply) → ran.next ≡ standing_of new.sessions → standing_of new.sessions ≡ record (standing_of old.sessions) { laid = state_of (kept_in new.sessions) }
     → ((read : TableRead) → ran.changes read ≡ is_in read.table undo.changed) → Undoes any_meaning (kept_in old.sessions) (kept_in new.sessions) undo → HoldsAtLeast (kept_in old.sessions) (kept_in new.sessions) → AreBuiltOn undo.ids.next (kept_in new.sessions).graph.edges
-    → SameNumbers old.numbers new.numbers → Within undo.changed (numbers_in new.numbers.changed) → new.unsettled.items ≡ old.unsettled.items ++ undo ∷ [] → Shows old s → Shows new (after_run s ran)
-shows_run old new s undo ran next beside changes undoes holds built numbers kept behind h =
+    → Leads (standing_of old.sessions).laid.database (standing_of new.sessions).laid.database undo → SameNumbers old.numbers new.numbers → Within undo.changed (numbers_in new.numbers.changed) → new.unsettled.items ≡ old.unsettled.items ++ undo ∷ [] → Shows old s → Shows new (after_run s ran)
+shows_run old new s undo ran next beside changes undoes holds built leads numbers kept behind h =
     let turned : reverse new.unsettled.items ≡ undo ∷ reverse old.unsettled.items = ap reverse behind ∙ reverse-append old.unsettled.items (undo ∷ []) in
     let before : s.state ≡ record ran.next { laid = state_of (kept_in old.sessions) } =
     h.state ∙ ap (λ (x : SessionsStanding). record x { laid = state_of (kept_in old.sessions) }) (sym (next ∙ beside)) in
+    let led : Leads s.state.laid.database ran.next.laid.database undo =
+    subst (λ (x : SessionsStanding). Leads x.laid.database ran.next.laid.database undo) (sym h.state)
+    (subst (λ (y : SessionsStanding). Leads (standing_of old.sessions).laid.database y.laid.database undo) (sym next) leads) in
     record {
       state = next;
       history = h.history ∙ sym numbers.last;
       last = λ read. h.last read ∙ sym (same_change old.numbers new.numbers numbers read);
       runs =
           subst (λ (us : List Undo). RunsTo (kept_in new.sessions) us ran.next (after_run s ran).unsettled) (sym turned)
-          (kept_in old.sessions, (record { undoes = undoes; holds = holds; built = built; stood = before; changes = changes }, h.runs));
+          (kept_in old.sessions, (record { undoes = undoes; holds = holds; built = built; stood = before; changes = changes; leads = led }, h.runs));
       numbers =
           subst (λ (us : List Undo). HaveNumbers (numbers_in new.numbers.changed) us) (sym turned)
           (kept, numbers_stay (numbers_in old.numbers.changed) (numbers_in new.numbers.changed) (reverse old.unsettled.items) numbers.more h.numbers);

@@ -1,6 +1,6 @@
 -- Numbers and names that stand in no list.
 use Rattle.std.specs.Str.{bytes_eq}
-use Rattle.std.proofs.Common.{◌≡◌, ◌⊎◌, inl, inr, ℕ, suc, ◌+◌, ◌<◌, List, [], ◌∷◌, ◌++◌, Bool, true, false, cond, length, length-append, map, Option, Some, None, refl, ap, ◌∙◌, arith}
+use Rattle.std.proofs.Common.{◌≡◌, inl, inr, ℕ, suc, ◌+◌, ◌<◌, List, [], ◌∷◌, ◌++◌, Bool, false, cond, length, length-append, map, Option, Some, None, refl, ap, ◌∙◌, arith}
 use Rattle.version_graph.specs.Sets.{In}
 use Rattle.version_model.specs.Kept.{numbers_in, value_of}
 use Rattle.version_model.specs.declared.numbered.Numbered.{Numbered}

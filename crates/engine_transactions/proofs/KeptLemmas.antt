@@ -1,21 +1,16 @@
 -- What statements of transactions answer and leave.
-use Rattle.std.proofs.Common.{◌≡◌, if◌then◌else◌, ℕ, ◌==◌, Bool, true, false, not, List, length, Option, Some, None, option_map, Result, Ok, Err, refl, sym, ap, ◌∙◌}
+use Rattle.std.proofs.Common.{◌≡◌, if◌then◌else◌, ℕ, ◌==◌, Bool, true, not, List, length, Option, Some, None, option_map, Result, Ok, Err, refl, sym, ap, ◌∙◌}
 use Rattle.par_base.specs.Checked.{Checked, Gives, ◌then◌}
 use Rattle.par_base.specs.declared.fault.Fault.{Fault}
 use Rattle.par_base.specs.declared.fault.Fault.TheVariants.{Refused, Memory as OutOfMemory}
 use Rattle.par_base.specs.declared.refusal.Refusal.{Refusal}
 use Rattle.statements.specs.Views.{StatementView}
-use Rattle.session_tx.specs.Meaning.{Ran}
-use Rattle.session_tx.specs.declared.commit_fault.CommitFault.{CommitFault}
 use Rattle.std.specs.Prelude.{OnErr, is_some}
 use Rattle.std.proofs.lemmas.Bool.{false≢true}
-use Rattle.engine_state.specs.declared.reply.Reply.TheVariants.{Committed, Kept}
-use Rattle.engine_state.specs.declared.reply.WriteReply.{WriteReply}
-use Rattle.engine_sessions.specs.Standing.{Standing as SessionsStanding, standing_of as standing_beside}
+use Rattle.engine_state.specs.declared.reply.Reply.TheVariants.{Kept}
 use Rattle.engine_sessions.specs.declared.answer.Answer.{Answer}
 use Rattle.engine_sessions.specs.declared.answer.Answer.TheVariants.{Plain}
-use Rattle.engine_transactions.specs.Act.{Answers, at_hand, committed, committed_as, kept_by, noted, with_transaction}
-use Rattle.engine_transactions.specs.History.{History}
+use Rattle.engine_transactions.specs.Act.{Answers, at_hand, kept_by, noted, with_transaction}
 use Rattle.engine_transactions.specs.Kinds.{acted_by, at_once_with, graph_behind, kind_in, read_full, read_told}
 use Rattle.engine_transactions.specs.declared.statement_kind.StatementKind.{StatementKind}
 use Rattle.engine_transactions.specs.declared.statement_kind.StatementKind.TheVariants as kind
@@ -23,8 +18,8 @@ use Rattle.engine_transactions.proofs.KindLemmas.{once_behind}
 use Rattle.engine_transactions.specs.Opens.{noted_in, with_changed}
 use Rattle.engine_transactions.proofs.OpenLemmas.{changed_open, same_changed}
 use Rattle.engine_sessions.specs.Act.{read_in}
-use Rattle.engine_transactions.specs.Calls.{CountsAll, CountsOpen, IsSame, standing_in}
-use Rattle.engine_transactions.specs.Standing.{OpenView, Standing, TransactionView, open_of, with_write, without_open}
+use Rattle.engine_transactions.specs.Calls.{IsSame, standing_in}
+use Rattle.engine_transactions.specs.Standing.{OpenView, Standing, TransactionView, open_of, with_write}
 use Rattle.engine_transactions.specs.declared.executing.Executing.{Executing}
 use Rattle.engine_transactions.specs.declared.table_read.TableRead.{TableRead}
 
@@ -37,40 +32,6 @@ open_some f None x h = absurd (cc)
 pub open_none : {X : Type 0} (f : OpenView → X) (o : Option OpenView) → None ≡ option_map f o → o ≡ None
 open_none f (Some v) h = absurd (cc)
 open_none f None h = refl
-
--- ---- a COMMIT
-
-abbrev committed_so : List WriteReply → Standing → Checked (Answer × Standing)
-committed_so replies next = Ok (Plain (Committed replies), next)
-
-in_place : {replies made : List WriteReply} {s n : SessionsStanding} {h k : History} {o p : List OpenView} → replies ≡ made → n ≡ s → k ≡ h → p ≡ o → committed_so made (record { sessions = s; history = h; opens = o }) ≡ committed_so replies (record { sessions = n; history = k; opens = p })
-in_place gives sessions history opens =
-    let a = sym gives in
-    let b = sym sessions in
-    let c = sym history in
-    let d = sym opens in
-    λ i. committed_so (a i) (record { sessions = b i; history = c i; opens = d i })
-
-module _ (old new : Executing) (opens after : List OpenView) (ends : after ≡ without_open opens (standing_beside old.sessions).session) where
-  abbrev s : Standing
-  s = standing_in old opens
-
-  some_committed : (o : OpenView) (replies : List WriteReply) → CountsAll o.transaction old new (Ok replies) → committed s (Some o) ≡ Ok (Plain (Committed replies), standing_in new after)
-  some_committed o replies counts =
-      ap (λ (r : Result (List (Ran SessionsStanding TableRead WriteReply)) CommitFault). committed_as s o.transaction r) counts.commits
-      ∙ in_place counts.gives counts.sessions counts.history ends
-
-  pub was_committed : (o : Option OpenView) (replies : List WriteReply) → CountsOpen o old new (Ok replies) → committed s o ≡ Ok (Plain (Committed replies), standing_in new after)
-  was_committed (Some o) replies counts = some_committed o replies counts
-  was_committed None replies counts = absurd counts
-
-pub not_committed : (old new : Executing) (opens : List OpenView) (end : Standing) (o : Option OpenView) (fault : Fault Refusal) → CountsOpen o old new (Err fault) → Answers (committed (standing_in old opens) o) (Err fault) end
-not_committed old new opens end (Some o) (Refused refusal) counts =
-    ap (λ (r : Result (List (Ran SessionsStanding TableRead WriteReply)) CommitFault). committed_as (standing_in old opens) o.transaction r) counts.commits
-    ∙ ap (λ (r : Refusal). Err r) (sym counts.tells)
-not_committed old new opens end None (Refused refusal) counts = ap (λ (r : Refusal). Err r) (sym counts)
-not_committed old new opens end (Some o) (OutOfMemory memory) counts = tt
-not_committed old new opens end None (OutOfMemory memory) counts = tt
 
 -- ---- a kept write
 
@@ -121,6 +82,11 @@ writes own = not (length own.transaction.writes == 0)
 
 pub at_none : (s : Standing) (session : ℕ) → session ≡ s.sessions.session → (o : Option Bool) → o ≡ None → o ≡ option_map writes (open_of s.opens session) → at_hand s ≡ None
 at_none s session own o none is = ap (λ (n : ℕ). open_of s.opens n) (sym own) ∙ open_none writes (open_of s.opens session) (sym none ∙ is)
+
+pub at_some : (s : Standing) (session : ℕ) → session ≡ s.sessions.session → (o : Option Bool) (b : Bool) → o ≡ Some b → o ≡ option_map writes (open_of s.opens session) → (v : OpenView) × (at_hand s ≡ Some v)
+at_some s session own o b some is =
+    let found = open_some writes (open_of s.opens session) b (sym some ∙ is) in
+    (found.0, ap (λ (n : ℕ). open_of s.opens n) (sym own) ∙ found.1.0)
 
 two_kinds : kind.Select ≡ kind.Write → ⊥
 two_kinds h = cc

@@ -1,14 +1,10 @@
 -- What is left of writes at once and of commits.
-use Rattle.std.proofs.Common.{◌≡◌, ℕ, Bool, false, cond, filter, inl, inr, List, [], ◌∷◌, Result, Err, refl, sym, ap, subst, ◌∙◌}
-use Rattle.par_base.specs.declared.fault.Fault.{Fault}
-use Rattle.par_base.specs.declared.fault.Fault.TheVariants.{Refused, Memory as OutOfMemory}
-use Rattle.par_base.specs.declared.refusal.Refusal.{Refusal}
+use Rattle.std.proofs.Common.{◌≡◌, ℕ, Bool, false, cond, filter, inl, inr, List, [], ◌∷◌, refl, sym, ap, subst, ◌∙◌}
 use Rattle.statements.specs.Views.{StatementView}
 use Rattle.version_graph.specs.Sets.{In}
 use Rattle.version_graph.specs.Edges.{is_in, numbers}
 use Rattle.version_graph.specs.declared.parts.Placed.{Placed}
 use Rattle.version_graph.proofs.SetLaws.{is_in_true}
-use Rattle.layout_rules.specs.Changes.{layout_after}
 use Rattle.op_any.specs.Operators.{AnyView}
 use Rattle.db_state.specs.declared.parts.Parts.{Parts}
 use Rattle.engine_core.specs.Spoken.{TextsCome}
@@ -17,20 +13,9 @@ use Rattle.engine_state.specs.declared.reply.WriteReply.{WriteReply}
 use Rattle.engine_state.specs.declared.reply.WriteReply.TheVariants as write
 use Rattle.engine_moves.specs.Act.{pending_behind}
 use Rattle.engine_moves.specs.Pending.{IsPending}
-use Rattle.engine_sessions.specs.Standing.{Standing as SessionsStanding, kept_in, standing_of}
-use Rattle.engine_transactions.specs.Act.{Answers}
-use Rattle.engine_transactions.specs.Calls.{reply_of, standing_in, Keeps, WritesOne}
-use Rattle.engine_transactions.specs.Kinds.{kind_in, written_full}
-use Rattle.engine_transactions.specs.Standing.{OpenView, Standing}
+use Rattle.engine_sessions.specs.Standing.{Standing as SessionsStanding, kept_in}
+use Rattle.engine_transactions.specs.Calls.{reply_of, Keeps}
 use Rattle.engine_transactions.specs.declared.executing.Executing.{Executing}
-use Rattle.engine_transactions.proofs.KindLemmas.{IsWrite}
-use Rattle.engine_transactions.proofs.WroteLemmas.{full_refused}
-
--- a refused write, or want of memory
-pub failed_written : (old new : Executing) (opens : List OpenView) (x : StatementView) (end : Standing) → IsWrite (kind_in x) → layout_after (standing_of old.sessions).laid.layout (kept_in old.sessions).graph (kept_in old.sessions).graph ≡ (standing_of old.sessions).laid.layout → pending_behind false (standing_of old.sessions).laid (standing_of old.sessions).pending ≡ (standing_of old.sessions).pending
-    → (fault : Fault Refusal) → WritesOne x old new (Err fault) → Answers (written_full (standing_in old opens) x) (Err fault) end
-failed_written old new opens x end write layout pending (Refused refusal) writes = full_refused (standing_in old opens) x write layout pending refusal writes
-failed_written old new opens x end write layout pending (OutOfMemory memory) writes = tt
 
 pub keeps_through : (x : StatementView) (old mid new : Executing) → kept_in new.sessions ≡ kept_in mid.sessions → Keeps x old mid → Keeps x old new
 keeps_through x old mid new same keeps = record {

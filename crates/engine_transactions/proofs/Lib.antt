@@ -11,6 +11,9 @@ mod KindLemmas
 mod MeansLemmas
 mod CommitLemmas
 mod WroteLemmas
+mod RunLemmas
+mod LeadLemmas
+mod HoldLemmas
 mod AtOnceLemmas
 mod KeptLemmas
 pub use Rattle.engine_sessions.proofs.TextLaws

@@ -1,14 +1,13 @@
 -- What an accepted write means.
-use Rattle.std.proofs.Common.{◌≡◌, ℕ, Bool, List, [], ◌++◌, length, Option, Some, None, Result, Ok, Err, refl, sym, ap, subst, ◌∙◌}
+use Rattle.std.proofs.Common.{◌≡◌, ℕ, List, [], ◌++◌, length, Option, Some, None, Ok, Err, refl, sym, ap, subst, ◌∙◌}
 use Rattle.par_base.specs.Checked.{Checked, ◌then◌}
 use Rattle.par_base.specs.declared.refusal.Refusal.{Refusal}
-use Rattle.row_store.specs.Rows.{Rows}
 use Rattle.statements.specs.Views.{StatementView, Tree, AssignmentView, CreateVersion, DropVersion, Insert, Import, Update, Delete, Select, Materialize, Step, ShowLayout, Use, Session, Advise, Watch, Unwatch, Begin, Commit, Rollback}
 use Rattle.statements.specs.declared.statement.TableName.{TableName}
 use Rattle.par_base.specs.declared.value.Value.{Value}
 use Rattle.version_graph.specs.Sets.{Each, In}
 use Rattle.version_graph.specs.Tables.{TableVersion, table_named, table_numbers}
-use Rattle.version_graph.specs.Edges.{AreEdges, Drawn, made, working}
+use Rattle.version_graph.specs.Edges.{AreEdges, made, working}
 use Rattle.version_graph.specs.Forest.{Crossing, forest, walk}
 use Rattle.version_graph.proofs.SetLaws.{each_more, in_map}
 use Rattle.version_graph.proofs.TableLaws.{working_made}
@@ -28,7 +27,6 @@ use Rattle.op_checks.specs.NameChecks.{known_id, repeated, unrepeated}
 use Rattle.engine_statements.specs.Statements.{set_columns, set_values, Planned, columns_of, known_sets, planned_delete, planned_insert, planned_update, right_counts, state_with, wrote}
 use Rattle.engine_versions.proofs.ChainLaws.{both_give, ok_is}
 use Rattle.engine_core.specs.Act.{planned_write}
-use Rattle.engine_core.specs.Laid.{Laid}
 use Rattle.engine_core.specs.Undo.{acted_write}
 use Rattle.engine_sessions.specs.Act.{written_in}
 use Rattle.engine_sessions.specs.Standing.{Standing as SessionsStanding}

@@ -1,13 +1,13 @@
 -- Open transactions as they lie in memory, and as they are told.
 use Rattle.std.specs.List.{find, position}
 use Rattle.std.specs.Prelude.{OnErr, option_map}
-use Rattle.std.proofs.Common.{◌≡◌, if◌then◌else◌, ℕ, suc, ◌==◌, List, [], ◌∷◌, ◌++◌, Bool, true, false, not, cond, filter, length, map, Option, Some, None, Result, Ok, Err, slice_index_or, slice_set, refl, sym, ap, ◌∙◌}
+use Rattle.std.proofs.Common.{◌≡◌, if◌then◌else◌, ℕ, zero, suc, ◌==◌, ◌-◌, take, List, [], ◌∷◌, ◌++◌, Bool, true, false, not, cond, filter, length, map, Option, Some, None, Result, Ok, Err, slice_index_or, slice_set, refl, sym, ap, ◌∙◌}
 use Rattle.std.proofs.lemmas.Bool.{eqb-true}
 use Rattle.std.proofs.lemmas.List.{set-get_or}
 use Rattle.session_tx.specs.Transactions.{TransactionState}
 use Rattle.statements.specs.Views.{StatementView, statement_view}
 use Rattle.statements.specs.declared.statement.Statement.{Statement}
-use Rattle.engine_transactions.specs.Opens.{open_view, opens_view, transaction_view, with_changed}
+use Rattle.engine_transactions.specs.Opens.{open_view, opens_view, transaction_view, with_changed, without_last}
 use Rattle.engine_transactions.specs.Standing.{OpenView, TransactionView, open_of, with_open, without_open}
 use Rattle.engine_transactions.specs.declared.open_transaction.OpenTransaction.{OpenTransaction}
 use Rattle.engine_transactions.specs.declared.table_read.TableRead.{TableRead}
@@ -127,6 +127,21 @@ write_more (y ∷ ys) x = ap (λ (l : List StatementView). statement_view y ∷ 
 pub as_many : (writes : List Statement) → length (map statement_view writes) ≡ length writes
 as_many [] = refl
 as_many (x ∷ xs) = ap suc (as_many xs)
+
+-- the first so many are told
+take_told : (n : ℕ) (writes : List Statement) → map statement_view (take n writes) ≡ take n (map statement_view writes)
+take_told zero writes = refl
+take_told (suc n) [] = refl
+take_told (suc n) (x ∷ xs) = ap (λ (l : List StatementView). statement_view x ∷ l) (take_told n xs)
+
+-- without the last write
+abbrev pub less : TransactionState Statement TableRead → TransactionState Statement TableRead
+less t = record { reads = t.reads; writes = take (length t.writes - 1) t.writes }
+
+pub less_told : (t : TransactionState Statement TableRead) → transaction_view (less t) ≡ without_last (transaction_view t)
+less_told t =
+    let many : length t.writes - 1 ≡ length (map statement_view t.writes) - 1 = ap (λ (n : ℕ). n - 1) (sym (as_many t.writes)) in
+    ap (λ (l : List StatementView). record { reads = t.reads; writes = l }) (take_told (length t.writes - 1) t.writes ∙ ap (λ (n : ℕ). take n (map statement_view t.writes)) many)
 
 -- ---- after an error
 

@@ -1,23 +1,12 @@
--- Writes at once, and commits.
-use Rattle.std.specs.Prelude.{OnErr}
-use Rattle.std.proofs.Common.{◌≡◌, ℕ, Bool, false, List, [], ◌∷◌, map, Result, Ok, Err, refl, sym, ap, subst, ◌∙◌}
+-- A write at once is as it means.
+use Rattle.std.proofs.Common.{◌≡◌, ℕ, Bool, false, List, [], ◌∷◌, Ok, Err, refl, sym, ap, ◌∙◌}
 use Rattle.par_base.specs.Checked.{Checked, ◌then◌}
 use Rattle.par_base.specs.declared.fault.Fault.{Fault}
 use Rattle.par_base.specs.declared.fault.Fault.TheVariants.{Refused, Memory as OutOfMemory}
 use Rattle.par_base.specs.declared.refusal.Refusal.{Refusal}
-use Rattle.statements.specs.Views.{StatementView, statement_view, CreateVersion, DropVersion, Insert, Import, Update, Delete, Select, Materialize, Step, ShowLayout, Use, Session, Advise, Watch, Unwatch, Begin, Commit, Rollback}
-use Rattle.statements.specs.declared.statement.Statement.{Statement}
-use Rattle.version_graph.specs.Sets.{In, Within}
-use Rattle.version_graph.specs.Edges.{AreEdges, is_in, numbers}
-use Rattle.version_graph.proofs.SetLaws.{is_in_true}
+use Rattle.statements.specs.Views.{StatementView, CreateVersion, DropVersion, Insert, Import, Update, Delete, Select, Materialize, Step, ShowLayout, Use, Session, Advise, Watch, Unwatch, Begin, Commit, Rollback}
 use Rattle.layout_rules.specs.Changes.{layout_after}
-use Rattle.session_tx.specs.Calls.{after_run, IsSettled, LeadsRun, LeadsSettled}
-use Rattle.session_tx.specs.Commits.{after_runs, commit, results, LeadsCommit, WasCommitted}
-use Rattle.session_tx.specs.Meaning.{Ran, Standing as Executed}
-use Rattle.session_tx.specs.Serial.{end_of}
-use Rattle.session_tx.specs.Transactions.{TransactionState}
-use Rattle.session_tx.specs.declared.commit_fault.CommitFault.{CommitFault}
-use Rattle.session_tx.proofs.FreshLaws.{accepted}
+use Rattle.session_tx.specs.Meaning.{Ran}
 use Rattle.layout_planner.specs.declared.planning.TableCount.{TableCount}
 use Rattle.engine_state.specs.AnyDatabase.{AnyDatabase}
 use Rattle.engine_state.specs.declared.reply.Reply.{Reply}
@@ -27,119 +16,24 @@ use Rattle.engine_statements.specs.Statements.{state_with}
 use Rattle.engine_core.specs.Act.{with_data}
 use Rattle.engine_core.specs.Laid.{Laid}
 use Rattle.engine_core.specs.Undo.{acted_write}
-use Rattle.engine_moves.specs.Act.{act as act_in_full, is_materialize, pending_behind}
+use Rattle.engine_moves.specs.Act.{act as act_in_full, pending_behind}
 use Rattle.engine_moves.specs.Moving.{Moving}
 use Rattle.engine_sessions.specs.Accesses.{accessed, is_move, kept_behind, raised_by}
 use Rattle.engine_sessions.specs.Act.{answer_of, behind, counted}
 use Rattle.engine_sessions.specs.Standing.{Standing as SessionsStanding, kept_in, moving_in, standing_of}
 use Rattle.engine_sessions.specs.declared.answer.Answer.{Answer}
 use Rattle.engine_sessions.specs.declared.answer.Answer.TheVariants.{Plain}
-use Rattle.engine_transactions.specs.Act.{Answers}
-use Rattle.engine_transactions.specs.Calls.{executed, reply_of, standing_in, CommitsAll, IsIdle, IsSame, Keeps, WritesOne, WroteAll, WroteOne}
-use Rattle.engine_transactions.specs.Executing.{Shows}
-use Rattle.engine_transactions.specs.History.{History, has_changed, history_of, with_writes}
+use Rattle.engine_transactions.specs.Calls.{reply_of, standing_in}
+use Rattle.engine_transactions.specs.History.{has_changed, with_writes}
 use Rattle.engine_transactions.specs.Kinds.{kind_in, rows_behind, written_full}
-use Rattle.engine_transactions.specs.Meaning.{any_changed, means, means_kept, write_reply}
-use Rattle.engine_transactions.specs.Opens.{transaction_view}
-use Rattle.engine_transactions.specs.Standing.{OpenView, Standing}
+use Rattle.engine_transactions.specs.Meaning.{means, write_reply}
+use Rattle.engine_transactions.specs.Runs.{HoldsWrite, RunsOne, settled_in}
+use Rattle.engine_transactions.specs.Standing.{Standing}
 use Rattle.engine_transactions.specs.declared.executing.Executing.{Executing}
 use Rattle.engine_transactions.specs.declared.table_read.TableRead.{TableRead}
-use Rattle.engine_transactions.proofs.CommitLemmas.{AllMeant, all_meant, commit_told, history_behind, idle_behind, is_idle, is_same, keeps_behind, keeps_same, sessions_behind, shows_executed}
 use Rattle.engine_transactions.proofs.KindLemmas.{IsWrite}
 use Rattle.engine_transactions.proofs.MeansLemmas.{is_meant, means_refused}
 use Rattle.engine_transactions.proofs.TestLemmas.{none_right}
-
--- ---- one write
-
--- it was run and settled
-pub record OneLeft (x : StatementView) (old new : Executing) (done : WriteReply) : Type 0 where
-  pub writes : WroteOne x old new done
-  pub keeps : (y : StatementView) → Keeps y old new
-  pub idle : IsIdle new
-
-pub one_left : (old mid new : Executing) → IsIdle old → AreEdges (kept_in old.sessions).graph.edges → (write : Statement) (done : WriteReply)
-    → ((s : Executed SessionsStanding TableRead) → Shows old s → LeadsRun (Shows mid) means_kept s write (Ok done)) → ((s : Executed SessionsStanding TableRead) → Shows mid s → LeadsSettled (Shows new) s) → OneLeft (statement_view write) old new done
-one_left old mid new idle edges write done runs settles =
-    let s = executed old in
-    let r = runs s (shows_executed old idle) in
-    let was = r.1.0 in
-    let ran = was.ran in
-    let l = settles r.0 r.1.1 in
-    let settled : IsSettled (after_runs s (ran ∷ [])) l.0 = subst (λ (n : Executed SessionsStanding TableRead). IsSettled n l.0) was.leaves l.1.0 in
-    let all : AllMeant s.state (ran ∷ []) = (statement_view write, (is_meant s.state (statement_view write) ran was.meant, tt)) in
-    record {
-      writes = record {
-        ran = ran;
-        meant = was.meant;
-        gives = was.gives;
-        sessions = sessions_behind old new idle edges (ran ∷ []) all l.0 settled l.1.1;
-        history =
-            history_behind old new idle edges (ran ∷ []) all l.0 settled l.1.1
-            ∙ ap (λ (test : ℕ → Bool). with_writes (history_of old.numbers) s.state.laid.database test) (λ i. λ t. none_right (has_changed s.state.laid.database ran.next.laid.database t) i);
-      };
-      keeps = keeps_behind old new idle edges (ran ∷ []) all l.0 settled l.1.1;
-      idle = idle_behind old new idle edges (ran ∷ []) all l.0 settled l.1.1;
-    }
-
--- it came to an error
-pub record OneFailed (x : StatementView) (old new : Executing) (fault : Fault Refusal) : Type 0 where
-  pub writes : WritesOne x old new (Err fault)
-  pub same : IsSame old new
-  pub keeps : (y : StatementView) → Keeps y old new
-  pub idle : IsIdle new
-
-pub one_failed : (old new : Executing) → IsIdle old → (write : Statement) (fault : Fault Refusal) → ((s : Executed SessionsStanding TableRead) → Shows old s → LeadsRun (Shows new) means_kept s write (Err fault)) → OneFailed (statement_view write) old new fault
-one_failed old new idle write (Refused refusal) runs =
-    let r = runs (executed old) (shows_executed old idle) in
-    let same = is_same old new r.1 in
-    record { writes = r.0; same = same; keeps = λ y. keeps_same old new y same; idle = is_idle new (executed old) r.1 refl }
-one_failed old new idle write (OutOfMemory memory) runs =
-    let r = runs (executed old) (shows_executed old idle) in
-    let same = is_same old new r in
-    record { writes = tt; same = same; keeps = λ y. keeps_same old new y same; idle = is_idle new (executed old) r refl }
-
--- ---- a transaction
-
-pub record AllLeft (t : TransactionState Statement TableRead) (old new : Executing) (result : Result (List WriteReply) (Fault CommitFault)) : Type 0 where
-  pub commits : CommitsAll (transaction_view t) old new result
-  pub same : OnErr result (IsSame old new)
-  pub keeps : (y : StatementView) → Keeps y old new
-  pub idle : IsIdle new
-
-all_done : (old new : Executing) → IsIdle old → AreEdges (kept_in old.sessions).graph.edges → (t : TransactionState Statement TableRead) (dones : List WriteReply) (n : Executed SessionsStanding TableRead) → WasCommitted means_kept t (executed old) n dones → Shows new n → AllLeft t old new (Ok dones)
-all_done old new idle edges t dones n was shows =
-    let s = executed old in
-    let commits : commit means s (transaction_view t) ≡ Ok was.runs = sym (commit_told s t) ∙ was.commits in
-    let ran = (accepted _ _ was.runs commits).1 in
-    let all : AllMeant s.state was.runs = all_meant (map statement_view t.writes) s.state was.runs ran in
-    record {
-      commits = record {
-        runs = was.runs;
-        commits = commits;
-        gives = was.gives;
-        sessions = sessions_behind old new idle edges was.runs all n was.settled shows;
-        history = history_behind old new idle edges was.runs all n was.settled shows;
-      };
-      same = tt;
-      keeps = keeps_behind old new idle edges was.runs all n was.settled shows;
-      idle = idle_behind old new idle edges was.runs all n was.settled shows;
-    }
-
-pub all_left : (old new : Executing) → IsIdle old → AreEdges (kept_in old.sessions).graph.edges → (t : TransactionState Statement TableRead) (result : Result (List WriteReply) (Fault CommitFault))
-    → ((s : Executed SessionsStanding TableRead) → Shows old s → s.unsettled ≡ [] → LeadsCommit (Shows new) means_kept t s result) → AllLeft t old new result
-all_left old new idle edges t (Ok dones) leads =
-    let l = leads (executed old) (shows_executed old idle) refl in
-    all_done old new idle edges t dones l.0 l.1.0 l.1.1
-all_left old new idle edges t (Err (Refused fault)) leads =
-    let l = leads (executed old) (shows_executed old idle) refl in
-    let same = is_same old new l.1 in
-    record { commits = sym (commit_told (executed old) t) ∙ l.0; same = same; keeps = λ y. keeps_same old new y same; idle = is_idle new (executed old) l.1 refl }
-all_left old new idle edges t (Err (OutOfMemory memory)) leads =
-    let l = leads (executed old) (shows_executed old idle) refl in
-    let same = is_same old new l in
-    record { commits = tt; same = same; keeps = λ y. keeps_same old new y same; idle = is_idle new (executed old) l refl }
-
--- ---- a write at once is as it means
 
 -- the reply of a write
 pub told_reply : (r : Reply) (done : WriteReply) → write_reply r ≡ Ok done → r ≡ reply_of done
@@ -236,13 +130,19 @@ module _ (st : Standing) (x : StatementView) (write : IsWrite (kind_in x)) (layo
   abbrev told : Checked (Answer × SessionsStanding) → Checked (Answer × Standing)
   told m = m then λ answer. Ok (answer.0, record st { sessions = answer.1; history = rows_behind st answer.1 })
 
-  pub full_written : (ran : Ran SessionsStanding TableRead WriteReply) → means st.sessions x ≡ Ok ran → (next : SessionsStanding) → next ≡ record ran.next { counts = counts_behind st.sessions x } → (h : History) → h ≡ with_writes st.history st.sessions.laid.database (has_changed st.sessions.laid.database ran.next.laid.database)
-      → written_full st x ≡ Ok (Plain (reply_of ran.done), record st { sessions = next; history = h })
-  full_written ran is next leads h changes =
-      let back = sym leads in
-      let same = sym changes in
+  pub full_written : (ran : Ran SessionsStanding TableRead WriteReply) → means st.sessions x ≡ Ok ran → (answer : Answer) → answer ≡ Plain (reply_of ran.done) → (counts : List TableCount) → counts ≡ counts_behind st.sessions x → written_full st x ≡ Ok (answer, settled_in st (ran ∷ []) counts st.opens)
+  full_written ran is answer gives counts counted =
+      let a = sym gives in
+      let c = sym counted in
+      let changes : (t : ℕ) → Bool = has_changed st.sessions.laid.database ran.next.laid.database in
       ap told (counted_write st.sessions x write layout pending ran is)
-      ∙ (λ i. Ok (Plain (reply_of ran.done), record st { sessions = back i; history = same i }))
+      ∙ (λ i. Ok (a i, record st { sessions = record ran.next { counts = c i }; history = with_writes st.history st.sessions.laid.database (λ t. sym (none_right (changes t)) i) }))
 
   pub full_refused : (r : Refusal) → means st.sessions x ≡ Err r → written_full st x ≡ Err r
   full_refused r is = ap told (counted_refused st.sessions x write layout pending r is)
+
+-- a write that is refused, or memory that runs out
+pub full_fails : (old new : Executing) (x : StatementView) → IsWrite (kind_in x) → layout_after (standing_of old.sessions).laid.layout (kept_in old.sessions).graph (kept_in old.sessions).graph ≡ (standing_of old.sessions).laid.layout → pending_behind false (standing_of old.sessions).laid (standing_of old.sessions).pending ≡ (standing_of old.sessions).pending
+    → (fault : Fault Refusal) → RunsOne x old new (Err fault) → HoldsWrite (λ opens. written_full (standing_in old opens) x) old new (Err fault)
+full_fails old new x write layout pending (Refused refusal) runs = λ opens. full_refused (standing_in old opens) x write layout pending refusal runs
+full_fails old new x write layout pending (OutOfMemory memory) runs = tt

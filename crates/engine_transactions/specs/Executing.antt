@@ -16,17 +16,19 @@ use Rattle.session_tx.specs.Meaning.{Standing as Executed, Unsettled}
 use Rattle.engine_core.specs.Kept.{state_of}
 use Rattle.engine_sessions.specs.Standing.{Standing as SessionsStanding, kept_in, standing_of}
 use Rattle.engine_transactions.specs.History.{dropped_in, history_of, last_change, number_in}
+use Rattle.engine_transactions.specs.Leads.{Leads}
 use Rattle.engine_transactions.specs.declared.executing.Executing.{Executing}
 use Rattle.engine_transactions.specs.declared.history.ChangeNumbers.{ChangeNumbers}
 use Rattle.engine_transactions.specs.declared.table_read.TableRead.{TableRead}
 
--- a run that isn't settled: what is kept of it leads from the database now to the one before it, which stood there, and tells the tables that got other rows
+-- a run that isn't settled: what is kept of it leads from the database now to the one before it, which stood there, and tells the tables that got other rows, and by which changes
 pub record IsRunTo (before now : Parts AnyView) (undo : Undo) (s : SessionsStanding) (run : Unsettled SessionsStanding TableRead) : Type 0 where
   pub undoes : Undoes any_meaning before now undo
   pub holds : HoldsAtLeast before now
   pub built : AreBuiltOn undo.ids.next now.graph.edges
   pub stood : run.before ≡ record s { laid = state_of before }
   pub changes : (read : TableRead) → run.changes read ≡ is_in read.table undo.changed
+  pub leads : Leads run.before.laid.database s.laid.database undo
 
 -- the runs that aren't settled, the newest first, lead back one after the other
 abbrev pub RunsTo : Parts AnyView → List Undo → SessionsStanding → List (Unsettled SessionsStanding TableRead) → Type 0

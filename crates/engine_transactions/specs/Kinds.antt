@@ -1,5 +1,5 @@
 -- What a statement is to transactions, and one event by that.
-use Rattle.std.specs.Prelude.{ℕ, ◌==◌, Bool, false, not, List, length, Option, Some, None, Ok, Err, if◌then◌else◌}
+use Rattle.std.specs.Prelude.{ℕ, ◌==◌, Bool, true, false, not, List, length, Option, Some, None, Ok, Err, if◌then◌else◌}
 use Rattle.par_base.specs.Checked.{Checked, ◌then◌}
 use Rattle.par_base.specs.declared.refusal.Refusal.TheVariants.{ReadAfterWrite}
 use Rattle.statements.specs.Views.{StatementView, Begin, Commit, CreateVersion, Delete, DropVersion, Import, Insert, Rollback, Select, Update}
@@ -26,6 +26,12 @@ kind_in (Import name text) = kind.Write
 kind_in (Update name assignments filter) = kind.Write
 kind_in (Delete name filter) = kind.Write
 kind_in _ = kind.Other
+
+-- it writes rows, or commits
+abbrev pub writes_rows_in : StatementKind → Bool
+writes_rows_in kind.Commit = true
+writes_rows_in kind.Write = true
+writes_rows_in _ = false
 
 -- the version of a write's table, where it is told
 abbrev pub version_told : StatementView → Option (List ℕ)

@@ -3,12 +3,16 @@ pub mod Standing
 pub mod Meaning
 pub mod Executing
 pub mod Act
+pub mod Leads
 pub mod Begun
 pub mod Serial
+pub mod Replies
 pub mod Opens
 pub mod Kinds
 pub mod Calls
 pub mod Kept
+pub mod Runs
+pub mod Held
 pub use Rattle.engine_sessions.specs.Spoken
 pub use Rattle.engine_sessions.specs.EngineCoreTexts
 pub use Rattle.engine_sessions.specs.KeptTexts

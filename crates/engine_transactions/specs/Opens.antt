@@ -1,5 +1,5 @@
 -- The open transactions as they lie in memory.
-use Rattle.std.specs.Prelude.{ℕ, ◌==◌, List, [], ◌∷◌, map, if◌then◌else◌, Option, Some, None}
+use Rattle.std.specs.Prelude.{ℕ, ◌==◌, ◌-◌, List, [], ◌∷◌, length, map, take, if◌then◌else◌, Option, Some, None}
 use Rattle.statements.specs.Views.{statement_view}
 use Rattle.statements.specs.declared.statement.Statement.{Statement}
 use Rattle.session_tx.specs.Transactions.{TransactionState}
@@ -28,6 +28,10 @@ with_changed (o ∷ os) session change = if o.session == session then record o {
 abbrev pub noted_in : TransactionView → Option TableRead → ℕ → TransactionView
 noted_in t None at = t
 noted_in t (Some read) at = with_read t read at
+
+-- without its last write
+abbrev pub without_last : TransactionView → TransactionView
+without_last t = record t { writes = take (length t.writes - 1) t.writes }
 
 -- the value that is there, as a list
 abbrev pub one_of : {X : Type 0} → Option X → List X

@@ -1,30 +1,33 @@
-//! Writes at once, and the COMMIT of a transaction.
+//! Writes outside a transaction, and the COMMIT of a transaction: they are run, and then settled or
+//! taken back.
 ghost use Rattle.std.specs.Prelude.{◌≡◌, slice_get, List, [], IfOk, OnErr};
 ghost use Rattle.std.specs.Option.{option_map_or};
 ghost use Rattle.expr_lang.specs.Operations.{text_limit};
 ghost use Rattle.statements.specs.Texts.{TextsWithin};
-ghost use Rattle.statements.specs.Views.{statement_view, StatementView};
-ghost use Rattle.engine_sessions.specs.Calls.{IsAnswer};
-ghost use Rattle.engine_transactions.specs.Act.{at_once as at_once_lem, refusal_of as refusal_of_lem, told_read as told_read_lem, Answers};
-ghost use Rattle.engine_transactions.specs.Calls.{reply_of as reply_of_lem, standing_in, CommitsAll, CountsAll, CountsOpen, IsIdle, IsSame, Keeps, WritesOne};
+ghost use Rattle.statements.specs.Views.{statement_view};
+ghost use Rattle.engine_transactions.specs.Act.{at_once as at_once_lem, refusal_of as refusal_of_lem, told_read as told_read_lem};
+ghost use Rattle.engine_transactions.specs.Calls.{reply_of as reply_of_lem, standing_in, IsIdle, IsSame};
 ghost use Rattle.engine_transactions.specs.Kinds.{kind_in, written_full};
 ghost use Rattle.engine_transactions.specs.Opens.{opens_view, transaction_view};
-ghost use Rattle.engine_transactions.specs.Standing.{open_of, OpenView};
+ghost use Rattle.engine_transactions.specs.Runs.{AreBack, AreRun, AreSettled, HaveRun, HoldsCommit, HoldsOpen, HoldsWrite, Runs, RunsAll, RunsOne};
+ghost use Rattle.engine_transactions.specs.Standing.{open_of, TransactionView};
+ghost use Rattle.engine_transactions.specs.declared.executing.Executing.{Executing as ExecutingSeen};
 ghost use Rattle.engine_transactions.specs.declared.statement_kind.StatementKind.TheVariants.{Write};
 
 use crate::accesses::count_all;
+use crate::held::HeldRuns;
 use crate::open_transaction::{OpenTransaction, find_open};
 use crate::{Executing, KeptWrite, TableRead};
 use engine_sessions::{Answer, count_access, keep_behind};
 use engine_state::{Reply, WriteReply};
 use expr_lang::Steps;
 use par_base::{Fault, List, Memory, Refusal, Text};
-use session_tx::{CommitFault, Executor, Transaction, commit_all};
+use session_tx::{CommitFault, Executor, Transaction, run_commit, take_back_all};
 use statements::Statement;
 use std::alloc::Global;
 use std::sync::ledger::Ledger;
 
-// ---- a write at once
+// ---- a write outside a transaction
 
 fn reply_of(done: WriteReply) -> Reply
     ensures { result ≡ reply_of_lem done }
@@ -36,7 +39,7 @@ fn reply_of(done: WriteReply) -> Reply
     }
 }
 
-// Runs a write in full, and settles it.
+// Runs a write in full.
 fn run_one<L: Ledger>(
     alloc: Global,
     at: &mut Executing,
@@ -44,74 +47,63 @@ fn run_one<L: Ledger>(
     steps: &mut Steps<L>,
 ) -> Result<WriteReply, Fault<Refusal>>
     requires { IsIdle at.old }
-    ensures writes { WritesOne (statement_view write.now) at.old at.new result }
+    ensures runs { RunsOne (statement_view write.now) at.old at.new result }
     ensures same { OnErr result (IsSame at.old at.new) }
-    ensures keeps { (x : StatementView) → Keeps x at.old at.new }
-    ensures idle { IsIdle at.new }
+    ensures idle { OnErr result (IsIdle at.new) }
 {
     // That only tables of the graph change rests on it.
     at.sessions.engine().versions_always_agree();
-    match at.run(alloc, write, steps) {
-        Ok(done) => {
-            at.settle();
-            Ok(done)
-        }
-        Err(fault) => Err(fault),
-    }
+    at.run(alloc, write, steps)
 }
 
-// Runs a write in full, settles it, and counts its access.
-fn write_counted<L: Ledger>(
+// Runs a write in full, and counts its access.
+fn hold_full<L: Ledger>(
     alloc: Global,
     at: &mut Executing,
     statement: Statement,
     steps: &mut Steps<L>,
-) -> Result<Answer, Fault<Refusal>>
+) -> Result<HeldRuns, Fault<Refusal>>
     requires texts { TextsWithin text_limit (statement_view statement) }
     requires write { kind_in (statement_view statement) ≡ Write }
     requires idle { IsIdle at.old }
-    ensures answers { (opens : List OpenView) → Answers (written_full (standing_in at.old opens)
-        (statement_view statement)) result (standing_in at.new opens) }
+    ensures holds { HoldsWrite (λ opens. written_full (standing_in at.old opens)
+        (statement_view statement)) at.old at.new result }
     ensures same { OnErr result (IsSame at.old at.new) }
-    ensures answer { IfOk result IsAnswer }
-    ensures keeps { (x : StatementView) → Keeps x at.old at.new }
-    ensures idle { IsIdle at.new }
+    ensures idle { OnErr result (IsIdle at.new) }
 {
     // That what is pending and the layout stay rests on these.
     at.sessions.engine().versions_always_agree();
     let _pending = at.sessions.pending();
     let database = at.sessions.engine().database();
     let counts = count_access(alloc, database, at.sessions.counts(), &statement)?;
+    let counts = keep_behind(false, database.graph(), counts);
     let write = KeptWrite::new(statement);
     match run_one(alloc, at, &write, steps) {
-        Ok(done) => {
-            let counts = keep_behind(false, at.sessions.engine().database().graph(), counts);
-            at.sessions.put_counts(counts);
-            Ok(Answer::Plain(reply_of(done)))
-        }
+        Ok(done) => Ok(HeldRuns {
+            answer: Answer::Plain(reply_of(done)),
+            counts,
+        }),
         Err(fault) => Err(fault),
     }
 }
 
-/// Carries out a write at once.
-pub fn write_at_once<L: Ledger>(
+/// Runs a write outside a transaction. It is still to be settled.
+pub fn hold_write<L: Ledger>(
     alloc: Global,
     at: &mut Executing,
     statement: Statement,
     steps: &mut Steps<L>,
-) -> Result<Answer, Fault<Refusal>>
+) -> Result<HeldRuns, Fault<Refusal>>
     requires texts { TextsWithin text_limit (statement_view statement) }
     requires write { kind_in (statement_view statement) ≡ Write }
     requires idle { IsIdle at.old }
-    ensures answers { (opens : List OpenView) → Answers (at_once_lem (standing_in at.old opens)
-        (statement_view statement)) result (standing_in at.new opens) }
+    ensures holds { HoldsWrite (λ opens. at_once_lem (standing_in at.old opens)
+        (statement_view statement)) at.old at.new result }
     ensures same { OnErr result (IsSame at.old at.new) }
-    ensures answer { IfOk result IsAnswer }
-    ensures keeps { (x : StatementView) → Keeps x at.old at.new }
-    ensures idle { IsIdle at.new }
+    ensures idle { OnErr result (IsIdle at.new) }
 {
     let statement = at.sessions.in_full(alloc, statement)?;
-    write_counted(alloc, at, statement, steps)
+    hold_full(alloc, at, statement, steps)
 }
 
 // ---- a COMMIT
@@ -162,7 +154,7 @@ fn refusal_of(
     }
 }
 
-// Runs the writes of a transaction and settles them as one event.
+// Runs the writes of a transaction.
 fn run_all<L: Ledger>(
     alloc: Global,
     at: &mut Executing,
@@ -170,35 +162,33 @@ fn run_all<L: Ledger>(
     steps: &mut Steps<L>,
 ) -> Result<List<WriteReply>, Fault<CommitFault>>
     requires { IsIdle at.old }
-    ensures commits { CommitsAll (transaction_view transaction.now) at.old at.new result }
+    ensures runs { RunsAll (transaction_view transaction.now) at.old at.new result }
     ensures same { OnErr result (IsSame at.old at.new) }
-    ensures keeps { (x : StatementView) → Keeps x at.old at.new }
-    ensures idle { IsIdle at.new }
+    ensures idle { OnErr result (IsIdle at.new) }
 {
     // That only tables of the graph change rests on it.
     at.sessions.engine().versions_always_agree();
-    commit_all(alloc, transaction, at, steps)
+    run_commit(alloc, transaction, at, steps)
 }
 
-// Commits a transaction, and counts its accesses.
-fn commit_counted<L: Ledger>(
+// Runs the writes of a transaction, and counts its accesses.
+fn hold_commit<L: Ledger>(
     alloc: Global,
     at: &mut Executing,
     transaction: &Transaction<KeptWrite, TableRead>,
     steps: &mut Steps<L>,
-) -> Result<List<WriteReply>, Fault<Refusal>>
+) -> Result<HeldRuns, Fault<Refusal>>
     requires { IsIdle at.old }
-    ensures commits { CountsAll (transaction_view transaction.now) at.old at.new result }
+    ensures holds { HoldsCommit (transaction_view transaction.now) at.old at.new result }
     ensures same { OnErr result (IsSame at.old at.new) }
-    ensures keeps { (x : StatementView) → Keeps x at.old at.new }
-    ensures idle { IsIdle at.new }
+    ensures idle { OnErr result (IsIdle at.new) }
 {
     let counts = count_all(alloc, &at.sessions, transaction)?;
     match run_all(alloc, at, transaction, steps) {
         Ok(replies) => {
             let counts = keep_behind(false, at.sessions.engine().database().graph(), counts);
-            at.sessions.put_counts(counts);
-            Ok(replies)
+            let answer = Answer::Plain(Reply::Committed { replies });
+            Ok(HeldRuns { answer, counts })
         }
         Err(Fault::Refused(fault)) => {
             Err(Fault::Refused(refusal_of(alloc, transaction, fault)?))
@@ -207,22 +197,46 @@ fn commit_counted<L: Ledger>(
     }
 }
 
-/// Commits the open transaction of a session. After an error nothing has changed.
-pub fn commit_open<L: Ledger>(
+/// Runs the open transaction of a session. It is still to be settled.
+pub fn hold_open<L: Ledger>(
     alloc: Global,
     at: &mut Executing,
     opens: &[OpenTransaction],
     session: u8,
     steps: &mut Steps<L>,
-) -> Result<List<WriteReply>, Fault<Refusal>>
+) -> Result<HeldRuns, Fault<Refusal>>
     requires { IsIdle at.old }
-    ensures commits { CountsOpen (open_of (opens_view opens.now) session) at.old at.new result }
+    ensures holds { HoldsOpen (open_of (opens_view opens.now) session) at.old at.new result }
     ensures same { OnErr result (IsSame at.old at.new) }
-    ensures keeps { (x : StatementView) → Keeps x at.old at.new }
-    ensures idle { IsIdle at.new }
+    ensures idle { OnErr result (IsIdle at.new) }
 {
     match find_open(opens, session) {
-        Some(open) => commit_counted(alloc, at, &open.transaction, steps),
+        Some(open) => hold_commit(alloc, at, &open.transaction, steps),
         None => Err(Fault::Refused(Refusal::NoTransaction)),
     }
+}
+
+// ---- afterwards
+
+/// Settles runs, puts their counts in place of those that are kept, and gives their answer. It takes
+/// no memory.
+pub fn settle_runs(at: &mut Executing, held: HeldRuns) -> Answer
+    ensures answer { result ≡ held.answer }
+    ensures settles { (t : TransactionView) → (old : ExecutingSeen) → (runs : Runs)
+        → AreRun t old at.old runs → AreSettled old at.new runs held.counts }
+{
+    let HeldRuns { answer, counts } = held;
+    at.settle();
+    at.sessions.put_counts(counts);
+    answer
+}
+
+/// Takes runs back. It takes no memory.
+pub fn take_back_runs(at: &mut Executing)
+    requires { HaveRun at.old }
+    ensures { (t : TransactionView) → (old : ExecutingSeen) → (runs : Runs)
+        → AreRun t old at.old runs → AreBack old at.new }
+{
+    let count = at.unsettled.as_slice().len();
+    take_back_all(at, count);
 }

@@ -1,23 +1,22 @@
 //! What is kept, and what each statement does to it.
-ghost use Rattle.std.specs.Prelude.{◌≡◌, is_some, Some, IfOk, OnErr};
+ghost use Rattle.std.specs.Prelude.{◌≡◌, true, Some, IfOk, OnErr};
 ghost use Rattle.expr_lang.specs.Operations.{text_limit};
 ghost use Rattle.statements.specs.Texts.{TextsWithin};
-ghost use Rattle.statements.specs.Views.{statement_view, StatementView};
+ghost use Rattle.statements.specs.Views.{statement_view};
 ghost use Rattle.engine_sessions.specs.Calls.{IsAnswer};
 ghost use Rattle.engine_sessions.specs.InFull.{wants_csv as wants_csv_lem};
 ghost use Rattle.engine_sessions.specs.Standing.{standing_of as standing_of_sessions};
-ghost use Rattle.engine_transactions.specs.Act.{at_hand, begun_by, committed, kept_by, rolled_back, Answers};
+ghost use Rattle.engine_transactions.specs.Act.{act, at_hand, begun_by, rolled_back, Answers};
 ghost use Rattle.engine_transactions.specs.Calls.{standing_of, IsIdle, Keeps};
-ghost use Rattle.engine_transactions.specs.Kinds.{acted_by, full_at, kind_in, read_full, read_told as read_told_lem, selected_in, version_told, written_at};
+ghost use Rattle.engine_transactions.specs.Kinds.{acted_by, full_at, kind_in, read_full, read_told as read_told_lem, selected_in, writes_rows_in};
 ghost use Rattle.engine_transactions.specs.Standing.{OpenView};
-ghost use Rattle.engine_transactions.specs.declared.statement_kind.StatementKind.TheVariants.{Select, Write};
+ghost use Rattle.engine_transactions.specs.declared.statement_kind.StatementKind.TheVariants.{Select};
 
 use crate::at_once::act_at_once;
-use crate::commit::{commit_open, write_at_once};
-use crate::open_transaction::{OpenTransaction, end, keep, keeps_write, note, start};
+use crate::open_transaction::{OpenTransaction, end, keeps_write, note, start};
 use crate::statement_kind::{StatementKind, kind_of};
 use crate::table_read::find_read;
-use crate::{Executing, KeptWrite, TableRead};
+use crate::{Executing, TableRead};
 use engine_sessions::{Answer, Sessions, wants_csv};
 use engine_state::Reply;
 use expr_lang::Steps;
@@ -28,23 +27,11 @@ use std::mem;
 use std::sync::ledger::Ledger;
 
 /// The engine with its sessions and numbers, and the open transaction of each session that has one.
+/// Unlike in `Transactions`, an event may be half done.
 #[derive(Drop)]
 pub struct Kept {
     pub executing: Executing,
     pub opens: Vec<OpenTransaction>,
-}
-
-// Whether a write tells the version of its table.
-fn tells_version(statement: &Statement) -> bool
-    ensures { result ≡ is_some (version_told (statement_view statement.now)) }
-{
-    match statement {
-        Statement::Insert { table, .. }
-        | Statement::Import { table, .. }
-        | Statement::Update { table, .. }
-        | Statement::Delete { table, .. } => table.version.is_some(),
-        _ => false,
-    }
 }
 
 // The table of a SELECT, as it is read.
@@ -63,6 +50,13 @@ fn read_told(
 }
 
 impl Kept {
+    /// The sessions with their engine. It does no work.
+    pub fn sessions(&self) -> &Sessions
+        ensures { result.now ≡ self.now.executing.sessions }
+    {
+        &self.executing.sessions
+    }
+
     // Carries out a BEGIN.
     fn begin(&mut self, alloc: Global) -> Result<Answer, Fault<Refusal>>
         requires idle { IsIdle self.old.executing }
@@ -96,27 +90,6 @@ impl Kept {
             }
             None => Err(Fault::Refused(Refusal::NoTransaction)),
         }
-    }
-
-    // Carries out a COMMIT.
-    fn commit<L: Ledger>(
-        &mut self,
-        alloc: Global,
-        steps: &mut Steps<L>,
-    ) -> Result<Answer, Fault<Refusal>>
-        requires { IsIdle self.old.executing }
-        ensures answers { Answers (committed (standing_of self.old)
-            (at_hand (standing_of self.old))) result (standing_of self.new) }
-        ensures same { OnErr result (standing_of self.new ≡ standing_of self.old) }
-        ensures answer { IfOk result IsAnswer }
-        ensures keeps { (x : StatementView) → Keeps x self.old.executing self.new.executing }
-        ensures idle { IsIdle self.new.executing }
-    {
-        let session = self.executing.sessions.session();
-        let opens = self.opens.as_slice();
-        let replies = commit_open(alloc, &mut self.executing, opens, session, steps)?;
-        end(&mut self.opens, session);
-        Ok(Answer::Plain(Reply::Committed { replies }))
     }
 
     // Answers a SELECT in a transaction without writes, and notes what it read.
@@ -175,29 +148,7 @@ impl Kept {
         }
     }
 
-    // Keeps a write.
-    fn keep(&mut self, alloc: Global, statement: Statement) -> Result<Answer, Fault<Refusal>>
-        requires texts { TextsWithin text_limit (statement_view statement) }
-        ensures answers { (o : OpenView) → at_hand (standing_of self.old) ≡ Some o
-            → Answers (kept_by (standing_of self.old) o.transaction
-            (version_told (full_at (standing_of self.old) (statement_view statement)))
-            (full_at (standing_of self.old) (statement_view statement))) result
-            (standing_of self.new) }
-        ensures same { OnErr result (standing_of self.new ≡ standing_of self.old) }
-        ensures answer { IfOk result IsAnswer }
-        ensures engine { self.new.executing ≡ self.old.executing }
-    {
-        let session = self.executing.sessions.session();
-        let statement = self.executing.sessions.in_full(alloc, statement)?;
-        if !tells_version(&statement) {
-            mem::drop(statement);
-            return Err(Fault::Refused(Refusal::NoVersionInUse));
-        }
-        keep(&mut self.opens, session, KeptWrite::new(statement))?;
-        Ok(Answer::Plain(Reply::Kept))
-    }
-
-    // Carries out a write.
+    // Carries out a statement that writes rows.
     fn write<L: Ledger>(
         &mut self,
         alloc: Global,
@@ -205,25 +156,23 @@ impl Kept {
         steps: &mut Steps<L>,
     ) -> Result<Answer, Fault<Refusal>>
         requires texts { TextsWithin text_limit (statement_view statement) }
-        requires write { kind_in (statement_view statement) ≡ Write }
+        requires writes { writes_rows_in (kind_in (statement_view statement)) ≡ true }
         requires idle { IsIdle self.old.executing }
-        ensures answers { Answers (written_at (standing_of self.old)
-            (at_hand (standing_of self.old)) (statement_view statement)) result
+        ensures answers { Answers (act (standing_of self.old) (statement_view statement)) result
             (standing_of self.new) }
         ensures same { OnErr result (standing_of self.new ≡ standing_of self.old) }
         ensures answer { IfOk result IsAnswer }
         ensures keeps { Keeps (statement_view statement) self.old.executing self.new.executing }
         ensures idle { IsIdle self.new.executing }
     {
-        let session = self.executing.sessions.session();
-        match keeps_write(self.opens.as_slice(), session) {
-            None => write_at_once(alloc, &mut self.executing, statement, steps),
-            Some(_) => self.keep(alloc, statement),
+        match self.hold(alloc, statement, steps) {
+            Ok(held) => Ok(self.settle(held)),
+            Err(fault) => Err(fault),
         }
     }
 
-    /// Carries out one statement.
-    pub fn carry_out<L: Ledger>(
+    // Carries out one statement, by what it is.
+    fn carry_out<L: Ledger>(
         &mut self,
         alloc: Global,
         statement: Statement,
@@ -247,13 +196,29 @@ impl Kept {
                 mem::drop(statement);
                 self.roll_back()
             }
-            StatementKind::Commit => {
-                mem::drop(statement);
-                self.commit(alloc, steps)
-            }
             StatementKind::Select => self.select(alloc, statement, steps),
-            StatementKind::Write => self.write(alloc, statement, steps),
             StatementKind::Other => act_at_once(alloc, &mut self.executing, statement, steps),
+            StatementKind::Commit => self.write(alloc, statement, steps),
+            StatementKind::Write => self.write(alloc, statement, steps),
         }
+    }
+
+    /// Carries out one statement in whole, as `Transactions::event` does.
+    pub fn event<L: Ledger>(
+        &mut self,
+        alloc: Global,
+        statement: Statement,
+        steps: &mut Steps<L>,
+    ) -> Result<Answer, Fault<Refusal>>
+        requires texts { TextsWithin text_limit (statement_view statement) }
+        requires idle { IsIdle self.old.executing }
+        ensures answers { Answers (act (standing_of self.old) (statement_view statement)) result
+            (standing_of self.new) }
+        ensures same { OnErr result (standing_of self.new ≡ standing_of self.old) }
+        ensures answer { IfOk result IsAnswer }
+        ensures keeps { Keeps (statement_view statement) self.old.executing self.new.executing }
+        ensures idle { IsIdle self.new.executing }
+    {
+        self.carry_out(alloc, statement, steps)
     }
 }

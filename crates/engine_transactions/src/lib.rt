@@ -7,13 +7,19 @@
 //! `Sessions::write_undoable` and taken back by `Sessions::take_back`: so the engine is an executor of
 //! writes (`specs/Executing.antt`), on which commits stand. `specs/Serial.antt` has the law of one after
 //! the other. The crate must not know how statements are written, or how data is stored.
+//!
+//! An event that writes rows has two halves (`specs/Held.antt`): `Kept::hold` does all of it that may
+//! fail, and then `settle` makes it stay or `let_go` takes it back, both without memory. So a crate above
+//! can do more in between that may fail, and read there what each write changed (`specs/Leads.antt`).
 #![tactic(auto)]
 
 mod accesses;
 mod at_once;
 mod commit;
 mod executing;
+mod held;
 mod history;
+mod holding;
 mod kept;
 mod kept_write;
 mod open_transaction;
@@ -26,8 +32,11 @@ pub use engine_sessions::{
     refusal_text, replies_are_lines,
 };
 pub use executing::Executing;
+pub use held::{Held, HeldRuns};
 pub use history::{ChangeNumbers, NameDrop};
+pub use kept::Kept;
 pub use kept_write::KeptWrite;
 pub use open_transaction::OpenTransaction;
+pub use statement_kind::writes_rows;
 pub use table_read::TableRead;
 pub use transactions::Transactions;

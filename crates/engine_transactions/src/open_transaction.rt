@@ -3,7 +3,7 @@ ghost use Rattle.std.specs.Prelude.{◌≡◌, ◌==◌, not, filter, length, No
 ghost use Rattle.std.specs.List.{find, position};
 ghost use Rattle.std.specs.Option.{option_copied, option_map};
 ghost use Rattle.statements.specs.Views.{statement_view};
-ghost use Rattle.engine_transactions.specs.Opens.{noted_in, opens_view, with_changed};
+ghost use Rattle.engine_transactions.specs.Opens.{noted_in, opens_view, with_changed, without_last};
 ghost use Rattle.engine_transactions.specs.Standing.{no_transaction, open_of, with_open, with_write, without_open};
 
 use crate::{KeptWrite, TableRead};
@@ -90,6 +90,16 @@ pub fn keep(opens: &mut Vec<OpenTransaction>, session: u8, write: KeptWrite) -> 
         return Ok(());
     };
     opens[place].transaction.keep(write)
+}
+
+/// Lets the write go that was kept last in the open transaction of a session. It takes no memory.
+pub fn forget(opens: &mut Vec<OpenTransaction>, session: u8)
+    ensures { opens_view opens.new.items
+        ≡ with_changed (opens_view opens.old.items) session without_last }
+{
+    if let Some(place) = place_of_open(opens.as_slice(), session) {
+        opens[place].transaction.forget();
+    }
 }
 
 fn is_others(one: &OpenTransaction, session: u8) -> bool

@@ -1,7 +1,7 @@
 //! What a statement is to transactions.
 ghost use Rattle.std.specs.Prelude.{◌≡◌};
 ghost use Rattle.statements.specs.Views.{statement_view};
-ghost use Rattle.engine_transactions.specs.Kinds.{kind_in};
+ghost use Rattle.engine_transactions.specs.Kinds.{kind_in, writes_rows_in};
 
 use statements::Statement;
 
@@ -16,6 +16,16 @@ pub enum StatementKind {
     Write,
     /// Every other statement, which acts at once.
     Other,
+}
+
+/// Whether a statement writes rows: an INSERT, IMPORT, UPDATE, DELETE or COMMIT. It does no work.
+pub fn writes_rows(statement: &Statement) -> bool
+    ensures { result ≡ writes_rows_in (kind_in (statement_view statement.now)) }
+{
+    match kind_of(statement) {
+        StatementKind::Commit | StatementKind::Write => true,
+        _ => false,
+    }
 }
 
 /// What a statement is.

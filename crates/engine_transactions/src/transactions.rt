@@ -7,7 +7,7 @@ ghost use Rattle.engine_core.specs.Spoken.{TextsCome};
 ghost use Rattle.engine_sessions.specs.Calls.{IsAnswer};
 ghost use Rattle.engine_sessions.specs.Standing.{kept_in as kept_beside, standing_of as standing_beside};
 ghost use Rattle.engine_transactions.specs.Act.{act, Answers};
-ghost use Rattle.engine_transactions.specs.Calls.{standing_of};
+ghost use Rattle.engine_transactions.specs.Calls.{standing_of, IsIdle};
 ghost use Rattle.engine_transactions.specs.Standing.{begun};
 
 use crate::kept::Kept;
@@ -72,7 +72,16 @@ impl Transactions {
     pub fn sessions(&self) -> &Sessions
         ensures { result.now ≡ self.now.executing.sessions }
     {
-        &self.kept.executing.sessions
+        self.kept.sessions()
+    }
+
+    /// What is kept, for a crate above that does more within an event. It takes no memory.
+    pub fn into_kept(self) -> Kept
+        ensures value { result ≡ self }
+        ensures idle { IsIdle result.executing }
+    {
+        let Transactions { kept } = self;
+        kept
     }
 
     /// Carries out one statement, whose texts have at most 65,536 bytes, in the session at hand, and
@@ -101,6 +110,6 @@ impl Transactions {
         ensures limit { (kept_beside self.new.executing.sessions).ids.limit
             ≡ (kept_beside self.old.executing.sessions).ids.limit }
     {
-        self.kept.carry_out(alloc, statement, steps)
+        self.kept.event(alloc, statement, steps)
     }
 }

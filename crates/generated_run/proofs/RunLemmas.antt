@@ -10,19 +10,24 @@ use Rattle.par_base.specs.Checked.{Checked}
 use Rattle.statements.specs.Views.{StatementView}
 use Rattle.op_any.specs.Operators.{AnyView}
 use Rattle.db_state.specs.declared.parts.Parts.{Parts}
-use Rattle.script_run.specs.Spoken.{TextsCome}
-use Rattle.script_run.specs.Answer.{Answer}
-use Rattle.script_run.specs.Standing.{Standing}
-use Rattle.script_run.specs.Act.{act}
+use Rattle.engine_transactions.specs.Spoken.{TextsCome}
+use Rattle.engine_transactions.specs.Answer.{Answer}
+use Rattle.engine_transactions.specs.Standing.{Standing}
+use Rattle.engine_transactions.specs.Act.{act}
 use Rattle.script_generator.specs.Generated.{below, ending, evolution, generated_script, insert_task, insert_todo, is_fourth}
 use Rattle.script_generator.specs.Laws.{IsLikeParsed}
 use Rattle.script_run.specs.Kept.{Keeps}
-use Rattle.script_run.specs.Output.{next_state, state_after}
-use Rattle.script_run.proofs.OutputLaws.{state_after-more}
+use Rattle.engine_transactions.specs.Replies.{next_state, state_after}
 use Rattle.script_run.proofs.SpelledLaws.{stay_spelled}
 use Rattle.generated_run.specs.Summed.{refusals, refused_in}
 use Rattle.generated_run.specs.Calls.{Tallies}
 use Rattle.generated_run.specs.declared.run.Tally.{Tally}
+
+-- one statement more
+state_after-more : (s : Standing) (sts : List StatementView) (st : StatementView) → state_after s (sts ++ st ∷ []) ≡ next_state (state_after s sts) (act (state_after s sts) st)
+unfolding state_after
+state_after-more s [] st = refl
+state_after-more s (t ∷ ts) st = state_after-more (next_state s (act s t)) ts st
 
 refused-more : (s : Standing) (sts : List StatementView) (st : StatementView) → refused_in s (sts ++ st ∷ []) ≡ refused_in s sts + refusals (act (state_after s sts) st)
 unfolding refused_in state_after

@@ -5,12 +5,12 @@ use Rattle.statements.specs.Views.{StatementView}
 use Rattle.statements.specs.declared.statement.TableName.{TableName}
 use Rattle.engine_statements.specs.AnyDatabase.{AnyDatabase}
 use Rattle.engine_statements.specs.Found.{Found, found}
-use Rattle.script_run.specs.Answer.{Answer}
-use Rattle.script_run.specs.Standing.{Standing}
-use Rattle.script_run.specs.Act.{act}
+use Rattle.engine_transactions.specs.Answer.{Answer}
+use Rattle.engine_transactions.specs.Standing.{Standing}
+use Rattle.engine_transactions.specs.Act.{act}
 use Rattle.script_generator.specs.Generated.{generated_script, table_of}
 use Rattle.script_generator.specs.declared.summary.Summary.{Summary}
-use Rattle.script_run.specs.Output.{next_state, state_after}
+use Rattle.engine_transactions.specs.Replies.{next_state, state_after}
 
 -- ---- how many statements were refused
 

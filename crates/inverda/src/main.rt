@@ -1,7 +1,10 @@
 //! The program: `inverda` over standard input, standard output and real files.
 #![tactic(auto)]
 
-use inverda_run::inverda;
+use change_feed::{Counter, Recorder, Watcher};
+use feed_mirror::Mirror;
+use inverda_run::inverda_watched;
+use outside::{Files, Sink, Source};
 use real_files::{Disk, Input, Output};
 use std::alloc::Global;
 use std::process::ExitCode;
@@ -27,6 +30,25 @@ fn words<R: Env + AllocGlobal>(rt: &R) -> io::Result<Vec<String>> {
     Ok(words)
 }
 
+// The run, with the watchers that WATCH takes: first one that hears, then one that counts, then one that
+// shows rows.
+fn run<S: Source, K: Sink, F: Files>(
+    alloc: Global,
+    words: &[String],
+    script: &mut S,
+    out: &mut K,
+    files: &mut F,
+) -> io::Result<u8> {
+    let recorder: Box<dyn Watcher> = Box::new(alloc, Recorder::new(alloc))?;
+    let counter: Box<dyn Watcher> = Box::new(alloc, Counter::new(alloc))?;
+    let mirror: Box<dyn Watcher> = Box::new(alloc, Mirror::new(alloc))?;
+    let mut watchers = Vec::new(alloc);
+    watchers.push(recorder)?;
+    watchers.push(counter)?;
+    watchers.push(mirror)?;
+    Ok(inverda_watched(alloc, words, script, out, files, watchers))
+}
+
 fn main(rt: HostRuntime) -> ExitCode {
     let alloc: Global = rt.alloc();
     let Ok(words) = words(&rt) else {
@@ -35,5 +57,8 @@ fn main(rt: HostRuntime) -> ExitCode {
     let mut script = Input::new(rt.stdin());
     let mut out = Output::new(rt.stdout());
     let mut files = Disk::new(alloc, &rt);
-    ExitCode::from(inverda(alloc, words.as_slice(), &mut script, &mut out, &mut files))
+    match run(alloc, words.as_slice(), &mut script, &mut out, &mut files) {
+        Ok(status) => ExitCode::from(status),
+        Err(_) => ExitCode::from(NO_MEMORY),
+    }
 }

@@ -2,7 +2,7 @@
 use Rattle.std.specs.Prelude.{◌≢◌, ◌⊎◌, Bool, true, false, Option, Some, None}
 use Rattle.std.specs.Bool.{Decides}
 use Rattle.std.specs.Str.{bytes_eq}
-use Rattle.std.proofs.Common.{◌≡◌, ℕ, List, codes, refl, sym, subst, ◌∙◌, inl, inr}
+use Rattle.std.proofs.Common.{◌≡◌, ℕ, List, codes, refl, sym, ap, subst, ◌∙◌, inl, inr}
 use Rattle.std.proofs.lemmas.Bool.{false≢true}
 use Rattle.std.proofs.lemmas.Slice.Eq.{bytes_eq-Decides}
 use Rattle.outside.specs.Causes.{Rose}
@@ -11,11 +11,9 @@ use Rattle.op_any.specs.BuiltOn.{AreBuiltOn}
 use Rattle.db_state.specs.declared.parts.Parts.{Parts}
 use Rattle.layout_planner.specs.declared.planning.TableCount.{TableCount}
 use Rattle.generated_run.specs.EngineCoreKept.{state_of}
-use Rattle.generated_run.specs.Transactions.{Kept as Transactions}
 use Rattle.generated_run.specs.Standing.{Standing}
 use Rattle.generated_run.specs.Begun.{begun_with}
-use Rattle.generated_run.specs.TransactionsKept.{kept_in}
-use Rattle.generated_run.specs.TransactionsCalls.{standing_of}
+use Rattle.generated_run.specs.SessionsStanding.{Standing as SessionsStanding}
 use Rattle.generated_run.specs.EngineCoreTexts.{line}
 use Rattle.dump_formats.specs.Formats.{dump_text}
 use Rattle.dump_formats.specs.Texts.{AreFromTexts, AreSpelled}
@@ -26,19 +24,23 @@ use Rattle.inverda_run.specs.Calls.{DumpsTo, EndStays, Finishes, IsLongDump, Put
 use Rattle.inverda_run.specs.declared.end.End.{End}
 use Rattle.inverda_run.specs.declared.end.End.TheVariants as end
 
--- the bytes that are written are the dump of where the transactions stand
-pub is_dumped : (s : Transactions) (found : Parts AnyView) (counts : List TableCount) (pending bytes text : List ℕ) → found ≡ kept_in s → counts ≡ (standing_of s).sessions.counts → pending ≡ (standing_of s).sessions.pending → bytes ≡ text
+-- the bytes that are written are the dump of where a run stands that has these sessions
+pub is_dumped : (to : Standing) (sessions : SessionsStanding) (kept : Parts AnyView) (found : Parts AnyView) (counts : List TableCount) (pending bytes text : List ℕ) → to.sessions ≡ sessions
+    → sessions.laid ≡ state_of kept → found ≡ kept → counts ≡ sessions.counts → pending ≡ sessions.pending → bytes ≡ text
     → text ≡ dump_text (state_of found).database found.layout.operators counts pending
     → (AreFromTexts found.ids.next found.graph.edges → IsDumpOf text (record { database = found; counts = counts; pending = pending }))
-    → AreSpelled (kept_in s).graph.edges → AreBuiltOn (kept_in s).ids.next (kept_in s).graph.edges → IsDumpText (standing_of s) bytes
-is_dumped s found counts pending bytes text same counted left is written stands spelled built =
+    → AreSpelled kept.graph.edges → AreBuiltOn kept.ids.next kept.graph.edges → IsDumpText to bytes
+is_dumped to sessions kept found counts pending bytes text there laid same counted left is written stands spelled built =
     let texts : AreFromTexts found.ids.next found.graph.edges = subst (λ (p : Parts AnyView). AreFromTexts p.ids.next p.graph.edges) (sym same) (spelled, built) in
-    let kept : Kept = record { database = found; counts = counts; pending = pending } in
+    let here : Kept = record { database = found; counts = counts; pending = pending } in
+    let laid_is : to.sessions.laid ≡ state_of found = ap (λ (s : SessionsStanding). s.laid) there ∙ laid ∙ ap state_of (sym same) in
+    let counts_are : to.sessions.counts ≡ counts = ap (λ (s : SessionsStanding). s.counts) there ∙ sym counted in
+    let pending_is : to.sessions.pending ≡ pending = ap (λ (s : SessionsStanding). s.pending) there ∙ sym left in
     record {
-      kept = kept;
-      state = λ i. begun_with (state_of (sym same i)) (sym counted i) (sym left i);
-      written = is ∙ written ∙ (λ i. dump_text (state_of (same i)).database (same i).layout.operators (counted i) (left i));
-      dump = subst (λ (b : List ℕ). IsDumpOf b kept) (sym is) (stands texts);
+      kept = here;
+      state = λ i. begun_with (laid_is i) (counts_are i) (pending_is i);
+      written = is ∙ written ∙ (λ i. dump_text (sym laid_is i).database (sym laid_is i).layout (sym counts_are i) (sym pending_is i));
+      dump = subst (λ (b : List ℕ). IsDumpOf b here) (sym is) (stands texts);
     }
 
 module _ (to : Standing) (file : Option (Option (List ℕ))) (held held' : Option (List ℕ)) (put put' filed filed' : ℕ) where

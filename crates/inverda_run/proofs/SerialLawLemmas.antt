@@ -1,6 +1,6 @@
 -- Committed transactions of a run answer as one after the other.
 use Rattle.std.specs.Prelude.{Option, Some, None}
-use Rattle.std.proofs.Common.{◌≡◌, ℕ, List, [], ◌∷◌, inl, inr, refl, sym, subst}
+use Rattle.std.proofs.Common.{◌≡◌, ℕ, List, [], ◌∷◌, inl, inr, refl, sym, subst, ◌∙◌}
 use Rattle.serde_json.specs.Data.{Data}
 use Rattle.statements.specs.Views.{StatementView}
 use Rattle.layout_planner.specs.Counts.{AreCounts}
@@ -8,6 +8,7 @@ use Rattle.layout_planner.specs.declared.planning.TableCount.{TableCount}
 use Rattle.dump_formats.specs.Stands.{StandsFor}
 use Rattle.dump_formats.specs.declared.loaded.Loaded.{Loaded as Kept}
 use Rattle.run_words.specs.Words.{Asked}
+use Rattle.watch_laws.specs.Beside.{OthersAreAnswered, StandsBeside}
 use Rattle.generated_run.specs.Standing.{Standing}
 use Rattle.generated_run.specs.Act.{act}
 use Rattle.generated_run.specs.Output.{next_state, state_after}
@@ -25,7 +26,7 @@ unfolding end_of state_after
 ends_there s [] = refl
 ends_there s (x ∷ xs) = ends_there (next_state s (act s x)) xs
 
-module _ (serial : TransactionsAreSerial) (empty : EmptyIsOrderly) (loaded : DatabasesAreOrderly) where
+module _ (serial : TransactionsAreSerial) (empty : EmptyIsOrderly) (loaded : DatabasesAreOrderly) (stands : StandsBeside) (answered : OthersAreAnswered) where
   start_serial : (told : Told) (load : Option (List ℕ)) (max_id : ℕ) (from : Standing) → StartsBy told load max_id from → (xs : List StatementView) → OneAfterTheOther from xs
   start_serial told None max_id from is xs = subst (λ (s : Standing). OneAfterTheOther s xs) (sym is) (serial _ xs (empty max_id))
   start_serial told (Some name) max_id from is xs =
@@ -35,4 +36,5 @@ module _ (serial : TransactionsAreSerial) (empty : EmptyIsOrderly) (loaded : Dat
       (serial _ xs (loaded kept.database kept.counts kept.pending (stands_database stands) (loaded_counted is.dump.0 kept stands) (loaded_leads is.dump.0 kept stands)))
 
   pub runs_serial : RunsAreSerial
-  runs_serial words told asked from starts xs = (start_serial told asked.load asked.max_id from starts.start xs, ends_there from xs)
+  runs_serial words told waiting asked from starts xs =
+      (start_serial told asked.load asked.max_id from.transactions starts.start xs, ends_there from.transactions xs ∙ sym (stands from xs), answered from xs)

@@ -2,8 +2,10 @@
 use Rattle.std.specs.Prelude.{◌<◌, Option, Some, None, IsSome}
 use Rattle.std.proofs.Common.{◌≡◌, ℕ, List, length, refl, sym, ap, subst, ◌∙◌, arith}
 use Rattle.outside.specs.FileTold.{ToldAs}
+use Rattle.change_feed.specs.Watchers.{WatcherState}
 use Rattle.dump_formats.specs.Stands.{IsDumpOf}
 use Rattle.generated_run.specs.Standing.{Standing}
+use Rattle.generated_run.specs.WatchedStanding.{Standing as WatchedStanding}
 use Rattle.generated_run.specs.Begun.{empty_standing}
 use Rattle.run_words.specs.Words.{Asked, Says}
 use Rattle.run_words.specs.Laws.{SayOneThing}
@@ -40,52 +42,56 @@ not_longer told file max_id from is above l = let same = told_bytes told file l.
 
 -- ---- one start
 
+-- beside the same watches the same stands
+pub both : (s t : WatchedStanding) → s.transactions ≡ t.transactions → s.watches ≡ t.watches → s ≡ t
+both s t transactions watches = λ i. record { transactions = transactions i; watches = watches i }
+
 module _ (words : List (List ℕ)) (told : Told) (one : SayOneThing) where
   -- the words load one file
   one_name : (asked : Asked) (name other : List ℕ) → Says words asked → asked.load ≡ Some name → Loads words other → other ≡ name
   one_name asked name other says load l = some_same other name (sym l.load ∙ ap (λ (a : Asked). a.load) (one words l.asked asked l.says says) ∙ load)
 
   -- a start is no refusal
-  pub start_not_refused : (asked : Asked) (from : Standing) → Starts words told asked from → ToldNoDump words told → ⊥
-  start_not_refused asked from s d = go asked.load refl s.start
+  pub start_not_refused : {waiting : List WatcherState} (asked : Asked) (from : WatchedStanding) → Starts words told waiting asked from → ToldNoDump words told → ⊥
+  start_not_refused {waiting} asked from s d = go asked.load refl s.start
     where
-      go : (load : Option (List ℕ)) → asked.load ≡ load → StartsBy told load asked.max_id from → ⊥
+      go : (load : Option (List ℕ)) → asked.load ≡ load → StartsBy told load asked.max_id from.transactions → ⊥
       go None is start = let clash : Some d.name ≡ None = sym d.loads.load ∙ ap (λ (a : Asked). a.load) (one words d.loads.asked asked d.loads.says s.says) ∙ is in cc
       go (Some name) is start =
           let same = one_name asked name d.name s.says is d.loads in
-          no_loaded (told name) d.file asked.max_id from (ap told (sym same) ∙ d.holds) d.none start
+          no_loaded (told name) d.file asked.max_id from.transactions (ap told (sym same) ∙ d.holds) d.none start
 
   -- nor is it too long
-  pub start_not_longer : (asked : Asked) (from : Standing) → Starts words told asked from → ToldLonger words told → ⊥
-  start_not_longer asked from s d = go asked.load refl s.start
+  pub start_not_longer : {waiting : List WatcherState} (asked : Asked) (from : WatchedStanding) → Starts words told waiting asked from → ToldLonger words told → ⊥
+  start_not_longer {waiting} asked from s d = go asked.load refl s.start
     where
-      go : (load : Option (List ℕ)) → asked.load ≡ load → StartsBy told load asked.max_id from → ⊥
+      go : (load : Option (List ℕ)) → asked.load ≡ load → StartsBy told load asked.max_id from.transactions → ⊥
       go None is start = let clash : Some d.name ≡ None = sym d.loads.load ∙ ap (λ (a : Asked). a.load) (one words d.loads.asked asked d.loads.says s.says) ∙ is in cc
       go (Some name) is start =
           let same = one_name asked name d.name s.says is d.loads in
-          not_longer (told name) d.file asked.max_id from (ap told (sym same) ∙ d.holds) d.above start
+          not_longer (told name) d.file asked.max_id from.transactions (ap told (sym same) ∙ d.holds) d.above start
 
   -- a file that holds no dump gives no start that is told
-  pub refused_no_start : (asked : Asked) (name : List ℕ) (from : Standing) → Says words asked → asked.load ≡ Some name → HoldsNoDump (told name)
-      → (other : Asked) → Starts words told other from → IsTold told other.load → ⊥
-  refused_no_start asked name from says load holds other s t = go other.load (ap (λ (a : Asked). a.load) (one words asked other says s.says)) t s.start
+  pub refused_no_start : {waiting : List WatcherState} (asked : Asked) (name : List ℕ) (from : WatchedStanding) → Says words asked → asked.load ≡ Some name → HoldsNoDump (told name)
+      → (other : Asked) → Starts words told waiting other from → IsTold told other.load → ⊥
+  refused_no_start {waiting} asked name from says load holds other s t = go other.load (ap (λ (a : Asked). a.load) (one words asked other says s.says)) t s.start
     where
-      go : (l : Option (List ℕ)) → asked.load ≡ l → IsTold told l → StartsBy told l other.max_id from → ⊥
+      go : (l : Option (List ℕ)) → asked.load ≡ l → IsTold told l → StartsBy told l other.max_id from.transactions → ⊥
       go None is k start = let clash : Some name ≡ None = sym load ∙ is in cc
       go (Some found) is k start =
           let same : found ≡ name = some_same found name (sym is ∙ load) in
           let file_is : k.0 ≡ holds.bytes = told_bytes (told name) k.0 holds.bytes (ap told (sym same) ∙ k.1) holds.holds in
-          no_loaded (told found) k.0 other.max_id from k.1 (subst NoDump (sym file_is) holds.none) start
+          no_loaded (told found) k.0 other.max_id from.transactions k.1 (subst NoDump (sym file_is) holds.none) start
 
-  pub longer_no_start : (asked : Asked) (name : List ℕ) (from : Standing) → Says words asked → asked.load ≡ Some name → IsLonger limit (told name)
-      → (other : Asked) → Starts words told other from → IsTold told other.load → ⊥
-  longer_no_start asked name from says load longer other s t = go other.load (ap (λ (a : Asked). a.load) (one words asked other says s.says)) t s.start
+  pub longer_no_start : {waiting : List WatcherState} (asked : Asked) (name : List ℕ) (from : WatchedStanding) → Says words asked → asked.load ≡ Some name → IsLonger limit (told name)
+      → (other : Asked) → Starts words told waiting other from → IsTold told other.load → ⊥
+  longer_no_start {waiting} asked name from says load longer other s t = go other.load (ap (λ (a : Asked). a.load) (one words asked other says s.says)) t s.start
     where
-      go : (l : Option (List ℕ)) → asked.load ≡ l → IsTold told l → StartsBy told l other.max_id from → ⊥
+      go : (l : Option (List ℕ)) → asked.load ≡ l → IsTold told l → StartsBy told l other.max_id from.transactions → ⊥
       go None is k start = let clash : Some name ≡ None = sym load ∙ is in cc
       go (Some found) is k start =
           let same : found ≡ name = some_same found name (sym is ∙ load) in
-          not_longer (told found) k.0 other.max_id from k.1 (told_longer (told name) k.0 (ap told (sym same) ∙ k.1) longer) start
+          not_longer (told found) k.0 other.max_id from.transactions k.1 (told_longer (told name) k.0 (ap told (sym same) ∙ k.1) longer) start
 
   -- a file that is told isn't both too long and a dump or none
   pub refused_not_longer : (asked : Asked) (name : List ℕ) → Says words asked → asked.load ≡ Some name → HoldsNoDump (told name) → ToldLonger words told → ⊥
@@ -104,29 +110,29 @@ module _ (words : List (List ℕ)) (told : Told) (one : SayOneThing) where
       omega arith
 
   -- two starts of one run are one, where the loaded file is told
-  pub one_start : OneStart → (asked other : Asked) (from to : Standing) → Starts words told asked from → Starts words told other to → IsTold told asked.load → to ≡ from
-  one_start law asked other from to s t k =
+  pub one_start : OneStart → {waiting : List WatcherState} (asked other : Asked) (from to : WatchedStanding) → Starts words told waiting asked from → Starts words told waiting other to → IsTold told asked.load → to ≡ from
+  one_start law {waiting} asked other from to s t k =
       let same = one words other asked t.says s.says in
-      go asked.load k s.start (subst (λ (a : Asked). StartsBy told a.load a.max_id to) same t.start)
+      both to from (go asked.load k s.start (subst (λ (a : Asked). StartsBy told a.load a.max_id to.transactions) same t.start)) (t.watches ∙ sym s.watches)
     where
-      go : (l : Option (List ℕ)) → IsTold told l → StartsBy told l asked.max_id from → StartsBy told l asked.max_id to → to ≡ from
+      go : (l : Option (List ℕ)) → IsTold told l → StartsBy told l asked.max_id from.transactions → StartsBy told l asked.max_id to.transactions → to.transactions ≡ from.transactions
       go None k first second = second ∙ sym first
       go (Some name) k first second =
-          law k.0 asked.max_id to from (subst (λ (f : Option (Option (List ℕ))). Loaded f asked.max_id to) k.1 second)
-          (subst (λ (f : Option (Option (List ℕ))). Loaded f asked.max_id from) k.1 first)
+          law k.0 asked.max_id to.transactions from.transactions (subst (λ (f : Option (Option (List ℕ))). Loaded f asked.max_id to.transactions) k.1 second)
+          (subst (λ (f : Option (Option (List ℕ))). Loaded f asked.max_id from.transactions) k.1 first)
 
 -- a generated script begins with an empty database
 pub loads_none : (words : List (List ℕ)) (asked : Asked) (n : ℕ) → Says words asked → asked.generate ≡ Some n → asked.load ≡ None
 loads_none words asked n says is = says.load ∙ (says.alone (subst (λ (g : Option ℕ). IsSome g) (sym is) refl)).0
 
-pub starts_empty : (words : List (List ℕ)) (told : Told) (asked : Asked) (from : Standing) (n : ℕ) → Starts words told asked from → asked.generate ≡ Some n → from ≡ empty_standing asked.max_id
-starts_empty words told asked from n s is = subst (λ (l : Option (List ℕ)). StartsBy told l asked.max_id from) (loads_none words asked n s.says is) s.start
+pub starts_empty : (words : List (List ℕ)) (told : Told) {waiting : List WatcherState} (asked : Asked) (from : WatchedStanding) (n : ℕ) → Starts words told waiting asked from → asked.generate ≡ Some n → from.transactions ≡ empty_standing asked.max_id
+starts_empty words told {waiting} asked from n s is = subst (λ (l : Option (List ℕ)). StartsBy told l asked.max_id from.transactions) (loads_none words asked n s.says is) s.start
 
 -- the greatest identifier is the one that the words name
-pub starts_limit : (words : List (List ℕ)) (told : Told) (asked : Asked) (from : Standing) → Starts words told asked from → from.sessions.laid.database.limit ≡ asked.max_id
-starts_limit words told asked from s = go asked.load s.start
+pub starts_limit : (words : List (List ℕ)) (told : Told) {waiting : List WatcherState} (asked : Asked) (from : WatchedStanding) → Starts words told waiting asked from → from.transactions.sessions.laid.database.limit ≡ asked.max_id
+starts_limit words told {waiting} asked from s = go asked.load s.start
   where
-    go : (load : Option (List ℕ)) → StartsBy told load asked.max_id from → from.sessions.laid.database.limit ≡ asked.max_id
+    go : (load : Option (List ℕ)) → StartsBy told load asked.max_id from.transactions → from.transactions.sessions.laid.database.limit ≡ asked.max_id
     go None is = ap (λ (s : Standing). s.sessions.laid.database.limit) is
     go (Some name) loaded = ap (λ (s : Standing). s.sessions.laid.database.limit) loaded.state ∙ loaded.limit_is
 
@@ -137,5 +143,5 @@ nothing_refused words told none d = none d.loads.asked d.loads.says
 pub nothing_longer : (words : List (List ℕ)) (told : Told) → SayNothing words → ToldLonger words told → ⊥
 nothing_longer words told none d = none d.loads.asked d.loads.says
 
-pub nothing_starts : (words : List (List ℕ)) (told : Told) (asked : Asked) (from : Standing) → SayNothing words → Starts words told asked from → ⊥
-nothing_starts words told asked from none s = none asked s.says
+pub nothing_starts : (words : List (List ℕ)) (told : Told) {waiting : List WatcherState} (asked : Asked) (from : WatchedStanding) → SayNothing words → Starts words told waiting asked from → ⊥
+nothing_starts words told {waiting} asked from none s = none asked s.says

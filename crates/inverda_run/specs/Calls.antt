@@ -3,6 +3,7 @@ use Rattle.std.specs.Prelude.{◌≡◌, ◌⊎◌, ◌≤◌, ◌<◌, ℕ, Lis
 use Rattle.std.specs.Io.KnownBytes.{Appends}
 use Rattle.outside.specs.Causes.{Rose}
 use Rattle.outside.specs.FileTold.{IsMissing, ToldAs}
+use Rattle.change_feed.specs.Watchers.{WatcherState}
 use Rattle.generated_run.specs.Laws.{HasCounts}
 use Rattle.generated_run.specs.Transactions.{Kept as Transactions}
 use Rattle.generated_run.specs.Standing.{Standing}
@@ -140,20 +141,20 @@ WritesTo dump told told' filed filed' e file = (told' file ≡ told file) ⊎ ((
 
 -- what a run leaves: of the files what is told, of the source what is left, of the sink its bytes, and their counts of faults, before and
 -- now
-abbrev pub Ends : List (List ℕ) → Told → Told → Option (List ℕ) → Option (List ℕ) → ℕ → ℕ → Option (List ℕ) → Option (List ℕ) → ℕ → ℕ → ℕ → ℕ → End → Type 0
-Ends words told told' left left' read read' held held' put put' filed filed' end.Done = Ran words told told' left left' held held' × (read' ≡ read) × (filed' ≡ filed)
-Ends words told told' left left' read read' held held' put put' filed filed' end.Memory = Early words told left left' read read' held held' filed filed' × (filed' ≡ filed)
-Ends words told told' left left' read read' held held' put put' filed filed' end.BadWords =
+abbrev pub Ends : List (List ℕ) → Told → Told → List WatcherState → Option (List ℕ) → Option (List ℕ) → ℕ → ℕ → Option (List ℕ) → Option (List ℕ) → ℕ → ℕ → ℕ → ℕ → End → Type 0
+Ends words told told' waiting left left' read read' held held' put put' filed filed' end.Done = Ran words told told' waiting left left' held held' × (read' ≡ read) × (filed' ≡ filed)
+Ends words told told' waiting left left' read read' held held' put put' filed filed' end.Memory = Early words told waiting left left' read read' held held' filed filed' × (filed' ≡ filed)
+Ends words told told' waiting left left' read read' held held' put put' filed filed' end.BadWords =
     SayNothing words × Appends held held' (line (codes "bad words")) × Untouched left left' read read' × (filed' ≡ filed)
-Ends words told told' left left' read read' held held' put put' filed filed' end.Syntax = OfStart words told (λ from. Stopped from left left' read read' held held') × (filed' ≡ filed)
-Ends words told told' left left' read read' held held' put put' filed filed' end.Refused = RefusedDump words told held held' × Untouched left left' read read' × (filed' ≡ filed)
-Ends words told told' left left' read read' held held' put put' filed filed' end.Unread = OfStart words told (λ from. Unread from left left' read read' held held') × (filed' ≡ filed)
-Ends words told told' left left' read read' held held' put put' filed filed' end.Unwritten = Rose put put' × Early words told left left' read read' held held' filed filed'
-Ends words told told' left left' read read' held held' put put' filed filed' end.LongScript = OfStart words told (λ from. Passed from left left' read read' held held') × (filed' ≡ filed)
-Ends words told told' left left' read read' held held' put put' filed filed' end.LongLoad = LongLoad words told left left' read read' held held' × (filed' ≡ filed)
-Ends words told told' left left' read read' held held' put put' filed filed' end.LongDump = LongDump words told left left' read read' held held' × (filed' ≡ filed)
-Ends words told told' left left' read read' held held' put put' filed filed' end.UnreadLoad = Rose filed filed' × UnreadLoad words left left' read read' held held'
-Ends words told told' left left' read read' held held' put put' filed filed' end.UnwrittenDump = Rose filed filed' × UnwrittenDump words told left left' read read' held held'
+Ends words told told' waiting left left' read read' held held' put put' filed filed' end.Syntax = OfStart words told waiting (λ from. Stopped from left left' read read' held held') × (filed' ≡ filed)
+Ends words told told' waiting left left' read read' held held' put put' filed filed' end.Refused = RefusedDump words told held held' × Untouched left left' read read' × (filed' ≡ filed)
+Ends words told told' waiting left left' read read' held held' put put' filed filed' end.Unread = OfStart words told waiting (λ from. Unread from left left' read read' held held') × (filed' ≡ filed)
+Ends words told told' waiting left left' read read' held held' put put' filed filed' end.Unwritten = Rose put put' × Early words told waiting left left' read read' held held' filed filed'
+Ends words told told' waiting left left' read read' held held' put put' filed filed' end.LongScript = OfStart words told waiting (λ from. Passed from left left' read read' held held') × (filed' ≡ filed)
+Ends words told told' waiting left left' read read' held held' put put' filed filed' end.LongLoad = LongLoad words told left left' read read' held held' × (filed' ≡ filed)
+Ends words told told' waiting left left' read read' held held' put put' filed filed' end.LongDump = LongDump words told waiting left left' read read' held held' × (filed' ≡ filed)
+Ends words told told' waiting left left' read read' held held' put put' filed filed' end.UnreadLoad = Rose filed filed' × UnreadLoad words left left' read read' held held'
+Ends words told told' waiting left left' read read' held held' put put' filed filed' end.UnwrittenDump = Rose filed filed' × UnwrittenDump words told waiting left left' read read' held held'
 
 -- the run counts no fault of the sink where it isn't the sink that failed
 abbrev pub EndStays : ℕ → ℕ → End → Type 0

@@ -1,6 +1,8 @@
 -- From where a run starts, and what the dump of a state is.
-use Rattle.std.specs.Prelude.{◌≡◌, ◌≤◌, ℕ, List, length, Option, Some, None}
+use Rattle.std.specs.Prelude.{◌≡◌, ◌≤◌, ℕ, List, [], length, Option, Some, None}
 use Rattle.outside.specs.FileTold.{ToldAs}
+use Rattle.change_feed.specs.Watchers.{WatcherState}
+use Rattle.change_feed.specs.Watches.{WatchesState}
 use Rattle.generated_run.specs.EngineCoreKept.{state_of}
 use Rattle.generated_run.specs.Standing.{Standing}
 use Rattle.generated_run.specs.Begun.{begun_again, begun_with, empty_standing}
@@ -31,6 +33,10 @@ pub record Loaded (file : Option (Option (List ℕ))) (max_id : ℕ) (from : Sta
 abbrev pub StartsBy : Told → Option (List ℕ) → ℕ → Standing → Type 0
 StartsBy told None max_id from = from ≡ empty_standing max_id
 StartsBy told (Some name) max_id from = Loaded (told name) max_id from
+
+-- these watchers wait, in this order, and nothing was watched yet
+abbrev pub all_waiting : List WatcherState → WatchesState
+all_waiting waiting = record { waiting = waiting; last = 0; live = [] }
 
 -- THE DUMP OF WHERE A RUN STANDS, as text: each has one
 abbrev pub dump_of : Standing → List ℕ

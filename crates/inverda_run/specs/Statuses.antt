@@ -3,7 +3,9 @@ use Rattle.std.specs.Prelude.{◌≡◌, ◌≤◌, ◌<◌, ◌⊎◌, ℕ, Lis
 use Rattle.std.specs.Io.KnownBytes.{Appends}
 use Rattle.outside.specs.Causes.{Rose}
 use Rattle.outside.specs.FileTold.{IsMissing, ToldAs}
+use Rattle.change_feed.specs.Watchers.{WatcherState}
 use Rattle.generated_run.specs.Standing.{Standing}
+use Rattle.generated_run.specs.WatchedStanding.{Standing as WatchedStanding}
 use Rattle.generated_run.specs.EngineCoreTexts.{line}
 use Rattle.dump_formats.specs.Stands.{IsDumpOf}
 use Rattle.dump_formats.specs.declared.loaded.Loaded.{Loaded as Kept}
@@ -12,7 +14,7 @@ use Rattle.script_generator.specs.Summary.{summary_lines}
 use Rattle.generated_run.specs.Statuses.{Done, limit}
 use Rattle.generated_run.specs.Summed.{generated_end, generated_summary}
 use Rattle.inverda_run.specs.Files.{IsLonger}
-use Rattle.inverda_run.specs.Starts.{IsDumpText, StartsBy, Told}
+use Rattle.inverda_run.specs.Starts.{IsDumpText, StartsBy, Told, all_waiting}
 
 -- ---- the words and the start
 
@@ -32,10 +34,11 @@ pub record Dumps (words : List (List ℕ)) (name : List ℕ) : Type 0 where
   pub says : Says words asked
   pub dump : asked.dump ≡ Some name
 
--- a run of the words starts from here
-pub record Starts (words : List (List ℕ)) (told : Told) (asked : Asked) (from : Standing) : Type 0 where
+-- a run of the words starts from here, where these watchers were handed in
+pub record Starts (words : List (List ℕ)) (told : Told) (waiting : List WatcherState) (asked : Asked) (from : WatchedStanding) : Type 0 where
   pub says : Says words asked
-  pub start : StartsBy told asked.load asked.max_id from
+  pub start : StartsBy told asked.load asked.max_id from.transactions
+  pub watches : from.watches ≡ all_waiting waiting
 
 -- the words ask for the generated script of so many numbers in place of the source's
 pub record Generates (words : List (List ℕ)) (n : ℕ) : Type 0 where
@@ -48,8 +51,8 @@ abbrev pub RunsSource : List (List ℕ) → Type 0
 RunsSource words = (n : ℕ) → Generates words n → ⊥
 
 -- it holds of where a run of the source's script starts
-abbrev pub OfStart : List (List ℕ) → Told → (Standing → Type 0) → Type 0
-OfStart words told P = (asked : Asked) × (from : Standing) × Starts words told asked from × (asked.generate ≡ None) × P from
+abbrev pub OfStart : List (List ℕ) → Told → List WatcherState → (WatchedStanding → Type 0) → Type 0
+OfStart words told waiting P = (asked : Asked) × (from : WatchedStanding) × Starts words told waiting asked from × (asked.generate ≡ None) × P from
 
 -- the bytes are no dump of either format
 abbrev pub NoDump : List ℕ → Type 0
@@ -63,21 +66,21 @@ Written None told to = ⊤
 Written (Some name) told to = (text : List ℕ) × IsDumpText to text × (length text ≤ limit) × ToldAs (told name) text
 
 -- the script was carried out from here to its end: that of the source, whose statements were answered, or the generated one, whose
--- summary was put and for which nothing was taken
-pub data Carried (asked : Asked) (from to : Standing) (left left' held held' : Option (List ℕ)) : Type 0 where
+-- summary was put, for which nothing was taken, and which watches nothing
+pub data Carried (asked : Asked) (from to : WatchedStanding) (left left' held held' : Option (List ℕ)) : Type 0 where
   source : asked.generate ≡ None → Done from to left left' held held' → Carried asked from to left left' held held'
-  generated : (n : ℕ) → asked.generate ≡ Some n → left' ≡ left → Appends held held' (summary_lines (generated_summary from n)) → to ≡ generated_end from n
-      → Carried asked from to left left' held held'
+  generated : (n : ℕ) → asked.generate ≡ Some n → left' ≡ left → Appends held held' (summary_lines (generated_summary from.transactions n))
+      → to ≡ record from { transactions = generated_end from.transactions n } → Carried asked from to left left' held held'
 
 -- the script was carried out from the start to its end, and the dump was written
-pub record Ran (words : List (List ℕ)) (told told' : Told) (left left' held held' : Option (List ℕ)) : Type 0 where
+pub record Ran (words : List (List ℕ)) (told told' : Told) (waiting : List WatcherState) (left left' held held' : Option (List ℕ)) : Type 0 where
   pub asked : Asked
-  pub from : Standing
-  pub to : Standing
-  pub starts : Starts words told asked from
+  pub from : WatchedStanding
+  pub to : WatchedStanding
+  pub starts : Starts words told waiting asked from
   pub carried : Carried asked from to left left' held held'
-  pub limit_stays : to.sessions.laid.database.limit ≡ asked.max_id
-  pub written : Written asked.dump told' to
+  pub limit_stays : to.transactions.sessions.laid.database.limit ≡ asked.max_id
+  pub written : Written asked.dump told' to.transactions
 
 -- the loaded bytes are no dump
 pub record RefusedDump (words : List (List ℕ)) (told : Told) (held held' : Option (List ℕ)) : Type 0 where
@@ -103,23 +106,24 @@ pub record LongLoad (words : List (List ℕ)) (told : Told) (left left' : Option
 
 -- the script was carried out from the start to its end, no call of the source failed, and this line stands behind what was put instead of
 -- a dump
-pub record RanBefore (words : List (List ℕ)) (told : Told) (left left' : Option (List ℕ)) (read read' : ℕ) (held held' : Option (List ℕ)) (last : List ℕ) (to : Standing) : Type 0 where
+pub record RanBefore (words : List (List ℕ)) (told : Told) (waiting : List WatcherState) (left left' : Option (List ℕ)) (read read' : ℕ) (held held' : Option (List ℕ)) (last : List ℕ)
+    (to : WatchedStanding) : Type 0 where
   pub asked : Asked
-  pub from : Standing
-  pub starts : Starts words told asked from
+  pub from : WatchedStanding
+  pub starts : Starts words told waiting asked from
   pub between : Option (List ℕ)
   pub carried : Carried asked from to left left' held between
   pub calm : read' ≡ read
   pub put : Appends between held' (line last)
 
 -- the dump would be longer than the limit
-pub record LongDump (words : List (List ℕ)) (told : Told) (left left' : Option (List ℕ)) (read read' : ℕ) (held held' : Option (List ℕ)) : Type 0 where
-  pub to : Standing
-  pub ran : RanBefore words told left left' read read' held held' (codes "too long") to
+pub record LongDump (words : List (List ℕ)) (told : Told) (waiting : List WatcherState) (left left' : Option (List ℕ)) (read read' : ℕ) (held held' : Option (List ℕ)) : Type 0 where
+  pub to : WatchedStanding
+  pub ran : RanBefore words told waiting left left' read read' held held' (codes "too long") to
   pub name : List ℕ
   pub dumps : Dumps words name
   pub text : List ℕ
-  pub dump : IsDumpText to text
+  pub dump : IsDumpText to.transactions text
   pub above : limit < length text
 
 -- the loaded file couldn't be read
@@ -130,9 +134,9 @@ pub record UnreadLoad (words : List (List ℕ)) (left left' : Option (List ℕ))
   pub put : Appends held held' (line (codes "file fault"))
 
 -- the dump couldn't be written
-pub record UnwrittenDump (words : List (List ℕ)) (told : Told) (left left' : Option (List ℕ)) (read read' : ℕ) (held held' : Option (List ℕ)) : Type 0 where
-  pub to : Standing
-  pub ran : RanBefore words told left left' read read' held held' (codes "file fault") to
+pub record UnwrittenDump (words : List (List ℕ)) (told : Told) (waiting : List WatcherState) (left left' : Option (List ℕ)) (read read' : ℕ) (held held' : Option (List ℕ)) : Type 0 where
+  pub to : WatchedStanding
+  pub ran : RanBefore words told waiting left left' read read' held held' (codes "file fault") to
   pub name : List ℕ
   pub dumps : Dumps words name
 

@@ -59,7 +59,7 @@ pub fn generate<K: Sink, F: Files>(
         return End::Memory;
     };
     match write_all(out, text.as_str().as_bytes()) {
-        Ok(()) => finish(alloc, transactions, dump, out, files),
+        Ok(()) => finish(alloc, transactions.sessions(), dump, out, files),
         Err(Failed) => End::Unwritten,
     }
 }

@@ -26,7 +26,8 @@ mod laws;
 mod limit;
 mod run_laws;
 mod top;
+mod waiting;
 
 pub use laws::two_runs_are_one;
 pub use run_laws::{runs_are_ordinary, runs_are_serial, said_runs_are_one};
-pub use top::inverda;
+pub use top::inverda_watched;

@@ -2,16 +2,17 @@
 ghost use Rattle.inverda_run.specs.ScriptLaws.{RunsAreOrdinary, RunsAreSerial, RunsStayKept, SaidRunsAreOne};
 
 use crate::laws::two_runs_are_one;
-use script_laws::{
-    moves_store_what_they_name, said_scripts_need_no_session, scripts_are_ordinary,
-    scripts_keep_states, statements_are_answered, statements_keep_states,
-};
+use script_laws::{moves_store_what_they_name, scripts_keep_states, statements_keep_states};
 use transaction_laws::transactions_are_serial;
+use watch_laws::{
+    said_scripts_need_no_session, scripts_are_ordinary, statements_are_answered, watches_are_beside,
+};
 
-/// Each version is an ordinary database throughout a run, from the empty or the loaded database on:
-/// each state that its script reaches is sound, and each answered write, at once or at the COMMIT of its
-/// transaction, leaves its own table with the rows that it says, and changes no other table of its version. Each statement is answered by lines,
-/// and an answered MATERIALIZE leaves stored what it names.
+/// Each version is an ordinary database throughout a run, from the empty or the loaded database on,
+/// whatever is watched: each state that its script reaches is sound, and each answered write, at once or
+/// at the COMMIT of its transaction, leaves its own table with the rows that it says, and changes no other
+/// table of its version. Each statement is answered by lines, and an answered MATERIALIZE leaves stored
+/// what it names.
 pub fn runs_are_ordinary()
     ensures kept { RunsStayKept }
     ensures ordinary { RunsAreOrdinary }
@@ -24,7 +25,7 @@ pub fn runs_are_ordinary()
 }
 
 /// A run that loads what another one dumped, with no transaction open, goes on where that one ended, also
-/// where its script says USE before it leaves versions out; it begins no transaction.
+/// where its script says USE before it leaves versions out; it begins no transaction and watches nothing.
 pub fn said_runs_are_one()
     ensures { SaidRunsAreOne }
 {
@@ -33,9 +34,11 @@ pub fn said_runs_are_one()
 }
 
 /// Committed transactions of interleaved sessions answer as one after the other, each at its COMMIT, and
-/// the other statements between them: from the empty or the loaded database on, whatever the script.
+/// the other statements between them: from the empty or the loaded database on, whatever the script, and
+/// whatever is watched.
 pub fn runs_are_serial()
     ensures { RunsAreSerial }
 {
     transactions_are_serial();
+    watches_are_beside();
 }

@@ -3,8 +3,9 @@ ghost use Rattle.std.specs.Prelude.{◌≡◌, ◌≢◌, ◌⊎◌, ◌≤◌, 
 ghost use Rattle.std.specs.Io.KnownBytes.{Appends};
 ghost use Rattle.bidel_script.specs.Script.{Fault as Misspelled, Long, Open};
 ghost use Rattle.outside.specs.Causes.{Rose, RoseOnce};
+ghost use Rattle.change_feed.specs.Watches.{AllFresh};
 ghost use Rattle.generated_run.specs.EngineCoreTexts.{line};
-ghost use Rattle.script_laws.specs.Moves.{MovesUnseen};
+ghost use Rattle.watch_laws.specs.Moves.{MovesUnseen};
 ghost use Rattle.generated_run.specs.Statuses.{AnswersScript, FirstReplies, Passed, Stopped, StoppedOfAll, Unread};
 ghost use Rattle.inverda_run.specs.Statuses.{Generates, LongDump, LongLoad, Misses, OfStart, Ran, RefusedDump, RunsSource, SayNothing, StaysBut, UnreadLoad, Untouched, UnwrittenDump};
 ghost use Rattle.inverda_run.specs.Decided.{Early, Told', ToldGenerated, ToldLonger, ToldNoDump, ToldWhole};
@@ -18,12 +19,15 @@ use crate::generate::generate;
 use crate::last::put_last;
 use crate::laws::two_runs_are_one;
 use crate::run_laws::{runs_are_ordinary, runs_are_serial, said_runs_are_one};
+use crate::waiting::with_watchers;
+use change_feed::Watcher;
 use generated_run::{End as ScriptEnd, Stream, run_source};
 use outside::{Files, Sink, Source};
 use par_base::{Fault, Limits};
 use run_words::{read_words, words_say_one_thing};
 use script_laws::scripts_keep_counts;
 use std::alloc::Global;
+use watch_laws::watches_are_beside;
 
 // How a run ends that has carried out its script, but for a dump.
 fn ended(end: ScriptEnd) -> End
@@ -40,14 +44,17 @@ fn ended(end: ScriptEnd) -> End
 }
 
 // Reads the words, begins from the database that they load, runs the script and dumps at the end.
-fn run<S: Source, K: Sink, F: Files>(
+fn run<W: Watcher, S: Source, K: Sink, F: Files>(
     alloc: Global,
     words: &[String],
     script: &mut S,
     out: &mut K,
     files: &mut F,
+    watchers: Vec<W>,
 ) -> End
+    requires { AllFresh (map W.seen watchers.items) }
     ensures ends { Ends (map string_bytes words.now) (F.told files.old) (F.told files.new)
+        (map W.seen watchers.items)
         (S.left script.old) (S.left script.new) (S.faults script.old) (S.faults script.new)
         (K.held out.old) (K.held out.new) (K.faults out.old) (K.faults out.new)
         (F.faults files.old) (F.faults files.new) result }
@@ -66,8 +73,9 @@ fn run<S: Source, K: Sink, F: Files>(
     // That a run has one start, and a state one dump, rests on these.
     words_say_one_thing();
     two_runs_are_one();
-    // That the counts at the end are such as are dumped rests on it.
+    // That the counts at the end are such as are dumped rests on these.
     scripts_keep_counts();
+    watches_are_beside();
     // These are laws of every run: they take no time.
     runs_are_ordinary();
     runs_are_serial();
@@ -90,9 +98,12 @@ fn run<S: Source, K: Sink, F: Files>(
     if let Some(n) = asked.generate {
         return generate(alloc, &mut transactions, n, asked.dump, out, files);
     }
-    let mut stream = Stream::new(alloc, transactions);
+    let Ok(begun) = with_watchers(alloc, transactions, watchers) else {
+        return End::Memory;
+    };
+    let mut stream = Stream::new(alloc, begun);
     match run_source(alloc, &mut stream, script, out) {
-        ScriptEnd::Done => finish(alloc, stream.transactions(), asked.dump, out, files),
+        ScriptEnd::Done => finish(alloc, stream.watched().sessions(), asked.dump, out, files),
         end => ended(end),
     }
 }
@@ -101,7 +112,9 @@ fn run<S: Source, K: Sink, F: Files>(
 /// those after the program's name: `--load FILE` begins from the database whose dump the file holds,
 /// `--dump FILE` dumps it to a file at the end, with what was counted and is pending, `--max-ids N`
 /// sets the greatest identifier that is drawn, and `--generate N` runs the generated script of N
-/// numbers in place of the source's, which isn't touched, and puts its summary. The answer is a status:
+/// numbers in place of the source's, which isn't touched, and puts its summary. The watchers are those that
+/// WATCH takes, the first one first; of them, and of what is watched, nothing is dumped. The answer is a
+/// status:
 ///
 /// - 0: all statements were carried out and answered, or the generated ones carried out and summed up,
 ///   and the dump was written where there is one
@@ -120,24 +133,31 @@ fn run<S: Source, K: Sink, F: Files>(
 /// couldn't be read, nothing was taken from the source. After 1 and 6 a front was put of what would be
 /// put otherwise.
 /// Takes memory in the number of bytes and tokens, and in that of a dump's values.
-pub fn inverda<S: Source, K: Sink, F: Files>(
+pub fn inverda_watched<S: Source, K: Sink, F: Files>(
     alloc: Global,
     words: &[String],
     script: &mut S,
     out: &mut K,
     files: &mut F,
+    watchers: Vec<Box<dyn Watcher>>,
 ) -> u8
+    requires { AllFresh (map (λ b. (Watcher-box b).seen b.value) watchers.items) }
     ensures statuses { (result ≡ 0) ⊎ (result ≡ 1) ⊎ (result ≡ 2) ⊎ (result ≡ 3) ⊎ (result ≡ 4)
         ⊎ (result ≡ 5) ⊎ (result ≡ 6) ⊎ (result ≡ 7) ⊎ (result ≡ 8) }
 
     // A script is answered as its statements say, from the empty database or from where the loaded dump
     // stands, and the dump is that of where they lead.
     ensures done { result ≡ 0 → Ran (map string_bytes words.now) (F.told files.old)
-        (F.told files.new) (S.left script.old) (S.left script.new) (K.held out.old)
+        (F.told files.new) (map (λ b. (Watcher-box b).seen b.value) watchers.items)
+        (S.left script.old) (S.left script.new) (K.held out.old)
         (K.held out.new) }
-    ensures answers { result ≡ 0 → RunsSource (map string_bytes words.now) → OfStart (map string_bytes words.now) (F.told files.old)
+    ensures answers { result ≡ 0 → RunsSource (map string_bytes words.now) → OfStart
+        (map string_bytes words.now) (F.told files.old)
+        (map (λ b. (Watcher-box b).seen b.value) watchers.items)
         (λ from. AnswersScript from (S.left script.old) (K.held out.old) (K.held out.new)) }
-    ensures unseen { result ≡ 0 → RunsSource (map string_bytes words.now) → OfStart (map string_bytes words.now) (F.told files.old)
+    ensures unseen { result ≡ 0 → RunsSource (map string_bytes words.now) → OfStart
+        (map string_bytes words.now) (F.told files.old)
+        (map (λ b. (Watcher-box b).seen b.value) watchers.items)
         (λ from. MovesUnseen from (S.left script.old) (S.left script.new) (K.held out.old)
         (K.held out.new)) }
     ensures calm { result ≡ 0 → (S.faults script.new ≡ S.faults script.old)
@@ -145,6 +165,7 @@ pub fn inverda<S: Source, K: Sink, F: Files>(
 
     // Where nothing fails, the words, what is told of files, and the bytes decide the status.
     ensures complete { ToldWhole (map string_bytes words.now) (F.told files.old)
+        (map (λ b. (Watcher-box b).seen b.value) watchers.items)
         (S.left script.old) → ¬ Rose (S.faults script.old) (S.faults script.new)
         → ¬ Rose (K.faults out.old) (K.faults out.new)
         → ¬ Rose (F.faults files.old) (F.faults files.new) → (result ≡ 0) ⊎ (result ≡ 1) }
@@ -152,11 +173,14 @@ pub fn inverda<S: Source, K: Sink, F: Files>(
         → ¬ Rose (K.faults out.old) (K.faults out.new)
         → ¬ Rose (F.faults files.old) (F.faults files.new) → (result ≡ 0) ⊎ (result ≡ 1) }
     ensures stops { (at : ℕ) → Told' (map string_bytes words.now) (F.told files.old)
+        (map (λ b. (Watcher-box b).seen b.value) watchers.items)
         (S.left script.old) (Misspelled at) → ¬ Rose (S.faults script.old) (S.faults script.new)
         → ¬ Rose (K.faults out.old) (K.faults out.new)
         → ¬ Rose (F.faults files.old) (F.faults files.new) → (result ≡ 3) ⊎ (result ≡ 1) }
-    ensures passes { Told' (map string_bytes words.now) (F.told files.old) (S.left script.old) Long
-        ⊎ Told' (map string_bytes words.now) (F.told files.old) (S.left script.old) Open
+    ensures passes { Told' (map string_bytes words.now) (F.told files.old)
+        (map (λ b. (Watcher-box b).seen b.value) watchers.items) (S.left script.old) Long
+        ⊎ Told' (map string_bytes words.now) (F.told files.old)
+        (map (λ b. (Watcher-box b).seen b.value) watchers.items) (S.left script.old) Open
         → ¬ Rose (S.faults script.old) (S.faults script.new)
         → ¬ Rose (K.faults out.old) (K.faults out.new)
         → ¬ Rose (F.faults files.old) (F.faults files.new) → (result ≡ 7) ⊎ (result ≡ 1) }
@@ -178,52 +202,62 @@ pub fn inverda<S: Source, K: Sink, F: Files>(
         → (S.left script.new ≡ S.left script.old)
         × (S.faults script.new ≡ S.faults script.old) }
     ensures syntax { result ≡ 3 → OfStart (map string_bytes words.now) (F.told files.old)
+        (map (λ b. (Watcher-box b).seen b.value) watchers.items)
         (λ from. Stopped from (S.left script.old) (S.left script.new) (S.faults script.old)
         (S.faults script.new) (K.held out.old) (K.held out.new)) }
     ensures refused { result ≡ 4 → RefusedDump (map string_bytes words.now) (F.told files.old)
         (K.held out.old) (K.held out.new) }
     ensures read { result ≡ 5 → OfStart (map string_bytes words.now) (F.told files.old)
+        (map (λ b. (Watcher-box b).seen b.value) watchers.items)
         (λ from. Unread from (S.left script.old) (S.left script.new) (S.faults script.old)
         (S.faults script.new) (K.held out.old) (K.held out.new)) }
     ensures write { result ≡ 6 → Rose (K.faults out.old) (K.faults out.new) }
     ensures sink { K.faults out.new ≢ K.faults out.old → result ≡ 6 }
     ensures long { result ≡ 7 → OfStart (map string_bytes words.now) (F.told files.old)
+        (map (λ b. (Watcher-box b).seen b.value) watchers.items)
         (λ from. Passed from (S.left script.old) (S.left script.new) (S.faults script.old)
         (S.faults script.new) (K.held out.old) (K.held out.new))
         ⊎ LongLoad (map string_bytes words.now) (F.told files.old) (S.left script.old)
         (S.left script.new) (S.faults script.old) (S.faults script.new) (K.held out.old)
         (K.held out.new)
-        ⊎ LongDump (map string_bytes words.now) (F.told files.old) (S.left script.old)
+        ⊎ LongDump (map string_bytes words.now) (F.told files.old)
+        (map (λ b. (Watcher-box b).seen b.value) watchers.items) (S.left script.old)
         (S.left script.new) (S.faults script.old) (S.faults script.new) (K.held out.old)
         (K.held out.new) }
     ensures fault { result ≡ 8 → Rose (F.faults files.old) (F.faults files.new)
         × (UnreadLoad (map string_bytes words.now) (S.left script.old) (S.left script.new)
         (S.faults script.old) (S.faults script.new) (K.held out.old) (K.held out.new)
-        ⊎ UnwrittenDump (map string_bytes words.now) (F.told files.old) (S.left script.old)
+        ⊎ UnwrittenDump (map string_bytes words.now) (F.told files.old)
+        (map (λ b. (Watcher-box b).seen b.value) watchers.items) (S.left script.old)
         (S.left script.new) (S.faults script.old) (S.faults script.new) (K.held out.old)
         (K.held out.new)) }
 
     // The replies after 3, 5 and 7 are those of all bytes that the source told, up to their first fault
     // or to where they were cut off.
     ensures cut_syntax { result ≡ 3 → OfStart (map string_bytes words.now) (F.told files.old)
+        (map (λ b. (Watcher-box b).seen b.value) watchers.items)
         (λ from. StoppedOfAll from (S.left script.old) (K.held out.old) (K.held out.new)) }
     ensures cut_read { result ≡ 5 → OfStart (map string_bytes words.now) (F.told files.old)
+        (map (λ b. (Watcher-box b).seen b.value) watchers.items)
         (λ from. FirstReplies from (S.left script.old) (K.held out.old) (K.held out.new)
         (codes "read fault")) }
     ensures cut_long { result ≡ 7 → OfStart (map string_bytes words.now) (F.told files.old)
+        (map (λ b. (Watcher-box b).seen b.value) watchers.items)
         (λ from. FirstReplies from (S.left script.old) (K.held out.old) (K.held out.new)
         (codes "too long"))
         ⊎ LongLoad (map string_bytes words.now) (F.told files.old) (S.left script.old)
         (S.left script.new) (S.faults script.old) (S.faults script.new) (K.held out.old)
         (K.held out.new)
-        ⊎ LongDump (map string_bytes words.now) (F.told files.old) (S.left script.old)
+        ⊎ LongDump (map string_bytes words.now) (F.told files.old)
+        (map (λ b. (Watcher-box b).seen b.value) watchers.items) (S.left script.old)
         (S.left script.new) (S.faults script.old) (S.faults script.new) (K.held out.old)
         (K.held out.new) }
 
     // Where memory ran out or the sink failed, a front was put of what would be otherwise, by what
     // failed before.
     ensures begun { (result ≡ 1) ⊎ (result ≡ 6)
-        → Early (map string_bytes words.now) (F.told files.old) (S.left script.old)
+        → Early (map string_bytes words.now) (F.told files.old)
+        (map (λ b. (Watcher-box b).seen b.value) watchers.items) (S.left script.old)
         (S.left script.new) (S.faults script.old) (S.faults script.new) (K.held out.old)
         (K.held out.new) (F.faults files.old) (F.faults files.new) }
 
@@ -247,7 +281,7 @@ pub fn inverda<S: Source, K: Sink, F: Files>(
 {
     // That words say one thing, and so a run has one start, rests on it.
     words_say_one_thing();
-    match run(alloc, words, script, out, files) {
+    match run(alloc, words, script, out, files, watchers) {
         End::Done => 0,
         End::Memory => 1,
         End::BadWords => 2,

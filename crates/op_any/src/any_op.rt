@@ -53,6 +53,13 @@ impl AnyOp {
     {
         &self.text
     }
+
+    /// What was built from it.
+    pub fn operator(&self) -> &BuiltOp
+        ensures { built_view result.now ≡ self.now.operator }
+    {
+        &self.operator
+    }
 }
 
 impl Operator for AnyOp {

@@ -7,22 +7,22 @@ use Rattle.layout_rules.specs.Closed.{closing}
 use Rattle.statements.specs.Views.{StatementView, CreateVersion, DropVersion, Insert, Import, Update, Delete, Select, Materialize, Step, ShowLayout, Use, Session, Advise, Watch, Unwatch, Begin, Commit, Rollback}
 use Rattle.version_graph.specs.Edges.{set_named}
 use Rattle.par_base.specs.Checked.{Checked, ◌then◌}
-use Rattle.script_run.specs.AnyDatabase.{AnyDatabase}
-use Rattle.script_run.specs.SharedChecks.{known_version}
-use Rattle.script_run.specs.Reply.{Reply}
-use Rattle.script_run.specs.Reply.TheVariants.{Moved, Pending, Done as ok}
-use Rattle.script_run.specs.Laid.{Laid, moved_count}
-use Rattle.script_run.specs.EngineCoreAct.{acted_data, is_built, with_data}
-use Rattle.script_run.specs.EngineMovesAct.{pending_behind, stepped_at}
-use Rattle.script_run.specs.Moving.{Moving}
-use Rattle.script_run.specs.MigrationSides.{changing}
-use Rattle.script_run.specs.Pending.{next_flip}
-use Rattle.script_run.specs.Answer.{Answer}
-use Rattle.script_run.specs.Answer.TheVariants.{Plain}
-use Rattle.script_run.specs.SessionsStanding.{Standing, moving_in, used_by, with_use}
-use Rattle.script_run.specs.InFull.{in_full}
-use Rattle.script_run.specs.Accesses.{accessed}
-use Rattle.script_run.specs.EngineSessionsAct.{act, advice_on, answer_of, behind}
+use Rattle.engine_transactions.specs.AnyDatabase.{AnyDatabase}
+use Rattle.engine_transactions.specs.SharedChecks.{known_version}
+use Rattle.engine_transactions.specs.Reply.{Reply}
+use Rattle.engine_transactions.specs.Reply.TheVariants.{Moved, Pending, Done as ok}
+use Rattle.engine_transactions.specs.Laid.{Laid, moved_count}
+use Rattle.engine_transactions.specs.EngineCoreAct.{acted_data, is_built, with_data}
+use Rattle.engine_transactions.specs.EngineMovesAct.{pending_behind, stepped_at}
+use Rattle.engine_transactions.specs.Moving.{Moving}
+use Rattle.engine_transactions.specs.MigrationSides.{changing}
+use Rattle.engine_transactions.specs.Pending.{next_flip}
+use Rattle.engine_transactions.specs.Answer.{Answer}
+use Rattle.engine_transactions.specs.Answer.TheVariants.{Plain}
+use Rattle.engine_transactions.specs.EngineSessionsStanding.{Standing, moving_in, used_by, with_use}
+use Rattle.engine_transactions.specs.InFull.{in_full}
+use Rattle.engine_transactions.specs.Accesses.{accessed}
+use Rattle.engine_transactions.specs.EngineSessionsAct.{act, advice_on, answer_of, behind}
 use Rattle.script_laws.specs.Moves.{laid_out, tells_storage}
 
 -- the same answer or refusal, and what stands behind it under this layout

@@ -10,18 +10,18 @@ use Rattle.session_tx.specs.Commits.{read_fault, runs_of, unless}
 use Rattle.session_tx.specs.Serial.{end_of}
 use Rattle.session_tx.specs.declared.commit_fault.CommitFault.{CommitFault}
 use Rattle.layout_planner.specs.declared.planning.TableCount.{TableCount}
-use Rattle.script_run.specs.Reply.{Reply}
-use Rattle.script_run.specs.Moving.{Moving}
-use Rattle.script_run.specs.Answer.{Answer}
-use Rattle.script_run.specs.SessionsStanding.{Standing as SessionsStanding}
-use Rattle.script_run.specs.EngineSessionsAct.{act as act_beside, answer_of}
-use Rattle.script_run.specs.Laws.{CountsStay, HasCounts}
-use Rattle.script_run.proofs.CountLaws.{AreRaised, counted_raised, living_counted, raised_more}
-use Rattle.script_run.specs.TableRead.{TableRead}
-use Rattle.script_run.specs.Standing.{OpenView, Standing, TransactionView}
-use Rattle.script_run.specs.Meaning.{executing, means}
-use Rattle.script_run.specs.Act.{accesses_of, act, at_hand, at_once, begun_by, committed, committed_as, history_behind, kept_by, noted, raised_all, rolled_back, selected_by, written_by}
-use Rattle.script_run.specs.Output.{next_state, state_after}
+use Rattle.engine_transactions.specs.Reply.{Reply}
+use Rattle.engine_transactions.specs.Moving.{Moving}
+use Rattle.engine_transactions.specs.Answer.{Answer}
+use Rattle.engine_transactions.specs.EngineSessionsStanding.{Standing as SessionsStanding}
+use Rattle.engine_transactions.specs.EngineSessionsAct.{act as act_beside, answer_of}
+use Rattle.engine_transactions.specs.EngineSessionsLaws.{CountsStay, HasCounts}
+use Rattle.engine_transactions.proofs.CountLaws.{AreRaised, counted_raised, living_counted, raised_more}
+use Rattle.engine_transactions.specs.declared.table_read.TableRead.{TableRead}
+use Rattle.engine_transactions.specs.Standing.{OpenView, Standing, TransactionView}
+use Rattle.engine_transactions.specs.Meaning.{executing, means}
+use Rattle.engine_transactions.specs.Act.{accesses_of, act, at_hand, at_once, begun_by, committed, committed_as, history_behind, kept_by, noted, raised_all, rolled_back, selected_by, written_by}
+use Rattle.engine_transactions.specs.Replies.{next_state, state_after}
 use Rattle.script_laws.specs.Kept.{ScriptsKeepCounts}
 use Rattle.script_laws.proofs.RunLemmas.{Run}
 

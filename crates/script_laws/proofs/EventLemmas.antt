@@ -13,21 +13,21 @@ use Rattle.engine_statements.specs.Found.{found}
 use Rattle.session_laws.specs.Beside.{next_state as next_beside}
 use Rattle.session_laws.specs.Kept.{IsKept, StatementsKeep as StatementsKeepBeside}
 use Rattle.session_laws.specs.Written.{IsWrite, WritesAreOrdinary, WritesInFullAreOrdinary}
-use Rattle.script_run.specs.EngineMovesAct.{act as act_in_full}
-use Rattle.script_run.specs.Moving.{Moving}
-use Rattle.script_run.specs.Reply.{Reply}
-use Rattle.script_run.specs.Reply.TheVariants.{Committed, Kept}
-use Rattle.script_run.specs.Answer.{Answer}
-use Rattle.script_run.specs.Answer.TheVariants.{Plain}
-use Rattle.script_run.specs.SessionsStanding.{Standing as SessionsStanding, moving_in, used_by}
-use Rattle.script_run.specs.InFull.{in_full}
-use Rattle.script_run.specs.EngineSessionsAct.{act as act_beside, answer_of}
-use Rattle.script_run.proofs.TextLaws.{import_texts}
-use Rattle.script_run.specs.TableRead.{TableRead}
-use Rattle.script_run.specs.Standing.{OpenView, Standing, TransactionView, no_transaction, with_write}
-use Rattle.script_run.specs.Meaning.{executing, means}
-use Rattle.script_run.specs.Act.{act, at_hand, at_once, begun_by, committed, committed_as, history_behind, kept_by, named_at, noted, read_of, rolled_back, selected_by, with_transaction, written_by}
-use Rattle.script_run.specs.Output.{next_state}
+use Rattle.engine_transactions.specs.EngineMovesAct.{act as act_in_full}
+use Rattle.engine_transactions.specs.Moving.{Moving}
+use Rattle.engine_transactions.specs.Reply.{Reply}
+use Rattle.engine_transactions.specs.Reply.TheVariants.{Committed, Kept}
+use Rattle.engine_transactions.specs.Answer.{Answer}
+use Rattle.engine_transactions.specs.Answer.TheVariants.{Plain}
+use Rattle.engine_transactions.specs.EngineSessionsStanding.{Standing as SessionsStanding, moving_in, used_by}
+use Rattle.engine_transactions.specs.InFull.{in_full}
+use Rattle.engine_transactions.specs.EngineSessionsAct.{act as act_beside, answer_of}
+use Rattle.engine_transactions.proofs.TextLaws.{import_texts}
+use Rattle.engine_transactions.specs.declared.table_read.TableRead.{TableRead}
+use Rattle.engine_transactions.specs.Standing.{OpenView, Standing, TransactionView, no_transaction, with_write}
+use Rattle.engine_transactions.specs.Meaning.{executing, means}
+use Rattle.engine_transactions.specs.Act.{act, at_hand, at_once, begun_by, committed, committed_as, history_behind, kept_by, named_at, noted, read_of, rolled_back, selected_by, with_transaction, written_by}
+use Rattle.engine_transactions.specs.Replies.{next_state}
 use Rattle.script_laws.specs.Kept.{IsKeptAt, StatementsKeep}
 use Rattle.script_laws.specs.Written.{AreWrites, CommitsWrites, IsOrdinary, StatementsAreOrdinary, WritesOrKeeps}
 use Rattle.script_laws.proofs.OpenLemmas.{Fits, fit_at, fit_more, fit_with, fit_without}

@@ -1,6 +1,6 @@
 mod BesideLemmas
-mod TransactionLemmas
-pub mod MoveLaws
+pub mod RelaidLaws
+mod MoveLemmas
 mod OpenLemmas
 mod RunLemmas
 mod EventLemmas

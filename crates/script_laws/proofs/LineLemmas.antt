@@ -1,12 +1,12 @@
 -- Each statement is answered by lines.
 use Rattle.std.specs.Prelude.{Ok, Err}
 use Rattle.par_base.specs.Checked.{Checked}
-use Rattle.script_run.specs.EngineCoreLaws.{EndsLine, RefusalsAreLines}
+use Rattle.engine_transactions.specs.EngineCoreLaws.{EndsLine, RefusalsAreLines}
 use Rattle.session_laws.specs.Lines.{AnswersAreLines}
-use Rattle.script_run.specs.Answer.{Answer}
-use Rattle.script_run.specs.Act.{act}
-use Rattle.script_run.specs.Standing.{Standing}
-use Rattle.script_run.specs.Output.{text_of}
+use Rattle.engine_transactions.specs.Answer.{Answer}
+use Rattle.engine_transactions.specs.Act.{act}
+use Rattle.engine_transactions.specs.Standing.{Standing}
+use Rattle.engine_transactions.specs.Replies.{text_of}
 use Rattle.script_laws.specs.Lines.{StatementsAreAnswered}
 
 told_ends : AnswersAreLines → RefusalsAreLines → (answer : Checked (Answer × Standing)) → EndsLine (text_of answer)

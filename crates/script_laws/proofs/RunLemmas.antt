@@ -10,16 +10,16 @@ use Rattle.session_tx.specs.Commits.{results, running, runs_of, with_runs}
 use Rattle.session_tx.specs.Serial.{end_of}
 use Rattle.session_laws.specs.Kept.{IsKept}
 use Rattle.session_laws.specs.Written.{IsWriteInFull, WritesInFullAreOrdinary}
-use Rattle.script_run.specs.AnyDatabase.{AnyDatabase}
-use Rattle.script_run.specs.Undo.{acted_write}
-use Rattle.script_run.specs.Reply.{Reply}
-use Rattle.script_run.specs.Reply.TheVariants as reply
-use Rattle.script_run.specs.SessionsStanding.{Standing as SessionsStanding}
+use Rattle.engine_transactions.specs.AnyDatabase.{AnyDatabase}
+use Rattle.engine_transactions.specs.Undo.{acted_write}
+use Rattle.engine_transactions.specs.Reply.{Reply}
+use Rattle.engine_transactions.specs.Reply.TheVariants as reply
+use Rattle.engine_transactions.specs.EngineSessionsStanding.{Standing as SessionsStanding}
 use Rattle.engine_state.specs.declared.reply.WriteReply.{WriteReply}
 use Rattle.engine_state.specs.declared.reply.WriteReply.TheVariants as write
-use Rattle.script_run.specs.TableRead.{TableRead}
-use Rattle.script_run.specs.History.{has_changed}
-use Rattle.script_run.specs.Meaning.{means, write_reply}
+use Rattle.engine_transactions.specs.declared.table_read.TableRead.{TableRead}
+use Rattle.engine_transactions.specs.History.{has_changed}
+use Rattle.engine_transactions.specs.Meaning.{means, write_reply}
 use Rattle.script_laws.specs.Written.{AreWrites, reply_to}
 use Rattle.script_laws.proofs.OpenLemmas.{Fits}
 

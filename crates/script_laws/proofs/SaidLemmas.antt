@@ -6,13 +6,13 @@ use Rattle.statements.specs.Views.{StatementView, CreateVersion, DropVersion, In
 use Rattle.version_graph.specs.Sets.{Each}
 use Rattle.session_laws.specs.Beside.{next_state as next_beside, replies as replies_beside, state_after as state_beside, text_of as text_beside}
 use Rattle.session_laws.specs.Said.{AreSaid, IsSaid, Said, SaidNeedNoSession as SaidNeedBeside, nothing_said, said_after}
-use Rattle.script_run.specs.Answer.{Answer}
-use Rattle.script_run.specs.SessionsStanding.{DifferInSessions, Standing as SessionsStanding}
-use Rattle.script_run.specs.EngineSessionsAct.{act as act_beside}
-use Rattle.script_run.specs.Standing.{OpenView, Standing, open_of}
-use Rattle.script_run.specs.Begun.{begun_again}
-use Rattle.script_run.specs.Act.{act, at_hand, at_once, history_behind, selected_by, written_by}
-use Rattle.script_run.specs.Output.{next_state, replies, state_after, text_of}
+use Rattle.engine_transactions.specs.Answer.{Answer}
+use Rattle.engine_transactions.specs.EngineSessionsStanding.{DifferInSessions, Standing as SessionsStanding}
+use Rattle.engine_transactions.specs.EngineSessionsAct.{act as act_beside}
+use Rattle.engine_transactions.specs.Standing.{OpenView, Standing, open_of}
+use Rattle.engine_transactions.specs.Begun.{begun_again}
+use Rattle.engine_transactions.specs.Act.{act, at_hand, at_once, history_behind, selected_by, written_by}
+use Rattle.engine_transactions.specs.Replies.{next_state, replies, state_after, text_of}
 use Rattle.script_laws.specs.Said.{ActsAtOnce, SaidNeedNoSession}
 
 -- what it changed, and when

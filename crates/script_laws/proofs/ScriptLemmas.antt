@@ -11,8 +11,8 @@ use Rattle.bidel_script.specs.declared.tokens.Tail.{Tail}
 use Rattle.bidel_script.proofs.TextLimitsLaws.{texts_within}
 use Rattle.bidel_script.proofs.TokenLaws.{all_are_tokens, are_tokens_drop}
 use Rattle.ordinary_table.proofs.KeptLaws.{all_behind}
-use Rattle.script_run.specs.Act.{act}
-use Rattle.script_run.specs.Output.{next_state, state_after}
+use Rattle.engine_transactions.specs.Act.{act}
+use Rattle.engine_transactions.specs.Replies.{next_state, state_after}
 use Rattle.script_laws.specs.Scripts.{ScriptsAreOrdinary, ScriptsFit, ScriptsStayKept}
 use Rattle.script_laws.specs.Kept.{ScriptsKeep, StatementsKeep}
 use Rattle.script_laws.specs.Written.{StatementsAreOrdinary}

@@ -5,10 +5,10 @@ use Rattle.par_base.specs.declared.limits.Target.{Target}
 use Rattle.par_base.specs.Checked.{Checked, ◌then◌}
 use Rattle.statements.specs.Views.{Materialize}
 use Rattle.session_laws.specs.Moves.{MovesStoreNamed as MovesStoreBeside, StartsLeadToNamed as StartsLeadBeside}
-use Rattle.script_run.specs.Answer.{Answer}
-use Rattle.script_run.specs.SessionsStanding.{Standing as SessionsStanding}
-use Rattle.script_run.specs.EngineSessionsAct.{act as act_beside}
-use Rattle.script_run.specs.Standing.{Standing}
+use Rattle.engine_transactions.specs.Answer.{Answer}
+use Rattle.engine_transactions.specs.EngineSessionsStanding.{Standing as SessionsStanding}
+use Rattle.engine_transactions.specs.EngineSessionsAct.{act as act_beside}
+use Rattle.engine_transactions.specs.Standing.{Standing}
 use Rattle.script_laws.specs.Stored.{MovesStoreNamed, StartsLeadToNamed}
 
 -- a statement that changes no history

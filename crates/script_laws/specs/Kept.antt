@@ -6,10 +6,10 @@ use Rattle.statements.specs.Views.{StatementView}
 use Rattle.statements.specs.Texts.{TextsWithin}
 use Rattle.version_graph.specs.Sets.{Each}
 use Rattle.session_laws.specs.Kept.{IsKept}
-use Rattle.script_run.specs.Laws.{HasCounts}
-use Rattle.script_run.specs.Act.{act}
-use Rattle.script_run.specs.Standing.{OpenView, Standing}
-use Rattle.script_run.specs.Output.{next_state, state_after}
+use Rattle.engine_transactions.specs.EngineSessionsLaws.{HasCounts}
+use Rattle.engine_transactions.specs.Act.{act}
+use Rattle.engine_transactions.specs.Standing.{OpenView, Standing}
+use Rattle.engine_transactions.specs.Replies.{next_state, state_after}
 
 -- no text of a kept write is too long, as none of a script is
 abbrev pub KeptWritesFit : List OpenView → Type 0

@@ -1,12 +1,10 @@
 -- What moves change for their script: no reply but their own and those of SHOW LAYOUT.
-use Rattle.std.specs.Prelude.{◌≡◌, ℕ, Bool, true, not, cond, List, [], ◌∷◌, filter, Option}
-use Rattle.std.specs.Io.KnownBytes.{Consumes, Appends}
+use Rattle.std.specs.Prelude.{◌≡◌, ℕ, Bool, true, not, cond, List, [], ◌∷◌, filter}
 use Rattle.statements.specs.Views.{StatementView, ShowLayout}
-use Rattle.bidel_script.specs.Script.{IsScript}
-use Rattle.script_run.specs.Accesses.{is_move}
-use Rattle.script_run.specs.SessionsStanding.{Standing as SessionsStanding}
-use Rattle.script_run.specs.Standing.{Standing}
-use Rattle.script_run.specs.Output.{replies, joined}
+use Rattle.engine_transactions.specs.Accesses.{is_move}
+use Rattle.engine_transactions.specs.EngineSessionsStanding.{Standing as SessionsStanding}
+use Rattle.engine_transactions.specs.Standing.{Standing}
+use Rattle.engine_transactions.specs.Replies.{replies}
 
 -- whether its reply tells what is stored where
 abbrev pub tells_storage : StatementView → Bool
@@ -35,13 +33,3 @@ with_layout s layout pending = record s { sessions = laid_out s.sessions layout 
 abbrev pub MovesChangeNoReply : Type 0
 MovesChangeNoReply = (s : Standing) (layout pending : List ℕ) (statements : List StatementView)
     → heard statements (replies s statements) ≡ heard (without_moves statements) (replies (with_layout s layout pending) (without_moves statements))
-
--- the source gave a script, and the sink was given the replies to its statements; with every MATERIALIZE and every STEP struck out
--- all statements but SHOW LAYOUT have the same replies
-pub record MovesUnseen (from : Standing) (left left' held held' : Option (List ℕ)) : Type 0 where
-  pub bytes : List ℕ
-  pub statements : List StatementView
-  pub taken : Consumes left left' bytes
-  pub script : IsScript bytes statements
-  pub put : Appends held held' (joined (replies from statements))
-  pub same : heard statements (replies from statements) ≡ heard (without_moves statements) (replies from (without_moves statements))

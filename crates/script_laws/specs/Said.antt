@@ -2,9 +2,9 @@
 use Rattle.std.specs.Prelude.{◌≡◌, List, [], ⊤}
 use Rattle.statements.specs.Views.{StatementView, Begin, Commit, Rollback}
 use Rattle.session_laws.specs.Said.{AreSaid, nothing_said}
-use Rattle.script_run.specs.Standing.{Standing}
-use Rattle.script_run.specs.Begun.{DifferInSessions, begun_again}
-use Rattle.script_run.specs.Output.{replies, state_after}
+use Rattle.engine_transactions.specs.Standing.{Standing}
+use Rattle.engine_transactions.specs.Begun.{DifferInSessions, begun_again}
+use Rattle.engine_transactions.specs.Replies.{replies, state_after}
 
 -- a statement that is none of transactions
 abbrev pub ActsAtOnce : StatementView → Type 0

@@ -5,10 +5,10 @@ use Rattle.expr_lang.specs.Operations.{text_limit}
 use Rattle.statements.specs.Views.{StatementView}
 use Rattle.statements.specs.Texts.{TextsWithin}
 use Rattle.bidel_script.specs.Script.{Comes, Outcome}
-use Rattle.script_run.specs.Answer.{Answer}
-use Rattle.script_run.specs.Act.{act}
-use Rattle.script_run.specs.Standing.{Standing}
-use Rattle.script_run.specs.Output.{state_after}
+use Rattle.engine_transactions.specs.Answer.{Answer}
+use Rattle.engine_transactions.specs.Act.{act}
+use Rattle.engine_transactions.specs.Standing.{Standing}
+use Rattle.engine_transactions.specs.Replies.{state_after}
 use Rattle.script_laws.specs.Kept.{IsKeptAt}
 use Rattle.script_laws.specs.Written.{IsOrdinary}
 

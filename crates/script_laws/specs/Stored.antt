@@ -4,9 +4,9 @@ use Rattle.par_base.specs.declared.limits.Target.{Target}
 use Rattle.statements.specs.Views.{Materialize}
 use Rattle.version_graph.specs.Edges.{AreEdges}
 use Rattle.session_laws.specs.Moves.{LeadsToNamed, StoresNamed}
-use Rattle.script_run.specs.Answer.{Answer}
-use Rattle.script_run.specs.Act.{act}
-use Rattle.script_run.specs.Standing.{Standing}
+use Rattle.engine_transactions.specs.Answer.{Answer}
+use Rattle.engine_transactions.specs.Act.{act}
+use Rattle.engine_transactions.specs.Standing.{Standing}
 
 -- after each MATERIALIZE that is answered, whatever transactions are open, no data has changed, and each table that is named is stored
 abbrev pub MovesStoreNamed : Type 0

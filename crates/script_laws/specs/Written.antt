@@ -4,15 +4,15 @@ use Rattle.expr_lang.specs.Operations.{text_limit}
 use Rattle.statements.specs.Views.{StatementView, Insert, Import, Update, Delete, Commit}
 use Rattle.statements.specs.Texts.{TextsWithin}
 use Rattle.session_laws.specs.Written.{IsWrite, IsWriteInFull}
-use Rattle.script_run.specs.AnyDatabase.{AnyDatabase}
-use Rattle.script_run.specs.Reply.{Reply}
-use Rattle.script_run.specs.Reply.TheVariants.{Committed, Deleted, Inserted, Kept, Updated}
+use Rattle.engine_transactions.specs.AnyDatabase.{AnyDatabase}
+use Rattle.engine_transactions.specs.Reply.{Reply}
+use Rattle.engine_transactions.specs.Reply.TheVariants.{Committed, Deleted, Inserted, Kept, Updated}
 use Rattle.engine_state.specs.declared.reply.WriteReply.{WriteReply}
 use Rattle.engine_state.specs.declared.reply.WriteReply.TheVariants as write
-use Rattle.script_run.specs.Answer.{Answer}
-use Rattle.script_run.specs.Answer.TheVariants.{Plain}
-use Rattle.script_run.specs.Act.{act, at_hand}
-use Rattle.script_run.specs.Standing.{OpenView, Standing}
+use Rattle.engine_transactions.specs.Answer.{Answer}
+use Rattle.engine_transactions.specs.Answer.TheVariants.{Plain}
+use Rattle.engine_transactions.specs.Act.{act, at_hand}
+use Rattle.engine_transactions.specs.Standing.{OpenView, Standing}
 use Rattle.script_laws.specs.Kept.{IsKeptAt}
 
 -- a write outside a transaction is that of an ordinary database; one in a transaction is kept, and changes nothing that sessions keep

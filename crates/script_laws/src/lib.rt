@@ -9,7 +9,8 @@
 //! `specs/Scripts.antt`: each answered write is that of an ordinary database, at once or at the COMMIT of
 //! its transaction. The crate must not know how statements are written, nor of files.
 //!
-//! `proofs/MoveLaws.antt` has what the crates above may use.
+//! `proofs/RelaidLaws.antt` (one statement under another layout) and `proofs/SaidLemmas.antt` have what
+//! the crates above may use.
 #![tactic(auto)]
 
 mod laws;

@@ -4,7 +4,7 @@
 //! its rows and byte for byte; that a file that is replaced keeps its mode; that no other file is
 //! written over or left behind; and that what is no plain file can take a dump.
 
-use inverda_run::inverda;
+use crate::watching::run_watched;
 use outside::SureSource;
 use real_files::{Disk, Output};
 use std::alloc::Global;
@@ -37,7 +37,7 @@ fn run(rt: &HostRuntime, words: &[&str], script: &str) -> io::Result<()> {
     let mut source = SureSource::new(bytes);
     let mut out = Output::new(rt.stdout());
     let mut files = Disk::new(alloc, rt);
-    let status = inverda(alloc, given.as_slice(), &mut source, &mut out, &mut files);
+    let status = run_watched(alloc, given.as_slice(), &mut source, &mut out, &mut files)?;
     println!(rt; "status {status}")
 }
 

@@ -2,7 +2,7 @@
 use crate::case::{Case, words_of};
 use crate::marked::unmarked;
 use crate::spaces::Spaces;
-use inverda_run::inverda;
+use crate::watching::run_watched;
 use outside::{MemoryFiles, MemorySink, MemorySource, Source};
 use std::alloc::Global;
 use std::test::Fail;
@@ -80,8 +80,8 @@ fn run_source<S: Source>(
     let puts = vec![in alloc; case.number("put", NEVER)?]?;
     let words = words_of(alloc, words)?;
     let mut sink = MemorySink::new(alloc, room, TAKEN, puts).map_err(ran_out)?;
-    let status = inverda(alloc, words.as_slice(), source, &mut sink, files) as u64;
-    Told::new(alloc, status, sink.bytes())
+    let status = run_watched(alloc, words.as_slice(), source, &mut sink, files).map_err(ran_out)?;
+    Told::new(alloc, status as u64, sink.bytes())
 }
 
 /// Memory ran out.

@@ -14,8 +14,8 @@ use Rattle.bidel_script.proofs.ComesLaws.{something_comes}
 use Rattle.bidel_script.proofs.CutLaws.{faults_stay, fronts_come_first}
 use Rattle.bidel_script.proofs.LongLaws.{long_stays}
 use Rattle.engine_transactions.specs.EngineCoreTexts.{line}
-use Rattle.engine_transactions.specs.Standing.{Standing}
-use Rattle.script_run.specs.Output.{out}
+use Rattle.engine_feeds.specs.Standing.{Standing}
+use Rattle.engine_feeds.specs.Replies.{out}
 use Rattle.script_run.specs.Statuses.{limit, Taken, whole, early, failed, above, Stopped, Unread, Passed, StoppedOfAll, FirstReplies, fault_line}
 use Rattle.script_run.proofs.ToldLemmas.{whole_told, above_told}
 

@@ -13,8 +13,8 @@ use Rattle.bidel_script.proofs.ScriptLaws.{over_is_script}
 use Rattle.bidel_script.proofs.UniqueLaws.{one_comes}
 use Rattle.script_run.specs.Reading as reading
 use Rattle.engine_transactions.specs.EngineCoreTexts.{line}
-use Rattle.engine_transactions.specs.Standing.{Standing}
-use Rattle.script_run.specs.Output.{out}
+use Rattle.engine_feeds.specs.Standing.{Standing}
+use Rattle.engine_feeds.specs.Replies.{out}
 use Rattle.script_run.specs.Statuses as statuses
 use Rattle.script_run.specs.Statuses.{limit, Taken, whole, early, fault_line, last_line, WritesScript, Had, PutsFront, AnswersScript, Begun, BegunTaken, CutShort}
 use Rattle.script_run.specs.Calls.{RunsTo, RunsFront, RunStays, PutsLine, last_text, end_of, Ends, EndStays}

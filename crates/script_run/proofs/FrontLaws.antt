@@ -6,8 +6,8 @@ use Rattle.std.proofs.Math.Seq.{take-append-add}
 use Rattle.std.specs.Io.KnownBytes.{Appends}
 use Rattle.std.proofs.KnownBytes.{Appends-nil, Appends-trans}
 use Rattle.statements.specs.Views.{StatementView}
-use Rattle.engine_transactions.specs.Standing.{Standing}
-use Rattle.script_run.specs.Output.{out, state_after}
+use Rattle.engine_feeds.specs.Standing.{Standing}
+use Rattle.engine_feeds.specs.Replies.{out, state_after}
 use Rattle.script_run.specs.Statuses.{PutsFront}
 use Rattle.script_run.proofs.OutputLaws.{out-append}
 

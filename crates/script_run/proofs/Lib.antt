@@ -8,5 +8,3 @@ pub mod CutLaws
 pub mod EndLaws
 mod TextLemmas
 pub mod SpelledLaws
-pub use Rattle.engine_transactions.proofs.TextLaws
-pub use Rattle.engine_transactions.proofs.CountLaws

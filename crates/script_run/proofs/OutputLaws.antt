@@ -1,9 +1,9 @@
 -- The lines that answer statements, and the state behind them.
 use Rattle.std.proofs.Common.{◌≡◌, List, [], ◌∷◌, ◌++◌, ℕ, refl, sym, ap, ◌∙◌, append_assoc, append-nil}
 use Rattle.statements.specs.Views.{StatementView}
-use Rattle.engine_transactions.specs.Standing.{Standing}
-use Rattle.engine_transactions.specs.Act.{act}
-use Rattle.script_run.specs.Output.{out, replies, text_of, next_state, state_after}
+use Rattle.engine_feeds.specs.Standing.{Standing}
+use Rattle.engine_feeds.specs.Act.{act}
+use Rattle.engine_feeds.specs.Replies.{out, replies, text_of, next_state, state_after}
 
 pub state_after-more : (s : Standing) (sts : List StatementView) (st : StatementView)
     → state_after s (sts ++ st ∷ []) ≡ next_state (state_after s sts) (act (state_after s sts) st)

@@ -11,7 +11,7 @@ use Rattle.statements.specs.Views.{StatementView}
 use Rattle.bidel_script.specs.Script.{Comes, Open}
 use Rattle.script_stream.specs.Holding.{Holds, limit, place_in}
 use Rattle.script_stream.proofs.HoldLaws.{fed_size, first_ended, first_going, place_inside}
-use Rattle.engine_transactions.specs.Standing.{Standing}
+use Rattle.engine_feeds.specs.Standing.{Standing}
 use Rattle.script_run.specs.declared.stream.Stream.{Stream}
 use Rattle.script_run.specs.declared.stream.Next.TheVariants as next
 use Rattle.script_run.specs.declared.stream.Stop.{Stop}
@@ -26,9 +26,9 @@ soon_more bytes sts st (at_first short) = at_first short
 soon_more bytes sts st (behind front piece before rest split short open' same) =
     behind front piece before (rest ++ st ∷ []) split short open' (ap (λ (l : List StatementView). l ++ st ∷ []) same ∙ append_assoc before rest (st ∷ []))
 
-module _ (from : Standing) (left : Option (List ℕ)) (was : ℕ) where
+module _ {W : Type 0} (from : Standing) (left : Option (List ℕ)) (was : ℕ) where
   -- nothing was taken
-  pub reads_none : (s : Stream) → Stands from [] [] s → s.ended ≡ false → Reads from left left was was [] s
+  pub reads_none : (s : Stream W) → Stands from [] [] s → s.ended ≡ false → Reads from left left was was [] s
   reads_none s stands going = record {
     bytes = [];
     taken = record { consumed = Consumes-nil left; within = omega arith; same = refl; end = λ e. let clash : true ≡ false = sym e ∙ going in cc };
@@ -36,7 +36,7 @@ module _ (from : Standing) (left : Option (List ℕ)) (was : ℕ) where
     soon = at_first (omega arith);
   }
 
-  module _ (left' : Option (List ℕ)) (is : ℕ) (sts : List StatementView) (s : Stream) (r : Reads from left left' was is sts s) where
+  module _ (left' : Option (List ℕ)) (is : ℕ) (sts : List StatementView) (s : Stream W) (r : Reads from left left' was is sts s) where
     abbrev whole : take limit r.bytes ≡ r.bytes
     whole = take_all limit r.bytes r.taken.within
 
@@ -50,7 +50,7 @@ module _ (from : Standing) (left : Option (List ℕ)) (was : ℕ) where
     size = fed_size r.bytes sts s.input holds_all
 
   -- the statements that were answered are the first ones of the source
-  pub reads_first : (left' : Option (List ℕ)) (is : ℕ) (sts : List StatementView) (s : Stream) → Reads from left left' was is sts s → First left sts
+  pub reads_first : (left' : Option (List ℕ)) (is : ℕ) (sts : List StatementView) (s : Stream W) → Reads from left left' was is sts s → First left sts
   reads_first left' is sts s r = by left left' refl refl
     where
       by : (l l' : Option (List ℕ)) → left ≡ l → left' ≡ l' → First l sts
@@ -81,7 +81,7 @@ module _ (from : Standing) (left : Option (List ℕ)) (was : ℕ) where
 
   -- ---- what comes of the stream
 
-  module _ (left' : Option (List ℕ)) (is : ℕ) (sts : List StatementView) (old new : Stream) (r : Reads from left left' was is sts old) (same : new.ended ≡ old.ended) where
+  module _ (left' : Option (List ℕ)) (is : ℕ) (sts : List StatementView) (old new : Stream W) (r : Reads from left left' was is sts old) (same : new.ended ≡ old.ended) where
     taken_by : Taken left left' was is r.bytes new.ended
     taken_by = subst (λ (b : Bool). Taken left left' was is r.bytes b) (sym same) r.taken
 
@@ -155,7 +155,7 @@ module _ (from : Standing) (left : Option (List ℕ)) (was : ℕ) where
 
   module _ (mid left' : Option (List ℕ)) (between is : ℕ) (sts : List StatementView) where
     -- the source failed
-    pub reaches_unread : (s : Stream) → Waits from left mid was between sts s → Keeps mid left' → Rose between is → ReachesUnread left left' was is sts
+    pub reaches_unread : (s : Stream W) → Waits from left mid was between sts s → Keeps mid left' → Rose between is → ReachesUnread left left' was is sts
     reaches_unread s w keeps rose =
         let r = w.reads in
         record {
@@ -167,7 +167,7 @@ module _ (from : Standing) (left : Option (List ℕ)) (was : ℕ) where
         }
 
     -- one byte behind the limit was taken
-    pub reaches_too_many : (s : Stream) (piece : List ℕ) → Waits from left mid was between sts s → Consumes mid left' piece → is ≡ between → length piece ≡ 1
+    pub reaches_too_many : (s : Stream W) (piece : List ℕ) → Waits from left mid was between sts s → Consumes mid left' piece → is ≡ between → length piece ≡ 1
         → limit ≤ s.input.before + length s.input.bytes.items → ReachesTooMany left left' was is sts
     reaches_too_many s piece w taken same one above =
         let r = w.reads in
@@ -181,7 +181,7 @@ module _ (from : Standing) (left : Option (List ℕ)) (was : ℕ) where
           comes = subst (λ (l : List ℕ). Comes l false sts Open) (sym (take_at r.bytes piece limit all)) w.open';
         }
 
-    module _ (old new : Stream) (w : Waits from left mid was between sts old) (going : old.ended ≡ false) (same : is ≡ between) where
+    module _ (old new : Stream W) (w : Waits from left mid was between sts old) (going : old.ended ≡ false) (same : is ≡ between) where
       -- a piece was taken and fed
       pub reads_fed : (piece : List ℕ) → Consumes mid left' piece → length piece ≤ piece_limit → old.input.before + length old.input.bytes.items + length piece ≤ limit → new.ended ≡ old.ended
           → Stands from (w.reads.bytes ++ piece) sts new → Reads from left left' was is sts new
@@ -226,13 +226,13 @@ module _ (from : Standing) (left : Option (List ℕ)) (was : ℕ) where
               same = same ∙ r.taken.same;
               end = λ e. end;
             };
-            stands = subst (λ (x : Stream). Stands from r.bytes sts x) (sym told)
+            stands = subst (λ (x : Stream W). Stands from r.bytes sts x) (sym told)
                 (record { holds = r.stands.holds; passed = r.stands.passed; ends = λ e. (refl, (r.stands.ends e).1); standing = r.stands.standing });
             soon = r.soon;
           }
 
       pub less_ended : new ≡ record old { ended = true } → room_in new < room_in old
-      less_ended told = subst (λ (x : Stream). room_in x < room_in old) (sym told) (less old.ended going)
+      less_ended told = subst (λ (x : Stream W). room_in x < room_in old) (sym told) (less old.ended going)
         where
           less : (b : Bool) → b ≡ false
               → 2 * (limit - (old.input.before + length old.input.bytes.items)) + 0 + (limit - place_in old.input) < 2 * (limit - (old.input.before + length old.input.bytes.items)) + cond b 0 1 + (limit - place_in old.input)

@@ -2,10 +2,10 @@
 use Rattle.std.proofs.Common.{◌≡◌, ℕ, List, [], ◌∷◌, ◌++◌, Option, Bool, true, sym, ap, subst, ◌∙◌}
 use Rattle.std.specs.Io.KnownBytes.{Appends}
 use Rattle.std.proofs.KnownBytes.{Appends-nil, Appends-trans}
-use Rattle.engine_transactions.specs.Standing.{Standing}
-use Rattle.engine_transactions.specs.Calls.{standing_of}
+use Rattle.engine_feeds.specs.Standing.{Standing}
+use Rattle.engine_feeds.specs.Calls.{standing_of}
 use Rattle.script_run.specs.declared.stream.Stream.{Stream}
-use Rattle.script_run.specs.Output.{out, replies}
+use Rattle.engine_feeds.specs.Replies.{out, replies}
 use Rattle.script_run.specs.Statuses.{PutsFront}
 use Rattle.script_run.specs.Streams.{Replies}
 use Rattle.script_run.specs.Reading.{First, Reads}
@@ -17,13 +17,13 @@ use Rattle.script_run.proofs.FrontLaws.{puts_all, puts_behind}
 use Rattle.script_run.proofs.OutputLaws.{out-more}
 use Rattle.script_run.proofs.ReadLemmas.{less_next, reads_first, reads_next}
 
-module _ (from : Standing) (left : Option (List ℕ)) (read : ℕ) where
+module _ {W : Type 0} (from : Standing) (left : Option (List ℕ)) (read : ℕ) where
   -- before the first statement
-  pub ran_none : (stream : Stream) (held : Option (List ℕ)) → Reads from left left read read [] stream → RanSoFar from left left read read held held stream
+  pub ran_none : (stream : Stream W) (held : Option (List ℕ)) → Reads from left left read read [] stream → RanSoFar from left left read read held held stream
   unfolding replies
   ran_none stream held reads = record { statements = []; reads = reads; put = Appends-nil held }
 
-  module _ (left' : Option (List ℕ)) (read' : ℕ) (old new : Stream) (held mid : Option (List ℕ)) (r : RanSoFar from left left' read read' held mid old) where
+  module _ (left' : Option (List ℕ)) (read' : ℕ) (old new : Stream W) (held mid : Option (List ℕ)) (r : RanSoFar from left left' read read' held mid old) where
     -- ---- a statement was answered
 
     module _ (same : new.ended ≡ old.ended) (text : List ℕ) (refused : Bool) (g : Replies from r.reads.bytes r.statements old new text refused) where
@@ -49,8 +49,8 @@ module _ (from : Standing) (left : Option (List ℕ)) (read : ℕ) where
     -- ---- nothing was put
 
     -- at what stands behind the statements
-    pub ran_stops : (left2 : Option (List ℕ)) (read2 : ℕ) (l : Last) → Reached left left2 read read2 r.statements l → standing_of new.transactions ≡ standing_of old.transactions
-        → RunsTo from (standing_of new.transactions) left left2 read read2 held mid l
+    pub ran_stops : (left2 : Option (List ℕ)) (read2 : ℕ) (l : Last) → Reached left left2 read read2 r.statements l → standing_of new.watched ≡ standing_of old.watched
+        → RunsTo from (standing_of new.watched) left left2 read read2 held mid l
     ran_stops left2 read2 l reached same = record { statements = r.statements; reached = reached; put = r.put; next = same ∙ r.reads.stands.standing }
 
     -- where memory ran out
@@ -73,7 +73,7 @@ module _ (from : Standing) (left : Option (List ℕ)) (read : ℕ) where
     turn_reply same text refused g going held' was is turn.Unwritten p = (p.0, r.reads.taken.same, ran_part same text refused g held' p.1)
 
     -- a piece was taken
-    pub turn_piece : (left2 : Option (List ℕ)) (read2 : ℕ) (was is : ℕ) (t : Turn) → standing_of new.transactions ≡ standing_of old.transactions → Feeds from left left2 read read2 r.statements old new t
+    pub turn_piece : (left2 : Option (List ℕ)) (read2 : ℕ) (was is : ℕ) (t : Turn) → standing_of new.watched ≡ standing_of old.watched → Feeds from left left2 read read2 r.statements old new t
         → Turns from left left2 read read2 held mid was is old new t
     turn_piece left2 read2 was is turn.Goes same f = (ran_fed left2 read2 f.0, f.1, f.2)
     turn_piece left2 read2 was is (turn.Stops l) same f = ran_stops left2 read2 l f same

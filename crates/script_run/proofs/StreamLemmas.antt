@@ -15,16 +15,16 @@ use Rattle.script_stream.specs.Giving as input
 use Rattle.script_stream.specs.Holding.{Holds, IsInput, limit}
 use Rattle.script_stream.proofs.HoldLaws.{fed_size}
 use Rattle.par_base.specs.declared.fault.Memory.{Memory}
-use Rattle.engine_transactions.specs.declared.kept.Kept.{Kept as Transactions}
-use Rattle.engine_transactions.specs.Standing.{Standing}
-use Rattle.engine_transactions.specs.Kept.{kept_in}
-use Rattle.engine_transactions.specs.Calls.{standing_of}
-use Rattle.engine_transactions.specs.Act.{act}
+use Rattle.engine_feeds.specs.Kept.{WatchedView as Watched}
+use Rattle.engine_feeds.specs.Standing.{Standing}
+use Rattle.engine_feeds.specs.Kept.{kept_in}
+use Rattle.engine_feeds.specs.Calls.{standing_of}
+use Rattle.engine_feeds.specs.Act.{act}
 use Rattle.script_run.specs.declared.stream.Stream.{Stream}
 use Rattle.script_run.specs.declared.stream.Next.{Next}
 use Rattle.script_run.specs.declared.stream.Next.TheVariants as next
 use Rattle.script_run.specs.declared.stream.Stop.TheVariants as stop
-use Rattle.script_run.specs.Output.{next_state, state_after, text_of}
+use Rattle.engine_feeds.specs.Replies.{next_state, state_after, text_of}
 use Rattle.script_run.specs.Kept.{Keeps}
 use Rattle.script_run.specs.Streams.{Gives, IsStream, Stands, is_open_behind, is_refused}
 use Rattle.script_run.specs.Calls.{FindsNext, FindsNone, FindsStatement, IsReplyTo}
@@ -32,7 +32,7 @@ use Rattle.script_run.proofs.OutputLaws.{state_after-more}
 
 -- ---- nothing was fed
 
-pub stands_new : (s : Stream) → Holds [] [] s.input → s.input.ended ≡ false → s.passed ≡ false → Stands (standing_of s.transactions) [] [] s
+pub stands_new : {W : Type 0} → (s : Stream W) → Holds [] [] s.input → s.input.ended ≡ false → s.passed ≡ false → Stands (standing_of s.watched) [] [] s
 unfolding state_after
 stands_new s holds going within = record {
   holds = holds;
@@ -41,7 +41,7 @@ stands_new s holds going within = record {
   standing = refl;
 }
 
-module _ (from : Standing) (fed : List ℕ) (answered : List StatementView) (s : Stream) (h : Stands from fed answered s) where
+module _ {W : Type 0} (from : Standing) (fed : List ℕ) (answered : List StatementView) (s : Stream W) (h : Stands from fed answered s) where
   -- the input holds bytes within the limit
   pub its_input : IsInput s.input
   its_input = (take limit fed, answered, h.holds, omega (arith, length-take limit fed))
@@ -98,7 +98,7 @@ module _ (from : Standing) (fed : List ℕ) (answered : List StatementView) (s :
 -- ---- what the input gives
 
 module _ (fed : List ℕ) (answered : List StatementView) where
-  none_found : (from : Standing) (old : Stream) (new : Input) (f : Found) → Stands from fed answered old → (new ≡ old.input) × input.Stands (take limit fed) answered old.input f
+  none_found : {W : Type 0} → (from : Standing) (old : Stream W) (new : Input) (f : Found) → Stands from fed answered old → (new ≡ old.input) × input.Stands (take limit fed) answered old.input f
       → FindsNone fed answered old (record old { input = new }) f
   none_found from old new f h g = record {
     holds = subst (λ (x : Input). Holds (take limit fed) answered x) (sym g.0) h.holds;
@@ -107,7 +107,7 @@ module _ (fed : List ℕ) (answered : List StatementView) where
   }
 
   -- where it wasn't told its end, or the end doesn't count
-  pub finds_next : (from : Standing) (old : Stream) (new : Input) (f : Found) → Stands from fed answered old → old.ended && not old.passed ≡ false → new ≡ record old.input { used = new.used }
+  pub finds_next : {W : Type 0} → (from : Standing) (old : Stream W) (new : Input) (f : Found) → Stands from fed answered old → old.ended && not old.passed ≡ false → new ≡ record old.input { used = new.used }
       → input.Gives (take limit fed) answered old.input new f → FindsNext fed answered old (record old { input = new }) f
   finds_next from old new (found.Statement statement) h open' same g = record { given = g; ends = λ e. h.ends (sym (ap (λ (x : Input). x.ended) same) ∙ e) }
   finds_next from old new found.More h open' same g = (none_found from old new found.More h g, ap (λ (x : Input). record old { input = x }) g.0, open')
@@ -116,7 +116,7 @@ module _ (fed : List ℕ) (answered : List StatementView) where
   finds_next from old new found.Long h open' same g = none_found from old new found.Long h g
 
   -- where it was told its end before
-  pub finds_told : (from : Standing) (old : Stream) (new : Input) (f : Found) → Stands from fed answered old → (f ≡ found.More → ⊥) → new ≡ record old.input { used = new.used }
+  pub finds_told : {W : Type 0} → (from : Standing) (old : Stream W) (new : Input) (f : Found) → Stands from fed answered old → (f ≡ found.More → ⊥) → new ≡ record old.input { used = new.used }
       → input.Gives (take limit fed) answered old.input new f → FindsNext fed answered old (record old { input = new }) f
   finds_told from old new (found.Statement statement) h some same g = record { given = g; ends = λ e. h.ends (sym (ap (λ (x : Input). x.ended) same) ∙ e) }
   finds_told from old new found.More h some same g = absurd (some refl)
@@ -125,7 +125,7 @@ module _ (fed : List ℕ) (answered : List StatementView) where
   finds_told from old new found.Long h some same g = none_found from old new found.Long h g
 
   -- where it is told its end
-  module _ (from : Standing) (old : Stream) (mid new : Input) (h : Stands from fed answered old) (ended : old.ended ≡ true) (within : old.passed ≡ false) (wants : old.input.tail.last ≡ lexed.More)
+  module _ {W : Type 0} (from : Standing) (old : Stream W) (mid new : Input) (h : Stands from fed answered old) (ended : old.ended ≡ true) (within : old.passed ≡ false) (wants : old.input.tail.last ≡ lexed.More)
       (told : Refilled old.input [] true mid) where
     holds_told : Holds (take limit fed) answered mid
     holds_told = subst (λ (l : List ℕ). Holds l answered mid) (append-nil (take limit fed)) (told.holds wants (take limit fed) answered h.holds)
@@ -151,10 +151,10 @@ module _ (fed : List ℕ) (answered : List StatementView) where
 
 -- ---- what the stream gives
 
-module _ (from : Standing) (fed : List ℕ) (answered : List StatementView) (old new : Stream) (h : Stands from fed answered old) where
+module _ {W : Type 0} (from : Standing) (fed : List ℕ) (answered : List StatementView) (old new : Stream W) (h : Stands from fed answered old) where
   -- the next statement was carried out
   pub gives_reply : (statement : StatementView) (n : Next) → FindsStatement fed answered old new statement → new.passed ≡ old.passed → new.ended ≡ old.ended
-      → standing_of new.transactions ≡ next_state (standing_of old.transactions) (act (standing_of old.transactions) statement) → IsReplyTo (act (standing_of old.transactions) statement) n
+      → standing_of new.watched ≡ next_state (standing_of old.watched) (act (standing_of old.watched) statement) → IsReplyTo (act (standing_of old.watched) statement) n
       → Gives from fed answered old new n
   gives_reply statement (next.Reply text refused) found passed ended stands reply =
       record {
@@ -174,7 +174,7 @@ module _ (from : Standing) (fed : List ℕ) (answered : List StatementView) (old
   gives_reply statement (next.Stop reason) found passed ended stands reply = absurd reply
 
   -- nothing more comes: the stream differs in its input alone
-  module _ (f : Found) (none : FindsNone fed answered old new f) (passed : new.passed ≡ old.passed) (ended : new.ended ≡ old.ended) (same : new.transactions ≡ old.transactions) where
+  module _ (f : Found) (none : FindsNone fed answered old new f) (passed : new.passed ≡ old.passed) (ended : new.ended ≡ old.ended) (same : new.watched ≡ old.watched) where
     pub stands_behind : Stands from fed answered new
     stands_behind = record {
       holds = none.holds;
@@ -203,14 +203,14 @@ over_within true true h = cc
 over_within false true h = cc
 
 -- the input of a stream, where it wasn't told its end before
-pub found_by : (old : Stream) (new : Input) (r : Result Found Memory) → old.ended && not old.passed ≡ false → new ≡ record old.input { used = new.used }
+pub found_by : {W : Type 0} → (old : Stream W) (new : Input) (r : Result Found Memory) → old.ended && not old.passed ≡ false → new ≡ record old.input { used = new.used }
     → IfOk r (λ f. (all : List ℕ) (given : List StatementView) → Holds all given old.input → input.Gives all given old.input new f)
     → IfOk r (λ f. (from : Standing) (fed : List ℕ) (answered : List StatementView) → Stands from fed answered old → FindsNext fed answered old (record old { input = new }) f)
 found_by old new (Ok f) open' same gives = λ from fed answered h. finds_next fed answered from old new f h open' same (gives (take limit fed) answered h.holds)
 found_by old new (Err e) open' same gives = tt
 
 -- where it is told its end
-module _ (old : Stream) (mid new : Input) (ended : old.ended ≡ true) (within : old.passed ≡ false) (wants : old.input.tail.last ≡ lexed.More) (told : Refilled old.input [] true mid) where
+module _ {W : Type 0} (old : Stream W) (mid new : Input) (ended : old.ended ≡ true) (within : old.passed ≡ false) (wants : old.input.tail.last ≡ lexed.More) (told : Refilled old.input [] true mid) where
   pub input_told : IsStream old → IsInput mid
   input_told s = (take limit s.1, s.2, holds_told s.1 s.2 s.0 old mid mid s.3 ended within wants told, omega (arith, length-take limit s.1))
 
@@ -219,34 +219,34 @@ module _ (old : Stream) (mid new : Input) (ended : old.ended ≡ true) (within :
   last_found (Ok f) gives = λ from fed answered h. finds_last fed answered from old mid new h ended within wants told f gives
   last_found (Err e) gives = tt
 
-module _ (old mid : Stream) (same : mid ≡ record old { input = mid.input }) where
-  abbrev pub transactions_same : mid.transactions ≡ old.transactions
-  transactions_same = ap (λ (x : Stream). x.transactions) same
+module _ {W : Type 0} (old mid : Stream W) (same : mid ≡ record old { input = mid.input }) where
+  abbrev pub watched_same : mid.watched ≡ old.watched
+  watched_same = ap (λ (x : Stream W). x.watched) same
 
   abbrev passed_same : mid.passed ≡ old.passed
-  passed_same = ap (λ (x : Stream). x.passed) same
+  passed_same = ap (λ (x : Stream W). x.passed) same
 
   abbrev ended_same : mid.ended ≡ old.ended
-  ended_same = ap (λ (x : Stream). x.ended) same
+  ended_same = ap (λ (x : Stream W). x.ended) same
 
-  pub keeps_still : Keeps (kept_in old.transactions) (kept_in mid.transactions)
-  keeps_still = subst (λ (s : Transactions). Keeps (kept_in old.transactions) (kept_in s)) (sym transactions_same) (record { limit = refl; spelled = λ is. is })
+  pub keeps_still : Keeps (kept_in old.watched) (kept_in mid.watched)
+  keeps_still = subst (λ (s : Watched). Keeps (kept_in old.watched) (kept_in s)) (sym watched_same) (record { limit = refl; spelled = λ is. is })
 
   -- a statement was carried out
-  pub replies_given : (statement : StatementView) (transactions : Transactions) (r : Result Next Memory)
+  pub replies_given : (statement : StatementView) (watched : Watched) (r : Result Next Memory)
       → ((from : Standing) (fed : List ℕ) (answered : List StatementView) → Stands from fed answered old → FindsStatement fed answered old mid statement)
-      → OnOk r (standing_of transactions ≡ next_state (standing_of mid.transactions) (act (standing_of mid.transactions) statement)) → IfOk r (IsReplyTo (act (standing_of mid.transactions) statement))
-      → IfOk r (λ n. (from : Standing) (fed : List ℕ) (answered : List StatementView) → Stands from fed answered old → Gives from fed answered old (record mid { transactions = transactions }) n)
-  replies_given statement transactions (Ok n) found next reply = λ from fed answered h.
+      → OnOk r (standing_of watched ≡ next_state (standing_of mid.watched) (act (standing_of mid.watched) statement)) → IfOk r (IsReplyTo (act (standing_of mid.watched) statement))
+      → IfOk r (λ n. (from : Standing) (fed : List ℕ) (answered : List StatementView) → Stands from fed answered old → Gives from fed answered old (record mid { watched = watched }) n)
+  replies_given statement watched (Ok n) found next reply = λ from fed answered h.
       let f = found from fed answered h in
-      gives_reply from fed answered old (record mid { transactions = transactions }) h statement n (record { given = f.given; ends = f.ends }) passed_same ended_same
-      (subst (λ (s : Transactions). standing_of transactions ≡ next_state (standing_of s) (act (standing_of s) statement)) transactions_same next)
-      (subst (λ (s : Transactions). IsReplyTo (act (standing_of s) statement) n) transactions_same reply)
-  replies_given statement transactions (Err e) found next reply = tt
+      gives_reply from fed answered old (record mid { watched = watched }) h statement n (record { given = f.given; ends = f.ends }) passed_same ended_same
+      (subst (λ (s : Watched). standing_of watched ≡ next_state (standing_of s) (act (standing_of s) statement)) watched_same next)
+      (subst (λ (s : Watched). IsReplyTo (act (standing_of s) statement) n) watched_same reply)
+  replies_given statement watched (Err e) found next reply = tt
 
   module _ (from : Standing) (fed : List ℕ) (answered : List StatementView) (h : Stands from fed answered old) where
     behind : (f : Found) → FindsNone fed answered old mid f → Stands from fed answered mid
-    behind f none = stands_behind from fed answered old mid h f none passed_same ended_same transactions_same
+    behind f none = stands_behind from fed answered old mid h f none passed_same ended_same watched_same
 
     pub gives_passed : FindsNone fed answered old mid found.More → old.passed ≡ true → Gives from fed answered old mid (next.Stop stop.TooLong)
     gives_passed none passed = (behind found.More none, inr (passes_limit from fed answered old mid h passed, none.there.0))
@@ -259,7 +259,7 @@ module _ (old mid : Stream) (same : mid ≡ record old { input = mid.input }) wh
           (
             more.1,
             comes_all from fed answered old mid h false Open within none.there.0,
-            record { wants = none.there.1; within = passed_same ∙ within; unended = ended_same ∙ open'; going = ap (λ (x : Stream). x.going) same ∙ going },
+            record { wants = none.there.1; within = passed_same ∙ within; unended = ended_same ∙ open'; going = ap (λ (x : Stream W). x.going) same ∙ going },
           ),
         )
 
@@ -276,10 +276,10 @@ module _ (old mid : Stream) (same : mid ≡ record old { input = mid.input }) wh
 
 -- ---- whether it is still open
 
-going_stands : (from : Standing) (fed : List ℕ) (answered : List StatementView) (s : Stream) (b : Bool) → Stands from fed answered s → Stands from fed answered (record s { going = b })
+going_stands : {W : Type 0} → (from : Standing) (fed : List ℕ) (answered : List StatementView) (s : Stream W) (b : Bool) → Stands from fed answered s → Stands from fed answered (record s { going = b })
 going_stands from fed answered s b h = record { holds = h.holds; passed = h.passed; ends = h.ends; standing = h.standing }
 
-pub gives_going : (old mid : Stream) (r : Result Next Memory) → old.going ≡ true → IfOk r (λ n. (from : Standing) (fed : List ℕ) (answered : List StatementView) → Stands from fed answered old → Gives from fed answered old mid n)
+pub gives_going : {W : Type 0} → (old mid : Stream W) (r : Result Next Memory) → old.going ≡ true → IfOk r (λ n. (from : Standing) (fed : List ℕ) (answered : List StatementView) → Stands from fed answered old → Gives from fed answered old mid n)
     → IfOk r (λ n. (from : Standing) (fed : List ℕ) (answered : List StatementView) → Stands from fed answered old → Gives from fed answered old (record mid { going = is_open_behind r }) n)
 gives_going old mid (Ok (next.Reply text refused)) going gives = λ from fed answered h.
     let g = gives from fed answered h in
@@ -289,7 +289,7 @@ gives_going old mid (Ok next.More) going gives = λ from fed answered h.
     let awaits = g.1.2 in (
       going_stands from fed answered mid true g.0,
       (
-        ap (λ (x : Stream). record x { going = true }) g.1.0 ∙ ap (λ (b : Bool). record old { going = b }) (sym going),
+        ap (λ (x : Stream _). record x { going = true }) g.1.0 ∙ ap (λ (b : Bool). record old { going = b }) (sym going),
         g.1.1,
         record { wants = awaits.wants; within = awaits.within; unended = awaits.unended; going = refl },
       ),

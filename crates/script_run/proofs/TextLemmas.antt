@@ -3,7 +3,7 @@ use Rattle.std.proofs.Common.{List, ◌++◌, refl, ap, ◌∙◌}
 use Rattle.statements.specs.Views.{StatementView}
 use Rattle.bidel_script.specs.Script.{Outcome}
 use Rattle.bidel_script.proofs.ComesLaws.{run_is_one}
-use Rattle.script_run.specs.Output.{out}
+use Rattle.engine_feeds.specs.Replies.{out}
 use Rattle.script_run.specs.Statuses.{OneText, last_line}
 
 pub one_text : OneText

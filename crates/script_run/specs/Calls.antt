@@ -8,11 +8,11 @@ use Rattle.script_stream.specs.declared.input.Next.{Next as Found}
 use Rattle.script_stream.specs.declared.input.Next.TheVariants as found
 use Rattle.script_stream.specs.Holding.{Holds, limit, place_in}
 use Rattle.script_stream.specs.Giving.{GivesStatement, Stands as StandsInput}
-use Rattle.engine_transactions.specs.Standing.{Standing}
-use Rattle.engine_transactions.specs.Calls.{standing_of}
+use Rattle.engine_feeds.specs.Standing.{Standing}
+use Rattle.engine_feeds.specs.Calls.{standing_of}
 use Rattle.engine_transactions.specs.EngineCoreTexts.{line}
 use Rattle.engine_transactions.specs.Answer.{Answer}
-use Rattle.script_run.specs.Output.{text_of, out, state_after}
+use Rattle.engine_feeds.specs.Replies.{text_of, out, state_after}
 use Rattle.script_run.specs.Statuses.{Done, Stopped, Unread, Passed, PutsFront, CutShort, fault_line}
 use Rattle.script_run.specs.Streams.{is_refused}
 use Rattle.script_run.specs.Reading.{First, Reads, ReachesEnd, ReachesFault, ReachesLong, ReachesUnread, ReachesTooMany}
@@ -40,19 +40,19 @@ IsReplyTo answered next.End = ⊥
 IsReplyTo answered (next.Stop reason) = ⊥
 
 -- the input gave a statement
-pub record FindsStatement (fed : List ℕ) (answered : List StatementView) (old new : Stream) (statement : StatementView) : Type 0 where
+pub record FindsStatement {W : Type 0} (fed : List ℕ) (answered : List StatementView) (old new : Stream W) (statement : StatementView) : Type 0 where
   pub given : GivesStatement (take limit fed) answered old.input new.input statement
   pub ends : new.input.ended ≡ true → (old.ended ≡ true) × (old.passed ≡ false)
 
 -- it gave none, for this reason
-pub record FindsNone (fed : List ℕ) (answered : List StatementView) (old new : Stream) (found : Found) : Type 0 where
+pub record FindsNone {W : Type 0} (fed : List ℕ) (answered : List StatementView) (old new : Stream W) (found : Found) : Type 0 where
   pub holds : Holds (take limit fed) answered new.input
   pub ends : new.input.ended ≡ true → (old.ended ≡ true) × (old.passed ≡ false)
   pub there : StandsInput (take limit fed) answered new.input found
 
 -- what the input gives behind the statements that were answered; where it wants more, the stream is as it was, and the end wasn't told
 -- or doesn't count
-abbrev pub FindsNext : List ℕ → List StatementView → Stream → Stream → Found → Type 0
+abbrev pub FindsNext : {W : Type 0} → List ℕ → List StatementView → Stream W → Stream W → Found → Type 0
 FindsNext fed answered old new (found.Statement statement) = FindsStatement fed answered old new (statement_view statement)
 FindsNext fed answered old new found.More = FindsNone fed answered old new found.More × (new ≡ old) × (old.ended && not old.passed ≡ false)
 FindsNext fed answered old new f = FindsNone fed answered old new f
@@ -60,7 +60,7 @@ FindsNext fed answered old new f = FindsNone fed answered old new f
 -- ---- the source
 
 -- how much may still come of a stream: bytes up to the limit, the end, and statements
-abbrev pub room_in : Stream → ℕ
+abbrev pub room_in : {W : Type 0} → Stream W → ℕ
 room_in s = 2 * (limit - (s.input.before + length s.input.bytes.items)) + (if s.ended then 0 else 1) + (limit - place_in s.input)
 
 -- what stands behind the statements where a script goes no further
@@ -77,7 +77,7 @@ Reached left left' was is sts last.Unread = ReachesUnread left left' was is sts
 Reached left left' was is sts last.TooMany = ReachesTooMany left left' was is sts
 
 -- a piece was fed, or the end told; or no more comes of the source
-abbrev pub Feeds : Standing → Option (List ℕ) → Option (List ℕ) → ℕ → ℕ → List StatementView → Stream → Stream → Turn → Type 0
+abbrev pub Feeds : {W : Type 0} → Standing → Option (List ℕ) → Option (List ℕ) → ℕ → ℕ → List StatementView → Stream W → Stream W → Turn → Type 0
 Feeds from left left' was is sts old new turn.Goes = Reads from left left' was is sts new × (room_in new < room_in old) × (new.going ≡ true)
 Feeds from left left' was is sts old new (turn.Stops last) = Reached left left' was is sts last
 Feeds from left left' was is sts old new turn.Memory = (is ≡ was) × First left sts
@@ -99,16 +99,16 @@ pub record RunsFront (from : Standing) (left : Option (List ℕ)) (held held' : 
   pub put : PutsFront held held' (out from statements)
 
 -- statements of the source were answered, they brought the state about, and their lines were put
-pub record RanSoFar (from : Standing) (left left' : Option (List ℕ)) (read read' : ℕ) (held held' : Option (List ℕ)) (stream : Stream) : Type 0 where
+pub record RanSoFar {W : Type 0} (from : Standing) (left left' : Option (List ℕ)) (read read' : ℕ) (held held' : Option (List ℕ)) (stream : Stream W) : Type 0 where
   pub statements : List StatementView
   pub reads : Reads from left left' read read' statements stream
   pub put : Appends held held' (out from statements)
 
 -- what a turn leaves
-abbrev pub Turns : Standing → Option (List ℕ) → Option (List ℕ) → ℕ → ℕ → Option (List ℕ) → Option (List ℕ) → ℕ → ℕ → Stream → Stream → Turn → Type 0
+abbrev pub Turns : {W : Type 0} → Standing → Option (List ℕ) → Option (List ℕ) → ℕ → ℕ → Option (List ℕ) → Option (List ℕ) → ℕ → ℕ → Stream W → Stream W → Turn → Type 0
 Turns from left left' read read' held held' was is old new turn.Goes =
     RanSoFar from left left' read read' held held' new × (room_in new < room_in old) × (new.going ≡ true)
-Turns from left left' read read' held held' was is old new (turn.Stops last) = RunsTo from (standing_of new.transactions) left left' read read' held held' last
+Turns from left left' read read' held held' was is old new (turn.Stops last) = RunsTo from (standing_of new.watched) left left' read read' held held' last
 Turns from left left' read read' held held' was is old new turn.Memory = (read' ≡ read) × RunsFront from left held held'
 Turns from left left' read read' held held' was is old new turn.Unwritten = Rose was is × (read' ≡ read) × RunsFront from left held held'
 

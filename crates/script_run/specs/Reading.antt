@@ -6,7 +6,7 @@ use Rattle.statements.specs.Views.{StatementView}
 use Rattle.bidel_script.specs.Places.{place_of}
 use Rattle.bidel_script.specs.Script.{Comes, Outcome, Over, Fault, Long, Open}
 use Rattle.script_stream.specs.Holding.{limit}
-use Rattle.engine_transactions.specs.Standing.{Standing}
+use Rattle.engine_feeds.specs.Standing.{Standing}
 use Rattle.script_run.specs.declared.stream.Stream.{Stream}
 use Rattle.script_run.specs.Streams.{Stands}
 
@@ -28,14 +28,14 @@ pub record Taken (left left' : Option (List ℕ)) (was is : ℕ) (bytes : List �
   pub end : ended ≡ true → IsAtEnd left'
 
 -- from this standing on the bytes that were taken were fed, and these statements answered
-pub record Reads (from : Standing) (left left' : Option (List ℕ)) (was is : ℕ) (given : List StatementView) (s : Stream) : Type 0 where
+pub record Reads {W : Type 0} (from : Standing) (left left' : Option (List ℕ)) (was is : ℕ) (given : List StatementView) (s : Stream W) : Type 0 where
   pub bytes : List ℕ
   pub taken : Taken left left' was is bytes s.ended
   pub stands : Stands from bytes given s
   pub soon : SeenSoon bytes given
 
 -- and more bytes are wanted
-pub record Waits (from : Standing) (left left' : Option (List ℕ)) (was is : ℕ) (given : List StatementView) (s : Stream) : Type 0 where
+pub record Waits {W : Type 0} (from : Standing) (left left' : Option (List ℕ)) (was is : ℕ) (given : List StatementView) (s : Stream W) : Type 0 where
   pub reads : Reads from left left' was is given s
   pub open' : Comes reads.bytes false given Open
 

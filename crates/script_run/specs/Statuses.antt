@@ -7,8 +7,8 @@ use Rattle.bidel_script.specs.Places.{Place, place_of}
 use Rattle.bidel_script.specs.Script.{IsScript, Comes, Outcome, Over, Fault, Long, Open}
 use Rattle.script_run.specs.Reading.{SeenSoon}
 use Rattle.engine_transactions.specs.EngineCoreTexts.{line}
-use Rattle.engine_transactions.specs.Standing.{Standing}
-use Rattle.script_run.specs.Output.{out, state_after}
+use Rattle.engine_feeds.specs.Standing.{Standing}
+use Rattle.engine_feeds.specs.Replies.{out, state_after}
 
 -- the greatest number of bytes of a script
 abbrev pub limit : ℕ

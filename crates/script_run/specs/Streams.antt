@@ -7,11 +7,11 @@ use Rattle.bidel_lex.specs.declared.tokens.Lexed.TheVariants as lexed
 use Rattle.bidel_script.specs.Places.{place_of}
 use Rattle.bidel_script.specs.Script.{Comes, Over, Fault, Long, Open}
 use Rattle.script_stream.specs.Holding.{Holds, limit, place_in}
-use Rattle.engine_transactions.specs.Standing.{Standing}
-use Rattle.engine_transactions.specs.Calls.{standing_of}
-use Rattle.engine_transactions.specs.Act.{act}
+use Rattle.engine_feeds.specs.Standing.{Standing}
+use Rattle.engine_feeds.specs.Calls.{standing_of}
+use Rattle.engine_feeds.specs.Act.{act}
 use Rattle.engine_transactions.specs.Answer.{Answer}
-use Rattle.script_run.specs.Output.{text_of, state_after}
+use Rattle.engine_feeds.specs.Replies.{text_of, state_after}
 use Rattle.script_run.specs.declared.stream.Next.{Next}
 use Rattle.script_run.specs.declared.stream.Next.TheVariants as next
 use Rattle.script_run.specs.declared.stream.Stop.TheVariants as stop
@@ -24,25 +24,25 @@ is_refused (Err refusal) = true
 
 -- from this standing on these bytes were fed, and these of the statements that they fix were carried out and answered; bytes behind the
 -- limit don't count, and then the end doesn't
-pub record Stands (from : Standing) (fed : List ℕ) (answered : List StatementView) (s : Stream) : Type 0 where
+pub record Stands {W : Type 0} (from : Standing) (fed : List ℕ) (answered : List StatementView) (s : Stream W) : Type 0 where
   pub holds : Holds (take limit fed) answered s.input
   pub passed : s.passed ≡ nat_lt limit (length fed)
   pub ends : s.input.ended ≡ true → (s.ended ≡ true) × (s.passed ≡ false)
-  pub standing : standing_of s.transactions ≡ state_after from answered
+  pub standing : standing_of s.watched ≡ state_after from answered
 
 -- something was fed, from some standing on
-abbrev pub IsStream : Stream → Type 0
+abbrev pub IsStream : {W : Type 0} → Stream W → Type 0
 IsStream s = (from : Standing) × (fed : List ℕ) × (answered : List StatementView) × Stands from fed answered s
 
 -- it is open and wants more bytes
-pub record AwaitsBytes (s : Stream) : Type 0 where
+pub record AwaitsBytes {W : Type 0} (s : Stream W) : Type 0 where
   pub wants : s.input.tail.last ≡ lexed.More
   pub within : s.passed ≡ false
   pub unended : s.ended ≡ false
   pub going : s.going ≡ true
 
 -- the next statement was carried out, and this is its reply
-pub record Replies (from : Standing) (fed : List ℕ) (answered : List StatementView) (old new : Stream) (text : List ℕ) (refused : Bool) : Type 0 where
+pub record Replies {W : Type 0} (from : Standing) (fed : List ℕ) (answered : List StatementView) (old new : Stream W) (text : List ℕ) (refused : Bool) : Type 0 where
   pub statement : StatementView
   pub stands : Stands from fed (answered ++ statement ∷ []) new
   pub text_is : text ≡ text_of (act (state_after from answered) statement)
@@ -50,7 +50,7 @@ pub record Replies (from : Standing) (fed : List ℕ) (answered : List Statement
   pub on : place_in old.input < place_in new.input
 
 -- what stands behind the statements that were answered, which are all that the bytes fix
-abbrev pub StandsThere : List ℕ → List StatementView → Stream → Stream → Next → Type 0
+abbrev pub StandsThere : {W : Type 0} → List ℕ → List StatementView → Stream W → Stream W → Next → Type 0
 StandsThere fed answered old new (next.Reply text refused) = ⊥
 StandsThere fed answered old new next.More = (new ≡ old) × Comes fed false answered Open × AwaitsBytes new
 StandsThere fed answered old new next.End = Comes fed true answered Over × (old.ended ≡ true)
@@ -60,7 +60,7 @@ StandsThere fed answered old new (next.Stop stop.TooLong) =
     Comes (take limit fed) new.input.ended answered Long ⊎ ((limit < length fed) × Comes (take limit fed) false answered Open)
 
 -- what comes of a stream
-abbrev pub Gives : Standing → List ℕ → List StatementView → Stream → Stream → Next → Type 0
+abbrev pub Gives : {W : Type 0} → Standing → List ℕ → List StatementView → Stream W → Stream W → Next → Type 0
 Gives from fed answered old new (next.Reply text refused) = Replies from fed answered old new text refused
 Gives from fed answered old new n = Stands from fed answered new × StandsThere fed answered old new n
 

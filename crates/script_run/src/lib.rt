@@ -3,8 +3,8 @@
 //! A `Stream` is a script that comes in pieces, with the engine that answers it: whoever holds one open feeds pieces and takes the
 //! replies, each as soon as the pieces fix its statement (`specs/Streams.antt`), however the bytes are cut. `run_source` does so with
 //! the bytes of a source: a piece is taken only where all statements were answered that the bytes before it fix. Which statements
-//! some bytes fix, and what stands behind them, is said by `bidel_script`; `specs/Output.antt` says which lines answer statements, and
-//! which state is behind them; `specs/Statuses.antt` says how a run ends.
+//! some bytes fix, and what stands behind them, is said by `bidel_script`; `Replies` of `engine_feeds` says which lines answer statements,
+//! and which state is behind them; `specs/Statuses.antt` says how a run ends.
 //!
 //! The crates above are promised that a run that is done took a script, put exactly the lines that
 //! answer its statements and left the state behind them (`Done`); that a run which a fault, a failed
@@ -30,10 +30,7 @@ mod taking;
 mod turn;
 
 pub use end::End;
-pub use engine_transactions::{
-    Engine, Sessions, Transactions, counts_stay_beside_the_graph, named_statements_need_no_session,
-    replies_are_lines,
-};
+pub use engine_feeds::Watched;
 pub use laws::text_is_one;
 pub use source::run_source;
 pub use stream::{Next, Stop, Stream};

@@ -1,7 +1,7 @@
 //! The run of a source.
 ghost use Rattle.std.specs.Prelude.{◌≡◌, ◌≤◌, []};
-ghost use Rattle.engine_transactions.specs.Kept.{kept_in};
-ghost use Rattle.engine_transactions.specs.Calls.{standing_of};
+ghost use Rattle.engine_feeds.specs.Kept.{kept_in};
+ghost use Rattle.engine_feeds.specs.Calls.{standing_of};
 ghost use Rattle.script_run.specs.Kept.{Keeps};
 ghost use Rattle.script_run.specs.Streams.{AwaitsBytes, Stands};
 ghost use Rattle.script_run.specs.Calls.{EndStays, Ends, end_of};
@@ -11,6 +11,7 @@ use crate::run::Ran;
 use crate::script::{put_last, run_script};
 use crate::stream::Stream;
 use crate::turn::Last;
+use change_feed::Watcher;
 use outside::{Sink, Source};
 use std::alloc::Global;
 use std::marker::Brand;
@@ -37,23 +38,23 @@ fn end(ran: Ran) -> End
 ///
 /// In memory is the statement that isn't known to end, and a piece. Besides the time of its statements a run takes that of cutting
 /// each piece, with the unfinished statement before it, into tokens.
-pub fn run_source<S: Source, K: Sink>(
+pub fn run_source<W: Watcher, S: Source, K: Sink>(
     alloc: Global,
-    stream: &mut Stream,
+    stream: &mut Stream<W>,
     script: &mut S,
     out: &mut K,
 ) -> End
-    requires new { Stands (standing_of stream.old.transactions) [] [] stream.old }
+    requires new { Stands (standing_of stream.old.watched) [] [] stream.old }
     requires awaits { AwaitsBytes stream.old }
-    ensures ends { Ends (standing_of stream.old.transactions) (standing_of stream.new.transactions)
+    ensures ends { Ends (standing_of stream.old.watched) (standing_of stream.new.watched)
         (S.left script.old) (S.left script.new) (S.faults script.old) (S.faults script.new)
         (K.held out.old) (K.held out.new) (K.faults out.old) (K.faults out.new) result }
     ensures stays { EndStays (K.faults out.old) (K.faults out.new) result }
-    ensures keeps { Keeps (kept_in stream.old.transactions) (kept_in stream.new.transactions) }
+    ensures keeps { Keeps (kept_in stream.old.watched) (kept_in stream.new.watched) }
     ensures later_read { S.faults script.old ≤ S.faults script.new }
     ensures later_write { K.faults out.old ≤ K.faults out.new }
 {
-    match run_script::<S, K, Brand>(alloc, stream, script, out, Blank::new(1)) {
+    match run_script::<W, S, K, Brand>(alloc, stream, script, out, Blank::new(1)) {
         Ran::Stops(last) => end(put_last(alloc, last, out)),
         Ran::Memory => End::Memory,
         Ran::Unwritten => End::Unwritten,

@@ -2,15 +2,16 @@
 ghost use Rattle.std.specs.Prelude.{◌≡◌, ◌≤◌, ◌++◌, ◌&&◌, ℕ, List, [], not, true, false, IfOk, OnOk, OnErr};
 ghost use Rattle.statements.specs.Views.{StatementView};
 ghost use Rattle.script_stream.specs.Holding.{place_in};
-ghost use Rattle.engine_transactions.specs.Standing.{Standing};
-ghost use Rattle.engine_transactions.specs.Kept.{kept_in};
-ghost use Rattle.engine_transactions.specs.Calls.{standing_of};
+ghost use Rattle.engine_feeds.specs.Standing.{Standing};
+ghost use Rattle.engine_feeds.specs.Kept.{kept_in};
+ghost use Rattle.engine_feeds.specs.Calls.{standing_of};
 ghost use Rattle.script_run.specs.Kept.{Keeps};
 ghost use Rattle.script_run.specs.Streams.{AwaitsBytes, Gives, IsStream, Stands, is_open_behind as is_open_behind_lem};
 ghost use Rattle.script_run.specs.Calls.{FindsNext};
 
 use crate::answer::answer;
-use engine_transactions::Transactions;
+use change_feed::Watcher;
+use engine_feeds::Watched;
 use expr_lang::Steps;
 use par_base::{Memory, Text};
 use script_stream::{Input, LIMIT, Next as Found};
@@ -19,9 +20,9 @@ use std::sync::ledger::Ledger;
 
 /// A script that is fed in pieces, with the engine that carries out and answers each statement as soon as the pieces fix it.
 #[derive(Drop)]
-pub struct Stream {
+pub struct Stream<W: Watcher> {
     /// The engine, and the session in which the next statement is given.
-    pub transactions: Transactions,
+    pub watched: Watched<W>,
     /// The bytes that were fed and not yet used, with their tokens, their place, and how many stand before them.
     pub input: Input,
     /// Whether more bytes were fed than a script may have.
@@ -64,15 +65,15 @@ fn is_open_behind(next: &Result<Next, Memory>) -> bool
     }
 }
 
-impl Stream {
+impl<W: Watcher> Stream<W> {
     /// A stream to which nothing was fed, over an engine. It takes no memory.
-    pub fn new(alloc: Global, transactions: Transactions) -> Stream
-        ensures stands { Stands (standing_of result.transactions) [] [] result }
+    pub fn new(alloc: Global, watched: Watched<W>) -> Stream<W>
+        ensures stands { Stands (standing_of result.watched) [] [] result }
         ensures awaits { AwaitsBytes result }
-        ensures transactions { result.transactions ≡ transactions }
+        ensures watched { result.watched ≡ watched }
     {
         Stream {
-            transactions,
+            watched,
             input: Input::new(alloc),
             passed: false,
             ended: false,
@@ -88,10 +89,10 @@ impl Stream {
     }
 
     /// The engine, behind all statements that were answered. It does no work.
-    pub fn transactions(&self) -> &Transactions
-        ensures { result.now ≡ self.now.transactions }
+    pub fn watched(&self) -> &Watched<W>
+        ensures { result.now ≡ self.now.watched }
     {
-        &self.transactions
+        &self.watched
     }
 
     /// Feeds a piece, where all statements that the bytes before fix were answered and `next` wanted more. It takes the time of
@@ -173,14 +174,14 @@ impl Stream {
         ensures gives { IfOk result (λ next. (from : Standing) (fed : List ℕ)
             (answered : List StatementView) → Stands from fed answered self.old
             → Gives from fed answered self.old self.new next) }
-        ensures keeps { Keeps (kept_in self.old.transactions) (kept_in self.new.transactions) }
+        ensures keeps { Keeps (kept_in self.old.watched) (kept_in self.new.watched) }
         ensures same { self.new ≡ record self.old {
-          transactions = self.new.transactions;
+          watched = self.new.watched;
           input = self.new.input;
         } }
     {
         match self.find(alloc)? {
-            Found::Statement(statement) => answer(alloc, &mut self.transactions, statement, steps),
+            Found::Statement(statement) => answer(alloc, &mut self.watched, statement, steps),
             Found::More if self.passed => Ok(Next::Stop(Stop::TooLong)),
             Found::More => Ok(Next::More),
             Found::End => Ok(Next::End),
@@ -198,9 +199,9 @@ impl Stream {
             (answered : List StatementView) → Stands from fed answered self.old
             → Gives from fed answered self.old self.new next) }
         ensures open { self.new.going ≡ is_open_behind_lem result }
-        ensures keeps { Keeps (kept_in self.old.transactions) (kept_in self.new.transactions) }
+        ensures keeps { Keeps (kept_in self.old.watched) (kept_in self.new.watched) }
         ensures same { self.new ≡ record self.old {
-          transactions = self.new.transactions;
+          watched = self.new.watched;
           input = self.new.input;
           going = self.new.going;
         } }

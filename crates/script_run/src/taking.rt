@@ -2,13 +2,14 @@
 ghost use Rattle.std.specs.Prelude.{◌≡◌, ◌≤◌, ◌<◌, ◌+◌, ℕ, List, Option, length, true};
 ghost use Rattle.statements.specs.Views.{StatementView};
 ghost use Rattle.script_stream.specs.Holding.{limit};
-ghost use Rattle.engine_transactions.specs.Standing.{Standing};
+ghost use Rattle.engine_feeds.specs.Standing.{Standing};
 ghost use Rattle.script_run.specs.Streams.{AwaitsBytes, IsStream};
 ghost use Rattle.script_run.specs.Reading.{Waits, piece_limit};
 ghost use Rattle.script_run.specs.Calls.{Feeds};
 
 use crate::stream::Stream;
 use crate::turn::{Last, Turn};
+use change_feed::Watcher;
 use outside::{Failed, Source};
 use script_stream::LIMIT;
 use std::alloc::Global;
@@ -27,7 +28,12 @@ fn most_bytes(fed: usize) -> usize
 }
 
 // Takes what the source gives at once, and feeds it.
-fn take_into<S: Source>(alloc: Global, stream: &mut Stream, source: &mut S, buf: &mut [u8]) -> Turn
+fn take_into<W: Watcher, S: Source>(
+    alloc: Global,
+    stream: &mut Stream<W>,
+    source: &mut S,
+    buf: &mut [u8],
+) -> Turn
     requires stream { IsStream stream.old }
     requires awaits { AwaitsBytes stream.old }
     requires some { 0 < length buf.old }
@@ -41,7 +47,7 @@ fn take_into<S: Source>(alloc: Global, stream: &mut Stream, source: &mut S, buf:
         → Waits from left (S.left source.old) was (S.faults source.old) sts stream.old
         → Feeds from left (S.left source.new) was (S.faults source.new) sts stream.old stream.new
         result }
-    ensures transactions { stream.new.transactions ≡ stream.old.transactions }
+    ensures watched { stream.new.watched ≡ stream.old.watched }
     ensures later { S.faults source.old ≤ S.faults source.new }
 {
     let fed = stream.input.fed();
@@ -60,7 +66,11 @@ fn take_into<S: Source>(alloc: Global, stream: &mut Stream, source: &mut S, buf:
 }
 
 /// Takes a piece of at most 4,096 bytes from the source and feeds it; or tells the end, where there is none.
-pub fn take_piece<S: Source>(alloc: Global, stream: &mut Stream, source: &mut S) -> Turn
+pub fn take_piece<W: Watcher, S: Source>(
+    alloc: Global,
+    stream: &mut Stream<W>,
+    source: &mut S,
+) -> Turn
     requires stream { IsStream stream.old }
     requires awaits { AwaitsBytes stream.old }
     ensures feeds { (from : Standing) (left : Option (List ℕ)) (was : ℕ)
@@ -68,7 +78,7 @@ pub fn take_piece<S: Source>(alloc: Global, stream: &mut Stream, source: &mut S)
         → Waits from left (S.left source.old) was (S.faults source.old) sts stream.old
         → Feeds from left (S.left source.new) was (S.faults source.new) sts stream.old stream.new
         result }
-    ensures transactions { stream.new.transactions ≡ stream.old.transactions }
+    ensures watched { stream.new.watched ≡ stream.old.watched }
     ensures later { S.faults source.old ≤ S.faults source.new }
 {
     let mut piece = [0u8; PIECE];

@@ -1,13 +1,14 @@
 //! One turn: what comes of the stream is put, or a piece is fed.
 ghost use Rattle.std.specs.Prelude.{◌≡◌, ◌≤◌, ℕ, List, Option, true};
-ghost use Rattle.engine_transactions.specs.Standing.{Standing};
-ghost use Rattle.engine_transactions.specs.Kept.{kept_in};
+ghost use Rattle.engine_feeds.specs.Standing.{Standing};
+ghost use Rattle.engine_feeds.specs.Kept.{kept_in};
 ghost use Rattle.script_run.specs.Kept.{Keeps};
 ghost use Rattle.script_run.specs.Streams.{IsStream};
 ghost use Rattle.script_run.specs.Calls.{PutsReply, RanSoFar, Turns, TurnStays, last_of as last_of_lem};
 
 use crate::stream::{Next, Stop, Stream};
 use crate::taking::take_piece;
+use change_feed::Watcher;
 use expr_lang::Steps;
 use outside::{Failed, Sink, Source, write_all};
 use par_base::Text;
@@ -65,9 +66,9 @@ fn put_reply<K: Sink>(text: &Text, out: &mut K) -> Turn
 }
 
 /// Puts the reply to the next statement. Where all statements were answered that the bytes fix, a piece is taken from the source.
-pub fn take_turn<S: Source, K: Sink, L: Ledger>(
+pub fn take_turn<W: Watcher, S: Source, K: Sink, L: Ledger>(
     alloc: Global,
-    stream: &mut Stream,
+    stream: &mut Stream<W>,
     script: &mut S,
     out: &mut K,
     steps: &mut Steps<L>,
@@ -80,7 +81,7 @@ pub fn take_turn<S: Source, K: Sink, L: Ledger>(
         → Turns from left (S.left script.new) was (S.faults script.new) held (K.held out.new)
         (K.faults out.old) (K.faults out.new) stream.old stream.new result }
     ensures stays { TurnStays (K.faults out.old) (K.faults out.new) result }
-    ensures keeps { Keeps (kept_in stream.old.transactions) (kept_in stream.new.transactions) }
+    ensures keeps { Keeps (kept_in stream.old.watched) (kept_in stream.new.watched) }
     ensures later_read { S.faults script.old ≤ S.faults script.new }
     ensures later_write { K.faults out.old ≤ K.faults out.new }
 {

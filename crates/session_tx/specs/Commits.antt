@@ -80,6 +80,21 @@ LeadsCommit {S} {W} {M} {D} Stands m t old (Ok dones) = (new : Standing S M) × 
 LeadsCommit Stands m t old (Err (Refused fault)) = (commit m old t ≡ Err fault) × Stands old
 LeadsCommit Stands m t old (Err (OutOfMemory memory)) = Stands old
 
+-- ---- A COMMIT THAT IS STILL TO BE SETTLED
+
+-- the writes were run, and aren't settled
+pub record WasRunAll {S W M D : Type 0} (m : Meaning S W M D) (t : TransactionState W M) (old new : Standing S M) (dones : List D) : Type 0 where
+  pub runs : List (Ran S M D)
+  pub commits : commit m old t ≡ Ok runs
+  pub gives : dones ≡ results runs
+  pub leaves : new ≡ after_runs old runs
+
+-- the answer of such a commit from a standing, which leads to another one: it is refused exactly where the commit is, and after an error all is as before
+abbrev pub LeadsRuns : {S W M D : Type 0} → (Standing S M → Type 0) → Meaning S W M D → TransactionState W M → Standing S M → Result (List D) (Fault CommitFault) → Type 0
+LeadsRuns {S} {W} {M} {D} Stands m t old (Ok dones) = (new : Standing S M) × (WasRunAll m t old new dones × Stands new)
+LeadsRuns Stands m t old (Err (Refused fault)) = (commit m old t ≡ Err fault) × Stands old
+LeadsRuns Stands m t old (Err (OutOfMemory memory)) = Stands old
+
 -- ---- WHAT INNER CALLS DO
 
 -- the newest runs taken back, so many

@@ -53,7 +53,7 @@ pub(crate) fn run_all<E: Executor, L: Ledger>(
 }
 
 /// Takes back so many runs, the newest first. It takes no memory.
-pub(crate) fn take_back_all<E: Executor>(at: &mut E, count: usize)
+pub fn take_back_all<E: Executor>(at: &mut E, count: usize)
     requires { HasRuns (E.stands at.old) count }
     ensures { (s : Standing E.State E.Mark) → E.stands at.old s → count ≤ length s.unsettled
         → E.stands at.new (taken_back_times count s) }

@@ -130,7 +130,7 @@ module _ {O : Type 0} (meaning : O → Meaning) (laws : (o : O) → Laws (meanin
   -- ---- nothing is put
 
   abbrev none : Plan
-  none = record { stored = []; auxes = []; memories = []; ids = d.ids; changed = [] }
+  none = record { stored = []; auxes = []; memories = []; ids = d.ids; changed = []; carried = [] }
 
   still : IsPlanTo meaning d s none
   still = record {

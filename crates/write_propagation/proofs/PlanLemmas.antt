@@ -54,7 +54,7 @@ use Rattle.write_propagation.specs.Making.{IsMaking, IsPlanOf, MakesWrite, MayPl
 use Rattle.write_propagation.specs.Keys.{KeysLead}
 use Rattle.write_propagation.specs.Plans.{Plans, rows_written}
 use Rattle.write_propagation.specs.Room.{HasOld}
-use Rattle.write_propagation.specs.Told.{TellsApart, TellsChanged, has_change}
+use Rattle.write_propagation.specs.Told.{ChangesLead, TellsApart, TellsCarried, TellsChanged, has_change}
 use Rattle.changes_walk.specs.Reach.{IsWhole}
 use Rattle.changes_walk.proofs.ReachLaws.{IsInside, write_reached}
 use Rattle.write_propagation.specs.Trees.{part}
@@ -294,6 +294,18 @@ module _ {O : Type 0} (meaning : O → Meaning) (laws : (o : O) → Laws (meanin
           let makes : changed (s.tables t) last ≡ end.tables t = makes_rows t last own (is.pass t) _ (is.tables t) (ap (λ (x : State). x.tables t) is.made) in
           told (test t) (listed test t tree.tables own) (tells_apart (s.tables t) (end.tables t) last (good.sound.well.tables t).0 (is.fits t).0 old makes))
           (λ other. told false (unlisted test t tree.tables other) (same_table t other))
+
+      -- WHAT CHANGES IN THEM
+      pub tells_carried : TellsCarried meaning d w plan
+      tells_carried t i =
+          let last : List Change = latest_changes making.made.tables t in
+          let own : In t tree.tables = in_filter (λ n. has_change (latest_changes making.made.tables n)) t tree.tables (subst (λ (l : List ℕ). In t l) for.changed i) in
+          subst (λ (l : List (Numbered (List Change))). ChangesLead (s.tables t) (end.tables t) (latest_changes l t)) (sym for.carried)
+          (record {
+            rise = (is.fits t).0;
+            old = has_rows t last own (is.pass t) _ (is.tables t) (is.fits t).1;
+            new = makes_rows t last own (is.pass t) _ (is.tables t) (ap (λ (x : State). x.tables t) is.made);
+          })
 
       -- KEPT KEYS THAT WERE MADE READY LEAD TO THOSE OF THE NEW STATE
       pub keys_lead : (keys : List (Numbered KeysState)) → AreKeysOf s.tables keys → Each (IsPrepared tree.tables making.made.tables) keys → KeysLead meaning d keys plan

@@ -38,12 +38,12 @@ use Rattle.version_model.proofs.WriteLaws.{write_is_ordinary}
 use Rattle.storage_law.specs.Storage.{StandsOver, aux_of, stored_way}
 use Rattle.db_state.specs.Calls.{IsRelatedAt}
 use Rattle.db_state.specs.Fields.{IsDatabase, state_for, storage_in}
-use Rattle.db_state.specs.Parts.{MaySee, SeenWithin, passes}
+use Rattle.db_state.specs.Parts.{SeenWithin, passes}
 use Rattle.db_state.specs.declared.parts.Parts.{Parts}
 use Rattle.db_state.specs.declared.sight.Sight.{Sight}
-use Rattle.db_state.specs.declared.sight.Sight.TheVariants.{All, Of}
+use Rattle.db_state.specs.declared.sight.Sight.TheVariants.{All, Of, Part}
 use Rattle.write_propagation.specs.Calls.{CopiesTree}
-use Rattle.write_propagation.specs.Making.{CarriesWrite, CarriesWriteWithin, IsMaking, MakesWrite, MayChangeAuxAt, MayChangeAuxes, MayPlan, copied_state, first_changes, seen_write}
+use Rattle.write_propagation.specs.Making.{CarriesWrite, CarriesWriteWithin, IsMaking, MakesWrite, MayChangeAuxAt, MayChangeAuxes, MayPlan, MayShow, copied_state, first_changes, seen_write}
 use Rattle.write_propagation.specs.Plans.{rows_written}
 use Rattle.changes_walk.specs.Reach.{IsWhole}
 use Rattle.write_propagation.specs.Trees.{part}
@@ -106,9 +106,10 @@ module _ {O : Type 0} (meaning : O → Meaning) (laws : (o : O) → Laws (meanin
   abbrev ps : List (Crossing O)
   ps = path es w.set w.table tree plans.walked
 
-  seen_sound : (sight : Sight) → MaySee meaning es tree.operators sight → IsSound meaning es (part (passes sight) tree s)
+  seen_sound : (sight : Sight) → MayShow meaning es tree.operators sight → IsSound meaning es (part (passes sight) tree s)
   seen_sound All sees = all_sound meaning laws es s good.sound tree of_tree (passes All) (λ q. refl)
   seen_sound (Of ids) sees = local_sound meaning laws es s good.sound tree of_tree (passes (Of ids)) sees.1
+  seen_sound (Part ids) sees = absurd sees
 
   -- each operator of the tree relates its sides in a sound state
   related_at : (x : State) → IsSound meaning es x → (n : ℕ) → In n tree.operators → IsRelatedAt meaning es x n
@@ -122,7 +123,7 @@ module _ {O : Type 0} (meaning : O → Meaning) (laws : (o : O) → Laws (meanin
         related = each_at (λ (f : Link O). IsRelated meaning (headings es) x (crossing false f)) (forest es) l.0 l.1 sound.related;
       }
 
-  module _ (sight : Sight) (sees : MaySee meaning es tree.operators sight) (named : AllPass (passes sight) w.changes) where
+  module _ (sight : Sight) (sees : MayShow meaning es tree.operators sight) (named : AllPass (passes sight) w.changes) where
     abbrev test : ℕ → Bool
     test = passes sight
 
@@ -191,10 +192,11 @@ module _ {O : Type 0} (meaning : O → Meaning) (laws : (o : O) → Laws (meanin
           limit = was.0.3;
         }
           where
-            all_named : (sight : Sight) → MaySee meaning es tree.operators sight → AllPass (passes sight) w.changes → (made : Changing)
+            all_named : (sight : Sight) → MayShow meaning es tree.operators sight → AllPass (passes sight) w.changes → (made : Changing)
                 → ((ids : List ℕ) → AreLocal meaning ps → AllPass (has_id ids) w.changes → (t : ℕ) → AllPass (has_id ids) (latest_changes made.tables t)) → (t : ℕ) → AllPass (passes sight) (latest_changes made.tables t)
             all_named All sees named made only t = all_pass (latest_changes made.tables t)
             all_named (Of ids) sees named made only t = only ids.now (path_local es w.set w.table tree plans.walked meaning sees.1) named t
+            all_named (Part ids) sees named made only t = absurd sees
 
         -- and where it was refused
         pub making_refused : (fault : Fault IdsSpent) → CarriesWrite meaning es old w tree.operators (Err fault) → MakesWrite meaning d tree w (passes sight) (Err fault)
@@ -205,11 +207,12 @@ module _ {O : Type 0} (meaning : O → Meaning) (laws : (o : O) → Laws (meanin
     pub carry_within : (s t : ℕ) → CarriesWriteWithin meaning es w tree.operators s t → SeenWithin 6 sight (length tree.operators) s t
     carry_within s t within = of_sight sight sees named
       where
-        of_sight : (sight : Sight) → MaySee meaning es tree.operators sight → AllPass (passes sight) w.changes → SeenWithin 6 sight (length tree.operators) s t
+        of_sight : (sight : Sight) → MayShow meaning es tree.operators sight → AllPass (passes sight) w.changes → SeenWithin 6 sight (length tree.operators) s t
         of_sight All sees named = tt
         of_sight (Of ids) sees named =
             let own = within ids.now sees.0 (path_local es w.set w.table tree plans.walked meaning sees.1) named in
             subst (λ (n : ℕ). t ≤ s + 6 * (length ids.now * n)) (path_long es w.set w.table tree plans.walked) own
+        of_sight (Part ids) sees named = tt
 
     -- THE CHANGES OF AUXILIARY TABLES MAY BE TAKEN of what was made
     module _ (making : Making) (is : IsMaking meaning d tree w (passes sight) making) where

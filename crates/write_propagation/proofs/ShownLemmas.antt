@@ -26,9 +26,9 @@ use Rattle.version_graph.specs.Edges.{is_in}
 use Rattle.storage_law.proofs.CanonicalLaws.{either_way}
 use Rattle.storage_law.specs.Storage.{aux_of, stored_way}
 use Rattle.db_state.specs.Fields.{IsDatabase, state_for}
-use Rattle.db_state.specs.Parts.{AreLocalAt, MaySee, passes}
+use Rattle.db_state.specs.Parts.{AreLocalAt, passes}
 use Rattle.db_state.specs.declared.parts.Parts.{Parts}
-use Rattle.write_propagation.specs.Making.{MayPlan, seen_write}
+use Rattle.write_propagation.specs.Making.{MayPlan, MayShow, seen_write}
 use Rattle.write_propagation.specs.Plans.{rows_written}
 use Rattle.changes_walk.specs.Reach.{IsWhole}
 use Rattle.changes_walk.proofs.ReachLaws.{IsInside, each_reached, write_reached}
@@ -40,7 +40,7 @@ use Rattle.db_state.proofs.PartLaws.{only_map}
 use Rattle.write_propagation.proofs.TreeLemmas.{Agrees, all_agrees, all_rows, all_sound, local_sound, part_may, part_memory, part_table, same_pair, write_agrees}
 use Rattle.write_propagation.proofs.WholeLemmas.{path, path_inside}
 use Rattle.db_state.specs.declared.sight.Sight.{Sight}
-use Rattle.db_state.specs.declared.sight.Sight.TheVariants.{All, Of}
+use Rattle.db_state.specs.declared.sight.Sight.TheVariants.{All, Of, Part}
 
 -- where all pass, all rows do, and none fails
 all_tables : (test : ℕ → Bool) → ((q : ℕ) → test q ≡ true) → (ts : Tables) → only test ts ≡ ts
@@ -299,6 +299,7 @@ module _ {O : Type 0} (meaning : O → Meaning) (laws : (o : O) → Laws (meanin
     local_shown = record { part = of_end; rests = rests; aux_before = old_part; aux_part = made_part; aux_rests = same_rest }
 
   -- so it is of whatever is seen
-  pub shown : (sight : Sight) → MaySee meaning es tree.operators sight → AllPass (passes sight) w.changes → Shows meaning d tree w (passes sight)
+  pub shown : (sight : Sight) → MayShow meaning es tree.operators sight → AllPass (passes sight) w.changes → Shows meaning d tree w (passes sight)
   shown All sees named = all_shown (passes All) (λ q. refl)
   shown (Of ids) sees named = local_shown sees.1 (passes (Of ids)) named
+  shown (Part ids) sees named = absurd sees

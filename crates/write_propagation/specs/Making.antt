@@ -29,7 +29,10 @@ use Rattle.version_model.specs.declared.numbered.Numbered.{Numbered}
 use Rattle.storage_law.specs.Storage.{aux_of, stored_way}
 use Rattle.db_state.specs.Calls.{IsRelatedAt}
 use Rattle.db_state.specs.Fields.{IsDatabase, state_for}
+use Rattle.db_state.specs.Parts.{AreLocalAt}
 use Rattle.db_state.specs.declared.parts.Parts.{Parts}
+use Rattle.db_state.specs.declared.sight.Sight.{Sight}
+use Rattle.db_state.specs.declared.sight.Sight.TheVariants.{All, Of, Part}
 use Rattle.write_propagation.specs.Calls.{AreChangesNow, AreMemoryChangesNow, stored_in}
 use Rattle.write_propagation.specs.Plans.{rows_written}
 use Rattle.write_propagation.specs.Told.{changed_of}
@@ -49,6 +52,12 @@ pub record MayPlan {O : Type 0} (meaning : O → Meaning) (d : Parts O) (tree : 
   pub old : AreOld ((state_for meaning d).tables w.table) w.changes
   pub drawn : w.ids.next ≤ first_refused d.ids
   pub limit : w.ids.limit ≡ d.ids.limit
+
+-- what is seen is written over these operators: all rows, or a list of identifiers, where each operator treats each identifier by itself
+abbrev pub MayShow : {O : Type 0} → (O → Meaning) → List (Placed O) → List ℕ → Sight → Type 0
+MayShow meaning es ns All = ⊤
+MayShow meaning es ns (Of ids) = IdsRise 0 ids.now × AreLocalAt meaning es ns
+MayShow meaning es ns (Part ids) = ⊥
 
 -- the state after the write, of what passes the test alone
 abbrev pub seen_write : {O : Type 0} → (O → Meaning) → Parts O → Tree → RowWrite → (ℕ → Bool) → State
@@ -127,10 +136,11 @@ pub record AreAuxChanges {O : Type 0} (meaning : O → Meaning) (d : Parts O) (t
 
 -- ---- the plan
 
--- the plan of what was made: the changes of the stored tables of the tree, and of the auxiliary tables and the memories of its operators; and those of its tables that get other rows
+-- the plan of what was made: the changes of the stored tables of the tree, and of the auxiliary tables and the memories of its operators; and those of its tables that get other rows, and what was carried to them
 pub record IsPlanOf {O : Type 0} (meaning : O → Meaning) (d : Parts O) (tree : Tree) (test : ℕ → Bool) (making : Making) (plan : Plan) : Type 0 where
   pub stored : AreChangesNow making.made.tables (stored_in d tree) plan.stored
   pub auxes : AreAuxChanges meaning d test making tree.operators plan.auxes
   pub memories : AreMemoryChangesNow d.memories making.made.memories tree.operators plan.memories
   pub ids : plan.ids ≡ making.made.ids
   pub changed : plan.changed ≡ changed_of making.made.tables tree.tables
+  pub carried : plan.carried ≡ making.made.tables

@@ -34,7 +34,7 @@ pub record Puts {O : Type 0} (old : Parts O) (plan : Plan) (new : Parts O) : Typ
 
 -- the same database: only the room of its tables and memories differs
 abbrev pub IsSame : {O : Type 0} → Parts O → Parts O → Type 0
-IsSame old new = Puts old (record { stored = []; auxes = []; memories = []; ids = old.ids; changed = [] }) new
+IsSame old new = Puts old (record { stored = []; auxes = []; memories = []; ids = old.ids; changed = []; carried = [] }) new
 
 -- A WRITE, WHATEVER IS STORED: the database with the plan has the state after the model's write; it is refused exactly where the write would draw an identifier above the limit
 abbrev pub Plans : {O : Type 0} → (O → Meaning) → Parts O → ℕ → ℕ → Rows → ℕ → Result Plan (Fault IdsSpent) → Type 0

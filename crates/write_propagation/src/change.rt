@@ -24,6 +24,7 @@ pub fn commit<O: Operator + Drop>(alloc: Global, db: &mut Db<O>, plan: Plan) -> 
     ensures undoes { Undoes O.meaning db.old db.new result }
     ensures capacity { HoldsAsMuch db.old db.new }
     ensures changed { result.changed ≡ plan.changed }
+    ensures carried { result.carried ≡ plan.carried }
 {
     let parts = take_parts(alloc, db);
     let stored = change_tables(parts.stored, plan.stored);
@@ -46,6 +47,7 @@ pub fn commit<O: Operator + Drop>(alloc: Global, db: &mut Db<O>, plan: Plan) -> 
         memories: memories.back,
         ids: parts.ids,
         changed: plan.changed,
+        carried: plan.carried,
     }
 }
 

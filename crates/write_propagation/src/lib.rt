@@ -7,8 +7,8 @@
 //! back with what `commit` gave, without memory too, and the old database is there again
 //! (`specs/Undo.antt`). None of the three lessens what tables and memories can hold without memory
 //! (`specs/Capacity.antt`), so writes in a row can be taken back one after the other. A plan, and what
-//! takes it back, list the table versions that get other rows (`specs/Told.antt`). A write is carried
-//! along its own tree by its changes, and what is put in are the changes of what is kept; where every
+//! takes it back, list the table versions that get other rows, and hold their changes, stored or not
+//! (`specs/Told.antt`). A write is carried along its own tree by its changes, and what is put in are the changes of what is kept; where every
 //! operator of the tree treats each identifier by itself, it reads the rows of the identifiers that it
 //! names, and no others. The crate knows operators by their laws alone, and nothing of names in
 //! statements or of replies.
@@ -33,4 +33,5 @@ pub use change::{commit, revert};
 pub use laws::writes_stay_undoable;
 pub use planning::plan;
 pub use plans::{Plan, RowWrite};
+pub use told::is_change;
 pub use undo::Undo;

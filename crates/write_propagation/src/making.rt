@@ -4,8 +4,8 @@ ghost use Rattle.row_store.specs.Changes.{ChangesRise};
 ghost use Rattle.row_store.specs.Rows.{row_of};
 ghost use Rattle.row_changes.specs.Touched.{AllPass};
 ghost use Rattle.changes_walk.specs.Calls.{MayCarryBy};
-ghost use Rattle.db_state.specs.Parts.{passes, MaySee, SeenWithin};
-ghost use Rattle.write_propagation.specs.Making.{copied_state, first_changes, CarriesWrite, CarriesWriteWithin, MakesWrite, MayPlan};
+ghost use Rattle.db_state.specs.Parts.{passes, SeenWithin};
+ghost use Rattle.write_propagation.specs.Making.{copied_state, first_changes, CarriesWrite, CarriesWriteWithin, MakesWrite, MayPlan, MayShow};
 
 use crate::copies::{Copies, copy_tree};
 use crate::plans::RowWrite;
@@ -112,7 +112,7 @@ pub(crate) fn make_write<O: Operator, L: Ledger>(
     steps: &mut Steps<L>,
 ) -> Result<Making, Fault<IdsSpent>>
     requires may { MayPlan O.meaning db.now tree.now written }
-    requires sees { MaySee O.meaning db.now.graph.edges tree.now.operators sight }
+    requires sees { MayShow O.meaning db.now.graph.edges tree.now.operators sight }
     requires named { AllPass (passes sight) written.changes }
     requires rise { ChangesRise 0 written.changes }
     ensures makes { MakesWrite O.meaning db.now tree.now written (passes sight.entry) result }

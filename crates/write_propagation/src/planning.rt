@@ -1,22 +1,23 @@
 //! The plan of a write.
-ghost use Rattle.std.specs.Prelude.{◌≡◌, ◌+◌, ◌*◌, ◌≤◌, length, map, IfOk};
+ghost use Rattle.std.specs.Prelude.{◌≡◌, ℕ, ◌+◌, ◌*◌, ◌≤◌, true, length, map, IfOk};
 ghost use Rattle.row_store.specs.Changes.{AreOld, ChangesRise};
 ghost use Rattle.row_changes.specs.Touched.{AllPass};
 ghost use Rattle.version_graph.specs.Sets.{In};
 ghost use Rattle.version_graph.specs.Edges.{numbers};
 ghost use Rattle.op_law.specs.Calls.{first_refused};
-ghost use Rattle.op_law.specs.Identifiers.{IdsRise};
+ghost use Rattle.op_law.specs.Identifiers.{IdsRise, has_id};
 ghost use Rattle.version_model.specs.Writes.{MayWrite};
 ghost use Rattle.db_state.specs.Fields.{database_for, state_for};
 ghost use Rattle.kept_keys.specs.Kept.{AreKeysOf};
 ghost use Rattle.kept_keys.specs.Changed.{Both, IsSameKeys};
-ghost use Rattle.db_state.specs.Parts.{passes, AreLocalAt, Ascends, MaySee, SeenWithin};
+ghost use Rattle.db_state.specs.Parts.{passes, AreLocalAt, Ascends, SeenWithin};
+ghost use Rattle.db_state.specs.declared.sight.Sight.TheVariants.{Of};
 ghost use Rattle.write_propagation.specs.Bounds.{PlansWithin};
 ghost use Rattle.write_propagation.specs.Capacity.{HoldsAtLeast};
 ghost use Rattle.write_propagation.specs.Plans.{rows_written, IsSame, Plans};
 ghost use Rattle.write_propagation.specs.Room.{HasOld, IsReadyFor};
-ghost use Rattle.write_propagation.specs.Told.{TellsChanged};
-ghost use Rattle.write_propagation.specs.Making.{IsPlanOf, MayChangeAuxes, MayPlan};
+ghost use Rattle.write_propagation.specs.Told.{TellsCarried, TellsChanged};
+ghost use Rattle.write_propagation.specs.Making.{IsPlanOf, MayChangeAuxes, MayPlan, MayShow};
 ghost use Rattle.write_propagation.specs.Keys.{KeysLead};
 
 use crate::copies::kept_of;
@@ -27,7 +28,7 @@ use crate::remembering::memory_changes;
 use crate::room::make_room;
 use crate::told::changed_tables;
 use crate::tree::{Tree, tree_of};
-use db_state::{Db, Sight, sight_over};
+use db_state::{Db, Sight, are_local};
 use expr_lang::Steps;
 use kept_keys::prepare_keys;
 use op_law::Operator;
@@ -36,6 +37,7 @@ use row_store::Changes;
 use std::alloc::Global;
 use std::sync::ledger::Ledger;
 use table_keys::TableKeys;
+use version_graph::Graph;
 use version_model::Numbered;
 
 // The identifiers that the changes name.
@@ -50,6 +52,20 @@ fn named_ids(alloc: Global, changes: &Changes) -> Result<List<u64>, Memory>
     Ok(ids)
 }
 
+// These identifiers, where each of these operators treats each identifier by itself; else all rows.
+fn sight_of<'a, O: Operator>(graph: &Graph<O>, operators: &[u32], ids: &'a [u64]) -> Sight<'a>
+    requires { IdsRise 0 ids.now }
+    ensures may { MayShow O.meaning graph.now.edges operators.now result }
+    ensures seen { (id : ℕ) → has_id ids.entry.now id ≡ true → passes result id ≡ true }
+    ensures same { AreLocalAt O.meaning graph.now.edges operators.now → result ≡ Of ids.entry }
+{
+    if are_local(graph, operators) {
+        Sight::Of(ids)
+    } else {
+        Sight::All
+    }
+}
+
 // The plan of what was made of what is seen of the tree.
 fn plan_of<O: Operator, L: Ledger>(
     alloc: Global,
@@ -60,7 +76,7 @@ fn plan_of<O: Operator, L: Ledger>(
     steps: &mut Steps<L>,
 ) -> Result<Plan, Memory>
     requires ascends { Ascends sight }
-    requires sees { MaySee O.meaning db.now.graph.edges tree.now.operators sight }
+    requires sees { MayShow O.meaning db.now.graph.edges tree.now.operators sight }
     requires may { MayChangeAuxes O.meaning db.now (passes sight) making tree.now.operators }
     ensures plans { IfOk result (IsPlanOf O.meaning db.now tree.now (passes sight.entry) making) }
     ensures steps { SeenWithin 8 sight.entry (length tree.now.operators) steps.old steps.new }
@@ -82,6 +98,7 @@ fn plan_of<O: Operator, L: Ledger>(
         memories,
         ids: made.ids,
         changed,
+        carried: made.tables,
     })
 }
 
@@ -96,13 +113,14 @@ fn plan_seen<O: Operator, L: Ledger>(
     steps: &mut Steps<L>,
 ) -> Result<Plan, Fault<IdsSpent>>
     requires may { MayPlan O.meaning db.now tree.now written }
-    requires sees { MaySee O.meaning db.now.graph.edges tree.now.operators sight }
+    requires sees { MayShow O.meaning db.now.graph.edges tree.now.operators sight }
     requires named { AllPass (passes sight) written.changes }
     requires rise { ChangesRise 0 written.changes }
     requires right { AreKeysOf (state_for O.meaning db.now).tables keys.old }
     ensures plans { Plans O.meaning db.now written.set written.table
         (rows_written O.meaning db.now written) written.ids.next result }
     ensures tells { IfOk result (TellsChanged O.meaning db.now written) }
+    ensures carried { IfOk result (TellsCarried O.meaning db.now written) }
     ensures old { IfOk result (HasOld db.now) }
     ensures keys { IfOk result (KeysLead O.meaning db.now keys.new) }
     ensures kept { Both IsSameKeys keys.old keys.new }
@@ -130,6 +148,7 @@ fn plan_tree<O: Operator, L: Ledger>(
     ensures plans { Plans O.meaning db.now written.set written.table
         (rows_written O.meaning db.now written) written.ids.next result }
     ensures tells { IfOk result (TellsChanged O.meaning db.now written) }
+    ensures carried { IfOk result (TellsCarried O.meaning db.now written) }
     ensures old { IfOk result (HasOld db.now) }
     ensures keys { IfOk result (KeysLead O.meaning db.now keys.new) }
     ensures kept { Both IsSameKeys keys.old keys.new }
@@ -137,8 +156,7 @@ fn plan_tree<O: Operator, L: Ledger>(
         → steps.new ≤ steps.old + 16 * (length written.changes * length tree.now.operators) }
 {
     let ids = named_ids(alloc, &written.changes)?;
-    let named = Sight::Of(ids.as_slice());
-    let sight = sight_over(db.graph(), tree.operators.as_slice(), named);
+    let sight = sight_of(db.graph(), tree.operators.as_slice(), ids.as_slice());
     plan_seen(alloc, db, keys, tree, written, sight, steps)
 }
 
@@ -168,6 +186,7 @@ pub fn plan<O: Operator + Drop, L: Ledger>(
     ensures plans { Plans O.meaning db.new written.set written.table
         (rows_written O.meaning db.old written) written.ids.next result }
     ensures tells { IfOk result (TellsChanged O.meaning db.old written) }
+    ensures carried { IfOk result (TellsCarried O.meaning db.old written) }
     ensures ready { IfOk result (IsReadyFor db.new) }
     ensures keys { IfOk result (KeysLead O.meaning db.new keys.new) }
     ensures right { AreKeysOf (state_for O.meaning db.new).tables keys.new }

@@ -17,7 +17,8 @@ pub struct RowWrite {
 
 /// What a write puts into a database: the changes of stored tables, and of the auxiliary tables and the
 /// memories of operators, each under its number, and the counter after all that was drawn. Beside it
-/// stand the numbers of the table versions, stored or not, that get other rows by it.
+/// stand the numbers of the table versions, stored or not, that get other rows by it, and what was
+/// carried to the tables of the tree: the changes of a table version are the last under its number.
 #[derive(Drop)]
 pub struct Plan {
     pub stored: List<Numbered<Changes>>,
@@ -25,4 +26,5 @@ pub struct Plan {
     pub memories: List<Numbered<List<PairChange>>>,
     pub ids: IdCounter,
     pub changed: List<u32>,
+    pub carried: List<Numbered<Changes>>,
 }

@@ -20,7 +20,8 @@ fn is_same_cell(some: Option<&Row>, other: Option<&Row>) -> bool
     }
 }
 
-fn is_change(change: &Change) -> bool
+/// Whether a change leaves another row.
+pub fn is_change(change: &Change) -> bool
     ensures { result ≡ is_change_lem change.now }
 {
     !is_same_cell(change.old.as_ref(), change.new.as_ref())

@@ -8,10 +8,13 @@ use Rattle.version_graph.specs.Edges.{is_in, made as made_by}
 use Rattle.version_graph.specs.Forest.{Crossing, Link, crossing, forest, step_told}
 use Rattle.version_graph.specs.declared.parts.Step.{Step}
 use Rattle.row_store.specs.States.{TableState}
+use Rattle.op_law.specs.Identifiers.{has_id}
 use Rattle.op_law.specs.Meaning.{Meaning}
+use Rattle.op_law.specs.Tables.{Heading}
 use Rattle.version_model.specs.Calls.{IsCrossing}
 use Rattle.version_model.specs.Kept.{rows_now}
 use Rattle.version_model.specs.Making.{ascending}
+use Rattle.version_model.specs.States.{State, headings}
 use Rattle.version_model.specs.declared.numbered.Numbered.{Numbered}
 use Rattle.storage_law.specs.Storage.{stored_way}
 use Rattle.db_state.specs.declared.parts.Parts.{Parts}
@@ -19,9 +22,9 @@ use Rattle.db_state.specs.declared.read.Pass.{Pass}
 use Rattle.db_state.specs.Fields.{state_for}
 use Rattle.layout_rules.specs.Layouts.{IsMade, IsStored}
 use Rattle.db_state.specs.Covered.{Covers}
-use Rattle.db_state.specs.Parts.{Ascends, MaySee, SeenWithin, seen_of}
+use Rattle.db_state.specs.Parts.{Ascends, MaySee, SeenWithin, SplitsOver, seen_of}
 use Rattle.db_state.specs.declared.sight.Sight.{Sight}
-use Rattle.db_state.specs.declared.sight.Sight.TheVariants.{All, Of}
+use Rattle.db_state.specs.declared.sight.Sight.TheVariants.{All, Of, Part}
 
 -- whether a pass goes over the operator: it is one of these, and is stored on the side from which the pass comes
 abbrev pub is_passed : List ℕ → List ℕ → Bool → ℕ → Bool
@@ -52,10 +55,11 @@ abbrev pub picked : ℕ → Option (List Value) → Rows
 picked id None = []
 picked id (Some row) = (id, row) ∷ []
 
--- over the operator what is seen can be read: a list of identifiers, where it treats each identifier by itself
-abbrev pub SeesOver : Sight → Meaning → Type 0
-SeesOver All m = ⊤
-SeesOver (Of ids) m = m.is_local ≡ true
+-- over the operator what is seen of the state can be read: a list of identifiers, where it treats each identifier by itself, or where they split what it relates
+abbrev pub SeesOver : {O : Type 0} → (O → Meaning) → (ℕ → Heading) → State → Sight → Link O → Type 0
+SeesOver meaning heading s All e = ⊤
+SeesOver meaning heading s (Of ids) e = (meaning e.operator).is_local ≡ true
+SeesOver meaning heading s (Part ids) e = SplitsOver meaning heading s (has_id ids.now) e
 
 -- ---- what the calls suppose and ensure
 
@@ -75,7 +79,7 @@ pub record MayCross {O : Type 0} (meaning : O → Meaning) (p : Parts O) (sight 
   pub tells : step_told (stored_way p.layout.operators over) ≡ step
   pub near : (t : ℕ) → In t (stored_way p.layout.operators over).near → seen_of sight (rows_now p.stored made) t ≡ seen_of sight (state_for meaning p).tables t
   pub ascends : Ascends sight
-  pub sees : SeesOver sight (meaning over.operator)
+  pub sees : SeesOver meaning (headings p.graph.edges) (state_for meaning p) sight over
 
 -- the far tables of the step's crossing were read
 abbrev pub PassesOver : {O : Type 0} → (O → Meaning) → Parts O → Sight → List (Numbered TableState) → List (Numbered TableState) → Step → Type 0
@@ -85,7 +89,7 @@ PassesOver {O} meaning p sight made new step = (q : Crossing O) → IsCrossing p
 pub record MayPass {O : Type 0} (meaning : O → Meaning) (p : Parts O) (pass : Pass) (place : ℕ) (made : List (Numbered TableState)) : Type 0 where
   pub near : (f : Link O) → slice_get (ascending p.graph.edges) place ≡ Some f → is_passed p.layout.operators pass.operators.now pass.backward f.number ≡ true
       → (t : ℕ) → In t (crossing pass.backward f).near → seen_of pass.sight (rows_now p.stored made) t ≡ seen_of pass.sight (state_for meaning p).tables t
-  pub may : MaySee meaning p.graph.edges pass.operators.now pass.sight
+  pub may : MaySee meaning p.graph.edges (state_for meaning p) pass.operators.now pass.sight
 
 -- there the tables on its other side were read
 abbrev pub Passes : {O : Type 0} → (O → Meaning) → Parts O → Pass → ℕ → List (Numbered TableState) → List (Numbered TableState) → Type 0

@@ -6,11 +6,12 @@ use Rattle.version_graph.specs.declared.parts.Step.{Step}
 use Rattle.op_law.specs.Calls.{tables_of}
 use Rattle.version_model.specs.Calls.{crossing_of}
 use Rattle.version_model.specs.Kept.{rows_now}
+use Rattle.version_model.specs.States.{headings}
 use Rattle.storage_law.specs.Storage.{stored_way}
 use Rattle.db_state.specs.Fields.{state_for}
 use Rattle.db_state.specs.Parts.{seen_of}
-use Rattle.db_state.specs.inner.Passes.{SeesOver, Settles}
-use Rattle.db_state.proofs.BoundLaws.{crossed_within, seen_none}
+use Rattle.db_state.specs.inner.Passes.{Settles}
+use Rattle.db_state.proofs.BoundLaws.{LocalOver, crossed_within, local_over, seen_none}
 use Rattle.db_state.proofs.CrossLemmas.{far_long, has_aux, has_memory, may_read, near_kept, near_within, settles}
 use Rattle.db_state.proofs.read.cross.Goals as goal
 use Rattle.db_state.proofs.FoundLaws.{none_kept, same_crossing, some_kept}
@@ -87,7 +88,7 @@ returns-in_err-far-clause-steps g c =
     let q = crossing_of c.in-Some.over in
     let over = same_crossing c.graph.result.now p.graph c.graph.ensures.graph c.args.step q (stored_way p.layout.operators e) c.in-Some.ensures c.requires.crosses c.requires.tells in
     let near = near_kept c.args.sight c.stored.result.now p.stored c.as_slice.result.now c.args.made.now c.in_ok-near.near q.near c.in_ok-near.ensures c.stored.ensures c.as_slice.ensures in
-    let sees = subst (λ (x : Crossing _). SeesOver c.args.sight (g.O.Operator.meaning x.operator)) (sym over) c.requires.sees in
+    let sees = subst (λ (x : Crossing _). LocalOver c.args.sight (g.O.Operator.meaning x.operator)) (sym over) (local_over g.O.Operator.meaning (headings p.graph.edges) (state_for g.O.Operator.meaning p) c.args.sight e c.requires.sees) in
     crossed_within c.args.sight (g.O.Operator.meaning q.operator) q.backward (rows_now p.stored c.args.made.now) q.near c.in_ok-near.near (tables_of c.in-Some-value_of.aux.now) (tables_of c.in_ok-beside.beside) c.args.steps.now c.read_far.new.steps c.requires.ascends sees
     near c.in_ok-beside.ensures c.in_err-far.ensures.steps
 
@@ -98,7 +99,7 @@ returns-in_err-put_side-clause-steps g c =
     let q = crossing_of c.in-Some.over in
     let over = same_crossing c.graph.result.now p.graph c.graph.ensures.graph c.args.step q (stored_way p.layout.operators e) c.in-Some.ensures c.requires.crosses c.requires.tells in
     let near = near_kept c.args.sight c.stored.result.now p.stored c.as_slice.result.now c.args.made.now c.in_ok-near.near q.near c.in_ok-near.ensures c.stored.ensures c.as_slice.ensures in
-    let sees = subst (λ (x : Crossing _). SeesOver c.args.sight (g.O.Operator.meaning x.operator)) (sym over) c.requires.sees in
+    let sees = subst (λ (x : Crossing _). LocalOver c.args.sight (g.O.Operator.meaning x.operator)) (sym over) (local_over g.O.Operator.meaning (headings p.graph.edges) (state_for g.O.Operator.meaning p) c.args.sight e c.requires.sees) in
     crossed_within c.args.sight (g.O.Operator.meaning q.operator) q.backward (rows_now p.stored c.args.made.now) q.near c.in_ok-near.near (tables_of c.in-Some-value_of.aux.now) (tables_of c.in_ok-beside.beside) c.args.steps.now c.read_far.new.steps c.requires.ascends sees
     near c.in_ok-beside.ensures c.in_ok-far.ensures.steps
 
@@ -109,7 +110,7 @@ returns-clause-steps g c =
     let q = crossing_of c.in-Some.over in
     let over = same_crossing c.graph.result.now p.graph c.graph.ensures.graph c.args.step q (stored_way p.layout.operators e) c.in-Some.ensures c.requires.crosses c.requires.tells in
     let near = near_kept c.args.sight c.stored.result.now p.stored c.as_slice.result.now c.args.made.now c.in_ok-near.near q.near c.in_ok-near.ensures c.stored.ensures c.as_slice.ensures in
-    let sees = subst (λ (x : Crossing _). SeesOver c.args.sight (g.O.Operator.meaning x.operator)) (sym over) c.requires.sees in
+    let sees = subst (λ (x : Crossing _). LocalOver c.args.sight (g.O.Operator.meaning x.operator)) (sym over) (local_over g.O.Operator.meaning (headings p.graph.edges) (state_for g.O.Operator.meaning p) c.args.sight e c.requires.sees) in
     crossed_within c.args.sight (g.O.Operator.meaning q.operator) q.backward (rows_now p.stored c.args.made.now) q.near c.in_ok-near.near (tables_of c.in-Some-value_of.aux.now) (tables_of c.in_ok-beside.beside) c.args.steps.now c.read_far.new.steps c.requires.ascends sees
     near c.in_ok-beside.ensures c.in_ok-far.ensures.steps
 

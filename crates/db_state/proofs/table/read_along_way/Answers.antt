@@ -6,7 +6,7 @@ use Rattle.op_law.specs.Local.{rows_only}
 use Rattle.row_store.specs.Rows.{Rows}
 use Rattle.version_model.specs.Kept.{rows_now}
 use Rattle.db_state.specs.Fields.{state_for}
-use Rattle.db_state.specs.Parts.{AreLocalAt, passes}
+use Rattle.db_state.specs.Parts.{AreLocalAt, MaySee, passes}
 use Rattle.db_state.proofs.PartLaws.{rows_within}
 use Rattle.db_state.proofs.StoredLemmas.{unstored_rows}
 use Rattle.db_state.proofs.WayLemmas.{way_covers, way_covers_itself, way_listed, within_way}
@@ -18,6 +18,14 @@ read_over-requires-clause-covers g c =
     let kept = c.graph.ensures.kept in
     let listed = way_listed p.graph.edges _ p.layout.operators _ c.args.table c.in_ok-operators.operators c.as_slice-2.result.now (ap (λ (d : Drawn _). d.edges) c.graph.ensures.graph) (ap (λ l. l.operators) c.layout.ensures) c.as_slice-2.ensures c.in_ok-operators.ensures.way in
     way_covers_itself (forest p.graph.edges) (is_forest p.graph.edges kept.graph.edges) p.layout.operators kept.valid c.args.table c.as_slice-2.result.now (λ n. (listed n).0) (λ n. (listed n).1)
+
+pub read_over-requires-clause-may : goal.read_over-requires-clause-may
+read_over-requires-clause-may g c =
+    let p = c.args.db.now in
+    let meaning = g.O.Operator.meaning in
+    let s = state_for meaning p in
+    subst (λ (ns : List ℕ). MaySee meaning p.graph.edges s ns c.sight_over-wider.result) (c.as_slice.ensures ∙ sym c.as_slice-2.ensures)
+    (subst (λ (d : Drawn _). MaySee meaning d.edges s c.as_slice.result.now c.sight_over-wider.result) c.graph-2.ensures.graph (c.sight_over-wider.ensures.may s))
 
 pub returns-clause-seen : goal.returns-clause-seen
 returns-clause-seen g c =

@@ -1,6 +1,7 @@
 use Rattle.std.proofs.Common.{◌≡◌, ℕ, List, ◌++◌, length, take, drop, Ok, Err, refl, ap, sym, subst, ◌∙◌}
 use Rattle.std.proofs.lemmas.List.{take_at}
 use Rattle.std.proofs.lemmas.Result.{err_from_is_err_and}
+use Rattle.row_store.specs.declared.change.Change.{Change}
 use Rattle.op_any.specs.Operators.{any_meaning}
 use Rattle.version_graph.specs.Sets.{Each}
 use Rattle.version_model.specs.Databases.{Writes}
@@ -12,7 +13,7 @@ use Rattle.kept_keys.specs.Kept.{AreKeysOf}
 use Rattle.engine_state.specs.AnyDatabase.{AnyDatabase}
 use Rattle.write_propagation.specs.Plans.{rows_written}
 use Rattle.version_graph.specs.Edges.{is_in}
-use Rattle.write_propagation.specs.Told.{TellsApart}
+use Rattle.write_propagation.specs.Told.{CarriedLead, TellsApart}
 use Rattle.write_propagation.proofs.HoldLaws.{holds_enough, holds_more}
 use Rattle.write_propagation.proofs.UndoLaws.{undoes_before}
 use Rattle.write_propagation.proofs.PlanLaws.{may_commit, puts_layout}
@@ -95,6 +96,10 @@ returns-clause-leaves g c =
         changed = λ t.
             subst (λ (l : List ℕ). TellsApart ((database_for any_meaning d).state.tables t) ((database_for any_meaning new).state.tables t) (is_in t l)) (sym c.commit-undo.ensures.changed)
             (subst (λ (x : AnyDatabase). TellsApart ((database_for any_meaning d).state.tables t) (x.state.tables t) (is_in t c.in_ok-plan.plan.changed)) (sym wrote.1) (c.in_ok-plan.ensures.tells t));
+        carried =
+            subst (λ (l : List ℕ). CarriedLead (database_for any_meaning d).state.tables (database_for any_meaning new).state.tables l undo.carried) (sym c.commit-undo.ensures.changed)
+            (subst (λ (l : List (Numbered (List Change))). CarriedLead (database_for any_meaning d).state.tables (database_for any_meaning new).state.tables c.in_ok-plan.plan.changed l) (sym c.commit-undo.ensures.carried)
+            (subst (λ (x : AnyDatabase). CarriedLead (database_for any_meaning d).state.tables x.state.tables c.in_ok-plan.plan.changed c.in_ok-plan.plan.carried) (sym wrote.1) c.in_ok-plan.ensures.carried));
       },
       holds_more d mid new c.in_ok-plan.ensures.capacity (holds_enough mid new c.commit-undo.ensures.capacity),
     )

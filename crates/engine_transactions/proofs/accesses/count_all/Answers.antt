@@ -1,6 +1,6 @@
 -- The tables that were read, and then those that are written.
 use Rattle.std.specs.Prelude.{filter_map, IfOk}
-use Rattle.std.proofs.Common.{◌≡◌, ◌++◌, ℕ, List, map, sym, ap, subst, ◌∙◌}
+use Rattle.std.proofs.Common.{◌≡◌, ◌++◌, ℕ, List, map, ap, subst, ◌∙◌}
 use Rattle.op_any.specs.Operators.{any_meaning}
 use Rattle.statements.specs.Views.{statement_view}
 use Rattle.statements.specs.declared.statement.Statement.{Statement}

@@ -1,5 +1,5 @@
 -- The name that went has the next number.
-use Rattle.std.proofs.Common.{ℕ, ◌≤◌, List, Ok, refl, sym, ap, subst, ◌∙◌}
+use Rattle.std.proofs.Common.{ℕ, ◌≤◌, Ok, refl, sym, ap, subst, ◌∙◌}
 use Rattle.session_tx.specs.Calls.{last_number}
 use Rattle.statements.specs.Views.{DropVersion}
 use Rattle.engine_sessions.specs.Standing.{standing_of}

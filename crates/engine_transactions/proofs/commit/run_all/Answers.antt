@@ -1,28 +1,27 @@
-use Rattle.std.proofs.Common.{◌∙◌, refl, sym, subst}
+-- The writes were run from where nothing is unsettled.
+use Rattle.std.proofs.Common.{subst}
 use Rattle.op_any.specs.Operators.{AnyView}
 use Rattle.db_state.specs.declared.parts.Parts.{Parts}
 use Rattle.version_graph.specs.Edges.{AreEdges}
 use Rattle.engine_transactions.specs.Calls.{executed}
+use Rattle.engine_transactions.specs.Opens.{transaction_view}
 use Rattle.engine_transactions.proofs.CommitLemmas.{shows_executed}
-use Rattle.engine_transactions.proofs.WroteLemmas.{AllLeft, all_left}
+use Rattle.engine_transactions.proofs.RunLemmas.{AllRun, all_run}
 use Rattle.engine_transactions.proofs.commit.run_all.Goals as goal
 
-pub commit_all-requires : goal.commit_all-requires
-commit_all-requires g c = (executed c.args.at.now, (shows_executed c.args.at.now c.requires, refl))
+pub run_commit-requires : goal.run_commit-requires
+run_commit-requires g c = (executed c.args.at.now, shows_executed c.args.at.now c.requires)
 
-left : (g : _) (c : goal.After-commit_all g) → AllLeft c.args.transaction.now c.args.at.now c.commit_all.new.at c.commit_all.result
-left g c =
+ran : (g : _) (c : goal.After-run_commit g) → AllRun (transaction_view c.args.transaction.now) c.args.at.now c.run_commit.new.at c.run_commit.result
+ran g c =
     let edges = subst (λ (p : Parts AnyView). AreEdges p.graph.edges) c.engine.ensures c.versions_always_agree.ensures.graph.edges in
-    all_left c.args.at.now c.commit_all.new.at c.requires edges c.args.transaction.now c.commit_all.result c.commit_all.ensures
+    all_run c.args.at.now c.run_commit.new.at c.requires edges c.args.transaction.now c.run_commit.result c.run_commit.ensures
 
-pub returns-clause-commits : goal.returns-clause-commits
-returns-clause-commits g c = (left g c).commits
+pub returns-clause-runs : goal.returns-clause-runs
+returns-clause-runs g c = (ran g c).runs
 
 pub returns-clause-same : goal.returns-clause-same
-returns-clause-same g c = (left g c).same
-
-pub returns-clause-keeps : goal.returns-clause-keeps
-returns-clause-keeps g c = (left g c).keeps
+returns-clause-same g c = (ran g c).same
 
 pub returns-clause-idle : goal.returns-clause-idle
-returns-clause-idle g c = (left g c).idle
+returns-clause-idle g c = (ran g c).idle

@@ -1,5 +1,5 @@
 -- The others stay.
-use Rattle.std.proofs.Common.{List, ap, ◌∙◌}
+use Rattle.std.proofs.Common.{ap, ◌∙◌}
 use Rattle.engine_transactions.specs.Opens.{opens_view}
 use Rattle.engine_transactions.proofs.OpenLemmas.{without_view}
 use Rattle.engine_transactions.proofs.open_transaction.end.Goals as goal

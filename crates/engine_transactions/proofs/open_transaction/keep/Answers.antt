@@ -1,6 +1,6 @@
 -- The write stands behind the others of its transaction.
 use Rattle.std.specs.List.{position}
-use Rattle.std.proofs.Common.{◌≡◌, ◌++◌, [], ◌∷◌, ℕ, ◌==◌, List, sym, ap, ◌∙◌}
+use Rattle.std.proofs.Common.{◌≡◌, ◌++◌, [], ◌∷◌, ◌==◌, List, sym, ap, ◌∙◌}
 use Rattle.session_tx.specs.Transactions.{TransactionState}
 use Rattle.statements.specs.Views.{StatementView, statement_view}
 use Rattle.statements.specs.declared.statement.Statement.{Statement}

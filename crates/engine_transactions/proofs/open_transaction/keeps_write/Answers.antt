@@ -1,9 +1,7 @@
 -- The transaction as it is told keeps as many writes.
-use Rattle.std.proofs.Common.{◌≡◌, ℕ, ◌==◌, Bool, not, length, List, Option, Some, option_map, sym, ap, ◌∙◌}
-use Rattle.std.specs.List.{find}
-use Rattle.statements.specs.Views.{statement_view}
-use Rattle.engine_transactions.specs.Opens.{open_view, opens_view}
-use Rattle.engine_transactions.specs.Standing.{OpenView, open_of}
+use Rattle.std.proofs.Common.{ℕ, ◌==◌, Bool, not, length, Some, option_map, sym, ap, ◌∙◌}
+use Rattle.engine_transactions.specs.Opens.{open_view}
+use Rattle.engine_transactions.specs.Standing.{OpenView}
 use Rattle.engine_transactions.specs.declared.open_transaction.OpenTransaction.{OpenTransaction}
 use Rattle.engine_transactions.proofs.OpenLemmas.{as_many, found_view}
 use Rattle.engine_transactions.proofs.open_transaction.keeps_write.Goals as goal

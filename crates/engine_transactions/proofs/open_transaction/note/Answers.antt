@@ -4,7 +4,6 @@ use Rattle.std.proofs.Common.{◌≡◌, ◌++◌, [], ◌∷◌, ℕ, ◌==◌,
 use Rattle.session_tx.specs.Transactions.{TransactionState}
 use Rattle.statements.specs.declared.statement.Statement.{Statement}
 use Rattle.engine_transactions.specs.Opens.{noted_in, opens_view, with_changed}
-use Rattle.engine_transactions.specs.Standing.{TransactionView}
 use Rattle.engine_transactions.specs.declared.open_transaction.OpenTransaction.{OpenTransaction}
 use Rattle.engine_transactions.specs.declared.table_read.TableRead.{TableRead}
 use Rattle.engine_transactions.proofs.NumberLemmas.{ok_push}

@@ -1,7 +1,7 @@
 -- A transaction without reads and writes comes behind the others.
 use Rattle.std.proofs.Common.{◌++◌, [], ◌∷◌, List, map, ap, ◌∙◌}
 use Rattle.statements.specs.Views.{statement_view}
-use Rattle.engine_transactions.specs.Opens.{opens_view, transaction_view}
+use Rattle.engine_transactions.specs.Opens.{opens_view}
 use Rattle.engine_transactions.specs.Standing.{OpenView, TransactionView, no_transaction}
 use Rattle.engine_transactions.specs.declared.open_transaction.OpenTransaction.{OpenTransaction}
 use Rattle.engine_transactions.proofs.OpenLemmas.{opened, view_more}

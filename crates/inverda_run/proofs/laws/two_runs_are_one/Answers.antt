@@ -15,7 +15,7 @@ pub returns-clause-runs : goal.returns-clause-runs
 returns-clause-runs c = two_runs
 
 pub returns-clause-again : goal.returns-clause-again
-returns-clause-again c = begins_again c.named_statements_need_no_session.ensures
+returns-clause-again c = begins_again c.watches_are_beside.ensures.stands c.watches_are_beside.ensures.unwatched c.named_statements_need_no_session.ensures
 
 pub returns-clause-one : goal.returns-clause-one
-returns-clause-one c = runs_are_one (loads_dumped (one_start c.dumps_are_of_one_run.ensures)) c.named_statements_need_no_session.ensures
+returns-clause-one c = runs_are_one c.watches_are_beside.ensures.stands c.watches_are_beside.ensures.unwatched (loads_dumped (one_start c.dumps_are_of_one_run.ensures)) c.named_statements_need_no_session.ensures

@@ -1,4 +1,4 @@
-use Rattle.script_laws.proofs.MoveLaws.{same_replies}
+use Rattle.script_laws.proofs.MoveLemmas.{same_replies}
 use Rattle.script_laws.proofs.laws.moves_change_no_reply.Goals as goal
 
 pub returns : goal.returns

@@ -1,13 +1,13 @@
 use Rattle.std.proofs.Common.{◌∙◌, arith, refl, subst}
 use Rattle.outside.specs.Causes.{Rose}
-use Rattle.engine_transactions.specs.Calls.{standing_of}
+use Rattle.engine_feeds.specs.Calls.{standing_of}
 use Rattle.script_run.proofs.ReadLemmas.{reads_none, reads_stream}
 use Rattle.script_run.proofs.RunLemmas.{ran_none}
 use Rattle.script_run.proofs.run.run_statements.Goals as goal
 
 pub loop-last-init : goal.loop-last-init
 loop-last-init g c =
-    let from = standing_of c.args.stream.now.transactions in
+    let from = standing_of c.args.stream.now.watched in
     let left = g.S.Source.left c.args.script.now in
     let read = g.S.Source.faults c.args.script.now in
     record {
@@ -21,11 +21,11 @@ loop-last-init g c =
 pub take_turn-requires-clause-stream : goal.take_turn-requires-clause-stream
 take_turn-requires-clause-stream g c =
     let r = c.loop-last.invariant.so_far in
-    reads_stream (standing_of c.args.stream.now.transactions) (g.S.Source.left c.args.script.now) (g.S.Source.faults c.args.script.now) (g.S.Source.left c.loop-last.script) (g.S.Source.faults c.loop-last.script) r.statements c.loop-last.stream r.reads
+    reads_stream (standing_of c.args.stream.now.watched) (g.S.Source.left c.args.script.now) (g.S.Source.faults c.args.script.now) (g.S.Source.left c.loop-last.script) (g.S.Source.faults c.loop-last.script) r.statements c.loop-last.stream r.reads
 
 pub loop-last-preserved : goal.loop-last-preserved
 loop-last-preserved g c =
-    let t = c.in-Goes.ensures.turns (standing_of c.args.stream.now.transactions) (g.S.Source.left c.args.script.now) (g.S.Source.faults c.args.script.now) (g.K.Sink.held c.args.out.now) c.loop-last.invariant.so_far in
+    let t = c.in-Goes.ensures.turns (standing_of c.args.stream.now.watched) (g.S.Source.left c.args.script.now) (g.S.Source.faults c.args.script.now) (g.K.Sink.held c.args.out.now) c.loop-last.invariant.so_far in
     record {
       so_far = t.0;
       going = t.2;
@@ -39,15 +39,15 @@ loop-last-preserved g c =
 
 pub loop-last-smaller : goal.loop-last-smaller
 loop-last-smaller g c =
-    (c.in-Goes.ensures.turns (standing_of c.args.stream.now.transactions) (g.S.Source.left c.args.script.now) (g.S.Source.faults c.args.script.now) (g.K.Sink.held c.args.out.now) c.loop-last.invariant.so_far).1
+    (c.in-Goes.ensures.turns (standing_of c.args.stream.now.watched) (g.S.Source.left c.args.script.now) (g.S.Source.faults c.args.script.now) (g.K.Sink.held c.args.out.now) c.loop-last.invariant.so_far).1
 
 pub returns-in-Stops-clause-runs : goal.returns-in-Stops-clause-runs
-returns-in-Stops-clause-runs g c = c.in-Stops.ensures.turns (standing_of c.args.stream.now.transactions) (g.S.Source.left c.args.script.now) (g.S.Source.faults c.args.script.now) (g.K.Sink.held c.args.out.now) c.loop-last.invariant.so_far
+returns-in-Stops-clause-runs g c = c.in-Stops.ensures.turns (standing_of c.args.stream.now.watched) (g.S.Source.left c.args.script.now) (g.S.Source.faults c.args.script.now) (g.K.Sink.held c.args.out.now) c.loop-last.invariant.so_far
 
 pub returns-in-Memory-clause-runs : goal.returns-in-Memory-clause-runs
-returns-in-Memory-clause-runs g c = c.in-Memory.ensures.turns (standing_of c.args.stream.now.transactions) (g.S.Source.left c.args.script.now) (g.S.Source.faults c.args.script.now) (g.K.Sink.held c.args.out.now) c.loop-last.invariant.so_far
+returns-in-Memory-clause-runs g c = c.in-Memory.ensures.turns (standing_of c.args.stream.now.watched) (g.S.Source.left c.args.script.now) (g.S.Source.faults c.args.script.now) (g.K.Sink.held c.args.out.now) c.loop-last.invariant.so_far
 
 pub returns-in-Unwritten-clause-runs : goal.returns-in-Unwritten-clause-runs
 returns-in-Unwritten-clause-runs g c =
-    let x = c.in-Unwritten.ensures.turns (standing_of c.args.stream.now.transactions) (g.S.Source.left c.args.script.now) (g.S.Source.faults c.args.script.now) (g.K.Sink.held c.args.out.now) c.loop-last.invariant.so_far in
+    let x = c.in-Unwritten.ensures.turns (standing_of c.args.stream.now.watched) (g.S.Source.left c.args.script.now) (g.S.Source.faults c.args.script.now) (g.K.Sink.held c.args.out.now) c.loop-last.invariant.so_far in
     (subst (λ n. Rose n (g.K.Sink.faults c.take_turn.new.out)) c.loop-last.invariant.stays x.0, x.1, x.2)

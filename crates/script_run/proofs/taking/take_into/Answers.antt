@@ -19,7 +19,7 @@ returns-in-Ok-eq0-clause-feeds g c = λ from left was sts w.
           (subst (λ (n : ℕ). Consumes (g.S.Source.left c.args.source.now) (g.S.Source.left c.take.new.self) (take n c.take.new.buf)) c.in-Ok-eq0.field-0-test t.bytes.0)
           (t.bytes.1 c.in-Ok-eq0.field-0-test (omega (arith, t.bound.1, c.requires.some))) told,
       less_ended from left was (g.S.Source.left c.args.source.now) (g.S.Source.left c.take.new.self) (g.S.Source.faults c.args.source.now) (g.S.Source.faults c.take.new.self) sts c.args.stream.now c.end.new.self w going t.cause.stays told,
-      ap (λ (x : Stream). x.going) told ∙ c.requires.awaits.going,
+      ap (λ (x : Stream _). x.going) told ∙ c.requires.awaits.going,
     )
 
 pub returns-in-Ok-clause-feeds : goal.returns-in-Ok-clause-feeds
@@ -36,7 +36,7 @@ returns-in-Ok-feed-clause-feeds g c = λ from left was sts w.
     let going = c.requires.awaits.unended in
     let piece = take c.in-Ok.field-0 c.take.new.buf in
     let size = length-take-le c.in-Ok.field-0 c.take.new.buf t.bound.0 in
-    let ended = ap (λ (x : Stream). x.ended) c.feed.ensures.same in
+    let ended = ap (λ (x : Stream _). x.ended) c.feed.ensures.same in
     let room : c.args.stream.now.input.before + length c.args.stream.now.input.bytes.items + length piece ≤ limit =
     omega (arith, size, t.bound.0, t.bound.1, c.requires.within (omega (arith, c.fed-fed.ensures, c.if-fed-ge-LIMIT.false))) in
     let stands = c.in-Ok-feed.ensures.stands from w.reads.bytes sts w.reads.stands in (
@@ -44,7 +44,7 @@ returns-in-Ok-feed-clause-feeds g c = λ from left was sts w.
           piece t.bytes.0 (omega (arith, size, t.bound.0, t.bound.1, c.requires.piece)) room ended stands,
       less_fed from left was (g.S.Source.left c.args.source.now) (g.S.Source.left c.take.new.self) (g.S.Source.faults c.args.source.now) (g.S.Source.faults c.take.new.self) sts c.args.stream.now c.feed.new.self w going t.cause.stays
           piece (omega (arith, size, c.in-Ok.field-0-test, c.requires.some)) room stands c.feed.ensures.on ended,
-      ap (λ (x : Stream). x.going) c.feed.ensures.same ∙ c.requires.awaits.going,
+      ap (λ (x : Stream _). x.going) c.feed.ensures.same ∙ c.requires.awaits.going,
     )
 
 pub returns-in-Err-feed-clause-feeds : goal.returns-in-Err-feed-clause-feeds

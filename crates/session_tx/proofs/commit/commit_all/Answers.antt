@@ -1,16 +1,11 @@
--- What was run is settled, and is taken back after an error.
-use Rattle.session_tx.proofs.CommitLemmas.{answered, is_committed, many_taken}
+-- What was run is settled.
+use Rattle.session_tx.proofs.CommitLemmas.{is_committed, same_error}
 use Rattle.session_tx.proofs.commit.commit_all.Goals as goal
-
-pub take_back_all-requires : goal.take_back_all-requires
-take_back_all-requires g c =
-    let idle = c.requires in
-    many_taken (g.E.Executor.stands c.run_all.new.at) g.E.Executor.means c.writes.result.now idle.0 c.run_all.new.dones c.in-Err.fault c.len.result c.len.ensures (c.in-Err.ensures idle.0 idle.1.0)
 
 pub returns-in-Ok : goal.returns-in-Ok
 returns-in-Ok g c = λ s here idle.
-    is_committed (g.E.Executor.stands c.run_all.new.at) (g.E.Executor.stands c.settle.new.self) g.E.Executor.means c.args.transaction.now s c.run_all.new.dones c.reads.result.now c.writes.result.now c.reads.ensures c.writes.ensures (c.in_default.ensures s here) (c.in-Ok.ensures s here) c.settle.ensures
+    is_committed (g.E.Executor.stands c.run_commit.new.at) (g.E.Executor.stands c.settle.new.self) g.E.Executor.means c.args.transaction.now s c.in-Ok.dones (c.in-Ok.ensures s here) c.settle.ensures
 
 pub returns-in-Err : goal.returns-in-Err
 returns-in-Err g c = λ s here idle.
-    answered (g.E.Executor.stands c.run_all.new.at) (g.E.Executor.stands c.take_back_all.new.at) g.E.Executor.means c.args.transaction.now s c.run_all.new.dones c.len.result c.len.ensures c.take_back_all.ensures c.reads.result.now c.writes.result.now c.in-Err.fault c.refused.result c.reads.ensures c.writes.ensures c.refused.ensures (c.in_default.ensures s here) (c.in-Err.ensures s here)
+    same_error (g.E.Executor.stands c.run_commit.new.at) g.E.Executor.means c.args.transaction.now s c.in-Err.fault (c.in-Err.ensures s here)

@@ -43,7 +43,7 @@ returns-clause-puts g c =
 
 pub returns-clause-undoes : goal.returns-clause-undoes
 returns-clause-undoes g c =
-    let undo : Undo = record { stored = c.change_tables-stored.result.back; auxes = c.change_auxes-auxes.result.back; memories = c.change_memories-memories.result.back; ids = c.take_parts-parts.result.ids; changed = c.args.plan.changed } in
+    let undo : Undo = record { stored = c.change_tables-stored.result.back; auxes = c.change_auxes-auxes.result.back; memories = c.change_memories-memories.result.back; ids = c.take_parts-parts.result.ids; changed = c.args.plan.changed; carried = c.args.plan.carried } in
     let led = subst (λ (x : Parts _). LeadsTo c.args.db.now x undo) (sym c.put_parts.ensures)
     (leads_back c.args.db.now c.take_parts-parts.result c.args.plan undo c.change_tables-stored.result.tables c.change_auxes-auxes.result.auxes c.change_memories-memories.result.memories c.take_parts-parts.ensures.parts refl
     c.change_tables-stored.ensures.back c.change_auxes-auxes.ensures.back c.change_memories-memories.ensures.back) in

@@ -26,4 +26,5 @@ returns-clause-plans g c =
       changed = c.in_ok-changed.ensures
           ∙ ap (λ (l : List (Numbered (List Change))). changed_of l c.as_slice-7.result.now) c.as_slice-6.ensures
           ∙ ap (λ (l : List ℕ). changed_of m.made.tables l) c.as_slice-7.ensures;
+      carried = refl;
     }

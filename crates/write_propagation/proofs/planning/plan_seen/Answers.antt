@@ -11,7 +11,7 @@ use Rattle.db_state.proofs.BoundLaws.{seen_less, seen_sum}
 use Rattle.write_propagation.proofs.AuxLemmas.{sees_rise}
 use Rattle.write_propagation.proofs.SeenLemmas.{may_change_auxes}
 use Rattle.write_propagation.proofs.ShownLemmas.{shown}
-use Rattle.write_propagation.proofs.PlanLemmas.{has_old, keys_lead, planned, refused, tells_changed}
+use Rattle.write_propagation.proofs.PlanLemmas.{has_old, keys_lead, planned, refused, tells_carried, tells_changed}
 use Rattle.write_propagation.proofs.planning.plan_seen.Goals as goal
 
 pub returns-in_err-making-clause-plans : goal.returns-in_err-making-clause-plans
@@ -48,6 +48,15 @@ returns-clause-tells g c =
     let may = c.requires.may in
     let shows = shown m laws d may.kept c.args.tree.now c.args.written may c.args.sight c.requires.sees c.requires.named in
     tells_changed m laws d may.kept c.args.tree.now c.args.written may (passes c.args.sight) shows c.in_ok-making.making c.in_ok-making.ensures.makes c.in_ok-plan.plan c.in_ok-plan.ensures.plans
+
+pub returns-clause-carried : goal.returns-clause-carried
+returns-clause-carried g c =
+    let m = g.O.Operator.meaning in
+    let laws = g.met.O.Operator.laws in
+    let d = c.args.db.now in
+    let may = c.requires.may in
+    let shows = shown m laws d may.kept c.args.tree.now c.args.written may c.args.sight c.requires.sees c.requires.named in
+    tells_carried m laws d may.kept c.args.tree.now c.args.written may (passes c.args.sight) shows c.in_ok-making.making c.in_ok-making.ensures.makes c.in_ok-plan.plan c.in_ok-plan.ensures.plans
 
 pub returns-clause-old : goal.returns-clause-old
 returns-clause-old g c =

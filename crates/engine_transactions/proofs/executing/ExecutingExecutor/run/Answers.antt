@@ -84,7 +84,7 @@ returns-in-Ok-push g c = λ s h.
           leaves = refl;
         },
         shows_run old new s u ran refl c.write_undoable.ensures.beside (tells_run old.sessions w s.state u h.state leaves.0.changed) leaves.0.undoes leaves.1 c.in_ok-reply.ensures.built
-            (record { last = refl; changed = c.keep_numbers.ensures.same; more = c.keep_numbers.ensures.more; dropped = refl }) kept c.in-Ok-push.ensures.items h,
+            (record { graph = leaves.0.undoes.leads.graph; changed = leaves.0.changed; carried = leaves.0.carried }) (record { last = refl; changed = c.keep_numbers.ensures.same; more = c.keep_numbers.ensures.more; dropped = refl }) kept c.in-Ok-push.ensures.items h,
       ),
     )
 

@@ -5,14 +5,23 @@ use Rattle.statements.specs.Views.{statement_view}
 use Rattle.engine_sessions.specs.declared.answer.Answer.{Answer}
 use Rattle.engine_transactions.specs.Act.{Answers}
 use Rattle.engine_transactions.specs.Calls.{standing_in, standing_of}
-use Rattle.engine_transactions.specs.Kinds.{acted_by}
 use Rattle.engine_transactions.specs.Opens.{opens_view}
 use Rattle.engine_transactions.specs.Standing.{Standing}
+use Rattle.engine_transactions.proofs.KindLemmas.{act_by_kind}
 use Rattle.engine_transactions.proofs.KeptLemmas.{other_acts, same_beside}
 use Rattle.engine_transactions.proofs.kept.Kept.carry_out.Goals as goal
 
-pub returns-in-Commit-clause-keeps : goal.returns-in-Commit-clause-keeps
-returns-in-Commit-clause-keeps g c = c.commit.ensures.keeps (statement_view c.args.statement)
+pub returns-in-Commit-clause-answers : goal.returns-in-Commit-clause-answers
+returns-in-Commit-clause-answers g c =
+    let s = standing_of c.args.self.now in
+    let x = statement_view c.args.statement in
+    subst (λ (m : Checked (Answer × Standing)). Answers m c.write.result (standing_of c.write.new.self)) (act_by_kind s x) c.write.ensures.answers
+
+pub returns-in-Write-clause-answers : goal.returns-in-Write-clause-answers
+returns-in-Write-clause-answers g c =
+    let s = standing_of c.args.self.now in
+    let x = statement_view c.args.statement in
+    subst (λ (m : Checked (Answer × Standing)). Answers m c.write-in-Write.result (standing_of c.write-in-Write.new.self)) (act_by_kind s x) c.write-in-Write.ensures.answers
 
 pub returns-in-Other-clause-answers : goal.returns-in-Other-clause-answers
 returns-in-Other-clause-answers g c =

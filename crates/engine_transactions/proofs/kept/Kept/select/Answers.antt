@@ -4,7 +4,7 @@ use Rattle.std.proofs.Common.{List, option_map, sym, ap, subst, ◌∙◌}
 use Rattle.par_base.specs.Checked.{Checked}
 use Rattle.statements.specs.Views.{statement_view}
 use Rattle.engine_sessions.specs.declared.answer.Answer.{Answer}
-use Rattle.engine_transactions.specs.Act.{Answers, at_hand}
+use Rattle.engine_transactions.specs.Act.{Answers}
 use Rattle.engine_transactions.specs.Calls.{standing_in, standing_of}
 use Rattle.engine_transactions.specs.Kinds.{selected_in}
 use Rattle.engine_transactions.specs.Opens.{opens_view}

@@ -1,6 +1,6 @@
 use Rattle.std.proofs.Common.{ℕ, Bool, IfOk, List, subst, sym}
 use Rattle.statements.specs.Views.{StatementView}
-use Rattle.engine_transactions.specs.Standing.{Standing}
+use Rattle.engine_feeds.specs.Standing.{Standing}
 use Rattle.script_run.specs.Streams.{Gives, Stands}
 use Rattle.script_run.proofs.StreamLemmas.{gives_going}
 use Rattle.script_run.proofs.stream.Stream.next.Goals as goal

@@ -1,0 +1,7 @@
+pub mod Places
+pub mod Shown
+pub mod Watchers
+pub mod Kinds
+pub mod Watches
+pub mod Feeds
+pub mod inner

@@ -1,0 +1,7 @@
+pub mod Versions
+pub mod Differences
+pub mod Notes
+pub mod Runs
+pub mod Mirrors
+pub mod First
+pub mod Numbers

@@ -1,0 +1,9 @@
+mod KindLemmas
+pub mod BesideLaws
+mod NothingLemmas
+mod IdleLemmas
+mod ToldLemmas
+mod RelaidLemmas
+pub mod UnseenLaws
+mod ScriptLemmas
+mod LineLemmas
