@@ -13,6 +13,7 @@ ghost use Rattle.storage_law.specs.Canonical.{SameStored};
 ghost use Rattle.db_state.specs.Fields.{storage_in, IsDatabase};
 ghost use Rattle.db_state.specs.Laws.{IsRestored};
 ghost use Rattle.engine_state.specs.Replies.{IsReply};
+ghost use Rattle.engine_statements.specs.Calls.{HasKeys};
 ghost use Rattle.engine_statements.specs.Statements.{Planned, wrote};
 ghost use Rattle.engine_versions.specs.Evolve.{created};
 ghost use Rattle.engine_layouts.specs.Laid.{flipped_laid, materialized};
@@ -25,7 +26,7 @@ use crate::built::is_built;
 use db_state::{Db, states_are_stored_once};
 use engine_layouts::{flip_operator, materialize, show_layout};
 use engine_state::Reply;
-use engine_statements::select_rows;
+use engine_statements::{Reader, select_rows};
 use engine_versions::{create_version, drop_version};
 use expr_lang::Steps;
 use op_any::AnyOp;
@@ -96,6 +97,17 @@ impl Engine {
         &self.database
     }
 
+    /// The database and the keys that are kept of it, for what reads it alone. It does no work.
+    pub fn reader(&self) -> Reader<'_>
+        ensures database { result.database.now ≡ self.now }
+        ensures keys { HasKeys result }
+    {
+        Reader {
+            database: &self.database,
+            keys: self.keys.as_slice(),
+        }
+    }
+
     /// Carries out one statement of a session, whose texts have at most 65,536 bytes, and answers the
     /// model's reply or refusal. After an error the state is as it was. Whatever brings back a state
     /// with its layout brings back every stored table, auxiliary table and memory. Operators come from
@@ -105,7 +117,10 @@ impl Engine {
     /// number of values of its table; else each takes time in the number of values of its table and
     /// of the tables of its tree. A CREATE SCHEMA VERSION takes time in that of the sources and
     /// targets of its operators, a SELECT in that of its table and of those on its way to storage,
-    /// a MATERIALIZE in that of the operators that change sides, near and far. Besides, each takes
+    /// a MATERIALIZE in that of the operators that change sides, near and far. Where a condition pins
+    /// an identifier, an UPDATE, DELETE or SELECT reads of its own table one row, and over foreign keys
+    /// those that hang together with it, where keys are kept: from the first write through the foreign
+    /// key on, until the next evolution. Besides, each takes
     /// time in the square of the number of live operators and tables at most, but MATERIALIZE and
     /// DROP SCHEMA VERSION also in that of the operators that are stored on their target side, for
     /// each table and each live operator.
@@ -264,7 +279,7 @@ impl Engine {
                 items,
                 filter,
                 ..
-            } => select_rows(alloc, &self.database, table, items, filter, steps),
+            } => select_rows(alloc, self.reader(), table, items, filter, steps),
             _ => self.change(alloc, statement, steps),
         }
     }

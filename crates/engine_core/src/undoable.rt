@@ -95,14 +95,14 @@ impl Engine {
                 filter,
             } => plan_update(
                 alloc,
-                &self.database,
+                self.reader(),
                 table,
                 assignments.as_slice(),
                 filter,
                 steps,
             ),
             Statement::Delete { table, filter } => {
-                plan_delete(alloc, &self.database, table, filter, steps)
+                plan_delete(alloc, self.reader(), table, filter, steps)
             }
             _ => Err(Fault::Refused(Refusal::NotBuilt)),
         }

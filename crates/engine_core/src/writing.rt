@@ -53,7 +53,7 @@ pub fn write_through<L: Ledger>(
 {
     // That what is left leads back to the old database rests on it.
     let _graph = database.graph();
-    let plan = plan(alloc, database, keys.as_mut_slice(), written, steps)?;
+    let plan = plan(alloc, database, keys, written, steps)?;
     let undo = commit(alloc, database, plan);
     commit_keys(keys.as_mut_slice());
     Ok(undo)

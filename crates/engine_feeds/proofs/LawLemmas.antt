@@ -18,7 +18,8 @@ use Rattle.engine_sessions.specs.declared.answer.Answer.TheVariants.{Plain}
 use Rattle.engine_transactions.specs.Act.{act as act_unwatched}
 use Rattle.engine_transactions.specs.Standing.{Standing as TransactionsStanding}
 use Rattle.engine_feeds.specs.Act.{act, can_watch, data_in, ended_at, taken_for, told_of, watches_behind}
-use Rattle.engine_feeds.specs.Laws.{behind, behind_all, told_in, told_in_all, RowsAreCounted, WatchesAreTold}
+use Rattle.engine_feeds.specs.Replies.{next_state, state_after}
+use Rattle.engine_feeds.specs.Laws.{told_in, told_in_all, RowsAreCounted, WatchesAreTold}
 use Rattle.engine_feeds.specs.Notes.{event_notes}
 use Rattle.engine_feeds.specs.Standing.{Standing}
 
@@ -26,15 +27,15 @@ module _ (number : ℕ) where
   -- ---- WATCH and UNWATCH
 
   taken_steps : (s : Standing) (name : List ℕ) (set : ℕ) (b : Bool) → AreSound s.watches
-      → Steps number (λ version. []) s.watches (behind s (if b then Ok (Plain (Watching (s.watches.last + 1)), record s { watches = watched name (first_note (data_in s) set) s.watches }) else Err NoWatcherLeft)).watches
+      → Steps number (λ version. []) s.watches (next_state s (if b then Ok (Plain (Watching (s.watches.last + 1)), record s { watches = watched name (first_note (data_in s) set) s.watches }) else Err NoWatcherLeft)).watches
   taken_steps s name set true sound = steps_taken number s.watches.waiting name (first_note (data_in s) set) s.watches sound.fresh sound
   taken_steps s name set false sound = steps_same number s.watches sound
 
-  watch_steps : (s : Standing) (name : List ℕ) (c : Checked ℕ) → AreSound s.watches → Steps number (λ version. []) s.watches (behind s (c then λ set. taken_for s name set)).watches
+  watch_steps : (s : Standing) (name : List ℕ) (c : Checked ℕ) → AreSound s.watches → Steps number (λ version. []) s.watches (next_state s (c then λ set. taken_for s name set)).watches
   watch_steps s name (Ok set) sound = taken_steps s name set (can_watch s.watches) sound
   watch_steps s name (Err refusal) sound = steps_same number s.watches sound
 
-  unwatch_steps : (s : Standing) (ended : ℕ) (o : Option WatchState) → AreSound s.watches → Steps number (λ version. []) s.watches (behind s (ended_at s ended o)).watches
+  unwatch_steps : (s : Standing) (ended : ℕ) (o : Option WatchState) → AreSound s.watches → Steps number (λ version. []) s.watches (next_state s (ended_at s ended o)).watches
   unwatch_steps s ended None sound = steps_same number s.watches sound
   unwatch_steps s ended (Some w) sound = steps_ended number ended s.watches sound
 
@@ -71,7 +72,7 @@ module _ (number : ℕ) where
   with_watches s x answer = Ok (answer.0, record { transactions = answer.1; watches = told_of s.transactions x answer.1 s.watches })
 
   other_steps : (s : Standing) (x : StatementView) (told : Checked (Answer × Standing) → List (List VersionNote)) (c : Checked (Answer × TransactionsStanding)) → ((r : Refusal) → told (Err r) ≡ []) → ((a : Answer × Standing) → told (Ok a) ≡ event_notes s.transactions x a.1.transactions) → AreSound s.watches
-      → Steps number (notes_of (told (c then with_watches s x))) s.watches (behind s (c then with_watches s x)).watches
+      → Steps number (notes_of (told (c then with_watches s x))) s.watches (next_state s (c then with_watches s x)).watches
   other_steps s x told (Err r) none some sound = subst (λ (es : List (List VersionNote)). Steps number (notes_of es) s.watches s.watches) (sym (none r)) (steps_same number s.watches sound)
   other_steps s x told (Ok a) none some sound =
       let notes = event_notes s.transactions x a.1 in
@@ -81,10 +82,10 @@ module _ (number : ℕ) where
   -- ---- one statement
 
   abbrev Acts : Standing → StatementView → Type 0
-  Acts s x = Steps number (notes_of (told_in s x (act s x))) s.watches (behind s (act s x)).watches
+  Acts s x = Steps number (notes_of (told_in s x (act s x))) s.watches (next_state s (act s x)).watches
 
   other : (s : Standing) (x : StatementView) → ((r : Refusal) → told_in s x (Err r) ≡ []) → ((a : Answer × Standing) → told_in s x (Ok a) ≡ event_notes s.transactions x a.1.transactions) → AreSound s.watches
-      → Steps number (notes_of (told_in s x (act_unwatched s.transactions x then with_watches s x))) s.watches (behind s (act_unwatched s.transactions x then with_watches s x)).watches
+      → Steps number (notes_of (told_in s x (act_unwatched s.transactions x then with_watches s x))) s.watches (next_state s (act_unwatched s.transactions x then with_watches s x)).watches
   other s x none some sound = other_steps s x (told_in s x) (act_unwatched s.transactions x) none some sound
 
   act_steps : (s : Standing) (x : StatementView) → AreSound s.watches → Acts s x
@@ -109,20 +110,21 @@ module _ (number : ℕ) where
 
   -- ---- one after the other
 
-  all_steps : (s : Standing) (xs : List StatementView) → AreSound s.watches → Steps number (notes_of (told_in_all s xs)) s.watches (behind_all s xs).watches
+  all_steps : (s : Standing) (xs : List StatementView) → AreSound s.watches → Steps number (notes_of (told_in_all s xs)) s.watches (state_after s xs).watches
+  unfolding state_after
   all_steps s [] sound = steps_same number s.watches sound
   all_steps s (x ∷ xs) sound =
-      let next = behind s (act s x) in
+      let next = next_state s (act s x) in
       let first = act_steps s x sound in
       let a = told_in s x (act s x) in
       let b = told_in_all next xs in
-      steps_said number (λ version. notes_of a version ++ notes_of b version) (notes_of (a ++ b)) s.watches (behind_all next xs).watches (λ version. sym (notes_more a b version))
-      (steps_then number (notes_of a) (notes_of b) s.watches next.watches (behind_all next xs).watches first (all_steps next xs first.sound))
+      steps_said number (λ version. notes_of a version ++ notes_of b version) (notes_of (a ++ b)) s.watches (state_after next xs).watches (λ version. sym (notes_more a b version))
+      (steps_then number (notes_of a) (notes_of b) s.watches next.watches (state_after next xs).watches first (all_steps next xs first.sound))
 
 pub told : WatchesAreTold
 told s xs number w v fresh quiet numbered was is =
     let sound : AreSound s.watches = record { fresh = fresh; quiet = quiet; numbered = numbered } in
-    was_told number (notes_of (told_in_all s xs)) s.watches (behind_all s xs).watches w v sound (all_steps number s xs sound) was is
+    was_told number (notes_of (told_in_all s xs)) s.watches (state_after s xs).watches w v sound (all_steps number s xs sound) was is
 
 pub counted : RowsAreCounted
 counted s number w rows quiet is shown = rows_counted (data_in s) s.watches number w rows quiet is shown

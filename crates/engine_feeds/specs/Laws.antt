@@ -13,16 +13,8 @@ use Rattle.version_notes.specs.Numbers.{AreNumbered}
 use Rattle.version_notes.specs.Versions.{tables_of}
 use Rattle.engine_feeds.specs.Act.{act, data_in}
 use Rattle.engine_feeds.specs.Notes.{event_notes}
+use Rattle.engine_feeds.specs.Replies.{next_state, state_after}
 use Rattle.engine_feeds.specs.Standing.{Standing}
-
--- what stands behind a statement: a refused one leaves all as it is
-abbrev pub behind : Standing → Checked (Answer × Standing) → Standing
-behind s (Ok answer) = answer.1
-behind s (Err refusal) = s
-
-abbrev pub behind_all : Standing → List StatementView → Standing
-behind_all s [] = s
-behind_all s (x ∷ xs) = behind_all (behind s (act s x)) xs
 
 -- the notes of statements, in order; WATCH, UNWATCH and refused ones have none
 abbrev pub told_in : Standing → StatementView → Checked (Answer × Standing) → List (List VersionNote)
@@ -33,13 +25,13 @@ told_in s x (Ok answer) = event_notes s.transactions x answer.1.transactions
 
 abbrev pub told_in_all : Standing → List StatementView → List (List VersionNote)
 told_in_all s [] = []
-told_in_all s (x ∷ xs) = told_in s x (act s x) ++ told_in_all (behind s (act s x)) xs
+told_in_all s (x ∷ xs) = told_in s x (act s x) ++ told_in_all (next_state s (act s x)) xs
 
 -- EACH LIVE WATCH HAS BEEN TOLD THE NOTES OF ITS VERSION: one that lived before statements and lives behind them was told exactly these, in order, and heard and shows what they say
 abbrev pub WatchesAreTold : Type 0
 WatchesAreTold =
     (s : Standing) (xs : List StatementView) (number : ℕ) (w v : WatchState) → AllFresh s.watches.waiting → AllQuiet s.watches.live → AreNumbered 0 s.watches.live s.watches.last
-    → watch_of number s.watches.live ≡ Some w → watch_of number (behind_all s xs).watches.live ≡ Some v
+    → watch_of number s.watches.live ≡ Some w → watch_of number (state_after s xs).watches.live ≡ Some v
     → (v.version ≡ w.version) × (v.watcher ≡ told_these (notes_of (told_in_all s xs) w.version) w.watcher)
 
 -- A MIRROR SHOWS AS MANY ROWS AS ITS VERSION HAS: the rows that a watch tells are those of its version's tables

@@ -1,7 +1,7 @@
 -- Counts with several accesses more, of which those of tables that live are kept.
 use Rattle.std.specs.Prelude.{◌≤◌}
-use Rattle.std.proofs.Common.{◌≡◌, ℕ, List, Bool, true}
-use Rattle.version_graph.specs.Sets.{Each, In}
+use Rattle.std.proofs.Common.{◌≡◌, ℕ, List, true}
+use Rattle.version_graph.specs.Sets.{Each}
 use Rattle.version_graph.specs.declared.parts.Placed.{Placed}
 use Rattle.version_graph.proofs.SetLaws.{each_at, each_of}
 use Rattle.version_graph.proofs.TableLaws.{in_filter, passes}

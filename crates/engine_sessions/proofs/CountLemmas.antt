@@ -1,7 +1,7 @@
 -- What is counted are tables that live, each once and ascending.
 use Rattle.std.specs.Prelude.{◌<◌, ◌≤◌, nat_le, nat_lt, Option, Some, None, Ok, Err}
 use Rattle.std.proofs.Common.{◌≡◌, ℕ, ◌+◌, List, [], ◌∷◌, ◌++◌, Bool, true, false, cond, filter, inl, inr, refl, sym, ap, ◌∙◌, subst, arith}
-use Rattle.std.proofs.lemmas.Bool.{cond-false, cond-true, ltb-false, ltb-true, lt-ltb, false_from_ne_true}
+use Rattle.std.proofs.lemmas.Bool.{cond-false, cond-true, ltb-false, ltb-true, false_from_ne_true}
 use Rattle.par_base.specs.Checked.{Checked, ◌then◌}
 use Rattle.par_base.specs.declared.limits.Target.{Target}
 use Rattle.version_graph.specs.Edges.{Rises, set_named}
@@ -30,7 +30,7 @@ use Rattle.engine_sessions.specs.declared.answer.Answer.TheVariants.{Plain}
 use Rattle.engine_sessions.specs.Standing.{Standing, moving_in, used_by, with_use}
 use Rattle.engine_sessions.specs.InFull.{in_full}
 use Rattle.engine_sessions.specs.Accesses.{accessed, greatest_count, is_move, kept_behind, one_more, raised, raised_by}
-use Rattle.engine_sessions.specs.Act.{act, advice_on, answer_of, behind, counted}
+use Rattle.engine_sessions.specs.Act.{advice_on, answer_of, behind, counted}
 use Rattle.engine_sessions.specs.Laws.{CountsStay, HasCounts}
 
 -- ---- lists of counts that ascend

@@ -1,5 +1,5 @@
 -- The accesses of table versions, which advice counts.
-use Rattle.std.specs.Prelude.{◌+◌, ℕ, Bool, true, false, nat_le, nat_lt, List, [], ◌∷◌, ◌++◌, filter, Option, Some, None, Ok, Err, if◌then◌else◌}
+use Rattle.std.specs.Prelude.{◌+◌, ℕ, Bool, true, false, nat_le, nat_lt, List, ◌∷◌, ◌++◌, filter, Option, Some, None, Ok, Err, if◌then◌else◌}
 use Rattle.par_base.specs.Checked.{Checked}
 use Rattle.statements.specs.Views.{StatementView, Insert, Update, Delete, Select, Materialize, Step}
 use Rattle.version_graph.specs.declared.parts.Placed.{Placed}

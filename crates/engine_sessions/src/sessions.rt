@@ -165,8 +165,8 @@ impl Sessions {
                 filter,
                 ..
             } => {
-                let database = self.engine().database();
-                let reply = select_rows(alloc, database, table, items, filter, steps)?;
+                let reader = self.engine().reader();
+                let reply = select_rows(alloc, reader, table, items, filter, steps)?;
                 Ok(answer_of(reply, csv))
             }
             _ => Err(Fault::Refused(Refusal::NotBuilt)),

@@ -19,10 +19,12 @@ use Rattle.ordinary_table.specs.Laws.{IsTable}
 use Rattle.db_state.specs.Fields.{state_for}
 use Rattle.db_state.specs.declared.parts.Parts.{Parts}
 use Rattle.version_model.specs.Writes.{MayWrite}
+use Rattle.kept_keys.specs.Kept.{AreKeysOf}
 use Rattle.engine_statements.specs.Found.{Found}
 use Rattle.engine_statements.specs.Statements.{Planned}
 use Rattle.engine_statements.specs.declared.found.FoundTable.{FoundTable}
 use Rattle.engine_statements.specs.declared.read.ReadTable.{ReadTable}
+use Rattle.engine_statements.specs.declared.reader.Reader.{Reader}
 use Rattle.engine_statements.specs.declared.read.ReadTable.TheVariants.{Stored, Made}
 use Rattle.engine_statements.specs.declared.write_plan.WritePlan.{WritePlan}
 
@@ -52,6 +54,10 @@ pub record IsTableOf (k : Parts AnyView) (f : FoundTable) : Type 0 where
 abbrev pub rows_read : ReadTable → Rows
 rows_read (Stored table) = table.now.rows
 rows_read (Made table) = table.rows
+
+-- the keys of a reader are those of its tables
+abbrev pub HasKeys : Reader → Type 0
+HasKeys reader = AreKeysOf (state_for any_meaning reader.database.now).tables reader.keys.now
 
 -- ---- expressions
 

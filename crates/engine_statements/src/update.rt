@@ -11,17 +11,15 @@ ghost use Rattle.engine_statements.specs.Statements.{planned_update};
 ghost use Rattle.ordinary_table.specs.Fits.{condition_fits, SetFits};
 ghost use Rattle.ordinary_table.specs.Shown.{condition_of};
 ghost use Rattle.ordinary_table.specs.Written.{chosen_count, sets_of, updated};
-ghost use Rattle.engine_statements.specs.Calls.{planned_view, rows_in, AssignmentFits, IsTableOf, TakesWrite};
+ghost use Rattle.engine_statements.specs.Calls.{planned_view, rows_in, AssignmentFits, HasKeys, IsTableOf, TakesWrite};
 
 use crate::expressions::{check_set_once, find_condition, find_sets, shown_names};
 use crate::found::find_table;
 use crate::ids::check_update_ids;
 use crate::read::read_chosen;
-use crate::{FoundTable, WritePlan};
-use db_state::Db;
+use crate::{FoundTable, Reader, WritePlan};
 use engine_state::Reply;
 use expr_lang::{Expr, ExprText, Steps};
-use op_any::AnyOp;
 use ordinary_table::{Changed, SetTo, update_rows};
 use par_base::{Fault, Memory, Refusal};
 use statements::{Assignment, TableName};
@@ -32,51 +30,54 @@ use std::sync::ledger::Ledger;
 // the SETs.
 fn update_found<L: Ledger>(
     alloc: Global,
-    database: &Db<AnyOp>,
+    reader: Reader<'_>,
     found: &FoundTable<'_>,
     sets: &[SetTo],
     condition: Option<&Expr>,
     steps: &mut Steps<L>,
 ) -> Result<Changed, Memory>
-    requires found { IsTableOf database.now found.now }
+    requires found { IsTableOf reader.database.now found.now }
+    requires keys { HasKeys reader }
     requires sets { All (SetFits (length found.now.heading.now.columns)) (sets_of sets.now) }
     requires reads { condition_fits (condition_of condition)
         (length found.now.heading.now.columns + 1) ≡ true }
-    ensures rows { IfOk result (λ made. changed (rows_in database.now found.now.number) made.changes
-        ≡ updated (rows_in database.now found.now.number) (sets_of sets.now)
-        (condition_of condition.entry)) }
-    ensures old { IfOk result (λ made. AreOld (rows_in database.now found.now.number)
-        made.changes) }
-    ensures chosen { IfOk result (λ made. made.chosen
-        ≡ chosen_count (rows_in database.now found.now.number) (condition_of condition.entry)) }
+    ensures rows { let rows = rows_in reader.entry.database.now found.now.number in
+        IfOk result (λ made. changed rows made.changes
+        ≡ updated rows (sets_of sets.now) (condition_of condition.entry)) }
+    ensures old { let rows = rows_in reader.entry.database.now found.now.number in
+        IfOk result (λ made. AreOld rows made.changes) }
+    ensures chosen { let rows = rows_in reader.entry.database.now found.now.number in
+        IfOk result (λ made. made.chosen ≡ chosen_count rows (condition_of condition.entry)) }
 {
-    let read = read_chosen(alloc, database, found, condition, steps)?;
+    let read = read_chosen(alloc, reader, found, condition, steps)?;
     update_rows(alloc, read.table(), sets, condition, steps)
 }
 
 /// What an UPDATE makes of its table, or the first of its checks that refuses it. All SETs see the
 /// row as it was.
 ///
-/// A condition that pins an identifier, by `p = #n`, reads its row alone. Else it takes the time of
+/// A condition that pins an identifier, by `p = #n`, reads its row alone, and over foreign keys
+/// those that hang together with it, where keys are kept of their tables. Else it takes the time of
 /// reading the table, where it isn't stored, and time in the number of values of the table and, for
-/// each row that it chooses, of SETs; besides in the number of pairs of SETs. It gives copies of the
-/// rows that it chooses, and reads no row where it is refused.
+/// each row that it chooses, of SETs; besides in the number of pairs of SETs. It gives copies of
+/// the rows that it chooses, and reads no row where it is refused.
 pub fn plan_update<L: Ledger>(
     alloc: Global,
-    database: &Db<AnyOp>,
+    reader: Reader<'_>,
     name: &TableName,
     assignments: &[Assignment],
     filter: &Option<ExprText>,
     steps: &mut Steps<L>,
 ) -> Result<WritePlan, Fault<Refusal>>
-    requires { All AssignmentFits (map assignment_view assignments.now) }
-    ensures gives { Gives (planned_view database.now) result
-        (planned_update (database_for any_meaning database.now) name.now
+    requires fits { All AssignmentFits (map assignment_view assignments.now) }
+    requires keys { HasKeys reader }
+    ensures gives { Gives (planned_view reader.entry.database.now) result
+        (planned_update (database_for any_meaning reader.entry.database.now) name.now
         (map assignment_view assignments.now) (filter_view filter.now)) }
-    ensures taken { IfOk result (TakesWrite database.now) }
+    ensures taken { IfOk result (TakesWrite reader.entry.database.now) }
 {
-    let found = find_table(alloc, database, name)?;
-    let next = database.ids().next();
+    let found = find_table(alloc, reader.database, name)?;
+    let next = reader.database.ids().next();
     let columns = found.heading.columns.as_slice();
     let shown = shown_names(alloc, columns)?;
     let sets = find_sets(alloc, columns, shown.as_slice(), assignments)?;
@@ -84,7 +85,7 @@ pub fn plan_update<L: Ledger>(
     check_set_once(alloc, assignments)?;
     check_update_ids(assignments, filter, next)?;
     let sets = sets.as_slice();
-    let changed = update_found(alloc, database, &found, sets, condition.as_ref(), steps)?;
+    let changed = update_found(alloc, reader, &found, sets, condition.as_ref(), steps)?;
     let Changed { changes, chosen } = changed;
     Ok(WritePlan {
         set: found.set,

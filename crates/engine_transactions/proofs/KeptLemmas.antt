@@ -1,5 +1,5 @@
 -- What statements of transactions answer and leave.
-use Rattle.std.proofs.Common.{◌≡◌, if◌then◌else◌, ℕ, ◌==◌, Bool, true, not, List, length, Option, Some, None, option_map, Result, Ok, Err, refl, sym, ap, ◌∙◌}
+use Rattle.std.proofs.Common.{◌≡◌, ℕ, ◌==◌, Bool, true, not, List, length, Option, Some, None, option_map, Result, Ok, Err, refl, sym, ap, ◌∙◌}
 use Rattle.par_base.specs.Checked.{Checked, Gives, ◌then◌}
 use Rattle.par_base.specs.declared.fault.Fault.{Fault}
 use Rattle.par_base.specs.declared.fault.Fault.TheVariants.{Refused, Memory as OutOfMemory}

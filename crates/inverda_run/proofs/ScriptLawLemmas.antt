@@ -1,6 +1,6 @@
 -- What runs keep throughout their scripts, and second scripts that say USE.
 use Rattle.std.specs.Prelude.{Option, Some, None}
-use Rattle.std.proofs.Common.{◌≡◌, ℕ, List, inl, inr, sym, ap, subst}
+use Rattle.std.proofs.Common.{ℕ, List, inl, inr, sym, ap, subst}
 use Rattle.serde_json.specs.Data.{Data}
 use Rattle.statements.specs.Views.{StatementView}
 use Rattle.change_feed.specs.Watchers.{WatcherState}
@@ -13,7 +13,7 @@ use Rattle.generated_run.specs.WatchedStanding.{Standing as WatchedStanding}
 use Rattle.generated_run.specs.Begun.{begun_again}
 use Rattle.generated_run.specs.WatchedOutput.{joined}
 use Rattle.run_words.specs.Words.{Asked}
-use Rattle.script_laws.specs.SessionLawsKept.{DatabasesAreKept, EmptyIsKept, IsKept}
+use Rattle.script_laws.specs.SessionLawsKept.{DatabasesAreKept, EmptyIsKept}
 use Rattle.script_laws.specs.SessionLawsSaid.{AreSaid, nothing_said}
 use Rattle.script_laws.specs.Kept.{IsKeptAt}
 use Rattle.watch_laws.specs.Said.{SaidNeedNoSession}

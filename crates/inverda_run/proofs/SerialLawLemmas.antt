@@ -1,13 +1,7 @@
 -- Committed transactions of a run answer as one after the other.
 use Rattle.std.specs.Prelude.{Option, Some, None}
-use Rattle.std.proofs.Common.{◌≡◌, ℕ, List, [], ◌∷◌, inl, inr, refl, sym, subst, ◌∙◌}
-use Rattle.serde_json.specs.Data.{Data}
+use Rattle.std.proofs.Common.{◌≡◌, ℕ, List, [], ◌∷◌, refl, sym, subst, ◌∙◌}
 use Rattle.statements.specs.Views.{StatementView}
-use Rattle.layout_planner.specs.Counts.{AreCounts}
-use Rattle.layout_planner.specs.declared.planning.TableCount.{TableCount}
-use Rattle.dump_formats.specs.Stands.{StandsFor}
-use Rattle.dump_formats.specs.declared.loaded.Loaded.{Loaded as Kept}
-use Rattle.run_words.specs.Words.{Asked}
 use Rattle.watch_laws.specs.Beside.{OthersAreAnswered, StandsBeside}
 use Rattle.generated_run.specs.Standing.{Standing}
 use Rattle.generated_run.specs.Act.{act}
@@ -16,7 +10,6 @@ use Rattle.transaction_laws.specs.Laws.{DatabasesAreOrderly, EmptyIsOrderly, Tra
 use Rattle.transaction_laws.specs.Serial.{OneAfterTheOther, end_of}
 use Rattle.inverda_run.specs.ScriptLaws.{RunsAreSerial}
 use Rattle.inverda_run.specs.Starts.{StartsBy, Told}
-use Rattle.inverda_run.specs.Statuses.{Starts}
 use Rattle.inverda_run.proofs.LoadedLemmas.{loaded_counted, loaded_leads}
 use Rattle.inverda_run.proofs.ScriptLawLemmas.{stands_database}
 

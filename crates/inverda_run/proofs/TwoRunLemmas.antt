@@ -9,7 +9,6 @@ use Rattle.par_base.specs.declared.refusal.Refusal.{Refusal}
 use Rattle.statements.specs.Views.{StatementView}
 use Rattle.generated_run.specs.EngineCoreTexts.{refusal_bytes}
 use Rattle.change_feed.specs.Watchers.{WatcherState}
-use Rattle.change_feed.specs.Watches.{WatchesState}
 use Rattle.version_graph.specs.Sets.{Each}
 use Rattle.generated_run.specs.Standing.{Standing}
 use Rattle.generated_run.specs.WatchedStanding.{Standing as WatchedStanding}
@@ -23,14 +22,14 @@ use Rattle.generated_run.specs.Laws.{IsNamed, NeedNoSession, SameButSessions}
 use Rattle.generated_run.specs.Texts.{answer_bytes}
 use Rattle.generated_run.specs.Answer.{Answer}
 use Rattle.generated_run.specs.Output.{replies as replies_unwatched, state_after as state_unwatched}
-use Rattle.generated_run.specs.WatchedOutput.{joined, next_state, out, replies, state_after}
+use Rattle.generated_run.specs.WatchedOutput.{joined, next_state, out, state_after}
 use Rattle.generated_run.specs.Statuses.{Done}
 use Rattle.generated_run.proofs.OutputLaws.{out-append}
 use Rattle.outside.specs.FileTold.{ToldAs}
 use Rattle.inverda_run.specs.Starts.{Loaded, StartsBy, Told, all_waiting}
 use Rattle.inverda_run.specs.Statuses.{Ran, Written}
 use Rattle.script_laws.specs.Said.{ActsAtOnce}
-use Rattle.watch_laws.specs.Beside.{StandsBeside, UnwatchedAreAnswered, WatchesNothing}
+use Rattle.watch_laws.specs.Beside.{StandsBeside, UnwatchedAreAnswered}
 use Rattle.watch_laws.specs.Said.{again_with}
 use Rattle.inverda_run.specs.Laws.{BeginsAgain, LoadsTheDumped, RunsAreOne, TwoRuns}
 use Rattle.inverda_run.proofs.StartLemmas.{both}

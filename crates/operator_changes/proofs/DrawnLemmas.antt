@@ -2,6 +2,7 @@
 use Rattle.std.specs.Prelude.{nat_lt, ◌||◌, ◌&&◌, ◌-◌}
 use Rattle.std.proofs.Common.{◌≡◌, ℕ, zero, suc, ◌+◌, ◌<◌, ◌≤◌, ◌==◌, List, [], ◌∷◌, ◌++◌, Bool, true, false, not, length, take, get_or, refl, ap, sym, ◌∙◌, arith}
 use Rattle.std.proofs.lemmas.Bool.{cases_lt, false≢true, eqb-true, or_cases, and_right, and_parts, or_right}
+use Rattle.std.proofs.Math.Path.{fun_ext}
 use Rattle.std.proofs.lemmas.Bool.Decides.{nat_tests}
 use mathlib.Core.Logic.{inl, inr}
 use Rattle.row_store.specs.Rows.{Rows}
@@ -122,7 +123,7 @@ under_more n (x ∷ xs) (suc i) h more =
     let rest = under_more n xs i (omega arith) more in
     rw e (by_test (nat_lt x n) (λ b. rw b (ap (λ (l : List ℕ). x ∷ l) rest)) (λ b. rw b rest))
 
-append_none : (xs : List ℕ) → xs ≡ xs ++ []
+pub append_none : (xs : List ℕ) → xs ≡ xs ++ []
 append_none [] = refl
 append_none (x ∷ xs) = ap (λ (l : List ℕ). x ∷ l) (append_none xs)
 
@@ -136,7 +137,7 @@ drawn_last (suc c) n =
     let k : n + suc c ≡ (n + 1) + c = omega arith in
     rw (e, k) (ap (λ (l : List ℕ). n ∷ l) (drawn_last c (n + 1)))
 
-append_assoc : (xs ys zs : List ℕ) → (xs ++ ys) ++ zs ≡ xs ++ (ys ++ zs)
+pub append_assoc : (xs ys zs : List ℕ) → (xs ++ ys) ++ zs ≡ xs ++ (ys ++ zs)
 append_assoc [] ys zs = refl
 append_assoc (x ∷ xs) ys zs = ap (λ (l : List ℕ). x ∷ l) (append_assoc xs ys zs)
 
@@ -163,3 +164,20 @@ with_passes ids n next q h =
           let no : nat_lt q n ≡ false = grind (arith, nat_tests) in
           or_right (has_id ids q) (not (nat_lt q n)) (ap not no)
     ]
+
+or_yes : (a : Bool) → (a || not false) ≡ true
+or_yes true = refl
+or_yes false = refl
+
+-- what isn't drawn passes
+pub over_passes : (ids : List ℕ) (n q : ℕ) → n ≤ q → passes ids n q ≡ true
+over_passes ids n q h = let no : nat_lt q n ≡ false = grind (arith, nat_tests) in rw no (or_yes (has_id ids q))
+
+-- with those that were drawn, they pass the same test, whatever was drawn of them
+pub passes_with : (ids : List ℕ) (n next k : ℕ) → n ≤ k → k ≤ next → passes (with_drawn ids n next) k ≡ passes ids n
+passes_with ids n next k low high =
+    fun_ext (λ q.
+    elim (cases_lt q k) as (λ _. passes (with_drawn ids n next) k q ≡ passes ids n q) [
+      | inl less ↦ sym (under_passes (with_drawn ids n next) k q less) ∙ with_has ids n next q (omega (arith, low, high)) (omega (arith, less, high))
+      | inr more ↦ over_passes (with_drawn ids n next) k q more ∙ sym (over_passes ids n q (omega (arith, low, more)))
+    ])

@@ -1,5 +1,5 @@
 mod AuxLemmas
-mod DrawnLemmas
+pub mod DrawnLemmas
 mod FootLemmas
 mod LocalLemmas
 mod LoopLemmas

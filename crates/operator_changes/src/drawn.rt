@@ -19,11 +19,10 @@ fn ids_below(alloc: Global, ids: &[u64], n: u64) -> Result<List<u64>, Memory>
 }
 
 /// The identifiers of a footprint, and those that were drawn.
-pub(crate) fn add_drawn(alloc: Global, ids: &[u64], from: u64, to: u64) -> Result<List<u64>, Memory>
-    requires rise { IdsRise 0 ids.now }
-    requires rises { from ≤ to }
+pub fn add_drawn(alloc: Global, ids: &[u64], from: u64, to: u64) -> Result<List<u64>, Memory>
+    requires { from ≤ to }
     ensures value { IfOk result (λ all. all ≡ with_drawn ids.now from to) }
-    ensures rise { IfOk result (λ all. IdsRise 0 all) }
+    ensures rise { IdsRise 0 ids.now → IfOk result (λ all. IdsRise 0 all) }
 {
     let mut all = ids_below(alloc, ids, from)?;
     for id in from..to {

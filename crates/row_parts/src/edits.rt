@@ -2,15 +2,26 @@
 ghost use Rattle.std.specs.Prelude.{◌≡◌, IfOk};
 ghost use Rattle.std.specs.List.{insert as inserted, remove as removed};
 
-use par_base::{Memory, Row, Value};
+use par_base::{List, Memory, Row, Value};
 use std::alloc::Global;
+
+/// Equal values, in a list that has room for one more.
+fn values_with_room(alloc: Global, values: &[Value]) -> Result<List<Value>, Memory>
+    ensures { IfOk result (λ made. made ≡ values.now) }
+{
+    let mut made = Vec::with_capacity(alloc, values.len().saturating_add(1))?;
+    for value in values {
+        made.push(value.copy(alloc)?)?;
+    }
+    Ok(List::from_vec(made))
+}
 
 /// The row with a value more at a place, or at its end where the place is past that.
 pub fn with_value(row: Row, place: usize, value: Value) -> Result<Row, Memory>
     ensures { IfOk result (λ made. made ≡ inserted row place value) }
 {
     let alloc = row.allocator();
-    let mut made = row.to_list(alloc)?;
+    let mut made = values_with_room(alloc, row.as_slice())?;
     let at = if place < made.len() {
         place
     } else {

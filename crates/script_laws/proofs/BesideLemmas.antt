@@ -16,7 +16,6 @@ use Rattle.engine_transactions.specs.EngineCoreAct.{acted_data, is_built, with_d
 use Rattle.engine_transactions.specs.EngineMovesAct.{pending_behind, stepped_at}
 use Rattle.engine_transactions.specs.Moving.{Moving}
 use Rattle.engine_transactions.specs.MigrationSides.{changing}
-use Rattle.engine_transactions.specs.Pending.{next_flip}
 use Rattle.engine_transactions.specs.Answer.{Answer}
 use Rattle.engine_transactions.specs.Answer.TheVariants.{Plain}
 use Rattle.engine_transactions.specs.EngineSessionsStanding.{Standing, moving_in, used_by, with_use}

@@ -1,6 +1,6 @@
 -- One event: what holds of the standing behind it.
 use Rattle.std.specs.Prelude.{◌==◌, not, length, if◌then◌else◌, Option, Some, None, Result, Ok, Err}
-use Rattle.std.proofs.Common.{◌≡◌, ℕ, List, [], ◌∷◌, Bool, true, false, refl, subst}
+use Rattle.std.proofs.Common.{◌≡◌, ℕ, List, Bool, true, false, refl, subst}
 use Rattle.par_base.specs.declared.refusal.Refusal.{Refusal}
 use Rattle.par_base.specs.declared.refusal.Refusal.TheVariants.{ReadAfterWrite}
 use Rattle.par_base.specs.Checked.{Checked, ◌then◌}
@@ -26,10 +26,10 @@ use Rattle.engine_transactions.proofs.TextLaws.{import_texts}
 use Rattle.engine_transactions.specs.declared.table_read.TableRead.{TableRead}
 use Rattle.engine_transactions.specs.Standing.{OpenView, Standing, TransactionView, no_transaction, with_write}
 use Rattle.engine_transactions.specs.Meaning.{executing, means}
-use Rattle.engine_transactions.specs.Act.{act, at_hand, at_once, begun_by, committed, committed_as, history_behind, kept_by, named_at, noted, read_of, rolled_back, selected_by, with_transaction, written_by}
+use Rattle.engine_transactions.specs.Act.{at_hand, at_once, begun_by, committed, committed_as, history_behind, kept_by, named_at, noted, read_of, rolled_back, selected_by, with_transaction, written_by}
 use Rattle.engine_transactions.specs.Replies.{next_state}
 use Rattle.script_laws.specs.Kept.{IsKeptAt, StatementsKeep}
-use Rattle.script_laws.specs.Written.{AreWrites, CommitsWrites, IsOrdinary, StatementsAreOrdinary, WritesOrKeeps}
+use Rattle.script_laws.specs.Written.{AreWrites, CommitsWrites, StatementsAreOrdinary, WritesOrKeeps}
 use Rattle.script_laws.proofs.OpenLemmas.{Fits, fit_at, fit_more, fit_with, fit_without}
 use Rattle.script_laws.proofs.RunLemmas.{Run, RunWell, data_in, runs_well}
 

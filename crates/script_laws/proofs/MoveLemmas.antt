@@ -1,5 +1,5 @@
 -- Moves change no reply but their own and those of SHOW LAYOUT.
-use Rattle.std.specs.Prelude.{Ok, Err, Option}
+use Rattle.std.specs.Prelude.{Ok, Err}
 use Rattle.std.proofs.Common.{◌≡◌, ℕ, List, [], ◌∷◌, Bool, false, cond, refl, sym, ap, ◌∙◌, subst}
 use Rattle.statements.specs.Views.{StatementView, CreateVersion, DropVersion, Insert, Import, Update, Delete, Select, Materialize, Step, ShowLayout, Use, Session, Advise, Watch, Unwatch, Begin, Commit, Rollback}
 use Rattle.par_base.specs.Checked.{Checked}

@@ -1,7 +1,7 @@
 -- What holds of all open transactions.
-use Rattle.std.specs.Prelude.{not, ◌==◌, filter, if◌then◌else◌, Option, Some, None}
+use Rattle.std.specs.Prelude.{not, ◌==◌, filter, if◌then◌else◌, Some}
 use Rattle.std.specs.List.{find}
-use Rattle.std.proofs.Common.{◌≡◌, ℕ, List, [], ◌∷◌, ◌++◌, Bool, true, false, cond, subst}
+use Rattle.std.proofs.Common.{◌≡◌, ℕ, List, [], ◌∷◌, Bool, true, false, cond, subst}
 use Rattle.expr_lang.specs.Operations.{text_limit}
 use Rattle.statements.specs.Views.{StatementView}
 use Rattle.statements.specs.Texts.{TextsWithin}

@@ -1,6 +1,6 @@
 -- With transactions: what moves change for one statement.
 use Rattle.std.specs.Prelude.{◌==◌, not, length, map, if◌then◌else◌, Option, Some, None, Result, Ok, Err}
-use Rattle.std.proofs.Common.{◌≡◌, ◌||◌, ℕ, List, [], ◌∷◌, ◌++◌, Bool, true, false, refl, sym, ap, subst, ◌∙◌}
+use Rattle.std.proofs.Common.{◌≡◌, ◌||◌, ℕ, List, [], ◌∷◌, Bool, true, false, refl, sym, ap, subst, ◌∙◌}
 use Rattle.par_base.specs.declared.limits.Target.{Target}
 use Rattle.par_base.specs.declared.refusal.Refusal.{Refusal}
 use Rattle.par_base.specs.declared.refusal.Refusal.TheVariants.{ReadAfterWrite}
@@ -33,7 +33,7 @@ use Rattle.engine_transactions.specs.Standing.{OpenView, Standing, TransactionVi
 use Rattle.engine_transactions.specs.Meaning.{any_changed, executing, means, write_reply}
 use Rattle.engine_transactions.specs.Act.{accesses_of, act, at_once, at_hand, begun_by, behind_commit, committed, committed_as, history_behind, kept_by, named_at, noted, raised_all, read_of, rolled_back, selected_by, written_by}
 use Rattle.script_laws.specs.Moves.{laid_out, tells_storage, with_layout}
-use Rattle.script_laws.proofs.BesideLemmas.{SameBut as SameBeside, beside, beside_move, both_leave, relaid as relaid_beside, same_act as same_beside, step_leaves as step_leaves_beside, Leaves as LeavesBeside}
+use Rattle.script_laws.proofs.BesideLemmas.{beside, beside_move, both_leave, relaid as relaid_beside, same_act as same_beside, step_leaves as step_leaves_beside, Leaves as LeavesBeside}
 
 -- the same answer or refusal, and what stands behind it under this layout
 abbrev pub relaid : List ℕ → List ℕ → Checked (Answer × Standing) → Checked (Answer × Standing)

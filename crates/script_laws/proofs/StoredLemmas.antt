@@ -1,7 +1,6 @@
 -- What an answered MATERIALIZE leaves, whatever transactions are open.
 use Rattle.std.specs.Prelude.{Ok, Err}
-use Rattle.std.proofs.Common.{◌≡◌, List, Bool, true, false, refl, subst}
-use Rattle.par_base.specs.declared.limits.Target.{Target}
+use Rattle.std.proofs.Common.{◌≡◌, true, false, refl, subst}
 use Rattle.par_base.specs.Checked.{Checked, ◌then◌}
 use Rattle.statements.specs.Views.{Materialize}
 use Rattle.session_laws.specs.Moves.{MovesStoreNamed as MovesStoreBeside, StartsLeadToNamed as StartsLeadBeside}

@@ -16,7 +16,7 @@ use Rattle.engine_transactions.specs.EngineCoreTexts.{line}
 use Rattle.engine_feeds.specs.Standing.{Standing}
 use Rattle.engine_feeds.specs.Replies.{out}
 use Rattle.script_run.specs.Statuses as statuses
-use Rattle.script_run.specs.Statuses.{limit, Taken, whole, early, fault_line, last_line, WritesScript, Had, PutsFront, AnswersScript, Begun, BegunTaken, CutShort}
+use Rattle.script_run.specs.Statuses.{limit, Taken, whole, early, fault_line, last_line, WritesScript, Had, PutsFront, AnswersScript, Begun, CutShort}
 use Rattle.script_run.specs.Calls.{RunsTo, RunsFront, RunStays, PutsLine, last_text, end_of, Ends, EndStays}
 use Rattle.script_run.specs.declared.turn.Last.{Last}
 use Rattle.script_run.specs.declared.turn.Last.TheVariants as last

@@ -44,7 +44,7 @@ use Rattle.engine_sessions.specs.EngineMovesAct.{act as act_in_full, at_once, is
 use Rattle.engine_sessions.specs.Moving.{Moving}
 use Rattle.engine_sessions.proofs.ActLaws.{kind_of, started_stays, stepped_stays}
 use Rattle.engine_sessions.proofs.EngineCoreTextLaws.{assignments_fit, operators_fit, rows_fit}
-use Rattle.engine_sessions.specs.Act.{act, advice_on}
+use Rattle.engine_sessions.specs.Act.{advice_on}
 use Rattle.engine_sessions.specs.Accesses.{accessed, is_move}
 use Rattle.engine_sessions.specs.InFull.{in_full}
 use Rattle.engine_sessions.specs.Standing.{Standing, moving_in, used_by, with_use}

@@ -6,7 +6,6 @@ use Rattle.csv_io.specs.Tables.{csv_text}
 use Rattle.engine_sessions.specs.EngineCoreLaws.{EndsLine, RepliesAreLines}
 use Rattle.engine_sessions.specs.EngineCoreTexts.{line}
 use Rattle.engine_sessions.specs.Texts.{answer_bytes, cost_text}
-use Rattle.engine_sessions.specs.declared.answer.Answer.{Answer}
 use Rattle.engine_sessions.specs.declared.answer.Answer.TheVariants.{Plain, Csv, Advice}
 use Rattle.session_laws.specs.Lines.{AnswersAreLines}
 

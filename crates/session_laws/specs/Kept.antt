@@ -1,5 +1,5 @@
 -- Statements leave states as a database may have them.
-use Rattle.std.specs.Prelude.{◌≤◌, ℕ, List}
+use Rattle.std.specs.Prelude.{◌≤◌, ℕ}
 use Rattle.expr_lang.specs.Operations.{text_limit}
 use Rattle.statements.specs.Views.{StatementView}
 use Rattle.statements.specs.Texts.{TextsWithin}

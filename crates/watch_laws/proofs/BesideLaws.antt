@@ -3,9 +3,8 @@ use Rattle.std.specs.Prelude.{Option, Some, None, Ok, Err, if◌then◌else◌}
 use Rattle.std.proofs.Common.{◌≡◌, ◌+◌, ℕ, List, [], ◌∷◌, Bool, true, false, cond, refl, sym, ap, ◌∙◌, subst}
 use Rattle.par_base.specs.Checked.{Checked, ◌then◌}
 use Rattle.par_base.specs.declared.refusal.Refusal.TheVariants.{NoWatcherLeft}
-use Rattle.statements.specs.Views.{StatementView, Watch, Unwatch}
+use Rattle.statements.specs.Views.{StatementView}
 use Rattle.version_graph.specs.Edges.{set_named}
-use Rattle.version_graph.specs.Sets.{Each}
 use Rattle.change_feed.specs.Watches.{WatchState, WatchesState, watch_of, watched}
 use Rattle.version_notes.specs.Notes.{first_note}
 use Rattle.engine_state.specs.declared.reply.Reply.TheVariants.{Watching}
@@ -15,7 +14,7 @@ use Rattle.engine_transactions.specs.Answer.TheVariants.{Plain}
 use Rattle.engine_transactions.specs.Replies.{next_state as next_unwatched, replies as replies_unwatched, state_after as state_unwatched, text_of as text_unwatched}
 use Rattle.engine_transactions.specs.SharedChecks.{known_version}
 use Rattle.engine_transactions.specs.Standing.{Standing as TransactionsStanding}
-use Rattle.engine_feeds.specs.Act.{act, acted_by, can_watch, data_in, ended_at, taken_for, told_of, watched_by}
+use Rattle.engine_feeds.specs.Act.{act, acted_by, can_watch, data_in, ended_at, taken_for, told_of}
 use Rattle.engine_feeds.specs.Replies.{next_state, replies, state_after, text_of}
 use Rattle.engine_feeds.specs.Standing.{Standing}
 use Rattle.watch_laws.specs.Beside.{OthersAreAnswered, StandsBeside, UnwatchedAreAnswered, WatchesNothing, is_of_watches, others}

@@ -10,7 +10,7 @@ use Rattle.version_graph.specs.Edges.{set_named}
 use Rattle.change_feed.specs.declared.note.Note.{Note}
 use Rattle.change_feed.specs.declared.note.VersionNote.{VersionNote}
 use Rattle.change_feed.specs.Feeds.{AllQuiet, event_told, events_told}
-use Rattle.change_feed.specs.Watchers.{IsFresh, WatcherState, as_made, with_prepared, with_told}
+use Rattle.change_feed.specs.Watchers.{IsFresh, WatcherState, with_prepared, with_told}
 use Rattle.change_feed.specs.Watches.{AllFresh, WatchState, WatchesState, note_for, taking, watch_of, watched, with_first, with_note, without_number, without_version}
 use Rattle.change_feed.proofs.FeedLaws.{feeds}
 use Rattle.engine_transactions.specs.Act.{act as act_unwatched}

@@ -1,5 +1,5 @@
 -- Which statements are of watches.
-use Rattle.std.proofs.Common.{◌≡◌, ℕ, List, Bool, false, refl}
+use Rattle.std.proofs.Common.{◌≡◌, ℕ, List, false, refl}
 use Rattle.statements.specs.Views.{StatementView, CreateVersion, DropVersion, Insert, Import, Update, Delete, Select, Materialize, Step, ShowLayout, Use, Session, Advise, Watch, Unwatch, Begin, Commit, Rollback}
 use Rattle.engine_feeds.specs.Act.{act, acted_by}
 use Rattle.engine_feeds.specs.Standing.{Standing}

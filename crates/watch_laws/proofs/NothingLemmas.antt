@@ -5,7 +5,7 @@ use Rattle.std.specs.Prelude.{Option, Some, None, filter, map, not}
 use Rattle.std.proofs.Common.{◌≡◌, ℕ, List, [], ◌∷◌, Bool, true, false, cond, refl, ap, ◌∙◌}
 use Rattle.par_base.specs.declared.value.Value.{Value}
 use Rattle.par_base.specs.inner.SameLaws.{row_same}
-use Rattle.row_store.specs.Rows.{Rows, row_of}
+use Rattle.row_store.specs.Rows.{row_of}
 use Rattle.row_store.specs.declared.change.Change.{Change}
 use Rattle.op_law.specs.Identifiers.{ids_over}
 use Rattle.row_changes.specs.Picked.{Lookup, change_between}

@@ -5,14 +5,12 @@ use Rattle.par_base.specs.declared.limits.Target.{Target}
 use Rattle.par_base.specs.Checked.{Checked, ◌then◌}
 use Rattle.par_base.specs.declared.refusal.Refusal.TheVariants.{NoWatcherLeft}
 use Rattle.engine_state.specs.declared.reply.Reply.TheVariants.{Watching}
-use Rattle.statements.specs.Views.{StatementView, Materialize, Step, Watch, Unwatch}
+use Rattle.statements.specs.Views.{StatementView, Materialize, Step}
 use Rattle.version_graph.specs.Edges.{set_named}
 use Rattle.change_feed.specs.Watches.{WatchState, WatchesState, watch_of, watched}
 use Rattle.engine_transactions.specs.Act.{act as act_unwatched}
 use Rattle.engine_transactions.specs.Answer.{Answer}
 use Rattle.engine_transactions.specs.Answer.TheVariants.{Plain}
-use Rattle.engine_transactions.specs.AnyDatabase.{AnyDatabase}
-use Rattle.engine_transactions.specs.Replies.{next_state as next_unwatched}
 use Rattle.engine_transactions.specs.SharedChecks.{known_version}
 use Rattle.engine_transactions.specs.Standing.{Standing as TransactionsStanding}
 use Rattle.script_laws.specs.Moves.{tells_storage, with_layout as laid_out}

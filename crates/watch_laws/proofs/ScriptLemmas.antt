@@ -1,11 +1,10 @@
 -- Scripts with watches are as those without, beside them.
-use Rattle.std.specs.Prelude.{Ok, Bool}
-use Rattle.std.proofs.Common.{◌≡◌, ◌++◌, ◌∷◌, ℕ, List, false, refl, sym, ap, ◌∙◌, subst}
+use Rattle.std.specs.Prelude.{Ok}
+use Rattle.std.proofs.Common.{◌≡◌, refl, sym, ◌∙◌, subst}
 use Rattle.statements.specs.Views.{StatementView, CreateVersion, DropVersion, Insert, Import, Update, Delete, Select, Materialize, Step, ShowLayout, Use, Session, Advise, Watch, Unwatch, Begin, Commit, Rollback}
 use Rattle.engine_transactions.specs.Act.{act as act_unwatched}
 use Rattle.engine_transactions.specs.Answer.{Answer}
-use Rattle.engine_transactions.specs.Begun.{DifferInSessions, begun_again}
-use Rattle.engine_transactions.specs.Replies.{state_after as state_unwatched}
+use Rattle.engine_transactions.specs.Begun.{DifferInSessions}
 use Rattle.engine_transactions.specs.Standing.{Standing as TransactionsStanding}
 use Rattle.script_laws.specs.Kept.{IsKeptAt}
 use Rattle.script_laws.specs.Said.{SaidNeedNoSession as SaidNeedNone}

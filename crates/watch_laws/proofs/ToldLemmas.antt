@@ -1,5 +1,5 @@
 -- What events tell depends on the data alone, not on the layout.
-use Rattle.std.specs.Prelude.{map, Option, Some, None, Result, Ok, Err}
+use Rattle.std.specs.Prelude.{Option, Some, None, Result, Ok, Err}
 use Rattle.std.proofs.Common.{◌≡◌, ℕ, List, [], ◌∷◌, refl, ap, ◌∙◌}
 use Rattle.par_base.specs.declared.refusal.Refusal.{Refusal}
 use Rattle.statements.specs.Views.{StatementView}

@@ -5,7 +5,6 @@ use Rattle.std.proofs.Common.{◌≡◌, ℕ, List, [], ◌∷◌, Bool, false, 
 use Rattle.par_base.specs.Checked.{Checked}
 use Rattle.statements.specs.Views.{StatementView, CreateVersion, DropVersion, Insert, Import, Update, Delete, Select, Materialize, Step, ShowLayout, Use, Session, Advise, Watch, Unwatch, Begin, Commit, Rollback}
 use Rattle.bidel_script.specs.Script.{IsScript}
-use Rattle.change_feed.specs.Watches.{WatchesState}
 use Rattle.engine_transactions.specs.Answer.{Answer}
 use Rattle.engine_transactions.specs.EngineMovesAct.{pending_behind}
 use Rattle.script_laws.specs.Moves.{heard, tells_storage, without_moves}
@@ -14,7 +13,7 @@ use Rattle.engine_feeds.specs.Replies.{next_state, out, replies, state_after, te
 use Rattle.engine_feeds.specs.Standing.{Standing}
 use Rattle.watch_laws.specs.Moves.{AreIdle, MovesChangeNoReply, MovesTellNothing, MovesUnseen, with_layout}
 use Rattle.watch_laws.proofs.IdleLemmas.{idle_next}
-use Rattle.watch_laws.proofs.RelaidLemmas.{Leaves, SameBut, materialize_left, relaid, same_act, step_left}
+use Rattle.watch_laws.proofs.RelaidLemmas.{Leaves, materialize_left, relaid, same_act, step_left}
 
 -- two scripts, from where each begins: they have the same replies but those that tell what is stored, and leave the same watches
 abbrev Alike : List StatementView → List StatementView → Standing → Standing → Type 0

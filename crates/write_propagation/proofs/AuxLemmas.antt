@@ -19,31 +19,32 @@ use Rattle.version_model.proofs.ToldLaws.{some_is}
 use Rattle.storage_law.specs.Storage.{stored_way}
 use Rattle.storage_law.proofs.CanonicalLaws.{either_way}
 use Rattle.db_state.specs.Calls.{IsRelatedAt}
-use Rattle.db_state.specs.Parts.{Ascends, MaySee, SeenWithin, passes}
+use Rattle.op_law.specs.Identifiers.{has_id}
+use Rattle.db_state.specs.Parts.{Ascends, MaySee, SeenWithin, SplitsOver, passes}
 use Rattle.db_state.specs.declared.parts.Parts.{Parts}
 use Rattle.db_state.specs.declared.sight.Sight.{Sight}
 use Rattle.db_state.specs.declared.sight.Sight.TheVariants.{All, Of, Part}
 use Rattle.db_state.proofs.AuxLaws.{far_few, near_few}
-use Rattle.write_propagation.specs.Making.{MayChangeAuxAt, MayShow, auxes_over, copied_state, made_over}
+use Rattle.write_propagation.specs.Making.{MayChangeAuxAt, MayShow, auxes_over, copied_state, made_over, names_of}
 use Rattle.write_propagation.specs.declared.making.Making.{Making}
 
 -- what is seen over some operators is seen over one of them
-pub sees_one : {O : Type 0} (meaning : O → Meaning) (es : List (Placed O)) (ns : List ℕ) (n : ℕ) (sight : Sight) → In n ns → MayShow meaning es ns sight → MayShow meaning es (n ∷ []) sight
-sees_one meaning es ns n All i sees = tt
-sees_one meaning es ns n (Of ids) i sees = (sees.0, λ e j own. elim own as (λ _. (meaning e.operator).is_local ≡ true) [ inl same ↦ sees.1 e j (subst (λ (k : ℕ). In k ns) (sym same) i) | inr none ↦ absurd none ])
-sees_one meaning es ns n (Part ids) i sees = absurd sees
+pub sees_one : {O : Type 0} (meaning : O → Meaning) (es : List (Placed O)) (s : State) (ns : List ℕ) (n : ℕ) (sight : Sight) → In n ns → MaySee meaning es s ns sight → MaySee meaning es s (n ∷ []) sight
+sees_one meaning es s ns n All i sees = tt
+sees_one meaning es s ns n (Of ids) i sees = (sees.0, λ e j own. elim own as (λ _. (meaning e.operator).is_local ≡ true) [ inl same ↦ sees.1 e j (subst (λ (k : ℕ). In k ns) (sym same) i) | inr none ↦ absurd none ])
+sees_one meaning es s ns n (Part ids) i sees = (sees.0, λ e j own. elim own as (λ _. SplitsOver meaning (headings es) s (has_id ids.now) e) [ inl same ↦ sees.1 e j (subst (λ (k : ℕ). In k ns) (sym same) i) | inr none ↦ absurd none ])
 
--- it may be read, of whatever state
+-- what may be shown may be read, of whatever state
 pub sees_read : {O : Type 0} (meaning : O → Meaning) (es : List (Placed O)) (s : State) (ns : List ℕ) (sight : Sight) → MayShow meaning es ns sight → MaySee meaning es s ns sight
 sees_read meaning es s ns All sees = tt
 sees_read meaning es s ns (Of ids) sees = sees
 sees_read meaning es s ns (Part ids) sees = absurd sees
 
--- and ascends
-pub sees_rise : {O : Type 0} (meaning : O → Meaning) (es : List (Placed O)) (ns : List ℕ) (sight : Sight) → MayShow meaning es ns sight → Ascends sight
-sees_rise meaning es ns All sees = tt
-sees_rise meaning es ns (Of ids) sees = sees.0
-sees_rise meaning es ns (Part ids) sees = absurd sees
+-- what may be read ascends
+pub sees_rise : {O : Type 0} (meaning : O → Meaning) (es : List (Placed O)) (s : State) (ns : List ℕ) (sight : Sight) → MaySee meaning es s ns sight → Ascends sight
+sees_rise meaning es s ns All sees = tt
+sees_rise meaning es s ns (Of ids) sees = sees.0
+sees_rise meaning es s ns (Part ids) sees = sees.0
 
 -- what the graph and the layout of a database tell of the way from the stored side
 pub told_way : {O : Type 0} (d : Parts O) (n : ℕ) (over : Crossing O) (graph : Drawn O) (layout : Layout) → graph ≡ d.graph → layout ≡ d.layout → ((e : Link O) → In e (forest graph.edges) → e.number ≡ n → Some over ≡ Some (stored_way layout.operators e))
@@ -68,7 +69,7 @@ module _ {O : Type 0} (meaning : O → Meaning) (d : Parts O) (making : Making) 
       subst (λ (p : Crossing O). IsPair (directed p.backward (meaning p.operator)) (map (headings es) p.near) (map (headings es) p.far) (pair_in s p)) (sym (way_of known.over known.lives known.number))
       (either_way meaning (headings es) s false (is_in known.over.number d.layout.operators) known.over known.related)
 
-  module _ (test : ℕ → Bool) (may : MayChangeAuxAt meaning d test making n) where
+  module _ (test names : ℕ → Bool) (may : MayChangeAuxAt meaning d test names making n) where
     -- ITS AUXILIARY TABLES MAY BE CHANGED
     pub may_change : MayChangeAux meaning old making.made over
     may_change = record {
@@ -88,11 +89,11 @@ module _ {O : Type 0} (meaning : O → Meaning) (d : Parts O) (making : Making) 
         (subst (λ (x : Tables). AreDifferences x (aux_beside meaning (made_over making) over) changes) same differs)
 
   -- what it takes
-  pub change_takes : (sight : Sight) → MayChangeAuxAt meaning d (passes sight) making n → MayShow meaning es (n ∷ []) sight → (s t : ℕ) → AuxTakes meaning over making.made s t → SeenWithin 8 sight 1 s t
-  change_takes All may sees s t takes = tt
-  change_takes (Of ids) may sees s t takes =
+  pub change_takes : (sight : Sight) → MayChangeAuxAt meaning d (passes sight) (names_of sight) making n → (x : State) → MaySee meaning es x (n ∷ []) sight → (s t : ℕ) → AuxTakes meaning over making.made s t → SeenWithin 8 sight 1 s t
+  change_takes All may x sees s t takes = tt
+  change_takes (Of ids) may x sees s t takes =
       let known = may.old in
       let local : (meaning over.operator).is_local ≡ true = subst (λ (p : Crossing O). (meaning p.operator).is_local ≡ true) (sym (way_of known.over known.lives known.number)) (sees.1 known.over known.lives (inl known.number)) in
       let own = takes ids.now sees.0 local may.pass in
       omega (arith, own)
-  change_takes (Part ids) may sees s t takes = tt
+  change_takes (Part ids) may x sees s t takes = tt

@@ -48,7 +48,7 @@ tables_sound P n [] h = tt
 tables_sound P n (t ∷ ts) h = (rows_sound P n t h.0, tables_sound P n ts h.1)
 
 -- what may be mapped may be mapped restricted
-may_only : (m : Meaning) → HalfLocal m → (P : ℕ → Bool) (hs ht : List Heading) (near : Tables) (old : PairState) (n : ℕ) → MayMap m hs ht near old n → MayMap m hs ht (only P near) (pair_only P old) n
+pub may_only : (m : Meaning) → HalfLocal m → (P : ℕ → Bool) (hs ht : List Heading) (near : Tables) (old : PairState) (n : ℕ) → MayMap m hs ht near old n → MayMap m hs ht (only P near) (pair_only P old) n
 may_only m here P hs ht near old n may = record {
   sound = record {
     pair = here.related P hs ht old may.sound.pair;
@@ -95,7 +95,7 @@ module _ {O : Type 0} (meaning : O → Meaning) (laws : (o : O) → Laws (meanin
     -- ---- the part of a run
 
     module _ (P : ℕ → Bool) (other : State) (before : IsPartOf P tree old other) where
-      near_is : (a b : State) (p : Crossing O) → IsPartOf P tree a b → IsInside tree.operators tree.tables p → map b.tables p.near ≡ only P (map a.tables p.near)
+      pub near_is : (a b : State) (p : Crossing O) → IsPartOf P tree a b → IsInside tree.operators tree.tables p → map b.tables p.near ≡ only P (map a.tables p.near)
       near_is a b p now inside = map_same b.tables (λ t. rows_only P (a.tables t)) p.near (λ t i. sym (now.tables t (inside.near t i))) ∙ only_map P a.tables p.near
 
       pair_is : (p : Crossing O) → IsInside tree.operators tree.tables p → pair_in other p ≡ pair_only P (pair_in old p)
@@ -105,7 +105,7 @@ module _ {O : Type 0} (meaning : O → Meaning) (laws : (o : O) → Laws (meanin
           let m : other.memory p.number ≡ old.memory p.number = sym (before.memory p.number inside.number) in
           cc
 
-      small_is : (a b : State) (p : Crossing O) → IsPartOf P tree a b → IsInside tree.operators tree.tables p → mapped meaning other b p ≡ (at p).forward (only P (map a.tables p.near)) (pair_only P (pair_in old p)) a.next
+      pub small_is : (a b : State) (p : Crossing O) → IsPartOf P tree a b → IsInside tree.operators tree.tables p → mapped meaning other b p ≡ (at p).forward (only P (map a.tables p.near)) (pair_only P (pair_in old p)) a.next
       small_is a b p now inside =
           ap (λ (x : Tables). (at p).forward x (pair_in other p) b.next) (near_is a b p now inside)
           ∙ ap (λ (x : PairState). (at p).forward (only P (map a.tables p.near)) x b.next) (pair_is p inside)

@@ -154,7 +154,7 @@ module _ {O : Type 0} (meaning : O → Meaning) (laws : (o : O) → Laws (meanin
 
   -- ---- the plan
 
-  module _ (making : Making) (is : IsMaking meaning d tree w test making) where
+  module _ (making : Making) (is : IsMaking meaning d tree w test test making) where
     stood : (e : Link O) → In e (forest es) → auxes_at d.aux e.number ≡ aux_of meaning s (over e)
     stood e i = (each_at (λ (f : Link O). StandsOver meaning (headings es) (storage_in d) s (stored_way d.layout.operators f)) (forest es) e i good.stands.edges).aux
 
@@ -346,7 +346,7 @@ module _ {O : Type 0} (meaning : O → Meaning) (laws : (o : O) → Laws (meanin
       }
 
   -- where the write of the part is refused, so is the whole
-  pub refused : (fault : Fault IdsSpent) → MakesWrite meaning d tree w test (Err fault) → Plans meaning d w.set w.table rows w.ids.next (Err fault)
+  pub refused : (fault : Fault IdsSpent) → MakesWrite meaning d tree w test test (Err fault) → Plans meaning d w.set w.table rows w.ids.next (Err fault)
   refused (Refused spent) h =
       let same = same_refused d.ids w.ids plans.may.more plans.drawn plans.limit in
       let at = subst (λ (n : ℕ). IsSpent n w.ids w.ids spent) (sym shows.part.next) h in

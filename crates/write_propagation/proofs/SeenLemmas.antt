@@ -38,12 +38,12 @@ use Rattle.version_model.proofs.WriteLaws.{write_is_ordinary}
 use Rattle.storage_law.specs.Storage.{StandsOver, aux_of, stored_way}
 use Rattle.db_state.specs.Calls.{IsRelatedAt}
 use Rattle.db_state.specs.Fields.{IsDatabase, state_for, storage_in}
-use Rattle.db_state.specs.Parts.{SeenWithin, passes}
+use Rattle.db_state.specs.Parts.{MaySee, SeenWithin, passes}
 use Rattle.db_state.specs.declared.parts.Parts.{Parts}
 use Rattle.db_state.specs.declared.sight.Sight.{Sight}
 use Rattle.db_state.specs.declared.sight.Sight.TheVariants.{All, Of, Part}
 use Rattle.write_propagation.specs.Calls.{CopiesTree}
-use Rattle.write_propagation.specs.Making.{CarriesWrite, CarriesWriteWithin, IsMaking, MakesWrite, MayChangeAuxAt, MayChangeAuxes, MayPlan, MayShow, copied_state, first_changes, seen_write}
+use Rattle.write_propagation.specs.Making.{CarriesWrite, CarriesWriteWithin, IsMaking, MakesWrite, MayChangeAuxAt, MayChangeAuxes, MayPlan, copied_state, first_changes, names_of, seen_write}
 use Rattle.write_propagation.specs.Plans.{rows_written}
 use Rattle.changes_walk.specs.Reach.{IsWhole}
 use Rattle.write_propagation.specs.Trees.{part}
@@ -51,6 +51,7 @@ use Rattle.write_propagation.specs.declared.copies.Copies.{Copies}
 use Rattle.write_propagation.specs.declared.making.Making.{Making}
 use Rattle.write_propagation.specs.declared.plans.RowWrite.{RowWrite}
 use Rattle.write_propagation.specs.declared.tree.Tree.{Tree}
+use Rattle.write_propagation.proofs.PartShownLemmas.{before_part, small_sound}
 use Rattle.write_propagation.proofs.ShownLemmas.{shown}
 use Rattle.write_propagation.proofs.TreeLemmas.{all_sound, local_sound, part_may, part_table}
 use Rattle.write_propagation.proofs.WholeLemmas.{lives, path, path_local, path_long}
@@ -106,10 +107,10 @@ module _ {O : Type 0} (meaning : O → Meaning) (laws : (o : O) → Laws (meanin
   abbrev ps : List (Crossing O)
   ps = path es w.set w.table tree plans.walked
 
-  seen_sound : (sight : Sight) → MayShow meaning es tree.operators sight → IsSound meaning es (part (passes sight) tree s)
+  seen_sound : (sight : Sight) → MaySee meaning es s tree.operators sight → IsSound meaning es (part (passes sight) tree s)
   seen_sound All sees = all_sound meaning laws es s good.sound tree of_tree (passes All) (λ q. refl)
   seen_sound (Of ids) sees = local_sound meaning laws es s good.sound tree of_tree (passes (Of ids)) sees.1
-  seen_sound (Part ids) sees = absurd sees
+  seen_sound (Part ids) sees = small_sound meaning laws d good tree w plans (passes (Part ids)) sees.1
 
   -- each operator of the tree relates its sides in a sound state
   related_at : (x : State) → IsSound meaning es x → (n : ℕ) → In n tree.operators → IsRelatedAt meaning es x n
@@ -123,7 +124,7 @@ module _ {O : Type 0} (meaning : O → Meaning) (laws : (o : O) → Laws (meanin
         related = each_at (λ (f : Link O). IsRelated meaning (headings es) x (crossing false f)) (forest es) l.0 l.1 sound.related;
       }
 
-  module _ (sight : Sight) (sees : MayShow meaning es tree.operators sight) (named : AllPass (passes sight) w.changes) where
+  module _ (sight : Sight) (sees : MaySee meaning es s tree.operators sight) (named : AllPass (passes sight) w.changes) where
     abbrev test : ℕ → Bool
     test = passes sight
 
@@ -181,7 +182,7 @@ module _ {O : Type 0} (meaning : O → Meaning) (laws : (o : O) → Laws (meanin
         carried_is = ap (λ (y : State). run meaning old y (walk (forest es) w.set)) first_is ∙ ap (λ (y : State). write meaning es y w.set w.table (rows_only test rows) w.ids.next) copied_is
 
         -- where it was carried
-        pub making_is : (made : Changing) → CarriesWrite meaning es old w tree.operators (Ok made) → IsMaking meaning d tree w (passes sight) (record { copies = copies; made = made })
+        pub making_is : (made : Changing) → CarriesWrite meaning es old w tree.operators (Ok made) → IsMaking meaning d tree w (passes sight) (names_of sight) (record { copies = copies; made = made })
         making_is made was = record {
           tables = copied.tables;
           memories = copied.memories;
@@ -192,39 +193,45 @@ module _ {O : Type 0} (meaning : O → Meaning) (laws : (o : O) → Laws (meanin
           limit = was.0.3;
         }
           where
-            all_named : (sight : Sight) → MayShow meaning es tree.operators sight → AllPass (passes sight) w.changes → (made : Changing)
-                → ((ids : List ℕ) → AreLocal meaning ps → AllPass (has_id ids) w.changes → (t : ℕ) → AllPass (has_id ids) (latest_changes made.tables t)) → (t : ℕ) → AllPass (passes sight) (latest_changes made.tables t)
+            all_named : (sight : Sight) → MaySee meaning es s tree.operators sight → AllPass (passes sight) w.changes → (made : Changing)
+                → ((ids : List ℕ) → AreLocal meaning ps → AllPass (has_id ids) w.changes → (t : ℕ) → AllPass (has_id ids) (latest_changes made.tables t)) → (t : ℕ) → AllPass (names_of sight) (latest_changes made.tables t)
             all_named All sees named made only t = all_pass (latest_changes made.tables t)
             all_named (Of ids) sees named made only t = only ids.now (path_local es w.set w.table tree plans.walked meaning sees.1) named t
-            all_named (Part ids) sees named made only t = absurd sees
+            all_named (Part ids) sees named made only t = all_pass (latest_changes made.tables t)
 
         -- and where it was refused
-        pub making_refused : (fault : Fault IdsSpent) → CarriesWrite meaning es old w tree.operators (Err fault) → MakesWrite meaning d tree w (passes sight) (Err fault)
+        pub making_refused : (fault : Fault IdsSpent) → CarriesWrite meaning es old w tree.operators (Err fault) → MakesWrite meaning d tree w (passes sight) (names_of sight) (Err fault)
         making_refused (Refused spent) h = subst (λ (n : ℕ). IsSpent n w.ids w.ids spent) (ap (λ (y : State). y.next) carried_is) h
         making_refused (OutOfMemory memory) h = tt
 
     -- what it takes
-    pub carry_within : (s t : ℕ) → CarriesWriteWithin meaning es w tree.operators s t → SeenWithin 6 sight (length tree.operators) s t
-    carry_within s t within = of_sight sight sees named
+    pub carry_within : (from to : ℕ) → CarriesWriteWithin meaning es w tree.operators from to → SeenWithin 6 sight (length tree.operators) from to
+    carry_within from to within = of_sight sight sees named
       where
-        of_sight : (sight : Sight) → MayShow meaning es tree.operators sight → AllPass (passes sight) w.changes → SeenWithin 6 sight (length tree.operators) s t
+        of_sight : (sight : Sight) → MaySee meaning es s tree.operators sight → AllPass (passes sight) w.changes → SeenWithin 6 sight (length tree.operators) from to
         of_sight All sees named = tt
         of_sight (Of ids) sees named =
             let own = within ids.now sees.0 (path_local es w.set w.table tree plans.walked meaning sees.1) named in
-            subst (λ (n : ℕ). t ≤ s + 6 * (length ids.now * n)) (path_long es w.set w.table tree plans.walked) own
+            subst (λ (n : ℕ). to ≤ from + 6 * (length ids.now * n)) (path_long es w.set w.table tree plans.walked) own
         of_sight (Part ids) sees named = tt
 
     -- THE CHANGES OF AUXILIARY TABLES MAY BE TAKEN of what was made
-    module _ (making : Making) (is : IsMaking meaning d tree w (passes sight) making) where
+    module _ (making : Making) (is : IsMaking meaning d tree w (passes sight) (names_of sight) making) where
       abbrev over : Link O → Crossing O
       over e = stored_way d.layout.operators e
 
       before_is : copied_state making.copies d.ids.next ≡ small
       before_is = state_is _ _ _ _ _ _ (fun_ext is.tables) (fun_ext is.memories) refl
 
-      pub may_change_auxes : MayChangeAuxes meaning d (passes sight) making tree.operators
+      -- what is kept beside the stored side of what is seen
+      aux_seen : (sight : Sight) → MaySee meaning es s tree.operators sight → AllPass (passes sight) w.changes → (e : Link O) → In e (forest es) → In e.number tree.operators → aux_of meaning (part (passes sight) tree s) (over e) ≡ only (passes sight) (aux_of meaning s (over e))
+      aux_seen All sees named = (shown meaning laws d good tree w plans All sees named).aux_before
+      aux_seen (Of ids) sees named = (shown meaning laws d good tree w plans (Of ids) sees named).aux_before
+      aux_seen (Part ids) sees named = before_part meaning laws d good tree w plans (passes (Part ids)) sees.1
+
+      pub may_change_auxes : MayChangeAuxes meaning d (passes sight) (names_of sight) making tree.operators
       may_change_auxes =
-          each_of (MayChangeAuxAt meaning d (passes sight) making) tree.operators (λ n i. record {
+          each_of (MayChangeAuxAt meaning d (passes sight) (names_of sight) making) tree.operators (λ n i. record {
             kept = good;
             fits = is.fits;
             pass = is.pass;
@@ -233,6 +240,6 @@ module _ {O : Type 0} (meaning : O → Meaning) (laws : (o : O) → Laws (meanin
             aux = λ e j number.
                 let own : In e.number tree.operators = subst (λ (k : ℕ). In k tree.operators) (sym number) i in
                 let stood : auxes_at d.aux e.number ≡ aux_of meaning s (over e) = (each_at (λ (f : Link O). StandsOver meaning (headings es) (storage_in d) s (stored_way d.layout.operators f)) (forest es) e j good.stands.edges).aux in
-                ap (λ (k : ℕ). only test (auxes_at d.aux k)) (sym number) ∙ ap (only test) stood ∙ sym ((shown meaning laws d good tree w plans sight sees named).aux_before e j own)
+                ap (λ (k : ℕ). only test (auxes_at d.aux k)) (sym number) ∙ ap (only test) stood ∙ sym (aux_seen sight sees named e j own)
                 ∙ ap (λ (x : State). aux_of meaning x (over e)) (sym before_is);
           })

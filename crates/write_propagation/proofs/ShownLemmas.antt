@@ -1,6 +1,10 @@
 -- What passes a test of a write is the write of what passes, over operators that treat each identifier by itself, and over any where all passes.
+use Rattle.std.specs.Prelude.{Result}
 use Rattle.std.proofs.Common.{◌≡◌, ℕ, List, [], ◌∷◌, Bool, true, false, not, cond, length, map, inl, inr, refl, sym, ap, ◌∙◌, subst}
 use Rattle.std.proofs.lemmas.Bool.{cond-false, not-true}
+use Rattle.std.proofs.Math.Path.{fun_ext}
+use Rattle.par_base.specs.declared.fault.Fault.{Fault}
+use Rattle.par_base.specs.declared.refusal.IdsSpent.{IdsSpent}
 use Rattle.row_store.specs.Rows.{Rows, RiseFrom}
 use Rattle.version_graph.specs.Sets.{Each, In}
 use Rattle.version_graph.specs.Forest.{Crossing, Link, crossing, forest, walk}
@@ -28,11 +32,12 @@ use Rattle.storage_law.specs.Storage.{aux_of, stored_way}
 use Rattle.db_state.specs.Fields.{IsDatabase, state_for}
 use Rattle.db_state.specs.Parts.{AreLocalAt, passes}
 use Rattle.db_state.specs.declared.parts.Parts.{Parts}
-use Rattle.write_propagation.specs.Making.{MayPlan, MayShow, seen_write}
+use Rattle.write_propagation.specs.Making.{MakesWrite, MayPlan, MayShow, names_of, seen_write}
 use Rattle.write_propagation.specs.Plans.{rows_written}
 use Rattle.changes_walk.specs.Reach.{IsWhole}
 use Rattle.changes_walk.proofs.ReachLaws.{IsInside, each_reached, write_reached}
 use Rattle.write_propagation.specs.Trees.{part}
+use Rattle.write_propagation.specs.declared.making.Making.{Making}
 use Rattle.write_propagation.specs.declared.plans.RowWrite.{RowWrite}
 use Rattle.write_propagation.specs.declared.tree.Tree.{Tree}
 use Rattle.write_propagation.proofs.PartLemmas.{IsLocalInside, IsPartOf, Rests, put_only, put_own, run_part, run_rests}
@@ -106,11 +111,11 @@ module _ {O : Type 0} (meaning : O → Meaning) (laws : (o : O) → Laws (meanin
   inside = path_inside es w.set w.table tree plans.walked
 
   -- they make the whole write
-  end_is : end ≡ run meaning s start ps
+  pub end_is : end ≡ run meaning s start ps
   end_is = write_reached es w.set w.table tree.operators tree.tables plans.walked meaning s laws good.sound rows w.ids.next plans.may
 
   -- and that of a part that is sound
-  small_is : (test : ℕ → Bool) → IsSound meaning es (part test tree s) → seen_write meaning d tree w test ≡ run meaning (part test tree s) (written (part test tree s) w.table (rows_only test rows) w.ids.next) ps
+  pub small_is : (test : ℕ → Bool) → IsSound meaning es (part test tree s) → seen_write meaning d tree w test ≡ run meaning (part test tree s) (written (part test tree s) w.table (rows_only test rows) w.ids.next) ps
   small_is test sound =
       write_reached es w.set w.table tree.operators tree.tables plans.walked meaning (part test tree s) laws sound (rows_only test rows) w.ids.next
       (part_may meaning laws es s good.sound tree of_tree test w.set w.table rows w.ids.next plans.may)
@@ -303,3 +308,14 @@ module _ {O : Type 0} (meaning : O → Meaning) (laws : (o : O) → Laws (meanin
   shown All sees named = all_shown (passes All) (λ q. refl)
   shown (Of ids) sees named = local_shown sees.1 (passes (Of ids)) named
   shown (Part ids) sees named = absurd sees
+
+-- what is seen of it is all that its changes name
+pub named_seen : {O : Type 0} (meaning : O → Meaning) (es : List (Placed O)) (ns : List ℕ) (sight : Sight) → MayShow meaning es ns sight → names_of sight ≡ passes sight
+named_seen meaning _ ns All sees = fun_ext (λ id. refl)
+named_seen meaning _ ns (Of ids) sees = fun_ext (λ id. refl)
+named_seen meaning _ ns (Part ids) sees = absurd sees
+
+-- so what was made of it names what is seen
+pub seen_makes : {O : Type 0} (meaning : O → Meaning) (d : Parts O) (tree : Tree) (w : RowWrite) (sight : Sight) → MayShow meaning d.graph.edges tree.operators sight → (result : Result Making (Fault IdsSpent))
+    → MakesWrite meaning d tree w (passes sight) (names_of sight) result → MakesWrite meaning d tree w (passes sight) (passes sight) result
+seen_makes meaning d tree w sight sees result makes = subst (λ (names : ℕ → Bool). MakesWrite meaning d tree w (passes sight) names result) (named_seen meaning d.graph.edges tree.operators sight sees) makes

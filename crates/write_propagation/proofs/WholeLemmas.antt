@@ -52,7 +52,7 @@ module _ {O : Type 0} (es : List (Placed O)) (set table : ℕ) (tree : Tree) (is
   pub path_inside : Each (IsInside tree.operators tree.tables) path
   path_inside = reached_inside es set table tree.operators tree.tables is
 
-  path_over : Each (GoesOver links) path
+  pub path_over : Each (GoesOver links) path
   path_over = each_reached tree.operators (GoesOver links) (walk links set) (walk_goes_over links set)
 
   pub path_long : length path ≡ length tree.operators
@@ -62,7 +62,7 @@ module _ {O : Type 0} (es : List (Placed O)) (set table : ℕ) (tree : Tree) (is
   path_few = subst (λ (n : ℕ). n ≤ length (walk links set)) path_long (reached_few tree.operators (walk links set))
 
   -- an operator that is reached is crossed
-  crossing_at : (n : ℕ) → In n tree.operators → (p : Crossing O) × In p path × (n ≡ p.number)
+  pub crossing_at : (n : ℕ) → In n tree.operators → (p : Crossing O) × In p path × (n ≡ p.number)
   crossing_at n i = origin (λ (p : Crossing O). p.number) n path (subst (λ (l : List ℕ). In n l) is.listed i)
 
   -- its operators live

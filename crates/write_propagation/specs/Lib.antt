@@ -6,5 +6,6 @@ pub mod Capacity
 pub mod Undo
 pub mod Calls
 pub mod Making
+pub mod PartMade
 pub mod Bounds
 pub mod Keys

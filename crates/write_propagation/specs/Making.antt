@@ -1,5 +1,5 @@
 -- What inner calls suppose and ensure of a write that is made of what is seen of its tree.
-use Rattle.std.specs.Prelude.{◌≡◌, ℕ, ◌+◌, ◌*◌, ◌≤◌, Bool, List, [], ◌∷◌, length, Result, Ok, Err, ⊤}
+use Rattle.std.specs.Prelude.{◌≡◌, ℕ, ◌+◌, ◌*◌, ◌≤◌, Bool, true, List, [], ◌∷◌, length, Result, Ok, Err, ⊤}
 use Rattle.par_base.specs.declared.fault.Fault.{Fault}
 use Rattle.par_base.specs.declared.fault.Fault.TheVariants.{Refused, Memory}
 use Rattle.par_base.specs.declared.refusal.IdsSpent.{IdsSpent}
@@ -53,11 +53,17 @@ pub record MayPlan {O : Type 0} (meaning : O → Meaning) (d : Parts O) (tree : 
   pub drawn : w.ids.next ≤ first_refused d.ids
   pub limit : w.ids.limit ≡ d.ids.limit
 
--- what is seen is written over these operators: all rows, or a list of identifiers, where each operator treats each identifier by itself
+-- the write of what is seen is what is seen of the write: of all rows, or of a list of identifiers, where each operator treats each identifier by itself
 abbrev pub MayShow : {O : Type 0} → (O → Meaning) → List (Placed O) → List ℕ → Sight → Type 0
 MayShow meaning es ns All = ⊤
 MayShow meaning es ns (Of ids) = IdsRise 0 ids.now × AreLocalAt meaning es ns
 MayShow meaning es ns (Part ids) = ⊥
+
+-- which identifiers the changes of a write name, of what is seen: any, or those of a list over operators that treat each by itself
+abbrev pub names_of : Sight → ℕ → Bool
+names_of All id = true
+names_of (Of ids) id = has_id ids.now id
+names_of (Part ids) id = true
 
 -- the state after the write, of what passes the test alone
 abbrev pub seen_write : {O : Type 0} → (O → Meaning) → Parts O → Tree → RowWrite → (ℕ → Bool) → State
@@ -91,21 +97,21 @@ CarriesWriteWithin meaning es w operators old new =
 abbrev pub made_over : Making → State
 made_over m = changing_state (copied_state m.copies m.made.ids.next) m.made
 
--- what was copied is what passes the test, and what was made of it the write of that; the changes are of what was copied, and name what passes alone
-pub record IsMaking {O : Type 0} (meaning : O → Meaning) (d : Parts O) (tree : Tree) (w : RowWrite) (test : ℕ → Bool) (making : Making) : Type 0 where
+-- what was copied is what passes the test, and what was made of it the write of that; the changes are of what was copied, and name what passes another one alone
+pub record IsMaking {O : Type 0} (meaning : O → Meaning) (d : Parts O) (tree : Tree) (w : RowWrite) (test names : ℕ → Bool) (making : Making) : Type 0 where
   pub tables : (t : ℕ) → rows_at making.copies.tables t ≡ (part test tree (state_for meaning d)).tables t
   pub memories : (n : ℕ) → pairs_at making.copies.memories n ≡ (part test tree (state_for meaning d)).memory n
   pub made : made_over making ≡ seen_write meaning d tree w test
   pub fits : AreOfState (copied_state making.copies making.made.ids.next) making.made.tables
-  pub pass : (t : ℕ) → AllPass test (latest_changes making.made.tables t)
+  pub pass : (t : ℕ) → AllPass names (latest_changes making.made.tables t)
   pub within : (seen_write meaning d tree w test).next ≤ first_refused w.ids
   pub limit : making.made.ids.limit ≡ w.ids.limit
 
 -- it was made, or needs an identifier that the counter doesn't give
-abbrev pub MakesWrite : {O : Type 0} → (O → Meaning) → Parts O → Tree → RowWrite → (ℕ → Bool) → Result Making (Fault IdsSpent) → Type 0
-MakesWrite meaning d tree w test (Ok making) = IsMaking meaning d tree w test making
-MakesWrite meaning d tree w test (Err (Refused spent)) = IsSpent (seen_write meaning d tree w test).next w.ids w.ids spent
-MakesWrite meaning d tree w test (Err (Memory memory)) = ⊤
+abbrev pub MakesWrite : {O : Type 0} → (O → Meaning) → Parts O → Tree → RowWrite → (ℕ → Bool) → (ℕ → Bool) → Result Making (Fault IdsSpent) → Type 0
+MakesWrite meaning d tree w test names (Ok making) = IsMaking meaning d tree w test names making
+MakesWrite meaning d tree w test names (Err (Refused spent)) = IsSpent (seen_write meaning d tree w test).next w.ids w.ids spent
+MakesWrite meaning d tree w test names (Err (Memory memory)) = ⊤
 
 -- ---- auxiliary tables
 
@@ -118,16 +124,16 @@ abbrev pub IsAuxChange : {O : Type 0} → (O → Meaning) → Parts O → (ℕ �
 IsAuxChange {O} meaning d test making n changes = (e : Link O) → In e (forest d.graph.edges) → e.number ≡ n → AreDifferences (only test (auxes_at d.aux n)) (auxes_over meaning d (made_over making) e) changes
 
 -- it may be taken: the operator relates both sides in what was copied and in what was made, and what is seen of its auxiliary tables is that of what was copied
-pub record MayChangeAuxAt {O : Type 0} (meaning : O → Meaning) (d : Parts O) (test : ℕ → Bool) (making : Making) (n : ℕ) : Type 0 where
+pub record MayChangeAuxAt {O : Type 0} (meaning : O → Meaning) (d : Parts O) (test names : ℕ → Bool) (making : Making) (n : ℕ) : Type 0 where
   pub kept : IsDatabase meaning d
   pub fits : AreOfState (copied_state making.copies making.made.ids.next) making.made.tables
-  pub pass : (t : ℕ) → AllPass test (latest_changes making.made.tables t)
+  pub pass : (t : ℕ) → AllPass names (latest_changes making.made.tables t)
   pub old : IsRelatedAt meaning d.graph.edges (copied_state making.copies d.ids.next) n
   pub new : IsRelatedAt meaning d.graph.edges (made_over making) n
   pub aux : (e : Link O) → In e (forest d.graph.edges) → e.number ≡ n → only test (auxes_at d.aux n) ≡ auxes_over meaning d (copied_state making.copies d.ids.next) e
 
-abbrev pub MayChangeAuxes : {O : Type 0} → (O → Meaning) → Parts O → (ℕ → Bool) → Making → List ℕ → Type 0
-MayChangeAuxes meaning d test making ns = Each (MayChangeAuxAt meaning d test making) ns
+abbrev pub MayChangeAuxes : {O : Type 0} → (O → Meaning) → Parts O → (ℕ → Bool) → (ℕ → Bool) → Making → List ℕ → Type 0
+MayChangeAuxes meaning d test names making ns = Each (MayChangeAuxAt meaning d test names making) ns
 
 -- they were taken of each of these operators
 pub record AreAuxChanges {O : Type 0} (meaning : O → Meaning) (d : Parts O) (test : ℕ → Bool) (making : Making) (ns : List ℕ) (items : List (Numbered SideChanges)) : Type 0 where

@@ -3,10 +3,10 @@ ghost use Rattle.std.specs.Prelude.{◌≡◌, filter, IfOk};
 ghost use Rattle.version_graph.specs.Edges.{is_in};
 ghost use Rattle.version_graph.specs.Forest.{forest};
 ghost use Rattle.version_model.specs.Kept.{rows_now, pairs_at, numbers_in};
-ghost use Rattle.db_state.specs.Parts.{listed_in, seen_of, Ascends, SeenWithin};
+ghost use Rattle.db_state.specs.Fields.{state_for};
+ghost use Rattle.db_state.specs.Parts.{listed_in, seen_of, Ascends, MaySee, SeenWithin};
 ghost use Rattle.changes_walk.specs.Reach.{IsWhole};
 ghost use Rattle.write_propagation.specs.Calls.{beside, told_pairs, told_rows, CopiesTree};
-ghost use Rattle.write_propagation.specs.Making.{MayShow};
 
 use crate::tree::Tree;
 use db_state::{Db, Sight, now_seen, read_over};
@@ -93,7 +93,8 @@ pub fn copy_tree<O: Operator, L: Ledger>(
     steps: &mut Steps<L>,
 ) -> Result<Copies, Memory>
     requires whole { IsWhole db.now.graph.edges tree.now.operators tree.now.tables }
-    requires may { MayShow O.meaning db.now.graph.edges tree.now.operators sight }
+    requires may { MaySee O.meaning db.now.graph.edges (state_for O.meaning db.now)
+        tree.now.operators sight }
     requires ascends { Ascends sight }
     ensures copies { IfOk result (CopiesTree O.meaning db.now tree.now sight.entry) }
     ensures steps { SeenWithin 2 sight.entry (listed_in tree.now.operators

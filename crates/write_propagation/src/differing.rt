@@ -3,9 +3,10 @@ ghost use Rattle.std.specs.Prelude.{◌≡◌, [], ◌∷◌, length, IfOk};
 ghost use Rattle.op_law.specs.Calls.{tables_of};
 ghost use Rattle.op_law.specs.Local.{only};
 ghost use Rattle.version_model.specs.Kept.{auxes_at};
-ghost use Rattle.db_state.specs.Parts.{passes, Ascends, SeenWithin};
+ghost use Rattle.db_state.specs.Fields.{state_for};
+ghost use Rattle.db_state.specs.Parts.{passes, Ascends, MaySee, SeenWithin};
 ghost use Rattle.write_propagation.specs.Calls.{AreChangesNow};
-ghost use Rattle.write_propagation.specs.Making.{AreAuxChanges, IsAuxChange, MayChangeAuxAt, MayChangeAuxes, MayShow};
+ghost use Rattle.write_propagation.specs.Making.{AreAuxChanges, IsAuxChange, MayChangeAuxAt, MayChangeAuxes, names_of};
 
 use crate::making::{Making, Seen};
 use crate::tree::Tree;
@@ -66,8 +67,10 @@ fn aux_change<O: Operator, L: Ledger>(
     steps: &mut Steps<L>,
 ) -> Result<SideChanges, Memory>
     requires ascends { Ascends sight }
-    requires sees { MayShow O.meaning db.now.graph.edges (number ∷ []) sight }
-    requires may { MayChangeAuxAt O.meaning db.now (passes sight) making.now number }
+    requires sees { MaySee O.meaning db.now.graph.edges (state_for O.meaning db.now)
+        (number ∷ []) sight }
+    requires may { MayChangeAuxAt O.meaning db.now (passes sight) (names_of sight) making.now
+        number }
     ensures change { IfOk result (λ side. IsAuxChange O.meaning db.now (passes sight.entry)
         making.now number side.tables) }
     ensures steps { SeenWithin 8 sight.entry 1 steps.old steps.new }
@@ -94,8 +97,10 @@ pub(crate) fn tree_aux_changes<O: Operator, L: Ledger>(
     steps: &mut Steps<L>,
 ) -> Result<List<Numbered<SideChanges>>, Memory>
     requires ascends { Ascends sight }
-    requires sees { MayShow O.meaning db.now.graph.edges tree.now.operators sight }
-    requires may { MayChangeAuxes O.meaning db.now (passes sight) making.now tree.now.operators }
+    requires sees { MaySee O.meaning db.now.graph.edges (state_for O.meaning db.now)
+        tree.now.operators sight }
+    requires may { MayChangeAuxes O.meaning db.now (passes sight) (names_of sight) making.now
+        tree.now.operators }
     ensures changes { IfOk result (AreAuxChanges O.meaning db.now (passes sight.entry) making.now
         tree.now.operators) }
     ensures steps { SeenWithin 8 sight.entry (length tree.now.operators) steps.old steps.new }

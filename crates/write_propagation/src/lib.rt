@@ -19,8 +19,10 @@
 mod change;
 mod copies;
 mod differing;
+mod filling;
 mod laws;
 mod making;
+mod parting;
 mod planning;
 mod plans;
 mod remembering;

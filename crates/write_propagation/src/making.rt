@@ -4,8 +4,9 @@ ghost use Rattle.row_store.specs.Changes.{ChangesRise};
 ghost use Rattle.row_store.specs.Rows.{row_of};
 ghost use Rattle.row_changes.specs.Touched.{AllPass};
 ghost use Rattle.changes_walk.specs.Calls.{MayCarryBy};
-ghost use Rattle.db_state.specs.Parts.{passes, SeenWithin};
-ghost use Rattle.write_propagation.specs.Making.{copied_state, first_changes, CarriesWrite, CarriesWriteWithin, MakesWrite, MayPlan, MayShow};
+ghost use Rattle.db_state.specs.Fields.{state_for};
+ghost use Rattle.db_state.specs.Parts.{passes, MaySee, SeenWithin};
+ghost use Rattle.write_propagation.specs.Making.{copied_state, first_changes, names_of, CarriesWrite, CarriesWriteWithin, MakesWrite, MayPlan};
 
 use crate::copies::{Copies, copy_tree};
 use crate::plans::RowWrite;
@@ -102,7 +103,7 @@ fn carry_write<O: Operator, L: Ledger>(
     Ok(made)
 }
 
-/// Makes the write of what is seen: of all rows, or of those that it names.
+/// Makes the write of what is seen: of all rows, or of those of some identifiers.
 pub(crate) fn make_write<O: Operator, L: Ledger>(
     alloc: Global,
     db: &Db<O>,
@@ -112,10 +113,12 @@ pub(crate) fn make_write<O: Operator, L: Ledger>(
     steps: &mut Steps<L>,
 ) -> Result<Making, Fault<IdsSpent>>
     requires may { MayPlan O.meaning db.now tree.now written }
-    requires sees { MayShow O.meaning db.now.graph.edges tree.now.operators sight }
+    requires sees { MaySee O.meaning db.now.graph.edges (state_for O.meaning db.now)
+        tree.now.operators sight }
     requires named { AllPass (passes sight) written.changes }
     requires rise { ChangesRise 0 written.changes }
-    ensures makes { MakesWrite O.meaning db.now tree.now written (passes sight.entry) result }
+    ensures makes { MakesWrite O.meaning db.now tree.now written (passes sight.entry)
+        (names_of sight.entry) result }
     ensures steps { SeenWithin 8 sight.entry (length tree.now.operators) steps.old steps.new }
 {
     let copies = copy_tree(alloc, db, tree, sight, steps)?;

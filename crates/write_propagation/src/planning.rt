@@ -1,28 +1,30 @@
 //! The plan of a write.
-ghost use Rattle.std.specs.Prelude.{◌≡◌, ℕ, ◌+◌, ◌*◌, ◌≤◌, true, length, map, IfOk};
+ghost use Rattle.std.specs.Prelude.{◌≡◌, ℕ, ◌+◌, ◌*◌, ◌≤◌, length, map, IfOk, IfSome};
 ghost use Rattle.row_store.specs.Changes.{AreOld, ChangesRise};
 ghost use Rattle.row_changes.specs.Touched.{AllPass};
 ghost use Rattle.version_graph.specs.Sets.{In};
 ghost use Rattle.version_graph.specs.Edges.{numbers};
 ghost use Rattle.op_law.specs.Calls.{first_refused};
-ghost use Rattle.op_law.specs.Identifiers.{IdsRise, has_id};
+ghost use Rattle.op_law.specs.Identifiers.{IdsRise};
 ghost use Rattle.version_model.specs.Writes.{MayWrite};
 ghost use Rattle.db_state.specs.Fields.{database_for, state_for};
 ghost use Rattle.kept_keys.specs.Kept.{AreKeysOf};
 ghost use Rattle.kept_keys.specs.Changed.{Both, IsSameKeys};
-ghost use Rattle.db_state.specs.Parts.{passes, AreLocalAt, Ascends, SeenWithin};
-ghost use Rattle.db_state.specs.declared.sight.Sight.TheVariants.{Of};
+ghost use Rattle.db_state.specs.Parts.{passes, AreLocalAt, Ascends, MaySee, SeenWithin};
 ghost use Rattle.write_propagation.specs.Bounds.{PlansWithin};
 ghost use Rattle.write_propagation.specs.Capacity.{HoldsAtLeast};
 ghost use Rattle.write_propagation.specs.Plans.{rows_written, IsSame, Plans};
 ghost use Rattle.write_propagation.specs.Room.{HasOld, IsReadyFor};
 ghost use Rattle.write_propagation.specs.Told.{TellsCarried, TellsChanged};
-ghost use Rattle.write_propagation.specs.Making.{IsPlanOf, MayChangeAuxes, MayPlan, MayShow};
+ghost use Rattle.write_propagation.specs.Making.{names_of, IsPlanOf, MayChangeAuxes, MayPlan, MayShow};
+ghost use Rattle.write_propagation.specs.PartMade.{IsPartMade};
 ghost use Rattle.write_propagation.specs.Keys.{KeysLead};
 
 use crate::copies::kept_of;
 use crate::differing::{table_changes, tree_aux_changes};
+use crate::filling::{fill_keys, prepare};
 use crate::making::{Making, make_write};
+use crate::parting::{PartMade, Writing, are_few, make_part};
 use crate::plans::{Plan, RowWrite};
 use crate::remembering::memory_changes;
 use crate::room::make_room;
@@ -30,18 +32,18 @@ use crate::told::changed_tables;
 use crate::tree::{Tree, tree_of};
 use db_state::{Db, Sight, are_local};
 use expr_lang::Steps;
-use kept_keys::prepare_keys;
 use op_law::Operator;
+use op_seeks::Seeks;
 use par_base::{Fault, IdsSpent, List, Memory};
 use row_store::Changes;
+use sought_ids::{seeks_all, wanted_keys};
 use std::alloc::Global;
 use std::sync::ledger::Ledger;
 use table_keys::TableKeys;
-use version_graph::Graph;
 use version_model::Numbered;
 
 // The identifiers that the changes name.
-fn named_ids(alloc: Global, changes: &Changes) -> Result<List<u64>, Memory>
+pub(crate) fn named_ids(alloc: Global, changes: &Changes) -> Result<List<u64>, Memory>
     ensures value { IfOk result (λ ids. ids ≡ map (λ change. change.id) changes.now) }
     ensures rise { IfOk result (λ ids. IdsRise 0 ids) }
 {
@@ -50,20 +52,6 @@ fn named_ids(alloc: Global, changes: &Changes) -> Result<List<u64>, Memory>
         ids.push(change.id)?;
     }
     Ok(ids)
-}
-
-// These identifiers, where each of these operators treats each identifier by itself; else all rows.
-fn sight_of<'a, O: Operator>(graph: &Graph<O>, operators: &[u32], ids: &'a [u64]) -> Sight<'a>
-    requires { IdsRise 0 ids.now }
-    ensures may { MayShow O.meaning graph.now.edges operators.now result }
-    ensures seen { (id : ℕ) → has_id ids.entry.now id ≡ true → passes result id ≡ true }
-    ensures same { AreLocalAt O.meaning graph.now.edges operators.now → result ≡ Of ids.entry }
-{
-    if are_local(graph, operators) {
-        Sight::Of(ids)
-    } else {
-        Sight::All
-    }
 }
 
 // The plan of what was made of what is seen of the tree.
@@ -76,8 +64,10 @@ fn plan_of<O: Operator, L: Ledger>(
     steps: &mut Steps<L>,
 ) -> Result<Plan, Memory>
     requires ascends { Ascends sight }
-    requires sees { MayShow O.meaning db.now.graph.edges tree.now.operators sight }
-    requires may { MayChangeAuxes O.meaning db.now (passes sight) making tree.now.operators }
+    requires sees { MaySee O.meaning db.now.graph.edges (state_for O.meaning db.now)
+        tree.now.operators sight }
+    requires may { MayChangeAuxes O.meaning db.now (passes sight) (names_of sight) making
+        tree.now.operators }
     ensures plans { IfOk result (IsPlanOf O.meaning db.now tree.now (passes sight.entry) making) }
     ensures steps { SeenWithin 8 sight.entry (length tree.now.operators) steps.old steps.new }
 {
@@ -106,7 +96,7 @@ fn plan_of<O: Operator, L: Ledger>(
 fn plan_seen<O: Operator, L: Ledger>(
     alloc: Global,
     db: &Db<O>,
-    keys: &mut [Numbered<TableKeys>],
+    keys: &mut Vec<Numbered<TableKeys>>,
     tree: &Tree,
     written: RowWrite,
     sight: Sight<'_>,
@@ -116,48 +106,166 @@ fn plan_seen<O: Operator, L: Ledger>(
     requires sees { MayShow O.meaning db.now.graph.edges tree.now.operators sight }
     requires named { AllPass (passes sight) written.changes }
     requires rise { ChangesRise 0 written.changes }
-    requires right { AreKeysOf (state_for O.meaning db.now).tables keys.old }
+    requires right { AreKeysOf (state_for O.meaning db.now).tables keys.old.items }
     ensures plans { Plans O.meaning db.now written.set written.table
         (rows_written O.meaning db.now written) written.ids.next result }
     ensures tells { IfOk result (TellsChanged O.meaning db.now written) }
     ensures carried { IfOk result (TellsCarried O.meaning db.now written) }
     ensures old { IfOk result (HasOld db.now) }
-    ensures keys { IfOk result (KeysLead O.meaning db.now keys.new) }
-    ensures kept { Both IsSameKeys keys.old keys.new }
+    ensures keys { IfOk result (KeysLead O.meaning db.now keys.new.items) }
+    ensures kept { Both IsSameKeys keys.old.items keys.new.items }
     ensures steps { SeenWithin 16 sight.entry (length tree.now.operators) steps.old steps.new }
 {
     let making = make_write(alloc, db, tree, written, sight, steps)?;
     let tables = tree.tables.as_slice();
-    prepare_keys(alloc, keys, tables, making.made.tables.as_slice())?;
+    prepare(alloc, keys, tables, making.made.tables.as_slice())?;
     let plan = plan_of(alloc, db, tree, making, sight, steps)?;
     Ok(plan)
 }
 
-// The plan of a write of a tree: of the rows that its changes name where each operator treats each
-// identifier by itself, and else of all rows.
-fn plan_tree<O: Operator, L: Ledger>(
+// The plan of a write that was made of a part of its tree.
+fn plan_part<O: Seeks, L: Ledger>(
     alloc: Global,
     db: &Db<O>,
-    keys: &mut [Numbered<TableKeys>],
+    keys: &mut Vec<Numbered<TableKeys>>,
+    writing: Writing<'_>,
+    part: PartMade,
+    steps: &mut Steps<L>,
+) -> Result<Plan, Fault<IdsSpent>>
+    requires may { MayPlan O.meaning db.now writing.tree.now writing.written.now }
+    requires right { AreKeysOf (state_for O.meaning db.now).tables keys.old.items }
+    requires part { IsPartMade O.meaning O.seeks db.now keys.old.items writing.tree.now
+        writing.written.now part }
+    ensures plans { let w = writing.entry.written.now in Plans O.meaning db.now w.set w.table
+        (rows_written O.meaning db.now w) w.ids.next result }
+    ensures tells { IfOk result (TellsChanged O.meaning db.now writing.entry.written.now) }
+    ensures carried { IfOk result (TellsCarried O.meaning db.now writing.entry.written.now) }
+    ensures old { IfOk result (HasOld db.now) }
+    ensures keys { IfOk result (KeysLead O.meaning db.now keys.new.items) }
+    ensures kept { Both IsSameKeys keys.old.items keys.new.items }
+{
+    let PartMade { ids, making } = part;
+    let tables = writing.tree.tables.as_slice();
+    prepare(alloc, keys, tables, making.made.tables.as_slice())?;
+    let sight = Sight::Part(ids.as_slice());
+    let plan = plan_of(alloc, db, writing.tree, making, sight, steps)?;
+    Ok(plan)
+}
+
+// A part of the tree of which the write is made, where its changes are few, each of the operators
+// treats each identifier by itself or is on a foreign key, and one is found.
+fn part_of<O: Seeks, L: Ledger>(
+    alloc: Global,
+    db: &Db<O>,
+    keys: &mut Vec<Numbered<TableKeys>>,
+    writing: Writing<'_>,
+    steps: &mut Steps<L>,
+) -> Result<Option<PartMade>, Memory>
+    requires may { MayPlan O.meaning db.now writing.tree.now writing.written.now }
+    requires rise { ChangesRise 0 writing.written.now.changes }
+    requires right { AreKeysOf (state_for O.meaning db.now).tables keys.old.items }
+    ensures part { IfOk result (λ found. IfSome found (IsPartMade O.meaning O.seeks db.now
+        keys.new.items writing.entry.tree.now writing.entry.written.now)) }
+    ensures right { AreKeysOf (state_for O.meaning db.now).tables keys.new.items }
+{
+    let operators = writing.tree.operators.as_slice();
+    if !are_few(db, writing) || !seeks_all(db.graph(), operators) {
+        return Ok(None);
+    }
+    let wanted = wanted_keys(alloc, db.graph(), operators)?;
+    fill_keys(alloc, db, keys, writing.tree, wanted.as_slice(), steps)?;
+    make_part(alloc, db, keys.as_slice(), writing, steps)
+}
+
+// The plan of a write of a tree, of a part of it where one is found, and else of all rows.
+fn plan_wide<O: Seeks, L: Ledger>(
+    alloc: Global,
+    db: &Db<O>,
+    keys: &mut Vec<Numbered<TableKeys>>,
     tree: &Tree,
     written: RowWrite,
     steps: &mut Steps<L>,
 ) -> Result<Plan, Fault<IdsSpent>>
     requires may { MayPlan O.meaning db.now tree.now written }
-    requires right { AreKeysOf (state_for O.meaning db.now).tables keys.old }
+    requires rise { ChangesRise 0 written.changes }
+    requires right { AreKeysOf (state_for O.meaning db.now).tables keys.old.items }
     ensures plans { Plans O.meaning db.now written.set written.table
         (rows_written O.meaning db.now written) written.ids.next result }
     ensures tells { IfOk result (TellsChanged O.meaning db.now written) }
     ensures carried { IfOk result (TellsCarried O.meaning db.now written) }
     ensures old { IfOk result (HasOld db.now) }
-    ensures keys { IfOk result (KeysLead O.meaning db.now keys.new) }
-    ensures kept { Both IsSameKeys keys.old keys.new }
+    ensures keys { IfOk result (KeysLead O.meaning db.now keys.new.items) }
+    ensures right { AreKeysOf (state_for O.meaning db.now).tables keys.new.items }
+{
+    let writing = Writing {
+        tree,
+        written: &written,
+    };
+    match part_of(alloc, db, keys, writing, steps)? {
+        Some(part) => plan_part(alloc, db, keys, writing, part, steps),
+        None => {
+            let all = Sight::All;
+            plan_seen(alloc, db, keys, tree, written, all, steps)
+        }
+    }
+}
+
+// The plan of a write over operators that treat each identifier by itself: of the rows of the
+// identifiers that its changes name.
+fn plan_named<O: Operator, L: Ledger>(
+    alloc: Global,
+    db: &Db<O>,
+    keys: &mut Vec<Numbered<TableKeys>>,
+    tree: &Tree,
+    written: RowWrite,
+    steps: &mut Steps<L>,
+) -> Result<Plan, Fault<IdsSpent>>
+    requires may { MayPlan O.meaning db.now tree.now written }
+    requires local { AreLocalAt O.meaning db.now.graph.edges tree.now.operators }
+    requires right { AreKeysOf (state_for O.meaning db.now).tables keys.old.items }
+    ensures plans { Plans O.meaning db.now written.set written.table
+        (rows_written O.meaning db.now written) written.ids.next result }
+    ensures tells { IfOk result (TellsChanged O.meaning db.now written) }
+    ensures carried { IfOk result (TellsCarried O.meaning db.now written) }
+    ensures old { IfOk result (HasOld db.now) }
+    ensures keys { IfOk result (KeysLead O.meaning db.now keys.new.items) }
+    ensures kept { Both IsSameKeys keys.old.items keys.new.items }
+    ensures steps { steps.new ≤ steps.old + 16
+        * (length written.changes * length tree.now.operators) }
+{
+    let ids = named_ids(alloc, &written.changes)?;
+    let sight = Sight::Of(ids.as_slice());
+    plan_seen(alloc, db, keys, tree, written, sight, steps)
+}
+
+// The plan of a write of a tree: of the rows that its changes name where each operator treats each
+// identifier by itself, and else of more.
+fn plan_tree<O: Seeks, L: Ledger>(
+    alloc: Global,
+    db: &Db<O>,
+    keys: &mut Vec<Numbered<TableKeys>>,
+    tree: &Tree,
+    written: RowWrite,
+    steps: &mut Steps<L>,
+) -> Result<Plan, Fault<IdsSpent>>
+    requires may { MayPlan O.meaning db.now tree.now written }
+    requires rise { ChangesRise 0 written.changes }
+    requires right { AreKeysOf (state_for O.meaning db.now).tables keys.old.items }
+    ensures plans { Plans O.meaning db.now written.set written.table
+        (rows_written O.meaning db.now written) written.ids.next result }
+    ensures tells { IfOk result (TellsChanged O.meaning db.now written) }
+    ensures carried { IfOk result (TellsCarried O.meaning db.now written) }
+    ensures old { IfOk result (HasOld db.now) }
+    ensures keys { IfOk result (KeysLead O.meaning db.now keys.new.items) }
+    ensures right { AreKeysOf (state_for O.meaning db.now).tables keys.new.items }
     ensures steps { AreLocalAt O.meaning db.now.graph.edges tree.now.operators
         → steps.new ≤ steps.old + 16 * (length written.changes * length tree.now.operators) }
 {
-    let ids = named_ids(alloc, &written.changes)?;
-    let sight = sight_of(db.graph(), tree.operators.as_slice(), ids.as_slice());
-    plan_seen(alloc, db, keys, tree, written, sight, steps)
+    if are_local(db.graph(), tree.operators.as_slice()) {
+        plan_named(alloc, db, keys, tree, written, steps)
+    } else {
+        plan_wide(alloc, db, keys, tree, written, steps)
+    }
 }
 
 /// What it takes to make changes in a table of a live working set, and to carry them to all tables that
@@ -167,12 +275,18 @@ fn plan_tree<O: Operator, L: Ledger>(
 /// Where every operator between these tables treats each identifier by itself, it reads and makes the
 /// rows of the identifiers that the changes name, in each of the tables, and no others. Of the at most
 /// sixteen steps for each operator and identifier two are for reading, six for the mapping, and eight
-/// for the auxiliary tables. Else it reads and copies these tables, near and far for each operator. Of
-/// the other operators it looks at their numbers alone.
-pub fn plan<O: Operator + Drop, L: Ledger>(
+/// for the auxiliary tables.
+///
+/// Where the others among these operators are on foreign keys, and the changes are few beside the
+/// rows, it keeps the keys of their tables, if they aren't kept yet, and reads and makes the rows of
+/// the identifiers that these keys tie to the changed ones, again with those that turn out to be
+/// missing, sixty-four times at most. Else, and where that finds no part, it reads and copies these
+/// tables, near and far for each operator. Of the operators that aren't between these tables it looks
+/// at their numbers alone.
+pub fn plan<O: Seeks + Drop, L: Ledger>(
     alloc: Global,
     db: &mut Db<O>,
-    keys: &mut [Numbered<TableKeys>],
+    keys: &mut Vec<Numbered<TableKeys>>,
     written: RowWrite,
     steps: &mut Steps<L>,
 ) -> Result<Plan, Fault<IdsSpent>>
@@ -182,14 +296,14 @@ pub fn plan<O: Operator + Drop, L: Ledger>(
     requires old { AreOld ((state_for O.meaning db.old).tables written.table) written.changes }
     requires drawn { written.ids.next ≤ first_refused db.old.ids }
     requires limit { written.ids.limit ≡ db.old.ids.limit }
-    requires right { AreKeysOf (state_for O.meaning db.old).tables keys.old }
+    requires right { AreKeysOf (state_for O.meaning db.old).tables keys.old.items }
     ensures plans { Plans O.meaning db.new written.set written.table
         (rows_written O.meaning db.old written) written.ids.next result }
     ensures tells { IfOk result (TellsChanged O.meaning db.old written) }
     ensures carried { IfOk result (TellsCarried O.meaning db.old written) }
     ensures ready { IfOk result (IsReadyFor db.new) }
-    ensures keys { IfOk result (KeysLead O.meaning db.new keys.new) }
-    ensures right { AreKeysOf (state_for O.meaning db.new).tables keys.new }
+    ensures keys { IfOk result (KeysLead O.meaning db.new keys.new.items) }
+    ensures right { AreKeysOf (state_for O.meaning db.new).tables keys.new.items }
     ensures same { IsSame db.old db.new }
     ensures data { database_for O.meaning db.new ≡ database_for O.meaning db.old }
     ensures capacity { HoldsAtLeast db.old db.new }

@@ -26,29 +26,15 @@ filled {X} n made items all same =
     ap (λ (k : ℕ). take k (made ++ drop (length made) items)) (all ∙ sym same) ∙ take_at made (drop (length made) items) (length made) refl
 
 pub commit_keys-requires : goal.commit_keys-requires
-commit_keys-requires g c =
-    let was = c.args.keys.now in
-    let long = c.plan.auto.keys ∙ ap (λ (l : List (Numbered KeysState)). length l) c.as_mut_slice.ensures.value in
-    let is = c.as_mut_slice-2.ensures.value ∙ filled was.len c.plan.new.keys was.items was.ok.0 long in
-    subst (λ (l : List (Numbered KeysState)). Each IsReadyOver l) (sym is) c.in_ok-plan.ensures.keys.ready
+commit_keys-requires g c = subst (λ (l : List (Numbered KeysState)). Each IsReadyOver l) (sym c.as_mut_slice.ensures.value) c.in_ok-plan.ensures.keys.ready
 
 pub returns-clause-right : goal.returns-clause-right
 returns-clause-right g c =
-    let was = c.args.keys.now in
-    let long = c.plan.auto.keys ∙ ap (λ (l : List (Numbered KeysState)). length l) c.as_mut_slice.ensures.value in
-    let mid = filled was.len c.plan.new.keys was.items was.ok.0 long in
-    let is = c.as_mut_slice-2.ensures.value ∙ mid in
-    let all = was.ok.0 ∙ sym long ∙ ap (λ (l : List (Numbered KeysState)). length l) (sym mid) in
-    let last = c.commit_keys.auto.items ∙ ap (λ (l : List (Numbered KeysState)). length l) c.as_mut_slice-2.ensures.value in
-    subst (AreKeysOf (state_for any_meaning c.commit-undo.new.db).tables) (sym (filled was.len c.commit_keys.new.items _ all last))
+    let was = c.plan.new.keys in
+    let long = c.commit_keys.auto.items ∙ ap (λ (l : List (Numbered KeysState)). length l) c.as_mut_slice.ensures.value in
+    subst (AreKeysOf (state_for any_meaning c.commit-undo.new.db).tables) (sym (filled was.len c.commit_keys.new.items was.items was.ok.0 long))
     (c.in_ok-plan.ensures.keys.leads c.commit-undo.new.db c.commit-undo.ensures.puts c.commit_keys.new.items
-    (subst (λ (l : List (Numbered KeysState)). Both CommitsKeys l c.commit_keys.new.items) is c.commit_keys.ensures))
-
-pub returns-in_err-plan-clause-right : goal.returns-in_err-plan-clause-right
-returns-in_err-plan-clause-right g c =
-    let was = c.args.keys.now in
-    let long = c.plan.auto.keys ∙ ap (λ (l : List (Numbered KeysState)). length l) c.as_mut_slice.ensures.value in
-    subst (AreKeysOf (state_for any_meaning c.plan.new.db).tables) (sym (filled was.len c.plan.new.keys was.items was.ok.0 long)) c.in_err-plan.ensures.right
+    (subst (λ (l : List (Numbered KeysState)). Both CommitsKeys l c.commit_keys.new.items) c.as_mut_slice.ensures.value c.commit_keys.ensures))
 
 pub returns-in_err-plan-clause-writes : goal.returns-in_err-plan-clause-writes
 returns-in_err-plan-clause-writes g c =

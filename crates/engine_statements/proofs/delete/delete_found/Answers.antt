@@ -15,18 +15,18 @@ delete_rows-requires g c = record {
 
 pub returns-clause-rows : goal.returns-clause-rows
 returns-clause-rows g c =
-    let rows = rows_in c.args.database.now c.args.found.now.number in
+    let rows = rows_in c.args.reader.database.now c.args.found.now.number in
     let has = subst (λ (part : Rows). HasChosen (condition_of c.args.condition) rows part) (sym c.table.ensures) c.in_ok-read.ensures.chosen in
     of_answer _ _ c.delete_rows.result (λ made h. h rows has) c.delete_rows.ensures.rows
 
 pub returns-clause-old : goal.returns-clause-old
 returns-clause-old g c =
-    let rows = rows_in c.args.database.now c.args.found.now.number in
+    let rows = rows_in c.args.reader.database.now c.args.found.now.number in
     let has = subst (λ (part : Rows). HasChosen (condition_of c.args.condition) rows part) (sym c.table.ensures) c.in_ok-read.ensures.chosen in
     of_answer _ _ c.delete_rows.result (λ made h. h rows has) c.delete_rows.ensures.old
 
 pub returns-clause-chosen : goal.returns-clause-chosen
 returns-clause-chosen g c =
-    let rows = rows_in c.args.database.now c.args.found.now.number in
+    let rows = rows_in c.args.reader.database.now c.args.found.now.number in
     let has = subst (λ (part : Rows). HasChosen (condition_of c.args.condition) rows part) (sym c.table.ensures) c.in_ok-read.ensures.chosen in
     of_answer _ _ c.delete_rows.result (λ made h. h rows has) c.delete_rows.ensures.chosen

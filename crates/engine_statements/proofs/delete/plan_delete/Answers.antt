@@ -22,7 +22,7 @@ delete_found-requires-clause-reads g c =
 
 pub returns-clause-taken : goal.returns-clause-taken
 returns-clause-taken g c =
-    let k = c.args.database.now in
+    let k = c.args.reader.database.now in
     let f = c.in_ok-found.found in
     let width = length f.heading.now.columns in
     let table = c.in_ok-found.ensures.there in
@@ -39,7 +39,7 @@ returns-clause-taken g c =
 
 pub returns-clause-gives : goal.returns-clause-gives
 returns-clause-gives g c =
-    let k = c.args.database.now in
+    let k = c.args.reader.database.now in
     let f = c.in_ok-found.found in
     let shown = c.as_slice-2.ensures ∙ c.in_ok-shown.ensures ∙ ap shown_names c.as_slice.ensures in
     let next = c.next-next.ensures.value ∙ ap (λ (i : CounterState). i.next) c.ids.ensures in

@@ -7,9 +7,9 @@ use Rattle.engine_statements.proofs.read.read_chosen.Goals as goal
 
 pub returns-in_ok-read_row-in-Some-clause-chosen : goal.returns-in_ok-read_row-in-Some-clause-chosen
 returns-in_ok-read_row-in-Some-clause-chosen g c =
-    pinned_part (condition_of c.args.condition) c.in-Some.id (rows_in c.args.database.now c.args.found.now.number) _ c.requires.stands.rises c.in-Some.ensures c.in_ok-read_row-in-Some.ensures
+    pinned_part (condition_of c.args.condition) c.in-Some.id (rows_in c.args.reader.database.now c.args.found.now.number) _ c.requires.found.stands.rises c.in-Some.ensures c.in_ok-read_row-in-Some.ensures
 
 pub returns-in_ok-read_row-in-Some-clause-wide : goal.returns-in_ok-read_row-in-Some-clause-wide
 returns-in_ok-read_row-in-Some-clause-wide g c =
     let width = length c.args.found.now.heading.now.columns in
-    subst (RowsWide width) (sym c.in_ok-read_row-in-Some.ensures) (alone_wide width (rows_in c.args.database.now c.args.found.now.number) c.in-Some.id c.requires.stands.wide)
+    subst (RowsWide width) (sym c.in_ok-read_row-in-Some.ensures) (alone_wide width (rows_in c.args.reader.database.now c.args.found.now.number) c.in-Some.id c.requires.found.stands.wide)

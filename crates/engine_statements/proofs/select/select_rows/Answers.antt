@@ -29,6 +29,6 @@ returns-clause-reply g c =
     let names = c.in_ok-shown.ensures ∙ ap shown_names c.as_slice.ensures in
     let many = header_many columns c.args.items.now c.in_ok-places.places (c.in_ok-places.ensures columns (c.as_slice-2.ensures ∙ names)) in
     let header = ap length (c.in_ok-header.ensures columns (c.as_slice-4.ensures ∙ names)) in
-    let wide = selected_wide (rows_in c.args.database.now c.in_ok-found.found.number) c.as_slice-places.result.now (condition_of c.as_ref.result) in
+    let wide = selected_wide (rows_in c.args.reader.database.now c.in_ok-found.found.number) c.as_slice-places.result.now (condition_of c.as_ref.result) in
     let all = subst (λ (rows : List (List Value)). All (λ row. length row ≡ length c.as_slice-places.result.now) rows) (sym c.in_ok-rows.ensures) wide in
     λ k d within. all k d within ∙ ap length c.as_slice-places.ensures ∙ many ∙ sym header

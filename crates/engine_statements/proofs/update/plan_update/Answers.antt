@@ -31,7 +31,7 @@ update_found-requires-clause-reads g c =
 
 pub returns-clause-taken : goal.returns-clause-taken
 returns-clause-taken g c =
-    let k = c.args.database.now in
+    let k = c.args.reader.database.now in
     let f = c.in_ok-found.found in
     let assignments = map assignment_view c.args.assignments.now in
     let condition = condition_of c.as_ref.result in
@@ -43,13 +43,13 @@ returns-clause-taken g c =
     let rows = given ∙ ap (λ (sets : List SetTo). updated (rows_in k f.number) (sets_of sets) condition) c.as_slice-sets.ensures in
     record {
       lives = table.lives;
-      may = update_taken k f assignments (condition_list (filter_view c.args.filter.now)) (sets_of c.in_ok-sets.sets) condition c.next-next.result (changed (rows_in k f.number) changes) tt table next known c.in_ok-check_update_ids.ensures c.requires rows;
+      may = update_taken k f assignments (condition_list (filter_view c.args.filter.now)) (sets_of c.in_ok-sets.sets) condition c.next-next.result (changed (rows_in k f.number) changes) tt table next known c.in_ok-check_update_ids.ensures c.requires.fits rows;
       old = c.in_ok-changed.ensures.old;
     }
 
 pub returns-clause-gives : goal.returns-clause-gives
 returns-clause-gives g c =
-    let k = c.args.database.now in
+    let k = c.args.reader.database.now in
     let f = c.in_ok-found.found in
     let assignments = map assignment_view c.args.assignments.now in
     let condition = condition_of c.as_ref.result in

@@ -19,4 +19,4 @@ loop-id-preserved c =
 pub returns-clause-rise : goal.returns-clause-rise
 returns-clause-rise c =
     let inv = c.loop-id.invariant in
-    subst (λ (l : List ℕ). IdsRise 0 l) (sym inv.all) (with_rise 0 c.args.from (c.loop-id.id - c.args.from) c.args.ids.now (omega arith) c.requires.rise)
+    λ rise. subst (λ (l : List ℕ). IdsRise 0 l) (sym inv.all) (with_rise 0 c.args.from (c.loop-id.id - c.args.from) c.args.ids.now (omega arith) rise)

@@ -8,7 +8,7 @@ use Rattle.operator_changes.specs.Calls.{ahead, toward, IsChangedTo}
 use Rattle.row_changes.specs.Changed.{changed_tables}
 use Rattle.row_changes.specs.Picked.{PicksEach}
 use Rattle.operator_changes.specs.Footprint.{passes, with_drawn}
-use Rattle.op_rows.specs.inner.CellLemmas.{has_id}
+use Rattle.op_rows.specs.inner.CellLemmas.{has_id, IdsRise}
 use Rattle.operator_changes.proofs.DrawnLemmas.{with_passes}
 use Rattle.row_changes.proofs.PickLaws.{each_pass_of}
 use Rattle.pair_changes.specs.declared.change.PairChange.{PairChange}
@@ -100,8 +100,8 @@ returns-in_err-side-clause-steps g c =
     let is = part_ahead b c.args.foot.now (seen c.in_ok-part.part) (g.V.PairRead.pair c.args.old.now) c.in_ok-part.ensures.part in
     part_steps m laws near p n c.requires.may c.args.foot.now c.requires.foot x is c.args.steps.now c.map_part.new.steps c.in_ok-far.ensures.steps
 
-pub add_drawn-requires-clause-rises : goal.add_drawn-requires-clause-rises
-add_drawn-requires-clause-rises g c =
+pub add_drawn-requires : goal.add_drawn-requires
+add_drawn-requires g c =
     let b = c.args.backward in
     let o = g.O.Operator.meaning c.args.operator.now in
     let m = toward b o in
@@ -171,3 +171,6 @@ returns-clause-within g c =
     each_pass_of (passes foot n) c.as_slice.result.now (contents c.tables.result.now) (contents c.tables-2.result.now) c.in_ok-side.side.tables
     (λ id has. with_passes foot n c.next-2.result id (subst (λ (l : List ℕ). has_id l id ≡ true) (c.as_slice.ensures ∙ c.in_ok-seen.ensures.value ∙ ap (λ (k : ℕ). with_drawn foot k c.next-2.result) c.next.ensures.value) has))
     c.in_ok-side.ensures
+
+pub differences_at-requires-clause-rise : goal.differences_at-requires-clause-rise
+differences_at-requires-clause-rise g c = subst (λ (l : List ℕ). IdsRise 0 l) (sym c.as_slice.ensures) (c.in_ok-seen.ensures.rise c.requires.foot.rise)

@@ -8,7 +8,6 @@ use Rattle.db_state.specs.Covered.{Covers, CoversItself}
 use Rattle.db_state.specs.Parts.{MaySee, SeenWithin, listed_in, seen_of}
 use Rattle.db_state.specs.Fields.{state_for}
 use Rattle.write_propagation.specs.Calls.{beside}
-use Rattle.write_propagation.proofs.AuxLemmas.{sees_read}
 use Rattle.write_propagation.proofs.CopyLemmas.{copies_tree, covers_itself}
 use Rattle.write_propagation.proofs.copies.copy_tree.Goals as goal
 
@@ -21,7 +20,7 @@ pub read_over-requires-clause-may : goal.read_over-requires-clause-may
 read_over-requires-clause-may g c =
     let d = c.args.db.now in
     let s = state_for g.O.Operator.meaning d in
-    subst (λ (ns : List ℕ). MaySee g.O.Operator.meaning d.graph.edges s ns c.args.sight) (sym c.as_slice.ensures) (sees_read g.O.Operator.meaning d.graph.edges s c.args.tree.now.operators c.args.sight c.requires.may)
+    subst (λ (ns : List ℕ). MaySee g.O.Operator.meaning d.graph.edges s ns c.args.sight) (sym c.as_slice.ensures) c.requires.may
 
 pub returns-clause-copies : goal.returns-clause-copies
 returns-clause-copies g c =

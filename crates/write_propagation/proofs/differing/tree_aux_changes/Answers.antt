@@ -3,6 +3,7 @@ use Rattle.row_changes.specs.declared.change.SideChanges.{SideChanges}
 use Rattle.version_graph.specs.Sets.{In}
 use Rattle.version_graph.proofs.WalkStepLaws.{in_at}
 use Rattle.version_model.specs.declared.numbered.Numbered.{Numbered}
+use Rattle.db_state.specs.Fields.{state_for}
 use Rattle.db_state.specs.Parts.{passes}
 use Rattle.db_state.proofs.BoundLaws.{seen_fewer, seen_more}
 use Rattle.write_propagation.specs.Making.{AreAuxChanges, IsAuxChange}
@@ -14,7 +15,7 @@ pub aux_change-requires-clause-sees : goal.aux_change-requires-clause-sees
 aux_change-requires-clause-sees g c =
     let ns = c.as_slice-number-items.result.now in
     let i = c.loop-number.number-index in
-    sees_one g.O.Operator.meaning c.args.db.now.graph.edges c.args.tree.now.operators (slice_index_or ns i 0) c.args.sight
+    sees_one g.O.Operator.meaning c.args.db.now.graph.edges (state_for g.O.Operator.meaning c.args.db.now) c.args.tree.now.operators (slice_index_or ns i 0) c.args.sight
     (subst (λ (l : List ℕ). In (slice_index_or ns i 0) l) c.as_slice-number-items.ensures (in_at ns i 0 c.loop-number-test.true)) c.requires.sees
 
 pub returns-in_err-value-clause-steps : goal.returns-in_err-value-clause-steps

@@ -5,14 +5,22 @@ use Rattle.version_graph.specs.Edges.{Drawn}
 use Rattle.version_graph.specs.Forest.{forest}
 use Rattle.version_graph.proofs.WalkLaws.{is_forest}
 use Rattle.changes_walk.specs.Calls.{MayCarryBy}
+use Rattle.db_state.specs.Fields.{state_for}
 use Rattle.db_state.specs.Parts.{listed_in}
 use Rattle.db_state.proofs.BoundLaws.{listed_few, seen_fewer, seen_less, seen_sum}
 use Rattle.write_propagation.specs.Making.{CarriesWrite, CarriesWriteWithin, copied_state, first_changes}
+use Rattle.write_propagation.proofs.AuxLemmas.{sees_rise}
 use Rattle.write_propagation.proofs.SeenLemmas.{carry_within, making_is, making_refused, may_carry, of_tree}
 use Rattle.write_propagation.proofs.making.make_write.Goals as goal
 
 pub copy_tree-requires-clause-whole : goal.copy_tree-requires-clause-whole
 copy_tree-requires-clause-whole g c = of_tree g.O.Operator.meaning g.met.O.Operator.laws c.args.db.now c.requires.may.kept c.args.tree.now c.args.written c.requires.may
+
+pub copy_tree-requires-clause-ascends : goal.copy_tree-requires-clause-ascends
+copy_tree-requires-clause-ascends g c =
+    let m = g.O.Operator.meaning in
+    let d = c.args.db.now in
+    sees_rise m d.graph.edges (state_for m d) c.args.tree.now.operators c.args.sight c.requires.sees
 
 pub carry_write-requires : goal.carry_write-requires
 carry_write-requires g c =

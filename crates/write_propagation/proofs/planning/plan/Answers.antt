@@ -1,9 +1,7 @@
 use Rattle.std.proofs.Common.{Ok, length, subst, sym}
 use Rattle.version_graph.specs.Edges.{Drawn}
 use Rattle.version_model.specs.Kept.{Database}
-use Rattle.db_state.specs.Fields.{state_for}
 use Rattle.kept_keys.specs.Kept.{AreKeysOf}
-use Rattle.kept_keys.proofs.KeptLaws.{same_right}
 use Rattle.write_propagation.specs.Plans.{rows_written}
 use Rattle.write_propagation.specs.Trees.{IsTree}
 use Rattle.write_propagation.proofs.WholeLemmas.{fewer_operators, path_few, tree_local}
@@ -62,23 +60,18 @@ returns-in_err-tree-clause-capacity g c = holds_self c.args.db.now
 pub returns-in_err-plan-clause-capacity : goal.returns-in_err-plan-clause-capacity
 returns-in_err-plan-clause-capacity g c = holds_self c.args.db.now
 
-pub returns-in_err-plan-clause-right : goal.returns-in_err-plan-clause-right
-returns-in_err-plan-clause-right g c = same_right (state_for g.O.Operator.meaning c.args.db.now).tables c.args.keys.now c.plan_tree.new.keys c.requires.right c.in_err-plan.ensures.kept
-
 pub returns-in_err-make_room-clause-right : goal.returns-in_err-make_room-clause-right
 returns-in_err-make_room-clause-right g c =
     let m = g.O.Operator.meaning in
     let same = (same_database m g.met.O.Operator.laws c.args.db.now c.graph.ensures.kept c.make_room.new.db c.make_room.ensures.same).1 in
-    subst (λ (x : Database _). AreKeysOf x.state.tables c.plan_tree.new.keys) (sym same)
-    (same_right (state_for m c.args.db.now).tables c.args.keys.now c.plan_tree.new.keys c.requires.right c.in_ok-plan.ensures.kept)
+    subst (λ (x : Database _). AreKeysOf x.state.tables c.plan_tree.new.keys.items) (sym same) c.in_ok-plan.ensures.right
 
 pub returns-clause-right : goal.returns-clause-right
 returns-clause-right g c =
     let m = g.O.Operator.meaning in
     let same = (same_database m g.met.O.Operator.laws c.args.db.now c.graph.ensures.kept c.make_room.new.db c.make_room.ensures.same).1 in
-    subst (λ (x : Database _). AreKeysOf x.state.tables c.plan_tree.new.keys) (sym same)
-    (same_right (state_for m c.args.db.now).tables c.args.keys.now c.plan_tree.new.keys c.requires.right c.in_ok-plan.ensures.kept)
+    subst (λ (x : Database _). AreKeysOf x.state.tables c.plan_tree.new.keys.items) (sym same) c.in_ok-plan.ensures.right
 
 pub returns-clause-keys : goal.returns-clause-keys
 returns-clause-keys g c =
-    keys_same g.O.Operator.meaning c.args.db.now c.make_room.new.db c.plan_tree.new.keys c.in_ok-plan.plan c.make_room.ensures.same c.in_ok-plan.ensures.keys
+    keys_same g.O.Operator.meaning c.args.db.now c.make_room.new.db c.plan_tree.new.keys.items c.in_ok-plan.plan c.make_room.ensures.same c.in_ok-plan.ensures.keys

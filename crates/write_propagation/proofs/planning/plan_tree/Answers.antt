@@ -1,36 +1,23 @@
-use Rattle.std.proofs.Common.{ℕ, List, length, sym, ◌∙◌, subst, arith}
-use Rattle.op_law.specs.Identifiers.{IdsRise, has_id}
-use Rattle.row_changes.specs.Touched.{AllPass}
+use Rattle.std.proofs.Common.{ℕ, List, sym, ◌∙◌, subst}
+use Rattle.std.proofs.lemmas.Bool.{false≢true}
 use Rattle.version_graph.specs.Edges.{Drawn}
-use Rattle.db_state.specs.Parts.{AreLocalAt, SeenWithin, passes}
-use Rattle.db_state.specs.declared.sight.Sight.{Sight}
-use Rattle.db_state.specs.declared.sight.Sight.TheVariants.{Of}
-use Rattle.kept_keys.proofs.KeptLaws.{both_same}
-use Rattle.write_propagation.specs.Making.{MayShow}
-use Rattle.write_propagation.proofs.SeenLemmas.{named_pass, pass_wider, steps_named}
+use Rattle.db_state.specs.Fields.{state_for}
+use Rattle.db_state.specs.Parts.{AreLocalAt}
+use Rattle.kept_keys.proofs.KeptLaws.{same_right}
 use Rattle.write_propagation.proofs.planning.plan_tree.Goals as goal
 
-pub sight_of-sight-requires : goal.sight_of-sight-requires
-sight_of-sight-requires g c = subst (λ (l : List ℕ). IdsRise 0 l) (sym c.as_slice-2.ensures) c.in_ok-ids.ensures.rise
+pub plan_named-requires-clause-local : goal.plan_named-requires-clause-local
+plan_named-requires-clause-local g c =
+    let m = g.O.Operator.meaning in
+    subst (λ (x : Drawn _). AreLocalAt m x.edges c.args.tree.now.operators) c.graph.ensures.graph
+    (subst (λ (ns : List ℕ). AreLocalAt m c.graph.result.now.edges ns) c.as_slice.ensures (c.are_local.ensures.local c.if-are_local.true))
 
-pub plan_seen-requires-clause-sees : goal.plan_seen-requires-clause-sees
-plan_seen-requires-clause-sees g c =
-    subst (λ (x : Drawn _). MayShow g.O.Operator.meaning x.edges c.args.tree.now.operators c.sight_of-sight.result) c.graph.ensures.graph
-    (subst (λ (ns : List ℕ). MayShow g.O.Operator.meaning c.graph.result.now.edges ns c.sight_of-sight.result) c.as_slice.ensures c.sight_of-sight.ensures.may)
+pub returns-then-are_local-clause-right : goal.returns-then-are_local-clause-right
+returns-then-are_local-clause-right g c =
+    same_right (state_for g.O.Operator.meaning c.args.db.now).tables c.args.keys.now.items c.plan_named.new.keys.items c.requires.right c.plan_named.ensures.kept
 
-pub plan_seen-requires-clause-named : goal.plan_seen-requires-clause-named
-plan_seen-requires-clause-named g c =
-    let cs = c.args.written.changes in
-    pass_wider (passes (Of c.as_slice-2.result)) (passes c.sight_of-sight.result) c.sight_of-sight.ensures.seen cs
-    (subst (λ (l : List ℕ). AllPass (has_id l) cs) (sym (c.as_slice-2.ensures ∙ c.in_ok-ids.ensures.value)) (named_pass cs))
-
-pub returns-clause-steps : goal.returns-clause-steps
-returns-clause-steps g c local =
-    let d = c.args.db.now in
-    let n = length c.args.tree.now.operators in
-    let here = subst (λ (ns : List ℕ). AreLocalAt g.O.Operator.meaning c.graph.result.now.edges ns) (sym c.as_slice.ensures) (subst (λ (x : Drawn _). AreLocalAt g.O.Operator.meaning x.edges c.args.tree.now.operators) (sym c.graph.ensures.graph) local) in
-    let took = subst (λ (x : Sight). SeenWithin 16 x n c.args.steps.now c.plan_seen.new.steps) (c.sight_of-sight.ensures.same here) c.plan_seen.ensures.steps in
-    steps_named c.args.written.changes c.as_slice-2.result.now (c.as_slice-2.ensures ∙ c.in_ok-ids.ensures.value) n 16 c.args.steps.now c.plan_seen.new.steps (omega arith) took
-
-pub returns-in_err-ids-clause-kept : goal.returns-in_err-ids-clause-kept
-returns-in_err-ids-clause-kept g c = both_same c.args.keys.now
+pub returns-else-are_local-clause-steps : goal.returns-else-are_local-clause-steps
+returns-else-are_local-clause-steps g c local =
+    let m = g.O.Operator.meaning in
+    let here = subst (λ (ns : List ℕ). AreLocalAt m c.graph.result.now.edges ns) (sym c.as_slice.ensures) (subst (λ (x : Drawn _). AreLocalAt m x.edges c.args.tree.now.operators) (sym c.graph.ensures.graph) local) in
+    absurd (false≢true (sym c.if-are_local.false ∙ c.are_local.ensures.all here))

@@ -8,8 +8,8 @@ use Rattle.engine_core.proofs.BoundLemmas.{plans_none}
 use Rattle.engine_core.proofs.TextLaws.{assignments_fit}
 use Rattle.engine_core.proofs.engine.Engine.plan.Goals as goal
 
-pub plan_update-requires : goal.plan_update-requires
-plan_update-requires g c =
+pub plan_update-requires-clause-fits : goal.plan_update-requires-clause-fits
+plan_update-requires-clause-fits g c =
     let texts = rw c.in-Update.is at c.requires.texts in
     subst (λ l. All AssignmentFits (map assignment_view l)) (sym c.as_slice-in-Update.ensures) (assignments_fit (map assignment_view c.in-Update.assignments) texts.0)
 

@@ -1,5 +1,5 @@
 -- What sessions keep stays beside the write.
-use Rattle.std.proofs.Common.{◌≡◌, ℕ, List, ap, sym, subst, ◌∙◌}
+use Rattle.std.proofs.Common.{◌≡◌, ℕ, List, ap, sym, subst}
 use Rattle.layout_rules.specs.declared.layout.Layout.{Layout}
 use Rattle.statements.specs.Views.{statement_view}
 use Rattle.engine_core.specs.Kept.{state_of}

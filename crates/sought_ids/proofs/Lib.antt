@@ -1,0 +1,2 @@
+mod SoughtLemmas
+pub mod SplitLaws

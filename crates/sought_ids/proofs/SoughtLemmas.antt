@@ -1,0 +1,138 @@
+-- Kept keys of an operator's tables, operators that are closed one after another, and crossings that are seen.
+use Rattle.std.specs.Prelude.{if◌then◌else◌, cond}
+use Rattle.std.proofs.Common.{◌≡◌, ℕ, ◌+◌, ◌<◌, ◌≤◌, ◌++◌, List, [], ◌∷◌, Bool, true, false, length, take, get_or, map, Some, inl, inr, refl, sym, ap, ◌∙◌, subst}
+use Rattle.std.proofs.lemmas.Bool.{false≢true}
+use Rattle.std.proofs.lemmas.List.{take_all, take_more}
+use Rattle.std.specs.Prelude.{Option}
+use Rattle.row_store.specs.Rows.{Rows}
+use Rattle.id_memory.specs.Pairs.{Pairs}
+use Rattle.version_graph.specs.Sets.{Each, In}
+use Rattle.version_graph.specs.Edges.{AreEdges}
+use Rattle.version_graph.specs.Forest.{Crossing, Link, crossing, forest, step_told, walk}
+use Rattle.version_graph.specs.declared.parts.Placed.{Placed}
+use Rattle.version_graph.specs.declared.parts.Step.{Step}
+use Rattle.version_graph.specs.Edges.{is_in}
+use Rattle.version_graph.proofs.SetLaws.{each_append, each_at, each_of, in_append, in_of_test, is_in_true}
+use Rattle.changes_walk.specs.Reach.{reached}
+use Rattle.op_law.specs.Identifiers.{IdsRise}
+use Rattle.op_law.specs.Tables.{RowsWide, Tables}
+use Rattle.op_law.specs.Meaning.{Meaning}
+use Rattle.operator_changes.specs.Calls.{ahead}
+use Rattle.version_model.specs.Calls.{IsCrossing, IsTold}
+use Rattle.version_model.specs.Steps.{pair_in}
+use Rattle.version_model.specs.declared.numbered.Numbered.{Numbered}
+use Rattle.version_model.proofs.CrossingLaws.{GoesOver, crossings_live, walk_goes_over}
+use Rattle.version_model.proofs.ToldLaws.{told_is}
+use Rattle.table_keys.specs.Keys.{keys_by}
+use Rattle.table_keys.specs.States.{KeysState}
+use Rattle.table_keys.specs.declared.columns.KeyColumns.TheVariants.{All, One}
+use Rattle.kept_keys.specs.Kept.{AreKeysAt, AreKeysOf}
+use Rattle.fk_closing.specs.Keys.{AreFkKeys, KeyRows}
+use Rattle.op_seeks.specs.Places.{AreKeysIn}
+use Rattle.op_seeks.specs.declared.place.FkPlace.{FkPlace}
+use Rattle.operator_changes.proofs.DrawnLemmas.{append_assoc, append_none}
+use Rattle.sought_ids.specs.Sought.{AreKeysOver, AreSomeKeys, ClosesAt, ClosesOver, SeesStep, key_side}
+
+-- ---- keys
+
+-- a key in one column has one value
+one_wide : (place : ℕ) (rows : Rows) → RowsWide 1 (keys_by (One place) rows)
+one_wide place [] = tt
+one_wide place (r ∷ rs) = (refl, one_wide place rs)
+
+pub keys_wide : (items : List (Numbered KeysState)) (table place : ℕ) (rows : Rows) → AreSomeKeys items → AreKeysAt items table (One place) rows → RowsWide 1 rows
+keys_wide items table place rows some at = subst (λ (l : Rows). RowsWide 1 l) (sym (at some.0 some.1)) (one_wide place (some.0 table))
+
+-- the keys of two tables are those of S and T
+pub fk_keys : (items : List (Numbered KeysState)) (tables : List ℕ) (first second place : ℕ) (keys rows : Rows) → tables ≡ first ∷ second ∷ [] → AreKeysAt items first (One place) keys → AreKeysAt items second All rows
+    → (s : ℕ → Rows) → AreKeysOf s items → AreFkKeys place (map s tables) (record { keys = keys; rows = rows })
+fk_keys items tables first second place keys rows is one two s right =
+    subst (λ (l : List ℕ). AreFkKeys place (map s l) (record { keys = keys; rows = rows })) (sym is) (record { keys = one s right; rows = two s right })
+
+-- the tables of S and T, on a crossing either way
+side_rows : (f : ℕ → Rows) (near far : List ℕ) (m : Pairs) (on back : Bool)
+    → (if on then (ahead back (record { source = map f near; target = map f far; memory = m })).target else (ahead back (record { source = map f near; target = map f far; memory = m })).source)
+    ≡ map f (if on then cond back near far else cond back far near)
+side_rows f near far m true true = refl
+side_rows f near far m true false = refl
+side_rows f near far m false true = refl
+side_rows f near far m false false = refl
+
+pub keys_over : {O : Type 0} (seeks : O → Option FkPlace) (items : List (Numbered KeysState)) (p : Crossing O) (fk : FkPlace) (keys : KeyRows) → Some fk ≡ seeks p.operator
+    → ((s : ℕ → Rows) → AreKeysOf s items → AreFkKeys fk.place (map s (key_side fk.on_target p)) keys) → AreKeysOver seeks items p keys
+keys_over seeks items p fk keys has are s right =
+    subst (λ (o : Option FkPlace). AreKeysIn o (ahead p.backward (pair_in s p)) keys) has
+    (subst (λ (ts : Tables). AreFkKeys fk.place ts keys) (sym (side_rows s.tables p.near p.far (s.memory p.number) fk.on_target p.backward)) (are s.tables right))
+
+-- ---- identifiers
+
+-- one that is behind the others, and then all
+pub rise_more : (ids : List ℕ) (i n : ℕ) → i < length ids → ((rest : List ℕ) → IdsRise n rest → IdsRise 0 (take i ids ++ rest)) → n ≤ get_or ids i 0 → (rest : List ℕ) → IdsRise (get_or ids i 0 + 1) rest → IdsRise 0 (take (i + 1) ids ++ rest)
+rise_more ids i n within so_far less rest rise =
+    let x = get_or ids i 0 in
+    subst (λ (l : List ℕ). IdsRise 0 l) (sym (ap (λ (l : List ℕ). l ++ rest) (take_more ids i 0 within) ∙ append_assoc (take i ids) (x ∷ []) rest)) (so_far (x ∷ rest) (less, rise))
+
+pub rise_all : (ids : List ℕ) (i n : ℕ) → length ids ≤ i → ((rest : List ℕ) → IdsRise n rest → IdsRise 0 (take i ids ++ rest)) → IdsRise 0 ids
+rise_all ids i n whole so_far = subst (λ (l : List ℕ). IdsRise 0 l) (sym (append_none (take i ids)) ∙ take_all i ids whole) (so_far [] tt)
+
+-- ---- operators
+
+-- an operator is crossed either way
+crosses : {O : Type 0} (es : List (Placed O)) → AreEdges es → (e : Link O) → In e (forest es) → (back : Bool) → IsCrossing es (crossing back e)
+crosses {O} es edges e i back =
+    let both = each_at (λ (f : Link O). IsCrossing es (crossing true f) × IsCrossing es (crossing false f)) (forest es) e i (crossings_live es edges) in
+    elim back as (λ b. IsCrossing es (crossing b e)) [ true ↦ both.0 | false ↦ both.1 ]
+
+module _ {O : Type 0} (meaning : O → Meaning) (seeks : O → Option FkPlace) (es : List (Placed O)) (items : List (Numbered KeysState)) (ids : List ℕ) where
+  -- what a step tells of is the operator of its number
+  pub closes_told : AreEdges es → (n : ℕ) (q : Crossing O) → IsTold es (record { operator = n; backward = false }) (Some q) → ClosesOver meaning seeks items ids q → ClosesAt meaning seeks es items (n ∷ []) ids
+  closes_told edges n q told closes e at (inl number) =
+      let same = told_is es (record { operator = n; backward = false }) (crossing false e) q (crosses es edges e at false) (ap (λ (k : ℕ). record { operator = k; backward = false }) number) told in
+      subst (λ (p : Crossing O). ClosesOver meaning seeks items ids p) same closes
+  closes_told edges n q told closes e at (inr none) = absurd none
+
+  -- one operator more
+  pub closes_more : (ns : List ℕ) (i : ℕ) → i < length ns → ClosesAt meaning seeks es items (take i ns) ids → ClosesAt meaning seeks es items (get_or ns i 0 ∷ []) ids → ClosesAt meaning seeks es items (take (i + 1) ns) ids
+  closes_more ns i within so_far here e at mine =
+      elim (in_append e.number (take i ns) (get_or ns i 0 ∷ []) (subst (λ (l : List ℕ). In e.number l) (take_more ns i 0 within) mine)) as (λ _. ClosesOver meaning seeks items ids (crossing false e)) [
+        | inl k ↦ so_far e at k
+        | inr k ↦ here e at k
+      ]
+
+-- ---- a walk
+
+module _ {O : Type 0} (es : List (Placed O)) (ns : List ℕ) (Sees : Crossing O → Type 0) where
+  abbrev Steps : Step → Type 0
+  Steps step = SeesStep es ns Sees step
+
+  -- one step more
+  pub step_more : (steps : List Step) (i : ℕ) (d : Step) → i < length steps → Each Steps (take i steps) → Steps (get_or steps i d) → Each Steps (take (i + 1) steps)
+  step_more steps i d within so_far here =
+      subst (λ (l : List Step). Each Steps l) (sym (take_more steps i d within)) (each_append Steps (take i steps) (get_or steps i d ∷ []) so_far (here, tt))
+
+  -- a step over another operator
+  pub step_passed : (step : Step) → is_in step.operator ns ≡ false → Steps step
+  step_passed step other i = absurd (false≢true (sym other ∙ is_in_true step.operator ns i))
+
+  told_each : (ps : List (Crossing O)) → Each Steps (map step_told ps) → Each (λ (p : Crossing O). Steps (step_told p)) ps
+  told_each [] all = tt
+  told_each (p ∷ ps) all = (all.0, told_each ps all.1)
+
+  seen_reached : (ps : List (Crossing O)) → Each (λ (p : Crossing O). In p.number ns → Sees p) ps → Each Sees (reached ns ps)
+  seen_reached [] all = tt
+  seen_reached (p ∷ ps) all =
+      elim (is_in p.number ns) as (λ b. is_in p.number ns ≡ b → Each Sees (if b then p ∷ reached ns ps else reached ns ps)) [
+        | true ↦ λ e. (all.0 (in_of_test p.number ns e), seen_reached ps all.1)
+        | false ↦ λ e. seen_reached ps all.1
+      ] refl
+
+  live : AreEdges es → (p : Crossing O) → GoesOver (forest es) p → IsCrossing es p
+  live edges p over = subst (λ (q : Crossing O). IsCrossing es q) (sym over.is) (crosses es edges over.over over.among over.back)
+
+  -- all steps of a walk tell of all crossings over these operators
+  pub walk_seen : AreEdges es → (set : ℕ) (steps : List Step) → steps ≡ map step_told (walk (forest es) set) → Each Steps steps → Each Sees (reached ns (walk (forest es) set))
+  walk_seen edges set steps told all =
+      let path = walk (forest es) set in
+      let each = told_each path (subst (λ (l : List Step). Each Steps l) told all) in
+      seen_reached path (each_of (λ (p : Crossing O). In p.number ns → Sees p) path (λ p i own.
+      each_at (λ (q : Crossing O). Steps (step_told q)) path p i each own p (live edges p (each_at (GoesOver (forest es)) path p i (walk_goes_over (forest es) set))) refl))

@@ -1,0 +1,192 @@
+//! Identifiers that are closed over operators.
+ghost use Rattle.std.specs.Prelude.{◌≡◌, ◌≤◌, true, [], ◌∷◌, IfOk, IfSome};
+ghost use Rattle.version_graph.specs.Edges.{AreEdges};
+ghost use Rattle.op_law.specs.Identifiers.{IdsRise};
+ghost use Rattle.table_keys.specs.States.{behind};
+ghost use Rattle.fk_closing.specs.Found.{AreAmong};
+ghost use Rattle.version_model.specs.Calls.{crossing_of};
+ghost use Rattle.sought_ids.specs.Sought.{AreClosed, AreSomeKeys, ClosesAt, ClosesOver};
+
+use crate::keys::keys_over;
+use fk_closing::closed_ids;
+use op_seeks::Seeks;
+use par_base::{List, Memory};
+use std::alloc::Global;
+use table_keys::TableKeys;
+use version_graph::{Graph, Step};
+use version_model::{Numbered, Way, way_of};
+
+/// How often identifiers are closed over all operators at most.
+const ROUNDS: u32 = 64;
+
+fn is_closed_over<O: Seeks>(
+    alloc: Global,
+    items: &[Numbered<TableKeys>],
+    over: &Way<'_, O>,
+    ids: &[u64],
+) -> Result<bool, Memory>
+    requires { AreSomeKeys items.now }
+    ensures { IfOk result (λ closed. closed ≡ true
+        → ClosesOver O.meaning O.seeks items.now ids.now (crossing_of over.now)) }
+{
+    if over.operator.is_local() {
+        return Ok(true);
+    }
+    match keys_over(items, over) {
+        Some(keys) => {
+            let closed = closed_ids(alloc, &keys, ids)?;
+            Ok(closed.as_slice() == ids)
+        }
+        None => Ok(false),
+    }
+}
+
+fn is_closed_at<O: Seeks>(
+    alloc: Global,
+    graph: &Graph<O>,
+    items: &[Numbered<TableKeys>],
+    number: u32,
+    ids: &[u64],
+) -> Result<bool, Memory>
+    requires edges { AreEdges graph.now.edges }
+    requires some { AreSomeKeys items.now }
+    ensures { IfOk result (λ closed. closed ≡ true
+        → ClosesAt O.meaning O.seeks graph.now.edges items.now (number ∷ []) ids.now) }
+{
+    let step = Step {
+        operator: number,
+        backward: false,
+    };
+    match way_of(graph, step) {
+        Some(over) => {
+            let closed = is_closed_over(alloc, items, &over, ids)?;
+            Ok(closed)
+        }
+        None => Ok(false),
+    }
+}
+
+fn is_behind(last: Option<u64>, id: u64) -> bool
+    ensures { result ≡ true → behind last ≤ id }
+{
+    match last {
+        Some(last) => last < id,
+        None => true,
+    }
+}
+
+fn rises(ids: &[u64]) -> bool
+    ensures { result ≡ true → IdsRise 0 ids.now }
+{
+    let mut last = None;
+    for id in ids {
+        if !is_behind(last, *id) {
+            return false;
+        }
+        last = Some(*id);
+    }
+    true
+}
+
+fn are_closed<O: Seeks>(
+    alloc: Global,
+    graph: &Graph<O>,
+    items: &[Numbered<TableKeys>],
+    operators: &[u32],
+    ids: &[u64],
+) -> Result<bool, Memory>
+    requires edges { AreEdges graph.now.edges }
+    requires some { AreSomeKeys items.now }
+    ensures { IfOk result (λ closed. closed ≡ true
+        → ClosesAt O.meaning O.seeks graph.now.edges items.now operators.now ids.now) }
+{
+    for number in operators {
+        if !is_closed_at(alloc, graph, items, *number, ids)? {
+            return Ok(false);
+        }
+    }
+    Ok(true)
+}
+
+fn close_over<O: Seeks>(
+    alloc: Global,
+    items: &[Numbered<TableKeys>],
+    over: &Way<'_, O>,
+    ids: List<u64>,
+) -> Result<List<u64>, Memory>
+    requires { AreSomeKeys items.now }
+    ensures { IfOk result (AreAmong ids) }
+{
+    match keys_over(items, over) {
+        Some(keys) => {
+            let closed = closed_ids(alloc, &keys, ids.as_slice())?;
+            Ok(closed)
+        }
+        None => Ok(ids),
+    }
+}
+
+fn close_at<O: Seeks>(
+    alloc: Global,
+    graph: &Graph<O>,
+    items: &[Numbered<TableKeys>],
+    number: u32,
+    ids: List<u64>,
+) -> Result<List<u64>, Memory>
+    requires { AreSomeKeys items.now }
+    ensures { IfOk result (AreAmong ids) }
+{
+    let step = Step {
+        operator: number,
+        backward: false,
+    };
+    match way_of(graph, step) {
+        Some(over) => close_over(alloc, items, &over, ids),
+        None => Ok(ids),
+    }
+}
+
+fn close_all<O: Seeks>(
+    alloc: Global,
+    graph: &Graph<O>,
+    items: &[Numbered<TableKeys>],
+    operators: &[u32],
+    ids: List<u64>,
+) -> Result<List<u64>, Memory>
+    requires { AreSomeKeys items.now }
+    ensures { IfOk result (AreAmong ids) }
+{
+    let mut closed = ids;
+    for number in operators {
+        closed = close_at(alloc, graph, items, *number, closed)?;
+    }
+    Ok(closed)
+}
+
+/// These identifiers and those with which they are closed over these operators, where that is found.
+///
+/// It looks twice for each identifier that is found and each operator, so often as the operators
+/// bring others in turn.
+pub fn closed_over<O: Seeks>(
+    alloc: Global,
+    graph: &Graph<O>,
+    items: &[Numbered<TableKeys>],
+    operators: &[u32],
+    ids: List<u64>,
+) -> Result<Option<List<u64>>, Memory>
+    requires edges { AreEdges graph.now.edges }
+    requires some { AreSomeKeys items.now }
+    ensures { IfOk result (λ found. IfSome found (AreClosed O.meaning O.seeks graph.now.edges
+        items.now operators.now ids)) }
+{
+    let mut closed = ids;
+    for _turn in 0..ROUNDS {
+        if rises(closed.as_slice())
+            && are_closed(alloc, graph, items, operators, closed.as_slice())?
+        {
+            return Ok(Some(closed));
+        }
+        closed = close_all(alloc, graph, items, operators, closed)?;
+    }
+    Ok(None)
+}
