@@ -17,6 +17,7 @@ mod PartTriedLemmas
 mod OwnLemmas
 mod AuxLemmas
 mod PlanLemmas
+mod AloneLemmas
 mod ChangeLemmas
 pub mod HoldLaws
 pub mod UndoLaws

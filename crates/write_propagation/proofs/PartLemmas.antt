@@ -92,6 +92,14 @@ module _ {O : Type 0} (meaning : O → Meaning) (laws : (o : O) → Laws (meanin
     may_at : (a : State) (p : Crossing O) → IsWell heading a → old.next ≤ a.next → IsReady meaning heading old p → MayAt a p
     may_at a p well more ready = may_cross meaning laws heading old sound a p well more ready
 
+    -- A RUN DRAWS NOTHING
+    pub run_draws_none : (ps : List (Crossing O)) (a : State) → IsWell heading a → old.next ≤ a.next → Each (IsReady meaning heading old) ps → Each IsLocalInside ps → (run meaning old a ps).next ≡ a.next
+    run_draws_none [] a well more ready here = refl
+    run_draws_none (p ∷ ps) a well more ready here =
+        let up = after_rises meaning laws heading old sound a p well more ready.0 in
+        run_draws_none ps (after meaning old a p) (after_well meaning laws heading old sound a p well more ready.0) (omega arith) ready.1 here.1
+        ∙ here.0.local.draws_none (map heading p.near) (map heading p.far) (map a.tables p.near) (pair_in old p) a.next (may_at a p well more ready.0)
+
     -- ---- the part of a run
 
     module _ (P : ℕ → Bool) (other : State) (before : IsPartOf P tree old other) where

@@ -86,7 +86,7 @@ steps_named cs ids is n most s t less within =
     omega (arith, own, all)
 
 -- all identifiers pass where all rows are seen
-all_pass : (cs : List Change) → AllPass (passes All) cs
+pub all_pass : (cs : List Change) → AllPass (passes All) cs
 all_pass [] = tt
 all_pass (c ∷ cs) = (refl, all_pass cs)
 
@@ -155,10 +155,10 @@ module _ {O : Type 0} (meaning : O → Meaning) (laws : (o : O) → Laws (meanin
         abbrev old : State
         old = copied_state copies next
 
-        copied_is : old ≡ small
+        pub copied_is : old ≡ small
         copied_is = state_is _ _ _ _ _ _ (fun_ext copied.tables) (fun_ext copied.memories) same
 
-        first_is : changing_state old (first_changes w) ≡ written old w.table (rows_only test rows) w.ids.next
+        pub first_is : changing_state old (first_changes w) ≡ written old w.table (rows_only test rows) w.ids.next
         first_is = first_state old w.table w.changes w.ids ∙ ap (λ (x : Rows). written old w.table x w.ids.next) rows_are
 
         -- THE CHANGES OF THE WRITE MAY BE CARRIED

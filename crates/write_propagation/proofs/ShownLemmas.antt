@@ -188,7 +188,7 @@ module _ {O : Type 0} (meaning : O → Meaning) (laws : (o : O) → Laws (meanin
     over_local e true i own = (way_laws true (meaning e.operator) (laws e.operator)).local (local e i own)
     over_local e false i own = (way_laws false (meaning e.operator) (laws e.operator)).local (local e i own)
 
-    here : Each (IsLocalInside meaning laws tree) ps
+    pub here : Each (IsLocalInside meaning laws tree) ps
     here =
         each_of (IsLocalInside meaning laws tree) ps (λ p i.
         let at = each_at (IsInside tree.operators tree.tables) ps p i inside in

@@ -6,6 +6,7 @@ pub mod Capacity
 pub mod Undo
 pub mod Calls
 pub mod Making
+pub mod Alone
 pub mod PartMade
 pub mod Bounds
 pub mod Keys

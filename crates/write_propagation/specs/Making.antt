@@ -150,3 +150,9 @@ pub record IsPlanOf {O : Type 0} (meaning : O → Meaning) (d : Parts O) (tree :
   pub ids : plan.ids ≡ making.made.ids
   pub changed : plan.changed ≡ changed_of making.made.tables tree.tables
   pub carried : plan.carried ≡ making.made.tables
+
+-- the plan of what was made, whatever was copied, with these changes of auxiliary tables
+abbrev pub IsPlanWith : {O : Type 0} → (O → Meaning) → Parts O → Tree → Changing → List (Numbered SideChanges) → Plan → Type 0
+IsPlanWith meaning d tree made auxes plan =
+    (test : ℕ → Bool) (copies : Copies) → let making : Making = record { copies = copies; made = made } in
+    AreAuxChanges meaning d test making tree.operators auxes → IsPlanOf meaning d tree test making plan

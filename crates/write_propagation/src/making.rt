@@ -68,6 +68,28 @@ impl StateRead for Seen<'_> {
     }
 }
 
+/// The changes of the written table alone.
+pub(crate) fn first_made(alloc: Global, written: RowWrite) -> Result<Changing, Memory>
+    ensures { IfOk result (λ made. made ≡ first_changes written) }
+{
+    let RowWrite {
+        set: _,
+        table,
+        changes,
+        ids,
+    } = written;
+    let mut made = Changing {
+        tables: List::new(alloc),
+        memories: List::new(alloc),
+        ids,
+    };
+    made.tables.push(Numbered {
+        number: table,
+        value: changes,
+    })?;
+    Ok(made)
+}
+
 /// Carries the changes of a write along its tree.
 fn carry_write<O: Operator, L: Ledger>(
     alloc: Global,
@@ -84,21 +106,8 @@ fn carry_write<O: Operator, L: Ledger>(
     ensures steps { CarriesWriteWithin O.meaning graph.now.edges written operators.now steps.old
         steps.new }
 {
-    let RowWrite {
-        set,
-        table,
-        changes,
-        ids,
-    } = written;
-    let mut made = Changing {
-        tables: List::new(alloc),
-        memories: List::new(alloc),
-        ids,
-    };
-    made.tables.push(Numbered {
-        number: table,
-        value: changes,
-    })?;
+    let set = written.set;
+    let mut made = first_made(alloc, written)?;
     carry_changes(alloc, graph, &rows, &mut made, set, operators, steps)?;
     Ok(made)
 }

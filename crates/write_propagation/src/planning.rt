@@ -16,10 +16,11 @@ ghost use Rattle.write_propagation.specs.Capacity.{HoldsAtLeast};
 ghost use Rattle.write_propagation.specs.Plans.{rows_written, IsSame, Plans};
 ghost use Rattle.write_propagation.specs.Room.{HasOld, IsReadyFor};
 ghost use Rattle.write_propagation.specs.Told.{TellsCarried, TellsChanged};
-ghost use Rattle.write_propagation.specs.Making.{names_of, IsPlanOf, MayChangeAuxes, MayPlan, MayShow};
+ghost use Rattle.write_propagation.specs.Making.{names_of, IsPlanOf, IsPlanWith, MayChangeAuxes, MayPlan, MayShow};
 ghost use Rattle.write_propagation.specs.PartMade.{IsPartMade};
 ghost use Rattle.write_propagation.specs.Keys.{KeysLead};
 
+use crate::alone::{is_alone, plan_alone};
 use crate::copies::kept_of;
 use crate::differing::{table_changes, tree_aux_changes};
 use crate::filling::{fill_keys, prepare};
@@ -30,11 +31,13 @@ use crate::remembering::memory_changes;
 use crate::room::make_room;
 use crate::told::changed_tables;
 use crate::tree::{Tree, tree_of};
+use changes_walk::Changing;
 use db_state::{Db, Sight, are_local};
 use expr_lang::Steps;
 use op_law::Operator;
 use op_seeks::Seeks;
 use par_base::{Fault, IdsSpent, List, Memory};
+use row_changes::SideChanges;
 use row_store::Changes;
 use sought_ids::{seeks_all, wanted_keys};
 use std::alloc::Global;
@@ -52,6 +55,35 @@ pub(crate) fn named_ids(alloc: Global, changes: &Changes) -> Result<List<u64>, M
         ids.push(change.id)?;
     }
     Ok(ids)
+}
+
+/// The plan of what was made, with these changes of auxiliary tables.
+pub(crate) fn plan_with<O: Operator>(
+    alloc: Global,
+    db: &Db<O>,
+    tree: &Tree,
+    made: Changing,
+    auxes: List<Numbered<SideChanges>>,
+) -> Result<Plan, Memory>
+    ensures { IfOk result (IsPlanWith O.meaning db.now tree.now made auxes) }
+{
+    let numbers = kept_of(alloc, db.stored(), tree.tables.as_slice())?;
+    let stored = table_changes(alloc, made.tables.as_slice(), numbers.as_slice())?;
+    let memories = memory_changes(
+        alloc,
+        db.memories(),
+        made.memories.as_slice(),
+        tree.operators.as_slice(),
+    )?;
+    let changed = changed_tables(alloc, made.tables.as_slice(), tree.tables.as_slice())?;
+    Ok(Plan {
+        stored,
+        auxes,
+        memories,
+        ids: made.ids,
+        changed,
+        carried: made.tables,
+    })
 }
 
 // The plan of what was made of what is seen of the tree.
@@ -72,24 +104,9 @@ fn plan_of<O: Operator, L: Ledger>(
     ensures steps { SeenWithin 8 sight.entry (length tree.now.operators) steps.old steps.new }
 {
     let auxes = tree_aux_changes(alloc, db, tree, &making, sight, steps)?;
-    let numbers = kept_of(alloc, db.stored(), tree.tables.as_slice())?;
-    let stored = table_changes(alloc, making.made.tables.as_slice(), numbers.as_slice())?;
-    let memories = memory_changes(
-        alloc,
-        db.memories(),
-        making.made.memories.as_slice(),
-        tree.operators.as_slice(),
-    )?;
-    let changed = changed_tables(alloc, making.made.tables.as_slice(), tree.tables.as_slice())?;
     let Making { copies: _, made } = making;
-    Ok(Plan {
-        stored,
-        auxes,
-        memories,
-        ids: made.ids,
-        changed,
-        carried: made.tables,
-    })
+    let plan = plan_with(alloc, db, tree, made, auxes)?;
+    Ok(plan)
 }
 
 // The plan of a write that is made of what is seen of its tree, for which the kept keys are made ready.
@@ -238,6 +255,36 @@ fn plan_named<O: Operator, L: Ledger>(
     plan_seen(alloc, db, keys, tree, written, sight, steps)
 }
 
+// The plan of a write over operators that treat each identifier by itself: of its changes where its
+// table stands alone, and else of the rows of the identifiers that they name.
+fn plan_local<O: Operator, L: Ledger>(
+    alloc: Global,
+    db: &Db<O>,
+    keys: &mut Vec<Numbered<TableKeys>>,
+    tree: &Tree,
+    written: RowWrite,
+    steps: &mut Steps<L>,
+) -> Result<Plan, Fault<IdsSpent>>
+    requires may { MayPlan O.meaning db.now tree.now written }
+    requires local { AreLocalAt O.meaning db.now.graph.edges tree.now.operators }
+    requires right { AreKeysOf (state_for O.meaning db.now).tables keys.old.items }
+    ensures plans { Plans O.meaning db.now written.set written.table
+        (rows_written O.meaning db.now written) written.ids.next result }
+    ensures tells { IfOk result (TellsChanged O.meaning db.now written) }
+    ensures carried { IfOk result (TellsCarried O.meaning db.now written) }
+    ensures old { IfOk result (HasOld db.now) }
+    ensures keys { IfOk result (KeysLead O.meaning db.now keys.new.items) }
+    ensures kept { Both IsSameKeys keys.old.items keys.new.items }
+    ensures steps { steps.new ≤ steps.old + 16
+        * (length written.changes * length tree.now.operators) }
+{
+    if is_alone(db, tree) {
+        plan_alone(alloc, db, keys, tree, written)
+    } else {
+        plan_named(alloc, db, keys, tree, written, steps)
+    }
+}
+
 // The plan of a write of a tree: of the rows that its changes name where each operator treats each
 // identifier by itself, and else of more.
 fn plan_tree<O: Seeks, L: Ledger>(
@@ -262,7 +309,7 @@ fn plan_tree<O: Seeks, L: Ledger>(
         → steps.new ≤ steps.old + 16 * (length written.changes * length tree.now.operators) }
 {
     if are_local(db.graph(), tree.operators.as_slice()) {
-        plan_named(alloc, db, keys, tree, written, steps)
+        plan_local(alloc, db, keys, tree, written, steps)
     } else {
         plan_wide(alloc, db, keys, tree, written, steps)
     }
@@ -273,7 +320,8 @@ fn plan_tree<O: Seeks, L: Ledger>(
 /// keys of these tables are made ready for their changes.
 ///
 /// Where every operator between these tables treats each identifier by itself, it reads and makes the
-/// rows of the identifiers that the changes name, in each of the tables, and no others. Of the at most
+/// rows of the identifiers that the changes name, in each of the tables, and no others: none at all
+/// where no other table hangs together with it, and no auxiliary tables are kept. Of the at most
 /// sixteen steps for each operator and identifier two are for reading, six for the mapping, and eight
 /// for the auxiliary tables.
 ///

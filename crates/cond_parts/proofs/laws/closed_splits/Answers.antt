@@ -1,0 +1,5 @@
+use Rattle.cond_parts.proofs.PartLaws.{closed_splits}
+use Rattle.cond_parts.proofs.laws.closed_splits.Goals as goal
+
+pub returns : goal.returns
+returns c = closed_splits

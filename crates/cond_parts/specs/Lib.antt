@@ -1,0 +1,8 @@
+pub mod Parts
+pub mod Closed
+pub mod Footprint
+pub mod Forward
+pub mod Backward
+pub mod Apart
+pub mod Whole
+pub mod Laws

@@ -1,0 +1,13 @@
+mod ChoiceLemmas
+mod AbsentLemmas
+mod EntryLemmas
+mod ShownLemmas
+mod PartLaws
+mod EntriesLemmas
+mod RenewedLemmas
+mod ForwardLaws
+mod PlacedLemmas
+mod StartLemmas
+mod StandLemmas
+mod BackwardLaws
+mod WholeLaws

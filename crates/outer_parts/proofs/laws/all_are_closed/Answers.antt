@@ -1,0 +1,5 @@
+use Rattle.outer_parts.proofs.WholeLaws.{all_are_closed}
+use Rattle.outer_parts.proofs.laws.all_are_closed.Goals as goal
+
+pub returns : goal.returns
+returns c = all_are_closed

@@ -1,0 +1,9 @@
+use Rattle.outer_parts.proofs.BackwardLaws.{closed_is_backward}
+use Rattle.outer_parts.proofs.ForwardLaws.{closed_is_forward}
+use Rattle.outer_parts.proofs.laws.closed_is_footprint.Goals as goal
+
+pub returns-clause-forward : goal.returns-clause-forward
+returns-clause-forward c = closed_is_forward
+
+pub returns-clause-backward : goal.returns-clause-backward
+returns-clause-backward c = closed_is_backward
