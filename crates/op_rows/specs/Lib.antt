@@ -1,4 +1,5 @@
 pub mod Cells
+pub mod Lent
 pub mod RowMeaning
 pub mod NearSides
 pub mod RowCalls

@@ -1,11 +1,10 @@
-//! What tables have at one identifier, and what sides of one table and of two are to have.
+//! What sides of one table and of two are to have, and copies of what tables have at one identifier.
 ghost use Rattle.std.specs.Prelude.{◌≡◌, [], ◌∷◌, IfOk};
-ghost use Rattle.std.specs.Option.{option_copied};
 ghost use Rattle.op_law.specs.Tables.{contents};
-ghost use Rattle.op_rows.specs.Cells.{cells_at, nth_cell};
+ghost use Rattle.op_rows.specs.Cells.{cells_at};
 
 use crate::Cells;
-use op_law::copy_of;
+use op_law::{copied, copy_of};
 use par_base::{List, Memory, Row};
 use row_store::Table;
 use std::alloc::Global;
@@ -21,14 +20,15 @@ pub(crate) fn cells_of(alloc: Global, tables: &[Table], id: u64) -> Result<Cells
     Ok(cells)
 }
 
-/// The row of a table of a side, counted from 0. It takes no memory.
-pub fn row_at(cells: &Cells, at: usize) -> Option<&Row>
-    ensures { option_copied result ≡ nth_cell at cells.now }
+/// Equal cells.
+pub(crate) fn copy_items(alloc: Global, cells: &[Option<Row>]) -> Result<Cells, Memory>
+    ensures { IfOk result (λ made. made ≡ cells.now) }
 {
-    match cells.get(at) {
-        Some(Some(row)) => Some(row),
-        _ => None,
+    let mut made = List::new(alloc);
+    for cell in cells {
+        made.push(copied(alloc, cell.as_ref())?)?;
     }
+    Ok(made)
 }
 
 /// What a side with one table has. It takes room for one row.

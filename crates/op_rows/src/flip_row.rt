@@ -2,7 +2,7 @@
 ghost use Rattle.op_rows.specs.RowMeaning.{flip_row};
 ghost use Rattle.op_rows.specs.inner.RowwiseLaws.{flip_row_laws};
 
-use crate::{Cells, NearSide, OldRows, RowOperator};
+use crate::{Cells, CellsAt, NearSide, OldRows, RowOperator};
 use expr_lang::Steps;
 use par_base::Memory;
 use std::alloc::Global;
@@ -29,7 +29,7 @@ impl<R: RowOperator> RowOperator for FlipRow<R> {
         &self,
         alloc: Global,
         side: NearSide,
-        near: &Cells,
+        near: &CellsAt<'_>,
         old: OldRows<'_>,
         steps: &mut Steps<L>,
     ) -> Result<Cells, Memory> {
@@ -40,8 +40,8 @@ impl<R: RowOperator> RowOperator for FlipRow<R> {
         &self,
         alloc: Global,
         side: NearSide,
-        near: &Cells,
-        far: &Cells,
+        near: &CellsAt<'_>,
+        far: &CellsAt<'_>,
         steps: &mut Steps<L>,
     ) -> Result<Cells, Memory> {
         self.inner.aux_row(alloc, side.far(), near, far, steps)
@@ -51,8 +51,8 @@ impl<R: RowOperator> RowOperator for FlipRow<R> {
         &self,
         alloc: Global,
         side: NearSide,
-        near: &Cells,
-        aux: &Cells,
+        near: &CellsAt<'_>,
+        aux: &CellsAt<'_>,
         steps: &mut Steps<L>,
     ) -> Result<Cells, Memory> {
         self.inner.read_row(alloc, side.far(), near, aux, steps)
@@ -62,8 +62,8 @@ impl<R: RowOperator> RowOperator for FlipRow<R> {
         &self,
         alloc: Global,
         side: NearSide,
-        near: &Cells,
-        aux: &Cells,
+        near: &CellsAt<'_>,
+        aux: &CellsAt<'_>,
         steps: &mut Steps<L>,
     ) -> Result<Option<Cells>, Memory> {
         self.inner.admit_row(alloc, side.far(), near, aux, steps)

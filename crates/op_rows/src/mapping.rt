@@ -4,9 +4,8 @@ ghost use Rattle.op_rows.specs.Cells.{cells_at};
 ghost use Rattle.op_rows.specs.NearSides.{seen_from};
 ghost use Rattle.op_rows.specs.RowCalls.{MayRows, SomeRows, StoredRows};
 
-use crate::cells::cells_of;
 use crate::pass::{AdmitsCells, MakesCells};
-use crate::{Cells, NearSide, OldRows, RowOperator};
+use crate::{Cells, CellsAt, NearSide, OldRows, RowOperator};
 use expr_lang::Steps;
 use op_law::{Aux, Side};
 use par_base::Memory;
@@ -33,9 +32,9 @@ impl<R: RowOperator> MakesCells for Mapping<'_, R> {
     ghost most = { λ it. 6 };
 
     fn at<L: Ledger>(&self, alloc: Global, id: u64, steps: &mut Steps<L>) -> Result<Cells, Memory> {
-        let near = cells_of(alloc, self.near.tables(), id)?;
-        let old_near = cells_of(alloc, self.old_near.tables(), id)?;
-        let old_far = cells_of(alloc, self.old_far.tables(), id)?;
+        let near = CellsAt::stored(self.near.tables(), id);
+        let old_near = CellsAt::stored(self.old_near.tables(), id);
+        let old_far = CellsAt::stored(self.old_far.tables(), id);
         let old = OldRows {
             near: &old_near,
             far: &old_far,
@@ -63,8 +62,8 @@ impl<R: RowOperator> MakesCells for Keeping<'_, R> {
     ghost most = { λ it. 8 };
 
     fn at<L: Ledger>(&self, alloc: Global, id: u64, steps: &mut Steps<L>) -> Result<Cells, Memory> {
-        let near = cells_of(alloc, self.near.tables(), id)?;
-        let far = cells_of(alloc, self.far.tables(), id)?;
+        let near = CellsAt::stored(self.near.tables(), id);
+        let far = CellsAt::stored(self.far.tables(), id);
         self.operator.aux_row(alloc, self.side, &near, &far, steps)
     }
 }
@@ -88,8 +87,8 @@ impl<R: RowOperator> MakesCells for Reading<'_, R> {
     ghost most = { λ it. 2 };
 
     fn at<L: Ledger>(&self, alloc: Global, id: u64, steps: &mut Steps<L>) -> Result<Cells, Memory> {
-        let near = cells_of(alloc, self.near.tables(), id)?;
-        let aux = cells_of(alloc, self.aux.tables.as_slice(), id)?;
+        let near = CellsAt::stored(self.near.tables(), id);
+        let aux = CellsAt::stored(self.aux.tables.as_slice(), id);
         self.operator.read_row(alloc, self.side, &near, &aux, steps)
     }
 }
@@ -107,8 +106,8 @@ impl<R: RowOperator> AdmitsCells for Reading<'_, R> {
         id: u64,
         steps: &mut Steps<L>,
     ) -> Result<Option<Cells>, Memory> {
-        let near = cells_of(alloc, self.near.tables(), id)?;
-        let aux = cells_of(alloc, self.aux.tables.as_slice(), id)?;
+        let near = CellsAt::stored(self.near.tables(), id);
+        let aux = CellsAt::stored(self.aux.tables.as_slice(), id);
         self.operator
             .admit_row(alloc, self.side, &near, &aux, steps)
     }

@@ -4,7 +4,7 @@ ghost use Rattle.op_rows.specs.NearSides.{seen_from};
 ghost use Rattle.op_rows.specs.RowMeaning.{RowMeaning, RowLaws};
 ghost use Rattle.op_rows.specs.RowCalls.{SomeRows, MayRows, StoredRows, NearRows, AdmitsRows};
 
-use crate::NearSide;
+use crate::{CellsAt, NearSide};
 use expr_lang::Steps;
 use par_base::{List, Memory, Row};
 use std::alloc::Global;
@@ -16,8 +16,8 @@ pub type Cells = List<Option<Row>>;
 /// The rows of both sides before a change, at one identifier.
 #[derive(Clone, Copy)]
 pub struct OldRows<'a> {
-    pub near: &'a Cells,
-    pub far: &'a Cells,
+    pub near: &'a CellsAt<'a>,
+    pub far: &'a CellsAt<'a>,
 }
 
 /// An operator that treats each identifier by itself, as it is at one identifier.
@@ -41,7 +41,7 @@ pub trait RowOperator {
         &self,
         alloc: Global,
         side: NearSide,
-        near: &Cells,
+        near: &CellsAt<'_>,
         old: OldRows<'_>,
         steps: &mut Steps<L>,
     ) -> Result<Cells, Memory>
@@ -56,8 +56,8 @@ pub trait RowOperator {
         &self,
         alloc: Global,
         side: NearSide,
-        near: &Cells,
-        far: &Cells,
+        near: &CellsAt<'_>,
+        far: &CellsAt<'_>,
         steps: &mut Steps<L>,
     ) -> Result<Cells, Memory>
         requires { SomeRows (seen_from side (row_meaning self.now)) near.now far.now }
@@ -70,8 +70,8 @@ pub trait RowOperator {
         &self,
         alloc: Global,
         side: NearSide,
-        near: &Cells,
-        aux: &Cells,
+        near: &CellsAt<'_>,
+        aux: &CellsAt<'_>,
         steps: &mut Steps<L>,
     ) -> Result<Cells, Memory>
         requires { StoredRows (seen_from side (row_meaning self.now)) near.now aux.now }
@@ -85,8 +85,8 @@ pub trait RowOperator {
         &self,
         alloc: Global,
         side: NearSide,
-        near: &Cells,
-        aux: &Cells,
+        near: &CellsAt<'_>,
+        aux: &CellsAt<'_>,
         steps: &mut Steps<L>,
     ) -> Result<Option<Cells>, Memory>
         requires { NearRows (seen_from side (row_meaning self.now)) near.now }
