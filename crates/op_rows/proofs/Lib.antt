@@ -1,4 +1,5 @@
 mod AdmissionLemmas
+mod LentLemmas
 mod MergeLemmas
 mod PassLemmas
 mod PremiseLemmas

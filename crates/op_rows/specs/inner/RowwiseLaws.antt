@@ -2,7 +2,6 @@
 use Rattle.std.proofs.Common.{◌≡◌, [], refl, ap, sym, ◌∙◌, subst, arith}
 use Rattle.id_memory.specs.Pairs.{Pairs}
 use Rattle.op_law.specs.Tables.{Tables}
-use Rattle.op_law.specs.Meaning.{flip}
 use Rattle.op_law.specs.Laws.{HalfLaws, Laws}
 use Rattle.op_rows.specs.Cells.{Cells, cells_at, nones}
 use Rattle.op_rows.specs.RowMeaning.{RowMeaning, flip_row, rowwise, RowHalf, RowLaws}
