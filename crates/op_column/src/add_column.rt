@@ -7,7 +7,7 @@ ghost use Rattle.op_column.specs.inner.AddColumnLaws.{add_column_laws};
 
 use crate::column::{alone, is_kept_beside, with_kept, with_new, without};
 use expr_lang::{Expr, Steps};
-use op_rows::{Cells, NearSide, OldRows, RowOperator};
+use op_rows::{Cells, CellsAt, NearSide, OldRows, RowOperator, copy_cells};
 use par_base::{List, Memory};
 use std::alloc::Global;
 use std::sync::ledger::Ledger;
@@ -39,7 +39,7 @@ impl RowOperator for AddColumn {
         &self,
         alloc: Global,
         side: NearSide,
-        near: &Cells,
+        near: &CellsAt<'_>,
         old: OldRows<'_>,
         steps: &mut Steps<L>,
     ) -> Result<Cells, Memory> {
@@ -53,8 +53,8 @@ impl RowOperator for AddColumn {
         &self,
         alloc: Global,
         side: NearSide,
-        _near: &Cells,
-        far: &Cells,
+        _near: &CellsAt<'_>,
+        far: &CellsAt<'_>,
         _steps: &mut Steps<L>,
     ) -> Result<Cells, Memory> {
         match side {
@@ -67,8 +67,8 @@ impl RowOperator for AddColumn {
         &self,
         alloc: Global,
         side: NearSide,
-        near: &Cells,
-        aux: &Cells,
+        near: &CellsAt<'_>,
+        aux: &CellsAt<'_>,
         _steps: &mut Steps<L>,
     ) -> Result<Cells, Memory> {
         match side {
@@ -81,8 +81,8 @@ impl RowOperator for AddColumn {
         &self,
         alloc: Global,
         side: NearSide,
-        near: &Cells,
-        aux: &Cells,
+        near: &CellsAt<'_>,
+        aux: &CellsAt<'_>,
         _steps: &mut Steps<L>,
     ) -> Result<Option<Cells>, Memory> {
         match side {
@@ -100,14 +100,15 @@ impl AddColumn {
     fn admit_target(
         &self,
         alloc: Global,
-        near: &Cells,
-        aux: &Cells,
+        near: &CellsAt<'_>,
+        aux: &CellsAt<'_>,
     ) -> Result<Option<Cells>, Memory>
         requires { NearRows (add_column self.now.place (expr_term self.now.value)) near.now }
         ensures { IfOk result (λ far. AdmitsRows (add_column self.now.place
             (expr_term self.now.value)) near.now aux.now far) }
     {
-        if !is_kept_beside(near, aux) {
+        let kept = copy_cells(alloc, aux)?;
+        if !is_kept_beside(near, &kept) {
             return Ok(None);
         }
         Ok(Some(with_kept(alloc, self.place, near, aux)?))

@@ -11,7 +11,7 @@ use crate::column::without;
 use crate::rows::first_row;
 use crate::tracked::{deviating, last_place, with_tracked};
 use expr_lang::{Expr, Steps};
-use op_rows::{Cells, NearSide, OldRows, RowOperator, one_cell};
+use op_rows::{Cells, CellsAt, NearSide, OldRows, RowOperator, copy_cells, one_cell};
 use par_base::{List, Memory};
 use row_parts::is_same_cells;
 use std::alloc::Global;
@@ -42,7 +42,7 @@ impl RowOperator for AddTracked {
         &self,
         alloc: Global,
         side: NearSide,
-        near: &Cells,
+        near: &CellsAt<'_>,
         old: OldRows<'_>,
         steps: &mut Steps<L>,
     ) -> Result<Cells, Memory> {
@@ -56,8 +56,8 @@ impl RowOperator for AddTracked {
         &self,
         alloc: Global,
         side: NearSide,
-        near: &Cells,
-        far: &Cells,
+        near: &CellsAt<'_>,
+        far: &CellsAt<'_>,
         steps: &mut Steps<L>,
     ) -> Result<Cells, Memory> {
         match side {
@@ -70,8 +70,8 @@ impl RowOperator for AddTracked {
         &self,
         alloc: Global,
         side: NearSide,
-        near: &Cells,
-        aux: &Cells,
+        near: &CellsAt<'_>,
+        aux: &CellsAt<'_>,
         steps: &mut Steps<L>,
     ) -> Result<Cells, Memory> {
         match side {
@@ -84,8 +84,8 @@ impl RowOperator for AddTracked {
         &self,
         alloc: Global,
         side: NearSide,
-        near: &Cells,
-        aux: &Cells,
+        near: &CellsAt<'_>,
+        aux: &CellsAt<'_>,
         steps: &mut Steps<L>,
     ) -> Result<Option<Cells>, Memory> {
         match side {
@@ -103,7 +103,7 @@ impl AddTracked {
     fn map_target<L: Ledger>(
         &self,
         alloc: Global,
-        near: &Cells,
+        near: &CellsAt<'_>,
         old: OldRows<'_>,
         steps: &mut Steps<L>,
     ) -> Result<Cells, Memory>
@@ -121,8 +121,8 @@ impl AddTracked {
     fn kept_beside<L: Ledger>(
         &self,
         alloc: Global,
-        near: &Cells,
-        far: &Cells,
+        near: &CellsAt<'_>,
+        far: &CellsAt<'_>,
         steps: &mut Steps<L>,
     ) -> Result<Cells, Memory>
         requires { MayFollow (expr_term self.now.value) (first_cell near.now) }
@@ -138,8 +138,8 @@ impl AddTracked {
     fn admit_target<L: Ledger>(
         &self,
         alloc: Global,
-        near: &Cells,
-        aux: &Cells,
+        near: &CellsAt<'_>,
+        aux: &CellsAt<'_>,
         steps: &mut Steps<L>,
     ) -> Result<Option<Cells>, Memory>
         requires { NearRows (add_tracked (expr_term self.now.value)) near.now }
@@ -147,8 +147,9 @@ impl AddTracked {
             IfOk result (λ far. AdmitsRows it near.now aux.now far) }
     {
         let far = with_tracked(alloc, &self.value, near, first_row(aux), steps)?;
-        let kept = self.kept_beside(alloc, near, &far, steps)?;
-        if !is_same_cells(kept.as_slice(), aux.as_slice()) {
+        let kept = self.kept_beside(alloc, near, &CellsAt::made(&far), steps)?;
+        let stored = copy_cells(alloc, aux)?;
+        if !is_same_cells(kept.as_slice(), stored.as_slice()) {
             return Ok(None);
         }
         Ok(Some(far))

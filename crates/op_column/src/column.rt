@@ -9,7 +9,7 @@ ghost use Rattle.op_column.specs.inner.Calls.{HasPlace, MayAdd, TakesPlace, is_b
 
 use crate::rows::{first_row, one_value};
 use expr_lang::{Expr, Steps, eval};
-use op_rows::{Cells, one_cell};
+use op_rows::{Cells, CellsAt, one_cell};
 use par_base::{Memory, Row, Value};
 use row_parts::{value_at, with_value, without_value};
 use std::alloc::Global;
@@ -40,8 +40,8 @@ pub(crate) fn with_new<L: Ledger>(
     alloc: Global,
     place: usize,
     value: &Expr,
-    near: &Cells,
-    old: &Cells,
+    near: &CellsAt<'_>,
+    old: &CellsAt<'_>,
     steps: &mut Steps<L>,
 ) -> Result<Cells, Memory>
     requires { MayAdd place (expr_term value.now) (first_cell near.now) }
@@ -73,8 +73,8 @@ fn kept_value(alloc: Global, kept: Option<&Row>) -> Result<Value, Memory>
 pub(crate) fn with_kept(
     alloc: Global,
     place: usize,
-    source: &Cells,
-    aux: &Cells,
+    source: &CellsAt<'_>,
+    aux: &CellsAt<'_>,
 ) -> Result<Cells, Memory>
     requires { TakesPlace place (first_cell source.now) }
     ensures { IfOk result (λ far. far ≡ restored place (first_cell source.now) (first_cell aux.now)
@@ -91,7 +91,7 @@ pub(crate) fn with_kept(
 }
 
 /// The target's row without the column.
-pub(crate) fn without(alloc: Global, place: usize, target: &Cells) -> Result<Cells, Memory>
+pub(crate) fn without(alloc: Global, place: usize, target: &CellsAt<'_>) -> Result<Cells, Memory>
     requires { HasPlace place (first_cell target.now) }
     ensures { IfOk result (λ far. far ≡ without_column place (first_cell target.now) ∷ []) }
 {
@@ -105,7 +105,7 @@ pub(crate) fn without(alloc: Global, place: usize, target: &Cells) -> Result<Cel
 }
 
 /// The column of the target's row alone.
-pub(crate) fn alone(alloc: Global, place: usize, target: &Cells) -> Result<Cells, Memory>
+pub(crate) fn alone(alloc: Global, place: usize, target: &CellsAt<'_>) -> Result<Cells, Memory>
     ensures { IfOk result (λ aux. aux ≡ column_alone place (first_cell target.now) ∷ []) }
 {
     match first_row(target) {
@@ -118,7 +118,7 @@ pub(crate) fn alone(alloc: Global, place: usize, target: &Cells) -> Result<Cells
 }
 
 /// Whether one value is kept beside the source's row, and nothing beside none.
-pub(crate) fn is_kept_beside(source: &Cells, aux: &Cells) -> bool
+pub(crate) fn is_kept_beside(source: &CellsAt<'_>, aux: &Cells) -> bool
     ensures { result ≡ is_beside (first_cell source.now) aux.now }
 {
     match (first_row(source), aux.as_slice()) {

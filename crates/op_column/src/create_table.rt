@@ -1,9 +1,8 @@
 //! A table that is there from the beginning of its version.
 ghost use Rattle.op_column.specs.CreateTable.{create_table, create_table_laws};
 
-use crate::copies::copy_cells;
 use expr_lang::Steps;
-use op_rows::{Cells, NearSide, OldRows, RowOperator, one_cell};
+use op_rows::{Cells, CellsAt, NearSide, OldRows, RowOperator, copy_cells, one_cell};
 use par_base::{List, Memory};
 use std::alloc::Global;
 use std::sync::ledger::Ledger;
@@ -30,7 +29,7 @@ impl RowOperator for CreateTable {
         &self,
         alloc: Global,
         side: NearSide,
-        _near: &Cells,
+        _near: &CellsAt<'_>,
         old: OldRows<'_>,
         _steps: &mut Steps<L>,
     ) -> Result<Cells, Memory> {
@@ -44,8 +43,8 @@ impl RowOperator for CreateTable {
         &self,
         alloc: Global,
         _side: NearSide,
-        _near: &Cells,
-        _far: &Cells,
+        _near: &CellsAt<'_>,
+        _far: &CellsAt<'_>,
         _steps: &mut Steps<L>,
     ) -> Result<Cells, Memory> {
         Ok(List::new(alloc))
@@ -55,8 +54,8 @@ impl RowOperator for CreateTable {
         &self,
         alloc: Global,
         side: NearSide,
-        _near: &Cells,
-        _aux: &Cells,
+        _near: &CellsAt<'_>,
+        _aux: &CellsAt<'_>,
         _steps: &mut Steps<L>,
     ) -> Result<Cells, Memory> {
         match side {
@@ -69,8 +68,8 @@ impl RowOperator for CreateTable {
         &self,
         alloc: Global,
         side: NearSide,
-        _near: &Cells,
-        aux: &Cells,
+        _near: &CellsAt<'_>,
+        aux: &CellsAt<'_>,
         _steps: &mut Steps<L>,
     ) -> Result<Option<Cells>, Memory> {
         if aux.len() != 0 {

@@ -5,9 +5,8 @@ ghost use Rattle.op_rows.specs.RowCalls.{AdmitsRows};
 ghost use Rattle.op_column.specs.DropTable.{drop_table, drop_table_laws};
 ghost use Rattle.op_column.specs.inner.Calls.{is_one_cell};
 
-use crate::copies::copy_cells;
 use expr_lang::Steps;
-use op_rows::{Cells, NearSide, OldRows, RowOperator};
+use op_rows::{Cells, CellsAt, NearSide, OldRows, RowOperator, copy_cells};
 use par_base::{List, Memory};
 use std::alloc::Global;
 use std::sync::ledger::Ledger;
@@ -40,7 +39,7 @@ impl RowOperator for DropTable {
         &self,
         alloc: Global,
         side: NearSide,
-        _near: &Cells,
+        _near: &CellsAt<'_>,
         old: OldRows<'_>,
         _steps: &mut Steps<L>,
     ) -> Result<Cells, Memory> {
@@ -54,8 +53,8 @@ impl RowOperator for DropTable {
         &self,
         alloc: Global,
         side: NearSide,
-        _near: &Cells,
-        far: &Cells,
+        _near: &CellsAt<'_>,
+        far: &CellsAt<'_>,
         _steps: &mut Steps<L>,
     ) -> Result<Cells, Memory> {
         match side {
@@ -68,8 +67,8 @@ impl RowOperator for DropTable {
         &self,
         alloc: Global,
         side: NearSide,
-        _near: &Cells,
-        aux: &Cells,
+        _near: &CellsAt<'_>,
+        aux: &CellsAt<'_>,
         _steps: &mut Steps<L>,
     ) -> Result<Cells, Memory> {
         match side {
@@ -82,8 +81,8 @@ impl RowOperator for DropTable {
         &self,
         alloc: Global,
         side: NearSide,
-        near: &Cells,
-        aux: &Cells,
+        near: &CellsAt<'_>,
+        aux: &CellsAt<'_>,
         _steps: &mut Steps<L>,
     ) -> Result<Option<Cells>, Memory> {
         match side {
@@ -101,16 +100,17 @@ impl DropTable {
     fn admit_source(
         &self,
         alloc: Global,
-        _near: &Cells,
-        aux: &Cells,
+        _near: &CellsAt<'_>,
+        aux: &CellsAt<'_>,
     ) -> Result<Option<Cells>, Memory>
         ensures { IfOk result (λ far. AdmitsRows (flip_row
             (drop_table self.now.width)) _near.now aux.now far) }
     {
-        if !is_one_row(aux, self.width) {
+        let kept = copy_cells(alloc, aux)?;
+        if !is_one_row(&kept, self.width) {
             return Ok(None);
         }
-        Ok(Some(copy_cells(alloc, aux)?))
+        Ok(Some(kept))
     }
 }
 

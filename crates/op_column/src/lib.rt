@@ -12,7 +12,6 @@
 mod add_column;
 mod add_tracked;
 mod column;
-mod copies;
 mod create_table;
 mod drop_table;
 mod laws;

@@ -1,9 +1,8 @@
 //! Another name for a table or a column.
 ghost use Rattle.op_column.specs.Rename.{rename, rename_laws};
 
-use crate::copies::copy_cells;
 use expr_lang::Steps;
-use op_rows::{Cells, NearSide, OldRows, RowOperator};
+use op_rows::{Cells, CellsAt, NearSide, OldRows, RowOperator, copy_cells};
 use par_base::{List, Memory};
 use std::alloc::Global;
 use std::sync::ledger::Ledger;
@@ -27,7 +26,7 @@ impl RowOperator for Rename {
         &self,
         alloc: Global,
         _side: NearSide,
-        near: &Cells,
+        near: &CellsAt<'_>,
         _old: OldRows<'_>,
         _steps: &mut Steps<L>,
     ) -> Result<Cells, Memory> {
@@ -38,8 +37,8 @@ impl RowOperator for Rename {
         &self,
         alloc: Global,
         _side: NearSide,
-        _near: &Cells,
-        _far: &Cells,
+        _near: &CellsAt<'_>,
+        _far: &CellsAt<'_>,
         _steps: &mut Steps<L>,
     ) -> Result<Cells, Memory> {
         Ok(List::new(alloc))
@@ -49,8 +48,8 @@ impl RowOperator for Rename {
         &self,
         alloc: Global,
         _side: NearSide,
-        near: &Cells,
-        _aux: &Cells,
+        near: &CellsAt<'_>,
+        _aux: &CellsAt<'_>,
         _steps: &mut Steps<L>,
     ) -> Result<Cells, Memory> {
         copy_cells(alloc, near)
@@ -60,8 +59,8 @@ impl RowOperator for Rename {
         &self,
         alloc: Global,
         _side: NearSide,
-        near: &Cells,
-        aux: &Cells,
+        near: &CellsAt<'_>,
+        aux: &CellsAt<'_>,
         _steps: &mut Steps<L>,
     ) -> Result<Option<Cells>, Memory> {
         if aux.len() != 0 {

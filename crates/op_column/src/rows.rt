@@ -3,18 +3,15 @@ ghost use Rattle.std.specs.Prelude.{◌≡◌, [], ◌∷◌, IfOk};
 ghost use Rattle.std.specs.Option.{option_copied};
 ghost use Rattle.op_rows.specs.Cells.{first_cell};
 
-use op_rows::Cells;
+use op_rows::{CellsAt, row_at};
 use par_base::{List, Memory, Row, Value};
 use std::alloc::Global;
 
 /// The row of the only table.
-pub(crate) fn first_row(cells: &Cells) -> Option<&Row>
+pub(crate) fn first_row<'a>(cells: &CellsAt<'a>) -> Option<&'a Row>
     ensures { option_copied result ≡ first_cell cells.now }
 {
-    match cells.get(0) {
-        Some(Some(row)) => Some(row),
-        _ => None,
-    }
+    row_at(cells, 0)
 }
 
 /// A row of one value.

@@ -11,7 +11,7 @@ ghost use Rattle.op_column.specs.inner.Calls.{MayFollow};
 use crate::column::new_value;
 use crate::rows::{first_row, one_value};
 use expr_lang::{Expr, Steps, eval};
-use op_rows::{Cells, one_cell};
+use op_rows::{Cells, CellsAt, one_cell};
 use par_base::{Memory, Row, Value, is_same_values};
 use row_parts::{value_at, with_value};
 use std::alloc::Global;
@@ -19,7 +19,7 @@ use std::slice;
 use std::sync::ledger::Ledger;
 
 /// The place of the last value of the only table's row.
-pub(crate) fn last_place(cells: &Cells) -> usize
+pub(crate) fn last_place(cells: &CellsAt<'_>) -> usize
     ensures { result ≡ last_of (first_cell cells.now) }
 {
     match first_row(cells) {
@@ -73,8 +73,8 @@ fn row_deviating<L: Ledger>(
 pub(crate) fn deviating<L: Ledger>(
     alloc: Global,
     value: &Expr,
-    source: &Cells,
-    target: &Cells,
+    source: &CellsAt<'_>,
+    target: &CellsAt<'_>,
     steps: &mut Steps<L>,
 ) -> Result<Option<Row>, Memory>
     requires { MayFollow (expr_term value.now) (first_cell source.now) }
@@ -92,7 +92,7 @@ pub(crate) fn deviating<L: Ledger>(
 pub(crate) fn with_tracked<L: Ledger>(
     alloc: Global,
     value: &Expr,
-    source: &Cells,
+    source: &CellsAt<'_>,
     kept: Option<&Row>,
     steps: &mut Steps<L>,
 ) -> Result<Cells, Memory>

@@ -12,5 +12,5 @@ returns-then-not-is_same_cells g c =
     (λ same.
     let some = c.as_slice.ensures in
     let other = c.as_slice-2.ensures in
-    let equal : c.as_slice.result.now ≡ c.as_slice-2.result.now = cc in
+    let equal : c.as_slice.result.now ≡ c.as_slice-2.result.now = some ∙ same ∙ sym c.in_ok-stored.ensures ∙ sym other in
     false≢true (sym c.if-not-is_same_cells.true ∙ c.is_same_cells.ensures.1 equal))
