@@ -7,7 +7,9 @@ ghost use Rattle.op_key_join.specs.inner.DecomposePkLaws.{decompose_pk_laws};
 use crate::parts::{joined_parts, may_be_of_neither, null_row, row_of_neither, shown_parts};
 use expr_lang::Steps;
 use op_law::copied;
-use op_rows::{Cells, NearSide, OldRows, RowOperator, one_cell, row_at, two_cells};
+use op_rows::{
+    Cells, CellsAt, NearSide, OldRows, RowOperator, copy_cells, one_cell, row_at, two_cells,
+};
 use par_base::{List, Memory};
 use row_parts::is_same_cells;
 use std::alloc::Global;
@@ -24,7 +26,7 @@ pub struct DecomposePk {
 }
 
 /// The null rows of the targets.
-fn null_rows(alloc: Global, target: &Cells) -> Result<Cells, Memory>
+fn null_rows(alloc: Global, target: &CellsAt<'_>) -> Result<Cells, Memory>
     ensures { IfOk result (λ aux. aux ≡ the_null_rows target.now) }
 {
     let first = copied(alloc, null_row(row_at(target, 0)))?;
@@ -33,7 +35,7 @@ fn null_rows(alloc: Global, target: &Cells) -> Result<Cells, Memory>
 }
 
 /// The source's row where both targets lack the identifier.
-fn rest(alloc: Global, source: &Cells, target: &Cells) -> Result<Cells, Memory>
+fn rest(alloc: Global, source: &CellsAt<'_>, target: &CellsAt<'_>) -> Result<Cells, Memory>
     ensures { IfOk result (λ aux. aux ≡ rows_of_neither source.now target.now) }
 {
     let kept = row_of_neither(row_at(source, 0), row_at(target, 0), row_at(target, 1));
@@ -46,8 +48,8 @@ impl DecomposePk {
         &self,
         alloc: Global,
         side: NearSide,
-        near: &Cells,
-        far: &Cells,
+        near: &CellsAt<'_>,
+        far: &CellsAt<'_>,
     ) -> Result<Cells, Memory>
         ensures { let seen = seen_from side (decompose_pk self.now.first self.now.second) in
             IfOk result (λ aux. aux ≡ seen.aux_at_source near.now far.now) }
@@ -63,8 +65,8 @@ impl DecomposePk {
         &self,
         alloc: Global,
         side: NearSide,
-        near: &Cells,
-        aux: &Cells,
+        near: &CellsAt<'_>,
+        aux: &CellsAt<'_>,
     ) -> Result<Cells, Memory>
         ensures { let seen = seen_from side (decompose_pk self.now.first self.now.second) in
             IfOk result (λ far. far ≡ seen.read_target near.now aux.now) }
@@ -101,20 +103,20 @@ impl RowOperator for DecomposePk {
         &self,
         alloc: Global,
         side: NearSide,
-        near: &Cells,
+        near: &CellsAt<'_>,
         old: OldRows<'_>,
         _steps: &mut Steps<L>,
     ) -> Result<Cells, Memory> {
         let kept = self.beside(alloc, side, old.near, old.far)?;
-        self.read(alloc, side, near, &kept)
+        self.read(alloc, side, near, &CellsAt::made(&kept))
     }
 
     fn aux_row<L: Ledger>(
         &self,
         alloc: Global,
         side: NearSide,
-        near: &Cells,
-        far: &Cells,
+        near: &CellsAt<'_>,
+        far: &CellsAt<'_>,
         _steps: &mut Steps<L>,
     ) -> Result<Cells, Memory> {
         self.beside(alloc, side, near, far)
@@ -124,8 +126,8 @@ impl RowOperator for DecomposePk {
         &self,
         alloc: Global,
         side: NearSide,
-        near: &Cells,
-        aux: &Cells,
+        near: &CellsAt<'_>,
+        aux: &CellsAt<'_>,
         _steps: &mut Steps<L>,
     ) -> Result<Cells, Memory> {
         self.read(alloc, side, near, aux)
@@ -135,8 +137,8 @@ impl RowOperator for DecomposePk {
         &self,
         alloc: Global,
         side: NearSide,
-        near: &Cells,
-        aux: &Cells,
+        near: &CellsAt<'_>,
+        aux: &CellsAt<'_>,
         _steps: &mut Steps<L>,
     ) -> Result<Option<Cells>, Memory> {
         let row = row_at(aux, 0);
@@ -148,8 +150,9 @@ impl RowOperator for DecomposePk {
             return Ok(None);
         }
         let far = self.read(alloc, side, near, aux)?;
-        let kept = self.beside(alloc, side, near, &far)?;
-        if !is_same_cells(aux.as_slice(), kept.as_slice()) {
+        let kept = self.beside(alloc, side, near, &CellsAt::made(&far))?;
+        let stored = copy_cells(alloc, aux)?;
+        if !is_same_cells(stored.as_slice(), kept.as_slice()) {
             return Ok(None);
         }
         Ok(Some(far))

@@ -6,7 +6,7 @@ ghost use Rattle.op_key_join.specs.inner.DecomposeSingleLaws.{decompose_single_l
 
 use crate::single::{part_of, rest_of, with_rest};
 use expr_lang::Steps;
-use op_rows::{Cells, NearSide, OldRows, RowOperator, row_at};
+use op_rows::{Cells, CellsAt, NearSide, OldRows, RowOperator, copy_cells, row_at};
 use par_base::{List, Memory};
 use row_parts::is_same_cells;
 use std::alloc::Global;
@@ -28,8 +28,8 @@ impl DecomposeSingle {
         &self,
         alloc: Global,
         side: NearSide,
-        near: &Cells,
-        far: &Cells,
+        near: &CellsAt<'_>,
+        far: &CellsAt<'_>,
     ) -> Result<Cells, Memory>
         ensures { let seen = seen_from side (decompose_single self.now.columns self.now.width) in
             IfOk result (λ aux. aux ≡ seen.aux_at_source near.now far.now) }
@@ -46,8 +46,8 @@ impl DecomposeSingle {
         &self,
         alloc: Global,
         side: NearSide,
-        near: &Cells,
-        aux: &Cells,
+        near: &CellsAt<'_>,
+        aux: &CellsAt<'_>,
     ) -> Result<Cells, Memory>
         ensures { let seen = seen_from side (decompose_single self.now.columns self.now.width) in
             IfOk result (λ far. far ≡ seen.read_target near.now aux.now) }
@@ -79,20 +79,20 @@ impl RowOperator for DecomposeSingle {
         &self,
         alloc: Global,
         side: NearSide,
-        near: &Cells,
+        near: &CellsAt<'_>,
         old: OldRows<'_>,
         _steps: &mut Steps<L>,
     ) -> Result<Cells, Memory> {
         let kept = self.beside(alloc, side, old.near, old.far)?;
-        self.read(alloc, side, near, &kept)
+        self.read(alloc, side, near, &CellsAt::made(&kept))
     }
 
     fn aux_row<L: Ledger>(
         &self,
         alloc: Global,
         side: NearSide,
-        near: &Cells,
-        far: &Cells,
+        near: &CellsAt<'_>,
+        far: &CellsAt<'_>,
         _steps: &mut Steps<L>,
     ) -> Result<Cells, Memory> {
         self.beside(alloc, side, near, far)
@@ -102,8 +102,8 @@ impl RowOperator for DecomposeSingle {
         &self,
         alloc: Global,
         side: NearSide,
-        near: &Cells,
-        aux: &Cells,
+        near: &CellsAt<'_>,
+        aux: &CellsAt<'_>,
         _steps: &mut Steps<L>,
     ) -> Result<Cells, Memory> {
         self.read(alloc, side, near, aux)
@@ -113,13 +113,14 @@ impl RowOperator for DecomposeSingle {
         &self,
         alloc: Global,
         side: NearSide,
-        near: &Cells,
-        aux: &Cells,
+        near: &CellsAt<'_>,
+        aux: &CellsAt<'_>,
         _steps: &mut Steps<L>,
     ) -> Result<Option<Cells>, Memory> {
         let far = self.read(alloc, side, near, aux)?;
-        let kept = self.beside(alloc, side, near, &far)?;
-        if !is_same_cells(aux.as_slice(), kept.as_slice()) {
+        let kept = self.beside(alloc, side, near, &CellsAt::made(&far))?;
+        let stored = copy_cells(alloc, aux)?;
+        if !is_same_cells(stored.as_slice(), kept.as_slice()) {
             return Ok(None);
         }
         Ok(Some(far))

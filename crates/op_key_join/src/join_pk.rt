@@ -7,7 +7,7 @@ ghost use Rattle.op_key_join.specs.inner.JoinPkLaws.{join_pk_laws};
 use crate::joins::{joined, may_stand_alone, row_alone, sources_of};
 use expr_lang::Steps;
 use op_law::copied;
-use op_rows::{Cells, NearSide, OldRows, RowOperator, row_at, two_cells};
+use op_rows::{Cells, CellsAt, NearSide, OldRows, RowOperator, copy_cells, row_at, two_cells};
 use par_base::{List, Memory};
 use row_parts::is_same_cells;
 use std::alloc::Global;
@@ -24,7 +24,7 @@ pub struct JoinPk {
 }
 
 /// The sources' rows that aren't in the target.
-fn rows_alone(alloc: Global, source: &Cells, target: &Cells) -> Result<Cells, Memory>
+fn rows_alone(alloc: Global, source: &CellsAt<'_>, target: &CellsAt<'_>) -> Result<Cells, Memory>
     ensures { IfOk result (λ aux. aux ≡ the_rows_alone source.now target.now) }
 {
     let row = row_at(target, 0);
@@ -39,8 +39,8 @@ impl JoinPk {
         &self,
         alloc: Global,
         side: NearSide,
-        near: &Cells,
-        far: &Cells,
+        near: &CellsAt<'_>,
+        far: &CellsAt<'_>,
     ) -> Result<Cells, Memory>
         ensures { let seen = seen_from side (join_pk self.now.first self.now.second) in
             IfOk result (λ aux. aux ≡ seen.aux_at_source near.now far.now) }
@@ -56,8 +56,8 @@ impl JoinPk {
         &self,
         alloc: Global,
         side: NearSide,
-        near: &Cells,
-        aux: &Cells,
+        near: &CellsAt<'_>,
+        aux: &CellsAt<'_>,
     ) -> Result<Cells, Memory>
         ensures { let seen = seen_from side (join_pk self.now.first self.now.second) in
             IfOk result (λ far. far ≡ seen.read_target near.now aux.now) }
@@ -92,20 +92,20 @@ impl RowOperator for JoinPk {
         &self,
         alloc: Global,
         side: NearSide,
-        near: &Cells,
+        near: &CellsAt<'_>,
         old: OldRows<'_>,
         _steps: &mut Steps<L>,
     ) -> Result<Cells, Memory> {
         let kept = self.beside(alloc, side, old.near, old.far)?;
-        self.read(alloc, side, near, &kept)
+        self.read(alloc, side, near, &CellsAt::made(&kept))
     }
 
     fn aux_row<L: Ledger>(
         &self,
         alloc: Global,
         side: NearSide,
-        near: &Cells,
-        far: &Cells,
+        near: &CellsAt<'_>,
+        far: &CellsAt<'_>,
         _steps: &mut Steps<L>,
     ) -> Result<Cells, Memory> {
         self.beside(alloc, side, near, far)
@@ -115,8 +115,8 @@ impl RowOperator for JoinPk {
         &self,
         alloc: Global,
         side: NearSide,
-        near: &Cells,
-        aux: &Cells,
+        near: &CellsAt<'_>,
+        aux: &CellsAt<'_>,
         _steps: &mut Steps<L>,
     ) -> Result<Cells, Memory> {
         self.read(alloc, side, near, aux)
@@ -126,8 +126,8 @@ impl RowOperator for JoinPk {
         &self,
         alloc: Global,
         side: NearSide,
-        near: &Cells,
-        aux: &Cells,
+        near: &CellsAt<'_>,
+        aux: &CellsAt<'_>,
         _steps: &mut Steps<L>,
     ) -> Result<Option<Cells>, Memory> {
         let (first, second) = (row_at(aux, 0), row_at(aux, 1));
@@ -139,8 +139,9 @@ impl RowOperator for JoinPk {
             return Ok(None);
         }
         let far = self.read(alloc, side, near, aux)?;
-        let kept = self.beside(alloc, side, near, &far)?;
-        if !is_same_cells(aux.as_slice(), kept.as_slice()) {
+        let kept = self.beside(alloc, side, near, &CellsAt::made(&far))?;
+        let stored = copy_cells(alloc, aux)?;
+        if !is_same_cells(stored.as_slice(), kept.as_slice()) {
             return Ok(None);
         }
         Ok(Some(far))

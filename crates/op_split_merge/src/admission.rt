@@ -12,7 +12,7 @@ use crate::Split;
 use crate::auxiliary::{aux_at_source, aux_at_target};
 use crate::twins::meets;
 use expr_lang::Steps;
-use op_rows::{Cells, row_at};
+use op_rows::{CellsAt, copy_cells, row_at};
 use par_base::{Memory, Row, is_same_values};
 use row_parts::is_same_cells;
 use std::alloc::Global;
@@ -83,9 +83,9 @@ fn is_related<L: Ledger>(
 pub(crate) fn target_belongs<L: Ledger>(
     alloc: Global,
     split: &Split,
-    source: &Cells,
-    aux: &Cells,
-    far: &Cells,
+    source: &CellsAt<'_>,
+    aux: &CellsAt<'_>,
+    far: &CellsAt<'_>,
     steps: &mut Steps<L>,
 ) -> Result<bool, Memory>
     requires tests { TestsWithin split.now.width (expr_term split.now.first)
@@ -105,7 +105,8 @@ pub(crate) fn target_belongs<L: Ledger>(
         return Ok(false);
     }
     let kept = aux_at_source(alloc, split, row, first, second, steps)?;
-    Ok(is_same_cells(aux.as_slice(), kept.as_slice()))
+    let stored = copy_cells(alloc, aux)?;
+    Ok(is_same_cells(stored.as_slice(), kept.as_slice()))
 }
 
 /// Whether the source belongs to the targets and this auxiliary row.
@@ -113,9 +114,9 @@ pub(crate) fn target_belongs<L: Ledger>(
 pub(crate) fn source_belongs<L: Ledger>(
     alloc: Global,
     split: &Split,
-    target: &Cells,
-    aux: &Cells,
-    far: &Cells,
+    target: &CellsAt<'_>,
+    aux: &CellsAt<'_>,
+    far: &CellsAt<'_>,
     steps: &mut Steps<L>,
 ) -> Result<bool, Memory>
     requires { TestsWithin split.now.width (expr_term split.now.first)
@@ -134,5 +135,6 @@ pub(crate) fn source_belongs<L: Ledger>(
         return Ok(false);
     }
     let kept = aux_at_target(alloc, row, first, second)?;
-    Ok(is_same_cells(aux.as_slice(), kept.as_slice()))
+    let stored = copy_cells(alloc, aux)?;
+    Ok(is_same_cells(stored.as_slice(), kept.as_slice()))
 }

@@ -12,7 +12,7 @@ use crate::cells::or_other;
 use crate::mapping::targets;
 use crate::twins::meets;
 use expr_lang::{Expr, Steps};
-use op_rows::{Cells, row_at};
+use op_rows::{Cells, CellsAt, row_at};
 use par_base::{Memory, Row};
 use row_parts::{has_row, row_if};
 use std::alloc::Global;
@@ -41,8 +41,8 @@ fn shown<'a, L: Ledger>(
 pub(crate) fn read_target<L: Ledger>(
     alloc: Global,
     split: &Split,
-    source: &Cells,
-    aux: &Cells,
+    source: &CellsAt<'_>,
+    aux: &CellsAt<'_>,
     steps: &mut Steps<L>,
 ) -> Result<Cells, Memory>
     requires { CanTestBoth (expr_term split.now.first) (option_map expr_term split.now.second)

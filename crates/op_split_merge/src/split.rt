@@ -12,7 +12,7 @@ use crate::auxiliary::{aux_at_source, aux_at_target, rest};
 use crate::mapping::{source_of, targets_to};
 use crate::reading::read_target;
 use expr_lang::{Expr, Steps};
-use op_rows::{Cells, NearSide, OldRows, RowOperator, row_at};
+use op_rows::{Cells, CellsAt, NearSide, OldRows, RowOperator, row_at};
 use par_base::Memory;
 use std::alloc::Global;
 use std::sync::ledger::Ledger;
@@ -51,7 +51,7 @@ impl RowOperator for Split {
         &self,
         alloc: Global,
         side: NearSide,
-        near: &Cells,
+        near: &CellsAt<'_>,
         old: OldRows<'_>,
         steps: &mut Steps<L>,
     ) -> Result<Cells, Memory> {
@@ -72,8 +72,8 @@ impl RowOperator for Split {
         &self,
         alloc: Global,
         side: NearSide,
-        near: &Cells,
-        far: &Cells,
+        near: &CellsAt<'_>,
+        far: &CellsAt<'_>,
         steps: &mut Steps<L>,
     ) -> Result<Cells, Memory> {
         match side {
@@ -95,8 +95,8 @@ impl RowOperator for Split {
         &self,
         alloc: Global,
         side: NearSide,
-        near: &Cells,
-        aux: &Cells,
+        near: &CellsAt<'_>,
+        aux: &CellsAt<'_>,
         steps: &mut Steps<L>,
     ) -> Result<Cells, Memory> {
         match side {
@@ -109,8 +109,8 @@ impl RowOperator for Split {
         &self,
         alloc: Global,
         side: NearSide,
-        near: &Cells,
-        aux: &Cells,
+        near: &CellsAt<'_>,
+        aux: &CellsAt<'_>,
         steps: &mut Steps<L>,
     ) -> Result<Option<Cells>, Memory> {
         match side {
@@ -127,8 +127,8 @@ impl Split {
     fn admit_target<L: Ledger>(
         &self,
         alloc: Global,
-        source: &Cells,
-        aux: &Cells,
+        source: &CellsAt<'_>,
+        aux: &CellsAt<'_>,
         steps: &mut Steps<L>,
     ) -> Result<Option<Cells>, Memory>
         requires { let it = split_of self.now.width (expr_term self.now.first)
@@ -139,7 +139,7 @@ impl Split {
             IfOk result (λ far. AdmitsRows it source.now aux.now far) }
     {
         let far = read_target(alloc, self, source, aux, steps)?;
-        if target_belongs(alloc, self, source, aux, &far, steps)? {
+        if target_belongs(alloc, self, source, aux, &CellsAt::made(&far), steps)? {
             return Ok(Some(far));
         }
         Ok(None)
@@ -148,8 +148,8 @@ impl Split {
     fn admit_source<L: Ledger>(
         &self,
         alloc: Global,
-        target: &Cells,
-        aux: &Cells,
+        target: &CellsAt<'_>,
+        aux: &CellsAt<'_>,
         steps: &mut Steps<L>,
     ) -> Result<Option<Cells>, Memory>
         requires { let it = split_of self.now.width (expr_term self.now.first)
@@ -160,7 +160,7 @@ impl Split {
             IfOk result (λ far. AdmitsRows (flip_row it) target.now aux.now far) }
     {
         let far = source_of(alloc, row_at(target, 0), row_at(target, 1), row_at(aux, 0))?;
-        if source_belongs(alloc, self, target, aux, &far, steps)? {
+        if source_belongs(alloc, self, target, aux, &CellsAt::made(&far), steps)? {
             return Ok(Some(far));
         }
         Ok(None)
