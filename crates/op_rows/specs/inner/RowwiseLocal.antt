@@ -5,7 +5,7 @@ use Rattle.op_law.specs.Tables.{Tables, Heading, RowsWide, AllRise, AreTablesOf}
 use Rattle.op_law.specs.Meaning.{PairState}
 use Rattle.op_law.specs.Premises.{IsPair}
 use Rattle.op_law.proofs.OnlyLaws.{by_test, row_in, row_out, rise_only}
-use Rattle.op_law.specs.Local.{rows_only, only, pair_only, HalfLocal, IsLocal}
+use Rattle.op_law.specs.Local.{rows_only, only, pair_only, HalfLocal, IsLocal, PairAmong}
 use Rattle.op_rows.specs.Cells.{Cells, cells_at, nones, tables_from}
 use Rattle.op_rows.specs.inner.CellLemmas.{ext_all}
 use Rattle.op_rows.specs.inner.Tabulated.{all_rise_from, tables_long}
@@ -63,6 +63,22 @@ module _ (r : RowMeaning) (h : RowHalf r) (P : ℕ → Bool) where
     target_of = well_only P ht p.target pair.target_of;
   }
 
+  -- tables that are a pair at every identifier are one
+  pub joined_at : (hs ht : List Heading) (p : PairState) → p.memory ≡ [] → AreTablesOf hs p.source → AreTablesOf ht p.target → ((id : ℕ) → PairAmong (rowwise r) hs ht p id) → IsPair (rowwise r) hs ht p
+  joined_at hs ht p none source target parts = record {
+    fits = (parts 0).pair.fits;
+    related = (
+      none,
+      λ id.
+          let part = parts id in
+          let a = cells_in part.test p.source id part.among in
+          let b = cells_in part.test p.target id part.among in
+          rw (a, b) at (part.pair.related.1 id),
+    );
+    source_of = source;
+    target_of = target;
+  }
+
   -- the mapping of what is restricted
   pub fwd_only : (hs ht : List Heading) (near : Tables) (old : PairState) (n : ℕ) → IsPair (rowwise r) hs ht old → AreTablesOf hs near → ((rowwise r).forward (only P near) (pair_only P old) n).far ≡ only P ((rowwise r).forward near old n).far
   fwd_only hs ht near old n pair well =
@@ -115,6 +131,7 @@ pub half_local : (r : RowMeaning) → RowHalf r → HalfLocal (rowwise r)
 half_local r h = record {
   no_memory = λ hs ht p pair. pair.related.0;
   related = λ test hs ht p pair. pair_stays r h test hs ht p pair;
+  joined = λ hs ht p none source target parts. joined_at r h (λ (id : ℕ). true) hs ht p none source target parts;
   draws_none = λ hs ht near old n may. refl;
   forward = λ test hs ht near old n may. fwd_only r h test hs ht near old n may.sound.pair may.near_of;
   aux = λ test hs ht p pair. aux_only r h test hs ht p pair;
