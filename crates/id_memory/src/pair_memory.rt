@@ -2,6 +2,7 @@
 ghost use Rattle.std.specs.Prelude.{◌≡◌, ◌+◌, ◌<◌, ◌≤◌, [], length, count_by, vec_len, vec_capacity, IfOk, OnOk, Some, None, is_some, if◌then◌else◌};
 ghost use Rattle.id_memory.specs.Pairs.{RiseFrom, IsOneToOne, pair_of, id_of, with_first, with_second, IsWith};
 ghost use Rattle.id_memory.specs.PairKeys.{SortedFrom, has_key, is_triple};
+ghost use Rattle.id_memory.specs.Indexed.{Lists, by_pair, by_turned_pair};
 ghost use Rattle.id_memory.specs.inner.Calls.{AddsTriple, LosesTriple};
 
 use crate::{PairIter, entry_list, pair_list};
@@ -82,6 +83,22 @@ impl PairMemory {
         ensures { result ≡ with_second t self.now.entries }
     {
         pair_list::count_of(&self.by_second, t)
+    }
+
+    /// The entries as (s, t, p), by ascending pairs (s, t): those of one s are a run.
+    pub fn by_first(&self) -> &[(u64, u64, u64)]
+        ensures sorted { SortedFrom 0 result.now }
+        ensures lists { Lists by_pair self.now.entries result.now }
+    {
+        &self.by_first
+    }
+
+    /// The entries as (t, s, p), by ascending pairs (t, s): those of one t are a run.
+    pub fn by_second(&self) -> &[(u64, u64, u64)]
+        ensures sorted { SortedFrom 0 result.now }
+        ensures lists { Lists by_turned_pair self.now.entries result.now }
+    {
+        &self.by_second
     }
 
     /// The entries (p, s, t) by ascending p. It takes no memory.
