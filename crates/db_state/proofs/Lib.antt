@@ -8,7 +8,7 @@ pub mod BoundLaws
 mod SeenLemmas
 mod LocalLemmas
 pub mod PassLaws
-mod WayLemmas
+pub mod WayLemmas
 mod CrossLemmas
 mod PlaceLemmas
-mod StoredLemmas
+pub mod StoredLemmas
