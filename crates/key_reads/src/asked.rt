@@ -87,7 +87,7 @@ fn row_over<O: Seeks, L: Ledger>(
         ≡ row_of ((state_for O.meaning db.now).tables asked.table) asked.id) }
 {
     let begin = one_id(alloc, asked.id)?;
-    match closed_over(alloc, db.graph(), keys, operators, begin)? {
+    match closed_over(alloc, db.graph(), keys, operators, &[], begin)? {
         Some(ids) => row_in_part(alloc, db, operators, ids.as_slice(), asked, steps),
         None => row_at(alloc, db, asked.table, asked.id, steps),
     }

@@ -245,7 +245,8 @@ fn try_part<O: Seeks, L: Ledger>(
         writing.entry.written.now) }
 {
     let operators = writing.tree.operators.as_slice();
-    let Some(closed) = closed_over(alloc, db.graph(), keys, operators, ids)? else {
+    let changes = writing.written.changes.as_slice();
+    let Some(closed) = closed_over(alloc, db.graph(), keys, operators, changes, ids)? else {
         return Ok(Tried::Never);
     };
     let Some(making) = make_seen(alloc, db, writing, closed.as_slice(), steps)? else {
