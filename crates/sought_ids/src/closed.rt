@@ -3,13 +3,12 @@ ghost use Rattle.std.specs.Prelude.{◌≡◌, ◌≤◌, true, [], ◌∷◌, I
 ghost use Rattle.version_graph.specs.Edges.{AreEdges};
 ghost use Rattle.op_law.specs.Identifiers.{IdsRise};
 ghost use Rattle.table_keys.specs.States.{behind};
-ghost use Rattle.fk_closing.specs.Found.{AreAmong};
+ghost use Rattle.op_seeks.specs.Found.{AreAmong};
 ghost use Rattle.version_model.specs.Calls.{crossing_of};
 ghost use Rattle.sought_ids.specs.Sought.{AreClosed, AreSomeKeys, ClosesAt, ClosesOver};
 
 use crate::keys::keys_over;
-use fk_closing::closed_beside;
-use op_seeks::Seeks;
+use op_seeks::{Seeks, closed_beside};
 use par_base::{List, Memory};
 use row_store::Change;
 use std::alloc::Global;

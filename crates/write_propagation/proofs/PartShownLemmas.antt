@@ -17,7 +17,7 @@ use Rattle.op_law.specs.Premises.{IsPair}
 use Rattle.op_law.proofs.OnlyLaws.{by_test}
 use Rattle.pair_parts.specs.Splits.{Splits}
 use Rattle.pair_parts.proofs.SplitLaws.{splits_anywhere, splits_behind, turned}
-use Rattle.fk_parts.specs.Apart.{KeepsApart}
+use Rattle.sought_ids.specs.Apart.{KeepsApart}
 use Rattle.row_changes.specs.Touched.{AllPass}
 use Rattle.row_changes.proofs.ChangedLaws.{other_changed}
 use Rattle.version_model.specs.Put.{put}
