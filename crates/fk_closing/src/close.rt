@@ -75,13 +75,14 @@ pub fn closed_beside(
 ) -> Result<List<u64>, Memory>
     ensures { IfOk result (ClosesBeside keys.now.keys changes.now wanted.now) }
 {
-    let changed = &changed_ids(alloc, changes)?;
+    let changed = changed_ids(alloc, changes)?;
     let mut begin = changed.list(alloc)?;
     add_all(&mut begin, wanted)?;
     let rules = Rules {
         keys,
-        changed,
+        changed: &changed,
         has_witness: true,
     };
-    close(alloc, &rules, begin.as_slice())
+    let closed = close(alloc, &rules, begin.as_slice())?;
+    Ok(closed)
 }
