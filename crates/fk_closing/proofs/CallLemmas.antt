@@ -1,5 +1,5 @@
 -- Identifiers that are closed under the rules of an operator are closed as its footprints ask.
-use Rattle.std.proofs.Common.{◌≡◌, ℕ, ◌+◌, ◌-◌, List, [], ◌∷◌, length, true, Some, refl, sym, ◌∙◌}
+use Rattle.std.proofs.Common.{◌≡◌, ℕ, ◌+◌, ◌-◌, List, [], ◌∷◌, length, true, false, Some, refl, sym, ◌∙◌}
 use Rattle.par_base.specs.declared.value.Value.{Value}
 use Rattle.row_store.specs.Rows.{RiseFrom, row_of}
 use Rattle.op_law.specs.Tables.{Tables, AllRise}
