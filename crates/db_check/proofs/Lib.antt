@@ -1,9 +1,13 @@
 mod EndLemmas
 mod FoundLemmas
+mod GatherLemmas
 mod ListLemmas
+mod OnlyLemmas
+mod PartLemmas
 mod PassLemmas
 mod PlaceLemmas
 mod ReadLemmas
 mod SplitLemmas
 mod StepLemmas
 mod TestLemmas
+mod WholeLemmas
