@@ -7,6 +7,7 @@ mod PartLemmas
 mod PassLemmas
 mod PlaceLemmas
 mod ReadLemmas
+mod SpanLemmas
 mod SplitLemmas
 mod StepLemmas
 mod TestLemmas
