@@ -41,7 +41,7 @@ use Rattle.db_check.proofs.OnlyLemmas.{sound_only, wide_only}
 
 module _ {T A : Type 0} (f g : T → A) where
   abbrev Same : List (Numbered T) → List (Numbered T) → Type 0
-  Same xs ys = map (λ (x : Numbered T). (x.number, f x.value)) xs ≡ map (λ (y : Numbered T). (y.number, g y.value)) ys
+  Same xs ys = map {B = ℕ × A} (λ (x : Numbered T). (x.number, f x.value)) xs ≡ map {B = ℕ × A} (λ (y : Numbered T). (y.number, g y.value)) ys
 
   -- the numbers are the same
   pub same_numbers : (xs ys : List (Numbered T)) → Same xs ys → numbers_in xs ≡ numbers_in ys
@@ -52,7 +52,7 @@ module _ {T A : Type 0} (f g : T → A) where
       let first : ◌≡◌ {A = ℕ × A} (x.number, f x.value) (y.number, g y.value) = cc in
       let number : x.number ≡ y.number = ap (λ (q : ℕ × A). q.0) first in
       let rest = same_numbers xs ys cc in
-      cc
+      ap (λ (k : ℕ). k ∷ numbers_in xs) number ∙ ap (λ (l : List ℕ). y.number ∷ l) rest
 
   -- and what is seen of the values
   pub same_seen : (d : A) (n : ℕ) (xs ys : List (Numbered T)) → Same xs ys → option_map_or f (value_of xs n) d ≡ option_map_or g (value_of ys n) d

@@ -1,7 +1,7 @@
 -- Fields of which the part of every identifier is a database are one.
 use Rattle.std.specs.Prelude.{◌<◌, ◌≤◌}
 use Rattle.std.specs.Option.{option_map_or}
-use Rattle.std.proofs.Common.{◌≡◌, ℕ, zero, suc, List, [], ◌∷◌, true, false, map, length, inl, inr, refl, sym, ap, ◌∙◌, subst}
+use Rattle.std.proofs.Common.{◌≡◌, ℕ, zero, suc, List, [], ◌∷◌, Bool, true, false, map, length, inl, inr, refl, sym, ap, ◌∙◌, subst}
 use Rattle.std.proofs.lemmas.Bool.{cases_lt, eqb-true}
 use Rattle.row_store.specs.Rows.{RiseFrom, Rows}
 use Rattle.version_graph.specs.Sets.{In}
@@ -133,12 +133,12 @@ module _ {O : Type 0} (meaning : O → Meaning) (laws : (o : O) → Laws (meanin
     aux_own : (id : ℕ) → only (just id) (auxes_at p.aux e.number) ≡ only (just id) (aux_of meaning joined way)
     aux_own id =
         let part = part_auxes (each id).test p (each id).good.tables (each id).good.auxes (each id).good.part e.number in
-        let local = half_local meaning laws p locals e at back in
+        let half = half_local meaning laws p locals e at back in
         sym (tables_within (just id) (each id).test (within id) (auxes_at p.aux e.number))
         ∙ ap (only (just id)) (sym part ∙ (over id).aux)
-        ∙ sym (local.aux (just id) hs ht (pair_in (own id) way) (over id).related)
+        ∙ sym (half.aux (just id) hs ht (pair_in (own id) way) (over id).related)
         ∙ ap (λ (x : PairState). m.aux_at_source x) (sym (pair_own id way))
-        ∙ local.aux (just id) hs ht (pair_in joined way) related
+        ∙ half.aux (just id) hs ht (pair_in joined way) related
 
     -- and what is kept of it is its pair's
     aux_is : auxes_at p.aux e.number ≡ aux_of meaning joined way
