@@ -1,8 +1,7 @@
 -- A part of the fields, and the part of a database.
-use Rattle.std.specs.Prelude.{◌↔◌, ◌≤◌}
+use Rattle.std.specs.Prelude.{◌↔◌}
 use Rattle.std.specs.Option.{option_map_or}
 use Rattle.std.proofs.Common.{◌≡◌, ℕ, ◌==◌, List, [], ◌∷◌, Bool, true, false, map, length, Option, Some, None, refl, sym, ap, ◌∙◌, subst}
-use mathlib.Core.List.{reverse}
 use Rattle.row_store.specs.Rows.{RiseFrom, Rows}
 use Rattle.row_store.specs.States.{TableState}
 use Rattle.version_graph.specs.Sets.{In}
@@ -15,7 +14,7 @@ use Rattle.op_law.specs.Local.{HalfLocal, only, pair_only, rows_only}
 use Rattle.op_law.specs.Meaning.{Meaning, PairState}
 use Rattle.op_law.specs.Premises.{IsPair}
 use Rattle.op_law.specs.Sound.{RowsSound}
-use Rattle.op_law.specs.Tables.{Heading, RowsWide, Tables}
+use Rattle.op_law.specs.Tables.{RowsWide}
 use Rattle.op_law.specs.declared.side.Aux.{Aux}
 use Rattle.op_law.proofs.OnlyLaws.{rise_only}
 use Rattle.layout_rules.specs.Layouts.{IsStored}
@@ -33,7 +32,7 @@ use Rattle.db_state.proofs.FieldLaws.{IsShaped, Store, is_database}
 use Rattle.db_state.proofs.PartLaws.{only_map}
 use Rattle.db_check.specs.Checked.{IsListed}
 use Rattle.db_check.specs.inner.Calls.{AreWell, MayRead}
-use Rattle.db_check.specs.inner.Spans.{AreLocal, IsPart, aux_line_in, aux_line_of, line_in, line_of, with_tables}
+use Rattle.db_check.specs.inner.Spans.{AreLocal, IsPart, with_tables}
 use Rattle.db_check.proofs.EndLemmas.{database_listed, entry_lives}
 use Rattle.db_check.proofs.OnlyLemmas.{sound_only, wide_only}
 

@@ -10,7 +10,7 @@ use Rattle.row_store.specs.Rows.{RiseFrom, Rows}
 use Rattle.row_store.specs.States.{TableState}
 use Rattle.version_graph.specs.Sets.{In}
 use Rattle.version_graph.specs.Edges.{numbers}
-use Rattle.version_graph.specs.Forest.{Link, forest}
+use Rattle.version_graph.specs.Forest.{forest}
 use Rattle.version_graph.proofs.SetLaws.{in_append}
 use Rattle.version_graph.proofs.WalkStepLaws.{in_reverse}
 use Rattle.op_law.specs.Meaning.{Meaning}

@@ -1,7 +1,7 @@
 -- Fields of which the part of every identifier is a database are one.
-use Rattle.std.specs.Prelude.{◌<◌, ◌≤◌}
+use Rattle.std.specs.Prelude.{◌≤◌}
 use Rattle.std.specs.Option.{option_map_or}
-use Rattle.std.proofs.Common.{◌≡◌, ℕ, zero, suc, List, [], ◌∷◌, Bool, true, false, map, length, inl, inr, refl, sym, ap, ◌∙◌, subst}
+use Rattle.std.proofs.Common.{◌≡◌, ℕ, List, [], ◌∷◌, Bool, true, false, map, length, inl, inr, refl, sym, ap, ◌∙◌, subst}
 use Rattle.std.proofs.lemmas.Bool.{cases_lt, eqb-true}
 use Rattle.row_store.specs.Rows.{RiseFrom, Rows}
 use Rattle.version_graph.specs.Sets.{In}
@@ -33,7 +33,7 @@ use Rattle.db_check.proofs.EndLemmas.{entry_lives, shaped}
 use Rattle.db_check.proofs.GatherLemmas.{gather, gather_above, gather_below, gather_none, gather_rises, gather_sound, gather_wide}
 use Rattle.db_check.proofs.ListLemmas.{found_has}
 use Rattle.db_check.proofs.OnlyLemmas.{just, just_own, none_above, same_at_each, tables_at_each}
-use Rattle.db_check.proofs.PartLemmas.{aux_only, half_local, pair_of_only, part_auxes, part_rows, related_only, state_only}
+use Rattle.db_check.proofs.PartLemmas.{half_local, part_auxes, part_rows}
 
 tables_fit : (heading : ℕ → Heading) (f : ℕ → Rows) → ((t : ℕ) → RiseFrom 0 (f t) × RowsWide (length (heading t).columns) (f t)) → (ks : List ℕ) → AreTablesOf (map heading ks) (map f ks)
 tables_fit heading f fit [] = tt

@@ -1,5 +1,4 @@
-use Rattle.std.proofs.Common.{ℕ, List, subst, sym, ◌∙◌}
-use Rattle.db_state.specs.Parts.{AreLocalAt}
+use Rattle.std.proofs.Common.{◌∙◌}
 use Rattle.db_check.proofs.SpanLemmas.{all_local}
 use Rattle.db_check.proofs.spanning.goes_by_spans.Goals as goal
 
