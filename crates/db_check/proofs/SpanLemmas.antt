@@ -56,8 +56,8 @@ contents_taken P made y xs i d h before own =
     let rows : TableState → Rows = λ t. t.rows in
     map-append rows made (y ∷ []) ∙ ap (λ (l : Tables). l ++ y.rows ∷ []) before ∙ ap (λ (r : Rows). only P (contents (take i xs)) ++ r ∷ []) own
     ∙ sym (ap (λ (l : List TableState). only P (contents l)) (take_more xs i d h)
-      ∙ ap (only P) (map-append rows (take i xs) (get_or xs i d ∷ []))
-      ∙ map-append (rows_only P) (contents (take i xs)) ((get_or xs i d).rows ∷ []))
+    ∙ ap (only P) (map-append rows (take i xs) (get_or xs i d ∷ []))
+    ∙ map-append (rows_only P) (contents (take i xs)) ((get_or xs i d).rows ∷ []))
 
 -- ---- all live operators
 

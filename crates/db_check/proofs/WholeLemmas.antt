@@ -148,9 +148,9 @@ module _ {O : Type 0} (meaning : O → Meaning) (laws : (o : O) → Laws (meanin
 
   stored_is : (t : ℕ) → IsStored (forest p.graph.edges) p.layout.operators t → rows_at p.stored t ≡ joined.tables t
   stored_is t st = same_at_each (rows_at p.stored t) (joined.tables t) (well.tables t).0 (joined_fits t).0 (λ id.
-    sym (rows_within (just id) (each id).test (within id) (rows_at p.stored t))
-    ∙ ap (rows_only (just id)) (sym (part_rows (each id).test p (each id).good.tables (each id).good.auxes (each id).good.part t) ∙ (base id).stands.stored t st)
-    ∙ sym (rows_own id t))
+      sym (rows_within (just id) (each id).test (within id) (rows_at p.stored t))
+      ∙ ap (rows_only (just id)) (sym (part_rows (each id).test p (each id).good.tables (each id).good.auxes (each id).good.part t) ∙ (base id).stands.stored t st)
+      ∙ sym (rows_own id t))
 
   sound : {n : ℕ} → 1 ≤ n → n ≡ p.ids.next → IsSound meaning p.graph.edges joined
   sound from is = record {

@@ -21,10 +21,7 @@ const FEW: usize = 4_096;
 
 /// Whether the fields are checked span by span: where each live operator treats each identifier by
 /// itself, and there are more than a few rows.
-pub(crate) fn goes_by_spans<O: Operator>(
-    alloc: Global,
-    parts: &Parts<O>,
-) -> Result<bool, Memory>
+pub(crate) fn goes_by_spans<O: Operator>(alloc: Global, parts: &Parts<O>) -> Result<bool, Memory>
     ensures { IfOk result (λ by. by ≡ true → AreLocal O.meaning parts.now) }
 {
     if rows_in(parts.stored.as_slice()) <= FEW {

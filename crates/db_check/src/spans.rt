@@ -35,12 +35,7 @@ fn is_inside(span: Span, id: u64) -> bool
 }
 
 /// Puts a row behind the others, where the span holds it.
-fn push_inside(
-    alloc: Global,
-    span: Span,
-    row: &(u64, Row),
-    made: &mut Table,
-) -> Result<(), Memory>
+fn push_inside(alloc: Global, span: Span, row: &(u64, Row), made: &mut Table) -> Result<(), Memory>
     requires { AreBelow made.old.rows row.now.0 }
     ensures { OnOk result (made.new.rows ≡ made.old.rows ++
         (if in_span span row.now.0 then row.now ∷ [] else [])) }
