@@ -27,7 +27,7 @@ use Rattle.db_state.specs.declared.parts.Parts.{Parts}
 use Rattle.db_check.specs.declared.checking.NotValid.{NotValid}
 use Rattle.db_check.specs.declared.spans.Span.{Span}
 use Rattle.db_check.specs.inner.Calls.{AdmitsAll, AreWell, MayRead}
-use Rattle.db_check.specs.inner.Spans.{AdmitsSpan, AreLocal, IsGood, IsGoodAt, IsPart, in_span, with_tables}
+use Rattle.db_check.specs.inner.Spans.{AdmitsSpan, AreLocal, IsGood, IsGoodAt, IsPart, aux_line_in, aux_line_of, in_span, line_in, line_of, with_tables}
 use Rattle.db_check.proofs.PartLemmas.{part_is_database}
 use Rattle.db_check.proofs.WholeLemmas.{whole_is}
 
@@ -85,6 +85,14 @@ module _ {O : Type 0} (meaning : O → Meaning) (p : Parts O) (low : ℕ) (befor
   ]
 
 -- ---- answers
+
+-- what was made of the lists of the fields and put in their place is the part
+pub is_part : {O : Type 0} (P : ℕ → Bool) (p : Parts O) (items made tables : List (Numbered TableState)) (aux_items aux_made auxes : List (Numbered Aux)) → tables ≡ made → map line_of made ≡ map (line_in P) items → items ≡ p.stored
+    → auxes ≡ aux_made → map aux_line_of aux_made ≡ map (aux_line_in P) aux_items → aux_items ≡ p.aux → IsPart P p tables auxes
+is_part P p items made tables aux_items aux_made auxes put lines own aux_put aux_lines aux_own = record {
+  stored = ap (map line_of) put ∙ lines ∙ ap (map (line_in P)) own;
+  aux = ap (map aux_line_of) aux_put ∙ aux_lines ∙ ap (map (aux_line_in P)) aux_own;
+}
 
 -- a part that isn't a database is no part of one
 pub refused_part : {O : Type 0} (meaning : O → Meaning) → ((o : O) → Laws (meaning o)) → (p : Parts O) → AreLocal meaning p → (span : Span) (tables : List (Numbered TableState)) (auxes : List (Numbered Aux)) → IsPart (in_span span) p tables auxes
