@@ -11,5 +11,7 @@
 #![tactic(auto)]
 
 mod laws;
+mod memory;
 
 pub use laws::{local_operators_split, parts_from_either_side};
+pub use memory::memory_part;
