@@ -7,8 +7,8 @@ use Rattle.row_changes.specs.Changed.{AreChangesOf, TableChanges, changed_tables
 use Rattle.operator_changes.specs.Calls.{MayChange, ahead, toward}
 use Rattle.operator_changes.specs.Footprint.{IsFootprint, passes}
 use Rattle.fk_closing.specs.Keys.{KeyRows}
+use Rattle.pair_parts.specs.Apart.{KeepsApart, SameElsewhere}
 use Rattle.pair_parts.specs.Splits.{Splits}
-use Rattle.fk_parts.specs.Apart.{KeepsApart, SameElsewhere}
 use Rattle.fk_parts.specs.Closed.{PassListed}
 use Rattle.fk_parts.specs.Laws.{AreClosing}
 use Rattle.op_seeks.specs.Places.{AreKeysIn, side_at}

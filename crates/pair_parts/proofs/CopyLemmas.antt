@@ -1,11 +1,9 @@
 -- The part of a memory with one entry more.
-use Rattle.std.proofs.Common.{◌≡◌, ℕ, zero, suc, ◌+◌, ◌<◌, ◌==◌, List, [], ◌∷◌, Bool, true, false, cond, length, take, get_or, Option, Some, None, refl, ap, sym, ◌∙◌, subst, arith}
-use Rattle.std.proofs.lemmas.Bool.{eq-eqb, false≢true, eqb-true}
-use Rattle.std.proofs.lemmas.List.{take_all}
+use Rattle.std.proofs.Common.{◌≡◌, ℕ, zero, suc, ◌+◌, ◌<◌, ◌≤◌, ◌==◌, List, [], ◌∷◌, Bool, true, false, cond, length, take, get_or, Option, Some, None, refl, ap, sym, ◌∙◌, arith}
+use Rattle.std.proofs.lemmas.Bool.{false≢true, eqb-true}
 use Rattle.id_memory.specs.Laws.{OneMemoryHasThem, OtherWay}
 use Rattle.id_memory.specs.Pairs.{Pairs, RiseFrom, IsOneToOne, IsWith, id_of, pair_of}
 use Rattle.op_law.specs.Identifiers.{IdsRise, has_id}
-use Rattle.op_law.proofs.IdentifierLaws.{none_before}
 use Rattle.op_law.proofs.OnlyLaws.{by_test}
 use Rattle.pair_parts.specs.Parts.{memory_only}
 use Rattle.pair_parts.proofs.MemoryLaws.{memory_in, memory_one, memory_out, memory_rise}
