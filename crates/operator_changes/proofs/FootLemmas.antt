@@ -36,7 +36,7 @@ use Rattle.row_changes.specs.Picked.{PicksEach}
 use Rattle.operator_changes.specs.Footprint.{IsFootprint, passes, with_drawn}
 use Rattle.row_changes.specs.Touched.{AllPass, EachPass}
 use Rattle.operator_changes.proofs.DrawnLemmas.{only_same, under_passes, with_has, with_rise}
-use Rattle.operator_changes.proofs.MemoryLemmas.{whole_difference}
+use Rattle.operator_changes.proofs.MemoryLaws.{whole_difference}
 use Rattle.operator_changes.proofs.PartLemmas.{parts_are}
 use Rattle.row_changes.proofs.ChangedLaws.{only_changes, only_fit}
 use Rattle.row_changes.proofs.PickLaws.{picks_difference}

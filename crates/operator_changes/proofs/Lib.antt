@@ -3,6 +3,6 @@ pub mod DrawnLemmas
 mod FootLemmas
 mod LocalLemmas
 mod LoopLemmas
-mod MemoryLemmas
+pub mod MemoryLaws
 mod PartLemmas
 mod WholeLemmas

@@ -5,7 +5,6 @@ use Rattle.op_law.specs.Tables.{Tables, Heading}
 use Rattle.op_law.specs.Local.{HalfLocal, only, pair_only}
 use Rattle.op_law.specs.Laws.{HalfLaws}
 use Rattle.op_law.specs.Meaning.{Meaning, Mapped, PairState}
-use Rattle.id_memory.specs.Pairs.{Pairs}
 use Rattle.pair_parts.specs.Parts.{memory_only, part_of_pair}
 use Rattle.pair_parts.proofs.MemoryLaws.{part_without}
 use Rattle.op_law.specs.Premises.{MayMap, pair_after}

@@ -4,7 +4,7 @@ use Rattle.id_memory.specs.States.{CounterState}
 use Rattle.op_law.specs.Calls.{seen, IsMapped}
 use Rattle.op_law.specs.Premises.{SomeMap}
 use Rattle.op_law.specs.Tables.{Tables, contents}
-use Rattle.operator_changes.specs.Calls.{ahead, toward, IsChangedTo}
+use Rattle.operator_changes.specs.Calls.{ahead, toward}
 use Rattle.row_changes.specs.Changed.{changed_tables}
 use Rattle.row_changes.specs.Picked.{PicksEach}
 use Rattle.operator_changes.specs.Footprint.{passes, with_drawn}
