@@ -19,7 +19,7 @@ use Rattle.version_model.specs.States.{State, headings}
 use Rattle.version_model.specs.Steps.{directed, pair_in}
 use Rattle.storage_law.specs.Storage.{StandsOver, Storage, aux_of}
 use Rattle.storage_law.proofs.CanonicalLaws.{either_way}
-use Rattle.db_state.specs.Parts.{AreLocalAt, Ascends, MaySee, SplitsAt, SplitsOver, passes, seen_of}
+use Rattle.db_state.specs.Parts.{AreLocalAt, Ascends, MaySee, SplitsAt, SplitsOver, entries_of, passes, seen_of}
 use Rattle.db_state.specs.inner.Passes.{SeesOver}
 use Rattle.db_state.specs.declared.sight.Sight.{Sight}
 use Rattle.db_state.specs.declared.sight.Sight.TheVariants.{All, Of, Part}
@@ -109,12 +109,12 @@ storage_seen sight storage = record {
   layout = storage.layout;
   stored = seen_of sight storage.stored;
   aux = λ n. only (passes sight) (storage.aux n);
-  memory = λ n. memory_only (passes sight) (storage.memory n);
+  memory = entries_of sight storage.memory;
 }
 
 -- what is seen of each table and of each memory
 abbrev pub state_seen : Sight → State → State
-state_seen sight s = record { tables = seen_of sight s.tables; memory = λ n. memory_only (passes sight) (s.memory n); next = s.next }
+state_seen sight s = record { tables = seen_of sight s.tables; memory = entries_of sight s.memory; next = s.next }
 
 pub pair_all : (p : PairState) → part_of_pair (passes All) p ≡ p
 pair_all p =
