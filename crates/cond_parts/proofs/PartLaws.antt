@@ -1,5 +1,5 @@
 -- Identifiers that are closed in the memory split a pair of JOIN ON a condition, and keep changes apart.
-use Rattle.std.proofs.Common.{◌≡◌, ℕ, List, [], ◌∷◌, Bool, false, not, refl, ap, sym, ◌∙◌, subst}
+use Rattle.std.proofs.Common.{◌≡◌, ℕ, List, [], ◌∷◌, Bool, false, not, refl, ap, sym, ◌∙◌}
 use Rattle.row_store.specs.Rows.{Rows}
 use Rattle.id_memory.specs.Pairs.{Pairs}
 use Rattle.op_law.specs.Local.{only}
