@@ -253,9 +253,6 @@ module _ {O : Type 0} (meaning : O → Meaning) (laws : (o : O) → Laws (meanin
 
       -- so the changes lead from the whole one to the whole one
       module _ (i : Numbered (List PairChange)) (j : In i plan.memories) where
-        abbrev n : ℕ
-        n = i.number
-
         change : IsMemoryChange (memory_only test (s.memory i.number)) (memory_only test (end.memory i.number)) i.value
         change =
             subst (λ (x : Pairs). IsMemoryChange x (memory_only test (end.memory i.number)) i.value) (memory_before i.number (memory_own i j))
