@@ -1,4 +1,4 @@
-//! A reader of the old pair of a crossing, row by row.
+//! A reader of the old pair of a crossing, row by row and entry by entry.
 ghost use Rattle.std.specs.Prelude.{◌≡◌, ◌≤◌, length, map, IfOk};
 ghost use Rattle.row_store.specs.Rows.{row_of};
 ghost use Rattle.operator_changes.specs.Calls.{ahead};
@@ -8,6 +8,7 @@ ghost use Rattle.version_model.specs.Calls.{crossing_of};
 ghost use Rattle.changes_walk.specs.Reading.{numbers_at, read_pair};
 
 use crate::reader::StateRead;
+use id_memory::PairMemory;
 use operator_changes::PairRead;
 use par_base::{Memory, Row};
 use std::alloc::Global;
@@ -88,5 +89,9 @@ impl<D: StateRead> PairRead for CrossingRead<'_, D> {
             which,
             id,
         )
+    }
+
+    fn entries(&self, alloc: Global, ids: &[u64]) -> Result<PairMemory, Memory> {
+        self.rows.entries(alloc, self.number, ids)
     }
 }

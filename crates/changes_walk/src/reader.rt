@@ -1,6 +1,8 @@
 //! Readers of a state.
 ghost use Rattle.std.specs.Prelude.{◌≡◌, IfOk};
 ghost use Rattle.row_store.specs.Rows.{row_of};
+ghost use Rattle.op_law.specs.Identifiers.{IdsRise, has_id};
+ghost use Rattle.pair_parts.specs.Parts.{memory_only};
 ghost use Rattle.version_model.specs.States.{State};
 
 use id_memory::PairMemory;
@@ -23,4 +25,10 @@ pub trait StateRead {
     /// A copy of the memory of an operator.
     fn memory(&self, alloc: Global, operator: u32) -> Result<PairMemory, Memory>
         ensures { IfOk result (λ made. made.entries ≡ (state self.now).memory operator) };
+
+    /// A memory of the entries of these identifiers alone, of the memory of an operator.
+    fn entries(&self, alloc: Global, operator: u32, ids: &[u64]) -> Result<PairMemory, Memory>
+        requires { IdsRise 0 ids.now }
+        ensures { IfOk result (λ made. made.entries
+            ≡ memory_only (has_id ids.now) ((state self.now).memory operator)) };
 }

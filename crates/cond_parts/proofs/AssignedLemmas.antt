@@ -19,8 +19,8 @@ use Rattle.pair_rows.specs.inner.Lookups.{filter_append}
 use Rattle.pair_rows.specs.inner.ShownLaws.{has_joined}
 use Rattle.pair_rows.specs.inner.TakenPairs.{has_before, has_behind, unchanged_pair}
 use Rattle.op_cond_join.specs.Assigned.{Assigning, Placed, assigned, beginning, ending, first_got, fresh_got, last_got, place_by, place_changed, place_row, second_got}
+use Rattle.pair_parts.specs.Parts.{memory_only}
 use Rattle.cond_parts.specs.Backward.{BringsAssigned, first_found, second_found}
-use Rattle.cond_parts.specs.Parts.{memory_only}
 use Rattle.cond_parts.proofs.FilterLemmas.{has_part}
 use Rattle.cond_parts.proofs.GotLemmas.{LeastFrom, SideGot, got_from, got_next, got_only, got_part, got_pass, got_rest, side_part}
 use Rattle.cond_parts.proofs.MemoryLemmas.{Brings, Each, pair_in}

@@ -13,7 +13,7 @@ use Rattle.row_changes.specs.Changed.{TableChanges, changed_tables}
 use Rattle.row_changes.specs.Touched.{touched}
 use Rattle.operator_changes.proofs.DrawnLemmas.{over_passes}
 use Rattle.operator_changes.specs.Calls.{MayChange}
-use Rattle.operator_changes.specs.Footprint.{passes}
+use Rattle.operator_changes.specs.Footprint.{IsFootprint, passes}
 use Rattle.pair_rows.proofs.ChangedLemmas.{rows_of}
 use Rattle.pair_rows.specs.Halves.{first_of, second_of}
 use Rattle.pair_rows.specs.Shown.{IsJoined, Joining}
@@ -23,18 +23,17 @@ use Rattle.pair_rows.specs.inner.Changed.{AreRowsOf}
 use Rattle.pair_rows.specs.inner.TwoSides.{one_table, two_tables}
 use Rattle.op_cond_join.specs.Assigned.{Assigning, assigned, beginning, ending}
 use Rattle.op_cond_join.specs.JoinOn.{join_backward, join_on}
+use Rattle.pair_parts.specs.Apart.{SameElsewhere}
+use Rattle.pair_parts.specs.Parts.{memory_only, part_of_pair}
 use Rattle.cond_parts.specs.Backward.{BringsStill, ClosedIsBackwardFootprint, IsClosedBackward}
 use Rattle.cond_parts.specs.Apart.{ClosedBackwardMapsApart, MapsPairApart}
 use Rattle.cond_parts.specs.Closed.{BringsEntry, IsClosedIn}
-use Rattle.cond_parts.specs.Footprint.{IsPairFootprint}
 use Rattle.op_cond_join.specs.inner.JoinOnLaws.{backward_half}
-use Rattle.cond_parts.specs.Parts.{SamePairElsewhere}
-use Rattle.pair_parts.proofs.SplitLaws.{turned}
-use Rattle.cond_parts.specs.Parts.{memory_only, part_of_pair}
+use Rattle.pair_parts.proofs.SplitLaws.{keeps_behind, splits_behind, turned}
 use Rattle.cond_parts.proofs.AssignedLemmas.{AllPart, all_part, start_fit, start_part}
 use Rattle.cond_parts.proofs.FootLemmas.{not_touched, part_may, side_untouched, rows_untouched, touched_passes, untouched}
 use Rattle.cond_parts.proofs.MemoryLemmas.{Brings, BringsIt, rows_of_each, Each, brings_first, brings_second, each_brings}
-use Rattle.cond_parts.proofs.PartLaws.{closed_keeps_apart, closed_splits, keeps_behind, part_related, splits_behind, two_same}
+use Rattle.cond_parts.proofs.PartLaws.{closed_keeps_apart, closed_splits, part_related, two_same}
 use Rattle.cond_parts.proofs.StayLemmas.{new_part, old_part, stays_part, stays_rest}
 use Rattle.cond_parts.proofs.TableLemmas.{table_only}
 use Rattle.cond_parts.proofs.UnchangedLemmas.{memory_same}
@@ -157,7 +156,7 @@ module _ (j : Joining) (near : TableChanges) (p : PairState) (n : ℕ) (ids : Li
     target_of = well_only P may.ht p.target may.may.sound.pair.target_of;
   }
 
-  pub backward_foot : IsPairFootprint (flip (join_on j)) near p n ids
+  pub backward_foot : IsFootprint (flip (join_on j)) near p n ids
   backward_foot = record {
     rise = c.rise;
     touches = c.touches;
@@ -173,7 +172,7 @@ module _ (j : Joining) (near : TableChanges) (p : PairState) (n : ℕ) (ids : Li
   }
 
   -- elsewhere the new pair is as the old one
-  same : SamePairElsewhere P (exchanged p) (exchanged (pair_after (flip (join_on j)) (changed_tables p.source near) p n))
+  same : SameElsewhere P (exchanged p) (exchanged (pair_after (flip (join_on j)) (changed_tables p.source near) p n))
   same = record {
     source = far_rest;
     target = side_untouched p.source near rise (λ q. not (P q)) (not_touched C P in_part_of);
@@ -211,8 +210,8 @@ module _ (j : Joining) (near : TableChanges) (p : PairState) (n : ℕ) (ids : Li
 
   pub backward_apart : MapsPairApart (flip (join_on j)) near p n P
   backward_apart = record {
-    splits = splits_behind (join_on j) (exchanged p) P (closed_splits j P may.ht may.hs (exchanged p) pair_before closed_before);
-    apart = keeps_behind (join_on j) (exchanged p) (exchanged (pair_after (flip (join_on j)) whole p n)) P
+    splits = splits_behind (join_on j) P (exchanged p) (closed_splits j P may.ht may.hs (exchanged p) pair_before closed_before);
+    apart = keeps_behind (join_on j) P (exchanged p) (exchanged (pair_after (flip (join_on j)) whole p n))
         (closed_keeps_apart j P may.ht may.hs (exchanged p) (exchanged (pair_after (flip (join_on j)) whole p n)) pair_before pair_now same c.brings.rows closed_after);
   }
 

@@ -7,7 +7,7 @@ use Rattle.row_parts.specs.RowCells.{by_test}
 use Rattle.pair_rows.specs.Shown.{all_pairs, has, numbered, pairs_with}
 use Rattle.pair_rows.specs.inner.Lookups.{filter_append}
 use Rattle.pair_rows.specs.inner.PairLemmas.{AllIn, all_in}
-use Rattle.cond_parts.specs.Parts.{memory_only}
+use Rattle.pair_parts.specs.Parts.{memory_only}
 use Rattle.cond_parts.proofs.MemoryLemmas.{Each}
 
 -- pairs of rows that pass, where a test passes no others, and another tells the same of them

@@ -19,7 +19,7 @@ use Rattle.row_changes.proofs.TouchedLaws.{touched_pass}
 use Rattle.operator_changes.specs.Footprint.{passes}
 use Rattle.pair_rows.specs.Sides.{table_at}
 use Rattle.pair_rows.specs.inner.PairLemmas.{filter_pairs_sound}
-use Rattle.cond_parts.specs.Parts.{part_of_pair}
+use Rattle.pair_parts.specs.Parts.{part_of_pair}
 use Rattle.cond_parts.proofs.TableLemmas.{same_at, table_only}
 
 -- what may stand may stand restricted

@@ -11,22 +11,21 @@ use Rattle.row_changes.specs.Changed.{TableChanges, changed_tables}
 use Rattle.row_changes.specs.Touched.{touched}
 use Rattle.operator_changes.proofs.DrawnLemmas.{over_passes}
 use Rattle.operator_changes.specs.Calls.{MayChange}
-use Rattle.operator_changes.specs.Footprint.{passes}
+use Rattle.operator_changes.specs.Footprint.{IsFootprint, passes}
 use Rattle.pair_rows.specs.Shown.{IsJoined, Joining, is_shown, numbered, joined, new_pairs, shown_pairs}
 use Rattle.pair_rows.specs.Sides.{table_at}
 use Rattle.pair_rows.specs.inner.TwoSides.{one_table}
 use Rattle.op_cond_join.specs.JoinOn.{join_forward, join_on}
+use Rattle.pair_parts.specs.Apart.{SameElsewhere}
+use Rattle.pair_parts.specs.Parts.{memory_only, part_of_pair}
 use Rattle.cond_parts.specs.Apart.{BringsStanding, ClosedForwardMapsApart, MapsPairApart}
 use Rattle.cond_parts.specs.Closed.{BringsEntry, IsClosedIn}
-use Rattle.cond_parts.specs.Footprint.{IsPairFootprint}
 use Rattle.op_law.specs.Premises.{pair_after}
 use Rattle.op_cond_join.specs.inner.JoinOnLaws.{forward_half}
 use Rattle.pair_rows.specs.Halves.{first_of, second_of}
-use Rattle.cond_parts.specs.Parts.{SamePairElsewhere}
 use Rattle.cond_parts.proofs.MemoryLemmas.{rows_of_each}
 use Rattle.cond_parts.proofs.StandingLemmas.{new_entry, old_entry}
 use Rattle.cond_parts.specs.Forward.{ClosedIsForwardFootprint, IsClosedForward}
-use Rattle.cond_parts.specs.Parts.{memory_only, part_of_pair}
 use Rattle.cond_parts.proofs.FootLemmas.{not_touched, part_may, side_untouched, touched_passes, untouched}
 use Rattle.cond_parts.proofs.PartLaws.{closed_keeps_apart, closed_splits, part_pair}
 use Rattle.cond_parts.proofs.ShownLemmas.{kept_still, new_part, shown_brings, shown_part, shown_rest, target_part, target_rest}
@@ -101,7 +100,7 @@ module _ (j : Joining) (near : TableChanges) (p : PairState) (n : ℕ) (ids : Li
       let one = one_table _ may.ht p.target may.may.sound.pair.fits.target may.may.sound.pair.target_of in
       ap (λ (rows : Rows). rows ∷ []) (target_rest j C P s t r m ns nt n is in_part_of high same_s same_t c.brings) ∙ ap (only Q) one.is
 
-  pub forward_foot : IsPairFootprint (join_on j) near p n ids
+  pub forward_foot : IsFootprint (join_on j) near p n ids
   forward_foot = record {
     rise = c.rise;
     touches = c.touches;
@@ -114,7 +113,7 @@ module _ (j : Joining) (near : TableChanges) (p : PairState) (n : ℕ) (ids : Li
   }
 
   -- elsewhere the new pair is as the old one
-  same : SamePairElsewhere P p (pair_after (join_on j) (changed_tables p.source near) p n)
+  same : SameElsewhere P p (pair_after (join_on j) (changed_tables p.source near) p n)
   same = record {
     source = side_untouched p.source near rise (λ q. not (P q)) (not_touched C P in_part_of);
     target = far_rest;

@@ -8,8 +8,8 @@ use Rattle.op_rows.specs.Cells.{with_row}
 use Rattle.row_parts.specs.RowCells.{Cell, by_test}
 use Rattle.pair_rows.specs.Shown.{AreThere, IsJoined, Joining, joined, row_at}
 use Rattle.pair_rows.specs.inner.PairLemmas.{count_filter, filter_rises}
+use Rattle.pair_parts.specs.Parts.{memory_only}
 use Rattle.cond_parts.specs.Closed.{BringsRows}
-use Rattle.cond_parts.specs.Parts.{memory_only}
 use Rattle.cond_parts.proofs.MemoryLemmas.{Brings, Each, each_brings}
 
 -- one row in front

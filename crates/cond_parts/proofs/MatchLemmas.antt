@@ -7,8 +7,8 @@ use Rattle.op_law.specs.Local.{rows_only}
 use Rattle.row_parts.specs.RowCells.{Cell, by_test}
 use Rattle.pair_rows.specs.Shown.{Joining, has, holds_in, is_shown, matches, row_at}
 use Rattle.pair_rows.specs.inner.ShownLaws.{still_none, still_shown}
+use Rattle.pair_parts.specs.Parts.{memory_only}
 use Rattle.cond_parts.specs.Forward.{BringsShown}
-use Rattle.cond_parts.specs.Parts.{memory_only}
 use Rattle.cond_parts.proofs.FilterLemmas.{has_part}
 use Rattle.cond_parts.proofs.JoinedLemmas.{row_part}
 use Rattle.cond_parts.proofs.MemoryLemmas.{each_of}

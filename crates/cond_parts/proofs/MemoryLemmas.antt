@@ -7,8 +7,8 @@ use Rattle.pair_rows.specs.Shown.{AreThere}
 use Rattle.row_parts.specs.RowCells.{by_test}
 use Rattle.pair_rows.specs.Stays.{stands}
 use Rattle.pair_rows.specs.inner.FoundPairs.{AllPaired, all_paired}
+use Rattle.pair_parts.specs.Parts.{memory_only}
 use Rattle.cond_parts.specs.Closed.{BringsEntry, BringsRows}
-use Rattle.cond_parts.specs.Parts.{memory_only}
 
 -- each entry has the property
 abbrev pub Each : (ℕ × ℕ × ℕ → Type 0) → Pairs → Type 0

@@ -1,9 +1,9 @@
 -- Identifiers that are closed in the memory split a pair of JOIN ON a condition, and keep changes apart.
-use Rattle.std.proofs.Common.{◌≡◌, ℕ, List, [], ◌∷◌, Bool, false, not, refl, ap, sym, ◌∙◌, subst}
+use Rattle.std.proofs.Common.{◌≡◌, ℕ, List, [], ◌∷◌, Bool, false, not, refl, ap, sym, ◌∙◌}
 use Rattle.row_store.specs.Rows.{Rows}
 use Rattle.id_memory.specs.Pairs.{Pairs}
 use Rattle.op_law.specs.Local.{only}
-use Rattle.op_law.specs.Meaning.{Meaning, PairState, exchanged, flip}
+use Rattle.op_law.specs.Meaning.{PairState}
 use Rattle.op_law.specs.Premises.{IsPair}
 use Rattle.op_law.specs.Tables.{Heading, Tables}
 use Rattle.op_rows.specs.inner.RowwiseLocal.{well_only}
@@ -14,10 +14,9 @@ use Rattle.pair_rows.specs.Sides.{table_at}
 use Rattle.pair_rows.specs.Stays.{stands}
 use Rattle.pair_rows.specs.inner.TwoSides.{two_tables}
 use Rattle.op_cond_join.specs.JoinOn.{join_on}
+use Rattle.pair_parts.specs.Parts.{memory_only, part_of_pair}
 use Rattle.cond_parts.specs.Closed.{BringsRows}
-use Rattle.cond_parts.specs.Laws.{ClosedKeepsApart, ClosedSplits, EmptyMemorySplits, PairKeepsFromBehind, PairSplitsFromBehind}
-use Rattle.pair_parts.proofs.SplitLaws.{turned}
-use Rattle.cond_parts.specs.Parts.{memory_only, part_of_pair}
+use Rattle.cond_parts.specs.Laws.{ClosedKeepsApart, ClosedSplits}
 use Rattle.cond_parts.proofs.JoinedLemmas.{part_joined}
 use Rattle.cond_parts.proofs.MemoryLemmas.{BringsIt, Each, brings_first, brings_second, each_brings, stands_rest}
 use Rattle.cond_parts.proofs.TableLemmas.{alone_part, alone_rest, same_at, table_only}
@@ -61,17 +60,6 @@ closed_splits j P hs ht p pair closed =
           (ap (alone second_of small) (table_only P 1 p.source) ∙ alone_part P second_of m t two.second_rise closed.second);
     }
 
--- where there is no memory
-pub empty_memory_splits : (m : Meaning) → EmptyMemorySplits m
-empty_memory_splits m p P none splits =
-    let same : record { source = only P p.source; target = only P p.target; memory = p.memory } ≡ part_of_pair P p =
-    ap (λ (es : Pairs). record { source = only P p.source; target = only P p.target; memory = es }) (none ∙ sym (ap (memory_only P) none)) in
-    record {
-      related = λ hs ht pair. subst (λ (x : PairState). IsPair m hs ht x) same (splits.related hs ht pair);
-      at_source = sym (ap m.aux_at_source same) ∙ splits.at_source;
-      at_target = sym (ap m.aux_at_target same) ∙ splits.at_target;
-    }
-
 -- outside of what passes a row stands in entries as it did
 stands_same : (P : ℕ → Bool) (pick : ℕ × ℕ × ℕ → ℕ) (m new : Pairs) (q : ℕ) → memory_only (λ i. not (P i)) new ≡ memory_only (λ i. not (P i)) m → Each (BringsIt P pick) m → Each (BringsIt P pick) new → P q ≡ false → stands pick new q ≡ stands pick m q
 stands_same P pick m new q same old_brings new_brings out =
@@ -97,15 +85,3 @@ closed_keeps_apart j P hs ht old new before after same rows closed =
           (λ q out. same_at P 1 old.source new.source q same.source out)
           (λ q out. stands_same P second_of old.memory new.memory q same.memory (brings_second P old.memory brings) (brings_second P new.memory brings_new) out));
     }
-
--- what splits a pair splits it from its other side
-pub splits_behind : (m : Meaning) → PairSplitsFromBehind m
-splits_behind m p P splits = record {
-  related = λ hs ht pair. turned m ht hs (part_of_pair P p) (splits.related ht hs (turned (flip m) hs ht (exchanged p) pair));
-  at_source = splits.at_target;
-  at_target = splits.at_source;
-}
-
--- and what keeps a change apart does
-pub keeps_behind : (m : Meaning) → PairKeepsFromBehind m
-keeps_behind m old new P apart = record { splits = splits_behind m new P apart.splits; at_source = apart.at_target; at_target = apart.at_source }

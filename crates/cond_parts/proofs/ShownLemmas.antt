@@ -9,8 +9,8 @@ use Rattle.pair_rows.specs.Shown.{IsJoined, Joining, all_pairs, has, holds_in, i
 use Rattle.pair_rows.specs.inner.Lookups.{filter_append}
 use Rattle.pair_rows.specs.inner.PairLemmas.{all_in}
 use Rattle.pair_rows.specs.inner.ShownLaws.{still_shown, there_cells}
+use Rattle.pair_parts.specs.Parts.{memory_only}
 use Rattle.cond_parts.specs.Forward.{BringsShown}
-use Rattle.cond_parts.specs.Parts.{memory_only}
 use Rattle.cond_parts.proofs.FilterLemmas.{each_append, each_filter, filter_part, filter_rest, in_part, in_whole, numbered_part, numbered_rest, pairs_part}
 use Rattle.cond_parts.proofs.JoinedLemmas.{joined_memory, joined_part, joined_same, row_part}
 use Rattle.cond_parts.proofs.MatchLemmas.{is_new, is_new_part, new_alike, new_inside, row_same, shown_by}

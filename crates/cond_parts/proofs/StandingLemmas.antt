@@ -6,9 +6,9 @@ use Rattle.id_memory.specs.Pairs.{Pairs}
 use Rattle.row_parts.specs.RowCells.{by_test}
 use Rattle.pair_rows.specs.Stays.{stands}
 use Rattle.pair_rows.specs.inner.Lookups.{filter_append}
+use Rattle.pair_parts.specs.Parts.{memory_only}
 use Rattle.cond_parts.specs.Apart.{BringsStanding}
 use Rattle.cond_parts.specs.Closed.{BringsEntry}
-use Rattle.cond_parts.specs.Parts.{memory_only}
 use Rattle.cond_parts.proofs.MemoryLemmas.{Each}
 use Rattle.cond_parts.proofs.StayLemmas.{stands_either}
 

@@ -7,8 +7,8 @@ use Rattle.id_memory.specs.Pairs.{Pairs}
 use Rattle.op_law.specs.Local.{rows_only}
 use Rattle.row_parts.specs.RowCells.{by_test}
 use Rattle.pair_rows.specs.Stays.{stands, staying}
+use Rattle.pair_parts.specs.Parts.{memory_only}
 use Rattle.cond_parts.specs.Backward.{BringsStill}
-use Rattle.cond_parts.specs.Parts.{memory_only}
 use Rattle.cond_parts.proofs.MemoryLemmas.{BringsIt, Each, both_ways, stands_rest, stands_whole}
 
 -- what stands in an entry that passes one test stands in one that passes a weaker one

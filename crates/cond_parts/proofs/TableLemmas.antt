@@ -11,8 +11,8 @@ use Rattle.pair_rows.specs.Kept.{alone}
 use Rattle.pair_rows.specs.Sides.{table_at}
 use Rattle.pair_rows.specs.Stays.{stands}
 use Rattle.pair_rows.specs.inner.Lookups.{filter_found, filter_lost, filter_rise}
+use Rattle.pair_parts.specs.Parts.{memory_only}
 use Rattle.cond_parts.specs.Closed.{BringsEntry}
-use Rattle.cond_parts.specs.Parts.{memory_only}
 use Rattle.cond_parts.proofs.MemoryLemmas.{stands_part}
 
 -- a table of a part is the part of the table

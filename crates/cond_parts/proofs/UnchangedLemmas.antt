@@ -12,8 +12,8 @@ use Rattle.pair_rows.specs.inner.Changed.{AreRowsOf}
 use Rattle.pair_rows.specs.inner.FoundPairs.{AllPaired, all_paired}
 use Rattle.pair_rows.specs.inner.ShownLaws.{there_cells}
 use Rattle.op_cond_join.specs.Assigned.{Assigning, Placed, assigned, place_row}
+use Rattle.pair_parts.specs.Parts.{memory_only}
 use Rattle.cond_parts.specs.Backward.{BringsAssigned}
-use Rattle.cond_parts.specs.Parts.{memory_only}
 use Rattle.cond_parts.proofs.AssignedLemmas.{is_kept, kept_place}
 use Rattle.cond_parts.proofs.JoinedLemmas.{joined_memory}
 

@@ -8,7 +8,7 @@ use Rattle.pair_rows.specs.Stays.{stands}
 use Rattle.operator_changes.proofs.DrawnLemmas.{over_passes}
 use Rattle.operator_changes.specs.Footprint.{passes}
 use Rattle.row_changes.specs.Changed.{TableChanges}
-use Rattle.cond_parts.specs.Parts.{memory_only}
+use Rattle.pair_parts.specs.Parts.{memory_only}
 use Rattle.cond_parts.specs.Whole.{AllAreClosed, AreAll}
 
 -- each passes

@@ -12,14 +12,16 @@ use Rattle.pair_rows.specs.Halves.{first_of, second_of}
 use Rattle.pair_rows.specs.Shown.{Joining}
 use Rattle.pair_rows.specs.Stays.{stands}
 use Rattle.op_cond_join.specs.JoinOn.{join_on}
+use Rattle.pair_parts.specs.Apart.{KeepsApart}
+use Rattle.pair_parts.specs.Splits.{Splits}
+use Rattle.pair_parts.specs.Parts.{memory_only}
 use Rattle.cond_parts.specs.Backward.{IsClosedBackward}
 use Rattle.cond_parts.specs.Forward.{IsClosedForward}
-use Rattle.cond_parts.specs.Parts.{KeepsPairApart, SplitsPair, memory_only}
 
 -- the identifiers that pass split the old pair, and the mapping of changes keeps to them
 pub record MapsPairApart (m : Meaning) (near : TableChanges) (p : PairState) (n : ℕ) (P : ℕ → Bool) : Type 0 where
-  pub splits : SplitsPair m p P
-  pub apart : KeepsPairApart m p (pair_after m (changed_tables p.source near) p n) P
+  pub splits : Splits m p P
+  pub apart : KeepsApart m p (pair_after m (changed_tables p.source near) p n) P
 
 -- a row of S or T that passes and stands in an entry that doesn't stands in one that passes, of which no row is changed
 abbrev pub BringsStanding : (ℕ → Bool) → (ℕ → Bool) → (ℕ × ℕ × ℕ → ℕ) → Pairs → Type 0

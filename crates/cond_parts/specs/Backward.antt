@@ -10,16 +10,15 @@ use Rattle.row_parts.specs.Places.{pick as part}
 use Rattle.row_changes.specs.Changed.{TableChanges, changed_tables}
 use Rattle.row_changes.specs.Touched.{EachPass, touched}
 use Rattle.operator_changes.specs.Calls.{MayChange}
-use Rattle.operator_changes.specs.Footprint.{passes}
+use Rattle.operator_changes.specs.Footprint.{IsFootprint, passes}
 use Rattle.pair_rows.specs.Given.{least, or_id, own}
 use Rattle.pair_rows.specs.Halves.{first_of, second_of}
 use Rattle.pair_rows.specs.Shown.{Joining}
 use Rattle.pair_rows.specs.Sides.{table_at}
 use Rattle.pair_rows.specs.Stays.{stands}
 use Rattle.op_cond_join.specs.JoinOn.{join_on}
+use Rattle.pair_parts.specs.Parts.{memory_only}
 use Rattle.cond_parts.specs.Closed.{BringsRows}
-use Rattle.cond_parts.specs.Footprint.{IsPairFootprint}
-use Rattle.cond_parts.specs.Parts.{memory_only}
 
 -- a row that passes and stands in an entry that doesn't stands in one that passes and isn't changed
 abbrev pub BringsStill : (ℕ → Bool) → (ℕ → Bool) → (ℕ × ℕ × ℕ → ℕ) → Pairs → Type 0
@@ -50,4 +49,4 @@ pub record IsClosedBackward (j : Joining) (near : TableChanges) (p : PairState) 
 
 -- such identifiers are a footprint
 abbrev pub ClosedIsBackwardFootprint : Type 0
-ClosedIsBackwardFootprint = (j : Joining) (near : TableChanges) (p : PairState) (n : ℕ) (ids : List ℕ) → MayChange (flip (join_on j)) near p n → IsClosedBackward j near p n ids → IsPairFootprint (flip (join_on j)) near p n ids
+ClosedIsBackwardFootprint = (j : Joining) (near : TableChanges) (p : PairState) (n : ℕ) (ids : List ℕ) → MayChange (flip (join_on j)) near p n → IsClosedBackward j near p n ids → IsFootprint (flip (join_on j)) near p n ids

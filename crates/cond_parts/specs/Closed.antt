@@ -3,7 +3,7 @@ use Rattle.std.specs.Prelude.{◌≡◌, ℕ, Bool, true, Some}
 use Rattle.id_memory.specs.Pairs.{Pairs, pair_of}
 use Rattle.pair_rows.specs.Halves.{first_of, second_of}
 use Rattle.pair_rows.specs.Stays.{stands}
-use Rattle.cond_parts.specs.Parts.{memory_only}
+use Rattle.pair_parts.specs.Parts.{memory_only}
 
 -- an identifier of an entry brings the two rows of it
 abbrev pub BringsRows : (ℕ → Bool) → Pairs → Type 0

@@ -7,12 +7,11 @@ use Rattle.op_law.specs.Meaning.{PairState}
 use Rattle.row_changes.specs.Changed.{TableChanges, changed_tables}
 use Rattle.row_changes.specs.Touched.{EachPass, touched}
 use Rattle.operator_changes.specs.Calls.{MayChange}
-use Rattle.operator_changes.specs.Footprint.{passes}
+use Rattle.operator_changes.specs.Footprint.{IsFootprint, passes}
 use Rattle.pair_rows.specs.Shown.{Joining, matches}
 use Rattle.pair_rows.specs.Sides.{table_at}
 use Rattle.op_cond_join.specs.JoinOn.{join_on}
 use Rattle.cond_parts.specs.Closed.{BringsRows}
-use Rattle.cond_parts.specs.Footprint.{IsPairFootprint}
 
 -- CLOSED FOR CHANGES OF S AND T, of which the rows at C are changed: an identifier of an entry brings both rows of it, a changed row brings its entries, and the rows of the other new table that match it
 pub record BringsShown (j : Joining) (C P : ℕ → Bool) (m : Pairs) (s t : Rows) : Type 0 where
@@ -29,4 +28,4 @@ pub record IsClosedForward (j : Joining) (near : TableChanges) (p : PairState) (
 
 -- such identifiers are a footprint
 abbrev pub ClosedIsForwardFootprint : Type 0
-ClosedIsForwardFootprint = (j : Joining) (near : TableChanges) (p : PairState) (n : ℕ) (ids : List ℕ) → MayChange (join_on j) near p n → IsClosedForward j near p n ids → IsPairFootprint (join_on j) near p n ids
+ClosedIsForwardFootprint = (j : Joining) (near : TableChanges) (p : PairState) (n : ℕ) (ids : List ℕ) → MayChange (join_on j) near p n → IsClosedForward j near p n ids → IsFootprint (join_on j) near p n ids

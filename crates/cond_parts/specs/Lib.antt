@@ -1,6 +1,4 @@
-pub mod Parts
 pub mod Closed
-pub mod Footprint
 pub mod Forward
 pub mod Backward
 pub mod Apart

@@ -16,5 +16,4 @@ mod laws;
 
 pub use laws::{
     all_are_closed, closed_is_footprint, closed_keeps_apart, closed_maps_apart, closed_splits,
-    empty_memory_splits, parts_from_either_side,
 };

@@ -18,6 +18,7 @@ use Rattle.op_law.specs.Tables.{Tables}
 use Rattle.op_law.specs.Calls.{tables_of}
 use Rattle.op_law.specs.Laws.{Laws}
 use Rattle.op_law.specs.Local.{only, rows_only}
+use Rattle.pair_parts.specs.Parts.{memory_only}
 use Rattle.op_law.specs.Meaning.{Meaning}
 use Rattle.op_law.specs.Premises.{SomeStored}
 use Rattle.op_law.specs.declared.side.Aux.{Aux}
@@ -70,8 +71,9 @@ module _ {O : Type 0} (meaning : O → Meaning) (laws : (o : O) → Laws (meanin
 
   module _ (e : Link O) (at : In e (forest p.graph.edges)) (sees : SeesOver meaning (headings p.graph.edges) (state_for meaning p) sight e) (q : Crossing O) (over : q ≡ stored_way p.layout.operators e)
       (rows : ℕ → Rows) (right : (t : ℕ) → In t (stored_way p.layout.operators e).near → seen_of sight rows t ≡ s.tables t)
-      (near : Tables) (n : ℕ) (number : e.number ≡ n) (aux part : Aux) (memory : MemoryState) (near_is : near ≡ map (seen_of sight rows) q.near) (aux_is : Some aux ≡ value_of p.aux n)
-      (part_is : tables_of part ≡ only (passes sight) (tables_of aux)) (memory_is : Some memory ≡ value_of p.memories n) where
+      (near : Tables) (n : ℕ) (number : e.number ≡ n) (aux part : Aux) (memory small : MemoryState) (near_is : near ≡ map (seen_of sight rows) q.near) (aux_is : Some aux ≡ value_of p.aux n)
+      (part_is : tables_of part ≡ only (passes sight) (tables_of aux)) (memory_is : Some memory ≡ value_of p.memories n)
+      (small_is : small.entries ≡ memory_only (passes sight) memory.entries) where
     -- the other side can be read
     read : IsRead meaning (headings p.graph.edges) storage s q
     read =
@@ -94,39 +96,41 @@ module _ {O : Type 0} (meaning : O → Meaning) (laws : (o : O) → Laws (meanin
     aux_at : tables_of part ≡ storage.aux q.number
     aux_at = part_is ∙ ap (only (passes sight)) (ap (λ (o : Option Aux). option_map_or tables_of o []) aux_is ∙ ap (λ (k : ℕ). auxes_at p.aux k) q_number)
 
-    memory_at : memory.entries ≡ storage.memory q.number
-    memory_at = ap (λ (o : Option MemoryState). option_map_or (λ (m : MemoryState). m.entries) o []) memory_is ∙ ap (λ (k : ℕ). pairs_at p.memories k) q_number
+    memory_at : small.entries ≡ storage.memory q.number
+    memory_at =
+        small_is
+        ∙ ap (memory_only (passes sight)) (ap (λ (o : Option MemoryState). option_map_or (λ (m : MemoryState). m.entries) o []) memory_is ∙ ap (λ (k : ℕ). pairs_at p.memories k) q_number)
 
     near_at : near ≡ map s.tables q.near
     near_at = near_is ∙ map_same (seen_of sight rows) s.tables q.near right_near
 
     -- the near tables, the auxiliary tables and the memory are of the pair in the state
-    pub may_read : SomeStored (directed q.backward (meaning q.operator)) near (tables_of part) memory.entries
+    pub may_read : SomeStored (directed q.backward (meaning q.operator)) near (tables_of part) small.entries
     may_read =
         let m = directed q.backward (meaning q.operator) in
         let a : tables_of part ≡ aux_of meaning s q = aux_at ∙ read.stands.aux in
-        let k : memory.entries ≡ s.memory q.number = memory_at ∙ read.stands.memory in
+        let k : small.entries ≡ s.memory q.number = memory_at ∙ read.stands.memory in
         let of_state : SomeStored m (map s.tables q.near) (aux_of meaning s q) (s.memory q.number) = record {
           hs = map (headings p.graph.edges) q.near;
           ht = map (headings p.graph.edges) q.far;
           far = map s.tables q.far;
           belongs = record { pair = read.stands.related; aux_is = refl };
         } in
-        subst (λ (x : Tables). SomeStored m x (tables_of part) memory.entries) (sym near_at)
-        (subst (λ (x : Tables). SomeStored m (map s.tables q.near) x memory.entries) (sym a)
+        subst (λ (x : Tables). SomeStored m x (tables_of part) small.entries) (sym near_at)
+        (subst (λ (x : Tables). SomeStored m (map s.tables q.near) x small.entries) (sym a)
         (subst (λ (x : Pairs). SomeStored m (map s.tables q.near) (aux_of meaning s q) x) (sym k) of_state))
 
     -- what is read from them are the far tables of the state
-    pub far_is : (far : Tables) → far ≡ (directed q.backward (meaning q.operator)).read_target near (tables_of part) memory.entries → far ≡ map s.tables q.far
+    pub far_is : (far : Tables) → far ≡ (directed q.backward (meaning q.operator)).read_target near (tables_of part) small.entries → far ≡ map s.tables q.far
     far_is far is_read =
         let m = directed q.backward (meaning q.operator) in
-        is_read ∙ ap (λ (x : Tables). m.read_target x (tables_of part) memory.entries) near_is
-        ∙ ap (λ (x : Tables). m.read_target (map (seen_of sight rows) q.near) x memory.entries) aux_at
+        is_read ∙ ap (λ (x : Tables). m.read_target x (tables_of part) small.entries) near_is
+        ∙ ap (λ (x : Tables). m.read_target (map (seen_of sight rows) q.near) x small.entries) aux_at
         ∙ ap (λ (x : Pairs). m.read_target (map (seen_of sight rows) q.near) (storage.aux q.number) x) memory_at
         ∙ far_right meaning laws (headings p.graph.edges) storage s q read (seen_of sight rows) right_near
 
     -- one for each number
-    pub far_long : (far : Tables) → far ≡ (directed q.backward (meaning q.operator)).read_target near (tables_of part) memory.entries → length far ≡ length q.far
+    pub far_long : (far : Tables) → far ≡ (directed q.backward (meaning q.operator)).read_target near (tables_of part) small.entries → length far ≡ length q.far
     far_long far is_read = ap (λ (l : Tables). length l) (far_is far is_read) ∙ length-map q.far s.tables
 
     -- what is seen of them is all
@@ -134,7 +138,7 @@ module _ {O : Type 0} (meaning : O → Meaning) (laws : (o : O) → Laws (meanin
     far_seen = sym (only_map (passes sight) s.tables q.far) ∙ map_same (λ t. rows_only (passes sight) (s.tables t)) s.tables q.far (λ t i. rows_twice (passes sight) ((state_for meaning p).tables t))
 
     -- so putting them makes what is seen of the far tables right
-    pub settles : (far : Tables) (new : ℕ → Rows) → far ≡ (directed q.backward (meaning q.operator)).read_target near (tables_of part) memory.entries → new ≡ put rows q.far far → Settles s.tables q.far (seen_of sight rows) (seen_of sight new)
+    pub settles : (far : Tables) (new : ℕ → Rows) → far ≡ (directed q.backward (meaning q.operator)).read_target near (tables_of part) small.entries → new ≡ put rows q.far far → Settles s.tables q.far (seen_of sight rows) (seen_of sight new)
     settles far new is_read made =
         let full : new ≡ put rows q.far (map s.tables q.far) = made ∙ ap (λ (l : Tables). put rows q.far l) (far_is far is_read) in
         let seen : (t : ℕ) → seen_of sight new t ≡ put (seen_of sight rows) q.far (map s.tables q.far) t = λ t.

@@ -3,22 +3,23 @@ use Rattle.std.proofs.Common.{◌≡◌, ℕ, ◌==◌, List, [], ◌∷◌, Boo
 use Rattle.std.proofs.lemmas.Bool.{cond-false, false≢true, ne_eqb}
 use Rattle.par_base.specs.declared.value.Value.{Value}
 use Rattle.row_store.specs.Rows.{Rows, row_of}
+use Rattle.id_memory.specs.Pairs.{Pairs}
 use Rattle.version_graph.specs.Sets.{In}
 use Rattle.version_graph.specs.Forest.{Crossing, Link, crossing, forest}
 use Rattle.version_graph.specs.declared.parts.Placed.{Placed}
 use Rattle.op_law.specs.Tables.{Heading, Tables}
 use Rattle.op_law.specs.Laws.{Laws}
-use Rattle.op_law.specs.Local.{HalfLocal, only, pair_only, rows_only}
+use Rattle.op_law.specs.Local.{only, rows_only}
 use Rattle.op_law.specs.Meaning.{Meaning, PairState}
 use Rattle.op_law.specs.Premises.{IsPair}
 use Rattle.op_law.specs.Identifiers.{has_id}
+use Rattle.pair_parts.specs.Parts.{memory_only, part_of_pair}
 use Rattle.pair_parts.proofs.SplitLaws.{splits_anywhere, splits_behind}
 use Rattle.version_model.specs.States.{State, headings}
 use Rattle.version_model.specs.Steps.{directed, pair_in}
-use Rattle.version_model.proofs.RunLaws.{way_laws}
 use Rattle.storage_law.specs.Storage.{StandsOver, Storage, aux_of}
 use Rattle.storage_law.proofs.CanonicalLaws.{either_way}
-use Rattle.db_state.specs.Parts.{AreLocalAt, Ascends, MaySee, SplitsAt, SplitsOver, passes, seen_of}
+use Rattle.db_state.specs.Parts.{AreLocalAt, Ascends, MaySee, SplitsAt, SplitsOver, entries_of, passes, seen_of}
 use Rattle.db_state.specs.inner.Passes.{SeesOver}
 use Rattle.db_state.specs.declared.sight.Sight.{Sight}
 use Rattle.db_state.specs.declared.sight.Sight.TheVariants.{All, Of, Part}
@@ -33,6 +34,11 @@ rows_all (r ∷ rs) = ap (λ (l : Rows). r ∷ l) (rows_all rs)
 pub only_all : (tables : Tables) → only (passes All) tables ≡ tables
 only_all [] = refl
 only_all (t ∷ ts) = let a = rows_all t in let b = only_all ts in cc
+
+-- so is a memory
+pub memory_all : (es : Pairs) → memory_only (passes All) es ≡ es
+memory_all [] = refl
+memory_all (e ∷ es) = ap (λ (l : Pairs). e ∷ l) (memory_all es)
 
 -- what is seen of what more was seen of
 pub rows_within : (P Q : ℕ → Bool) → ((q : ℕ) → P q ≡ true → Q q ≡ true) → (rows : Rows) → rows_only P (rows_only Q rows) ≡ rows_only P rows
@@ -97,35 +103,32 @@ sees_local meaning laws es ns (Part ids) rise local s = (rise, split_local meani
 
 -- ---- states and what is stored
 
--- what is seen of the stored and the auxiliary tables
+-- what is seen of the stored and the auxiliary tables, and of the memories
 abbrev pub storage_seen : Sight → Storage → Storage
 storage_seen sight storage = record {
   layout = storage.layout;
   stored = seen_of sight storage.stored;
   aux = λ n. only (passes sight) (storage.aux n);
-  memory = storage.memory;
+  memory = entries_of sight storage.memory;
 }
 
--- what is seen of each table
+-- what is seen of each table and of each memory
 abbrev pub state_seen : Sight → State → State
-state_seen sight s = record { tables = seen_of sight s.tables; memory = s.memory; next = s.next }
+state_seen sight s = record { tables = seen_of sight s.tables; memory = entries_of sight s.memory; next = s.next }
 
-pub pair_all : (p : PairState) → pair_only (passes All) p ≡ p
+pub pair_all : (p : PairState) → part_of_pair (passes All) p ≡ p
 pair_all p =
-    ap (λ (ts : Tables). record { source = ts; target = only (passes All) p.target; memory = p.memory }) (only_all p.source)
-    ∙ ap (λ (ts : Tables). record { source = p.source; target = ts; memory = p.memory }) (only_all p.target)
+    ap (λ (ts : Tables). record { source = ts; target = only (passes All) p.target; memory = memory_only (passes All) p.memory }) (only_all p.source)
+    ∙ ap (λ (ts : Tables). record { source = p.source; target = ts; memory = memory_only (passes All) p.memory }) (only_all p.target)
+    ∙ ap (λ (es : Pairs). record { source = p.source; target = p.target; memory = es }) (memory_all p.memory)
 
-pub pair_seen : {O : Type 0} (sight : Sight) (s : State) (p : Crossing O) → pair_in (state_seen sight s) p ≡ pair_only (passes sight) (pair_in s p)
+pub pair_seen : {O : Type 0} (sight : Sight) (s : State) (p : Crossing O) → pair_in (state_seen sight s) p ≡ part_of_pair (passes sight) (pair_in s p)
 pair_seen sight s p = let a = only_map (passes sight) s.tables p.near in let b = only_map (passes sight) s.tables p.far in cc
-
-way_local : (back : Bool) (m : Meaning) → m.is_local ≡ true → (directed back m).is_local ≡ true
-way_local false m e = e
-way_local true m e = e
 
 module _ {O : Type 0} (meaning : O → Meaning) (laws : (o : O) → Laws (meaning o)) (heading : ℕ → Heading) (storage : Storage) (s : State) where
   -- a part of a related pair is one, with that part of its auxiliary tables
-  part_stands : (sight : Sight) (p : Crossing O) → IsPair (directed p.backward (meaning p.operator)) (map heading p.near) (map heading p.far) (pair_only (passes sight) (pair_in s p))
-      → (directed p.backward (meaning p.operator)).aux_at_source (pair_only (passes sight) (pair_in s p)) ≡ only (passes sight) (aux_of meaning s p)
+  part_stands : (sight : Sight) (p : Crossing O) → IsPair (directed p.backward (meaning p.operator)) (map heading p.near) (map heading p.far) (part_of_pair (passes sight) (pair_in s p))
+      → (directed p.backward (meaning p.operator)).aux_at_source (part_of_pair (passes sight) (pair_in s p)) ≡ only (passes sight) (aux_of meaning s p)
       → StandsOver meaning heading storage s p → StandsOver meaning heading (storage_seen sight storage) (state_seen sight s) p
   part_stands sight p related aux stands =
       let m = directed p.backward (meaning p.operator) in
@@ -133,7 +136,7 @@ module _ {O : Type 0} (meaning : O → Meaning) (laws : (o : O) → Laws (meanin
       record {
         related = subst (λ (x : PairState). IsPair m (map heading p.near) (map heading p.far) x) (sym same) related;
         aux = ap (only (passes sight)) stands.aux ∙ sym aux ∙ ap (λ (x : PairState). m.aux_at_source x) (sym same);
-        memory = stands.memory;
+        memory = ap (memory_only (passes sight)) stands.memory;
       }
 
   -- so is what identifiers that split it leave
@@ -155,9 +158,7 @@ module _ {O : Type 0} (meaning : O → Meaning) (laws : (o : O) → Laws (meanin
       part_stands All p (subst (λ (x : PairState). IsPair m (map heading p.near) (map heading p.far) x) (sym whole) stands.related)
       (ap (λ (x : PairState). m.aux_at_source x) whole ∙ sym (only_all (aux_of meaning s p))) stands
   seen_stands (Of ids) back e sees stands =
-      let p = crossing back e in
-      let m = directed p.backward (meaning p.operator) in
-      let local : HalfLocal m = (way_laws p.backward (meaning p.operator) (laws p.operator)).local (way_local p.backward (meaning p.operator) sees) in
-      part_stands (Of ids) p (local.related (passes (Of ids)) (map heading p.near) (map heading p.far) (pair_in s p) stands.related)
-      (local.aux (passes (Of ids)) (map heading p.near) (map heading p.far) (pair_in s p) stands.related) stands
+      split_stands (Of ids) back e
+      (λ related. splits_anywhere (meaning e.operator) (laws e.operator) (passes (Of ids)) (map heading e.sources) (map heading e.targets) (pair_in s (crossing false e)) sees related)
+      stands
   seen_stands (Part ids) back e sees stands = split_stands (Part ids) back e sees stands

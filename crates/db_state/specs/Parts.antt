@@ -1,6 +1,7 @@
--- Parts: reading the rows of some identifiers alone.
+-- Parts: reading the rows and the entries of some identifiers alone.
 use Rattle.std.specs.Prelude.{◌≡◌, ◌↔◌, ℕ, ◌+◌, ◌*◌, ◌≤◌, Bool, true, false, cond, List, [], ◌∷◌, length, ⊤}
 use Rattle.row_store.specs.Rows.{Rows}
+use Rattle.id_memory.specs.Pairs.{Pairs}
 use Rattle.version_graph.specs.Sets.{In}
 use Rattle.version_graph.specs.Edges.{is_in}
 use Rattle.version_graph.specs.Forest.{Link, crossing, forest}
@@ -10,13 +11,14 @@ use Rattle.op_law.specs.Identifiers.{IdsRise, has_id}
 use Rattle.op_law.specs.Local.{rows_only}
 use Rattle.op_law.specs.Meaning.{Meaning}
 use Rattle.op_law.specs.Tables.{Heading}
+use Rattle.pair_parts.specs.Parts.{memory_only}
 use Rattle.pair_parts.specs.Splits.{Splits}
 use Rattle.version_model.specs.States.{State, headings}
 use Rattle.version_model.specs.Steps.{IsRelated, pair_in}
 use Rattle.db_state.specs.declared.sight.Sight.{Sight}
 use Rattle.db_state.specs.declared.sight.Sight.TheVariants.{All, Of, Part}
 
--- whether the rows of an identifier are seen: all of them, or those of a list
+-- whether the rows and entries of an identifier are seen: all of them, or those of a list
 abbrev pub passes : Sight → ℕ → Bool
 passes All id = true
 passes (Of ids) id = has_id ids.now id
@@ -25,6 +27,10 @@ passes (Part ids) id = has_id ids.now id
 -- of each table, the rows that are seen
 abbrev pub seen_of : Sight → (ℕ → Rows) → ℕ → Rows
 seen_of sight tables t = rows_only (passes sight) (tables t)
+
+-- of each memory, the entries that are seen
+abbrev pub entries_of : Sight → (ℕ → Pairs) → ℕ → Pairs
+entries_of sight memories n = memory_only (passes sight) (memories n)
 
 -- a list of identifiers ascends
 abbrev pub Ascends : Sight → Type 0

@@ -29,6 +29,6 @@ pub use laws::states_are_stored_once;
 pub use local::{are_local, sight_over};
 pub use parts::Parts;
 pub use read::read_over;
-pub use sight::{Sight, aux_seen, copy_seen, now_seen, side_seen};
+pub use sight::{Sight, aux_seen, copy_seen, memory_seen, now_seen, side_seen};
 pub use table::{read_table, row_at};
 pub use version_model::Numbered;

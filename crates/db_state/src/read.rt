@@ -15,7 +15,7 @@ ghost use Rattle.db_state.specs.Covered.{Covers, CoversItself};
 ghost use Rattle.db_state.specs.Parts.{listed_in, seen_of, MaySee, SeenWithin};
 ghost use Rattle.db_state.specs.inner.Passes.{is_passed as is_passed_lem, passed_in, AreRead, PassTakes, PassesOver, IsDown, MayCross, MayPass, Passes};
 
-use crate::sight::{aux_seen, side_seen};
+use crate::sight::{aux_seen, memory_seen, side_seen};
 use crate::{Db, Sight};
 use expr_lang::Steps;
 use id_memory::PairMemory;
@@ -82,7 +82,8 @@ fn cross<O: Operator, L: Ledger>(
     };
     let near = side_seen(alloc, db.stored(), made.as_slice(), over.near, sight)?;
     let beside = aux_seen(alloc, aux, sight)?;
-    let far = read_far(alloc, &over, &near, &beside, memory, steps)?;
+    let entries = memory_seen(alloc, memory, sight)?;
+    let far = read_far(alloc, &over, &near, &beside, &entries, steps)?;
     put_side(made, over.far, far)?;
     Ok(())
 }

@@ -1,20 +1,24 @@
-//! Which rows of tables are read, and copies of these rows.
+//! Which rows of tables and which entries of memories are read, and copies of these.
 ghost use Rattle.std.specs.Prelude.{◌≡◌, ◌≤◌, ◌++◌, map, length, IfOk, OnOk};
 ghost use Rattle.row_store.specs.Rows.{AreBelow, RiseFrom, row_of};
 ghost use Rattle.op_law.specs.Calls.{tables_of};
 ghost use Rattle.op_law.specs.Identifiers.{IdsRise, has_id};
 ghost use Rattle.op_law.specs.Local.{only, rows_only};
+ghost use Rattle.pair_parts.specs.Parts.{memory_only};
 ghost use Rattle.version_model.specs.Kept.{rows_now};
 ghost use Rattle.db_state.specs.Parts.{Ascends, passes, seen_of};
 ghost use Rattle.db_state.specs.inner.Passes.{picked};
 
+use id_memory::PairMemory;
 use op_law::{Aux, Side};
+use pair_parts::memory_part;
 use par_base::{List, Memory};
 use row_store::Table;
 use std::alloc::Global;
 use version_model::{Numbered, latest_of, value_of};
 
-/// Which rows of each table are read: all, or those of these identifiers, which ascend. `Of` is for
+/// Which rows of each table, and which entries of each memory, are read: all, or those of these
+/// identifiers, which ascend. `Of` is for
 /// operators that treat each identifier by itself: what is made of few is bounded. `Part` is for any
 /// operators, where the identifiers split what each of them relates.
 #[derive(Clone, Copy)]
@@ -72,6 +76,24 @@ pub fn aux_seen(alloc: Global, aux: &Aux, sight: Sight<'_>) -> Result<Aux, Memor
         tables.push(copy_seen(alloc, table, sight)?)?;
     }
     Ok(Aux { tables })
+}
+
+/// A copy of the entries that are seen of a memory. All are copied by one pass. Of a list of
+/// identifiers each is looked up by itself.
+pub fn memory_seen(
+    alloc: Global,
+    memory: &PairMemory,
+    sight: Sight<'_>,
+) -> Result<PairMemory, Memory>
+    requires { Ascends sight }
+    ensures { IfOk result (λ made. made.entries
+        ≡ memory_only (passes sight.entry) memory.now.entries) }
+{
+    match sight {
+        Sight::All => memory.copy(),
+        Sight::Of(ids) => memory_part(alloc, memory, ids),
+        Sight::Part(ids) => memory_part(alloc, memory, ids),
+    }
 }
 
 /// A copy of the rows that are seen of the table of a number: the one that was made last, else the

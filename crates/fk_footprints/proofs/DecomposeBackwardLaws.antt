@@ -6,6 +6,7 @@ use Rattle.par_base.specs.declared.value.Value.{Value}
 use Rattle.row_store.specs.Rows.{Rows, RiseFrom, row_of}
 use Rattle.op_law.specs.Tables.{Tables, Heading, AllRise}
 use Rattle.op_law.specs.Local.{rows_only, only}
+use Rattle.pair_parts.specs.Parts.{memory_only}
 use Rattle.op_law.specs.Meaning.{Meaning, PairState, flip}
 use Rattle.op_law.proofs.OnlyLaws.{rise_only}
 use Rattle.op_rows.specs.inner.Tabulated.{all_rise}
@@ -142,12 +143,12 @@ module _ (Fits : List Heading → List Heading → Type 0) (k : FkParts) (w a b 
   decompose_back_footprint = record {
     rise = c.rise;
     touches = c.touches;
-    may = part_may m P may.hs may.ht whole p n may.may (may.may.sound.pair.related.0, decompose_part k P p.source p.target c.old_goals old_refs may.may.sound.pair.related.1);
+    may = part_may m P may.hs may.ht whole p n may.may may.may.sound.pair.related.0 (may.may.sound.pair.related.0, decompose_part k P p.source p.target c.old_goals old_refs may.may.sound.pair.related.1);
     far = part_far;
+    memory = refl;
     next = refl;
     rest = rest;
-    no_memory = may.may.sound.pair.related.0;
-    no_new_memory = refl;
+    memory_rest = sym (ap (memory_only (λ q. not (P q))) may.may.sound.pair.related.0);
   }
 
 -- CLOSED IDENTIFIERS ARE A FOOTPRINT

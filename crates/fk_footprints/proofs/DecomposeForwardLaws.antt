@@ -5,7 +5,8 @@ use mathlib.Core.Logic.{inl, inr}
 use Rattle.par_base.specs.declared.value.Value.{Value}
 use Rattle.row_store.specs.Rows.{Rows, RiseFrom, row_of}
 use Rattle.op_law.specs.Tables.{Tables, Heading}
-use Rattle.op_law.specs.Local.{rows_only, only, pair_only}
+use Rattle.op_law.specs.Local.{rows_only, only}
+use Rattle.pair_parts.specs.Parts.{memory_only, part_of_pair}
 use Rattle.op_law.specs.Meaning.{Mapped, Meaning, PairState}
 use Rattle.op_rows.specs.inner.Tabulated.{all_rise}
 use Rattle.op_tables.specs.Lookups.{One, Two, one_rise, three_rise}
@@ -141,20 +142,20 @@ module _ (Fits : List Heading → List Heading → Type 0) (k : FkParts) (w a b 
       (λ x row at e. still_needs k w a b z well s t two.wide0 two.wide1 x row (sym (still x e) ∙ at))
 
   -- the mapping of the part, by its tables
-  part_mapped : m.forward (only P whole) (pair_only P p) n ≡ target_from k (rows_only P s) (rows_only P t) (rows_only P new) n
+  part_mapped : m.forward (only P whole) (part_of_pair P p) n ≡ target_from k (rows_only P s) (rows_only P t) (rows_only P new) n
   part_mapped =
       ap (λ (x : Rows). target_from k x (second_table (only P p.target)) (first_table (only P whole)) n) (first_only P p.target)
       ∙ ap (λ (x : Rows). target_from k (rows_only P s) x (first_table (only P whole)) n) (second_only P p.target)
       ∙ ap (λ (x : Rows). target_from k (rows_only P s) (rows_only P t) x n) (first_only P whole)
 
-  part_far : (m.forward (only P whole) (pair_only P p) n).far ≡ only P (m.forward whole p n).far
+  part_far : (m.forward (only P whole) (part_of_pair P p) n).far ≡ only P (m.forward whole p n).far
   part_far =
       ap (λ (x : Mapped). x.far) part_mapped
       ∙ ap (λ (l : List (List Value)). sides k n (rows_only P s) (rows_only P t) (rows_only P new) l (new_s k (rows_only P s) (rows_only P t) n l (rows_only P new))) part_drawn
       ∙ ap (sides k n (rows_only P s) (rows_only P t) (rows_only P new) d) (part_first k P s t new n c.goals c.least old_refs d one.rise)
       ∙ ap (λ (x : Rows). rows_only P ns ∷ x ∷ []) (part_second k P s t new n c.goals c.least old_refs (numbered n d) ns new_refs one.rise two.rise1 made_rise (λ q e. numbered_low n d q (low ids n q e)))
 
-  part_next : (m.forward (only P whole) (pair_only P p) n).next ≡ (m.forward whole p n).next
+  part_next : (m.forward (only P whole) (part_of_pair P p) n).next ≡ (m.forward whole p n).next
   part_next = ap (λ (x : Mapped). x.next) part_mapped ∙ ap (λ (l : List (List Value)). n + length l) part_drawn
 
   -- T elsewhere
@@ -175,12 +176,12 @@ module _ (Fits : List Heading → List Heading → Type 0) (k : FkParts) (w a b 
   decompose_footprint = record {
     rise = c.rise;
     touches = c.touches;
-    may = part_may m P may.hs may.ht whole p n may.may (may.may.sound.pair.related.0, decompose_part k P p.target p.source c.goals old_refs may.may.sound.pair.related.1);
+    may = part_may m P may.hs may.ht whole p n may.may may.may.sound.pair.related.0 (may.may.sound.pair.related.0, decompose_part k P p.target p.source c.goals old_refs may.may.sound.pair.related.1);
     far = part_far;
+    memory = refl;
     next = part_next;
     rest = rest;
-    no_memory = may.may.sound.pair.related.0;
-    no_new_memory = refl;
+    memory_rest = sym (ap (memory_only (λ q. not (P q))) may.may.sound.pair.related.0);
   }
 
 -- CLOSED IDENTIFIERS ARE A FOOTPRINT

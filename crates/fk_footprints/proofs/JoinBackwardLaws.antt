@@ -6,7 +6,8 @@ use Rattle.par_base.specs.SameRows.{same_row}
 use Rattle.par_base.specs.inner.SameLaws.{row_same}
 use Rattle.row_store.specs.Rows.{Rows, RiseFrom, row_of}
 use Rattle.op_law.specs.Tables.{Tables, Heading, RowsWide}
-use Rattle.op_law.specs.Local.{rows_only, only, pair_only}
+use Rattle.op_law.specs.Local.{rows_only, only}
+use Rattle.pair_parts.specs.Parts.{memory_only, part_of_pair}
 use Rattle.op_law.specs.Meaning.{Mapped, Meaning, PairState, flip}
 use Rattle.op_law.proofs.OnlyLaws.{row_in, row_out, rise_only}
 use Rattle.op_law.proofs.SoundLaws.{wide_at}
@@ -203,20 +204,20 @@ module _ (Fits : List Heading → List Heading → Type 0) (k : FkParts) (w a b 
       (λ x row at e. still_needs k w a b z well s t two.wide0 two.wide1 x row (sym (still x e) ∙ at))
 
   -- the mapping of the part, by its tables
-  part_mapped : m.forward (only P whole) (pair_only P p) n ≡ source_from k (rows_only P s) (rows_only P t) (rows_only P new) n
+  part_mapped : m.forward (only P whole) (part_of_pair P p) n ≡ source_from k (rows_only P s) (rows_only P t) (rows_only P new) n
   part_mapped =
       ap (λ (x : Rows). source_from k x (second_table (only P p.target)) (first_table (only P whole)) n) (first_only P p.target)
       ∙ ap (λ (x : Rows). source_from k (rows_only P s) x (first_table (only P whole)) n) (second_only P p.target)
       ∙ ap (λ (x : Rows). source_from k (rows_only P s) (rows_only P t) x n) (first_only P whole)
 
-  part_far : (m.forward (only P whole) (pair_only P p) n).far ≡ only P (m.forward whole p n).far
+  part_far : (m.forward (only P whole) (part_of_pair P p) n).far ≡ only P (m.forward whole p n).far
   part_far =
       ap (λ (x : Mapped). x.far) part_mapped
       ∙ ap (λ (l : List (List Value)). s_from k (rows_only P s) (rows_only P t) n l (rows_only P new) ∷ t_from (rows_only P t) (numbered n l) ∷ []) part_drawn
       ∙ ap (λ (x : Rows). x ∷ t_from (rows_only P t) (numbered n d) ∷ []) (part_first k P s t new n c.goals c.least d one.rise two.rise0)
       ∙ ap (λ (x : Rows). rows_only P (s_from k s t n d new) ∷ x ∷ []) (part_second k P s t new n c.goals c.least d (low ids n) two.rise1)
 
-  part_next : (m.forward (only P whole) (pair_only P p) n).next ≡ (m.forward whole p n).next
+  part_next : (m.forward (only P whole) (part_of_pair P p) n).next ≡ (m.forward whole p n).next
   part_next = ap (λ (x : Mapped). x.next) part_mapped ∙ ap (λ (l : List (List Value)). n + length l) part_drawn
 
   -- S elsewhere
@@ -239,12 +240,12 @@ module _ (Fits : List Heading → List Heading → Type 0) (k : FkParts) (w a b 
   join_back_footprint = record {
     rise = c.rise;
     touches = c.touches;
-    may = part_may m P may.hs may.ht whole p n may.may (may.may.sound.pair.related.0, join_part k P p.target p.source c.goals may.may.sound.pair.related.1);
+    may = part_may m P may.hs may.ht whole p n may.may may.may.sound.pair.related.0 (may.may.sound.pair.related.0, join_part k P p.target p.source c.goals may.may.sound.pair.related.1);
     far = part_far;
+    memory = refl;
     next = part_next;
     rest = rest;
-    no_memory = may.may.sound.pair.related.0;
-    no_new_memory = refl;
+    memory_rest = sym (ap (memory_only (λ q. not (P q))) may.may.sound.pair.related.0);
   }
 
 -- CLOSED IDENTIFIERS ARE A FOOTPRINT

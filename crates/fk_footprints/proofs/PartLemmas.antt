@@ -1,5 +1,5 @@
 -- Parts of a pair: what stands at the identifiers that pass.
-use Rattle.std.proofs.Common.{◌≡◌, ℕ, ◌<◌, ◌≤◌, List, [], ◌∷◌, Bool, true, false, not, cond, None, refl, ap, sym, ◌∙◌, arith}
+use Rattle.std.proofs.Common.{◌≡◌, ℕ, ◌<◌, ◌≤◌, List, [], ◌∷◌, Bool, true, false, not, cond, None, refl, ap, sym, ◌∙◌, subst, arith}
 use Rattle.std.proofs.lemmas.Bool.{not-true, or_right}
 use Rattle.std.proofs.lemmas.Bool.Decides.{nat_tests}
 use Rattle.std.specs.Prelude.{◌||◌, nat_lt}
@@ -9,6 +9,8 @@ use Rattle.op_law.specs.Tables.{Tables, Heading, AllRise}
 use Rattle.op_law.specs.Sound.{RowsSound, TablesSound}
 use Rattle.op_law.specs.Identifiers.{has_id}
 use Rattle.op_law.specs.Local.{rows_only, only, pair_only}
+use Rattle.pair_parts.specs.Parts.{part_of_pair}
+use Rattle.pair_parts.proofs.MemoryLaws.{part_without}
 use Rattle.op_law.specs.Meaning.{Meaning, PairState}
 use Rattle.op_law.specs.Premises.{MayMap, SomeMap}
 use Rattle.op_law.proofs.OnlyLaws.{by_test, row_in, row_out, rise_only, same_rows}
@@ -31,28 +33,32 @@ tables_sound : (P : ℕ → Bool) (n : ℕ) (ts : Tables) → TablesSound n ts �
 tables_sound P n [] h = tt
 tables_sound P n (t ∷ ts) h = (rows_sound P n t h.0, tables_sound P n ts h.1)
 
--- a part that is related may be mapped where the whole may
-pub part_may : (m : Meaning) (P : ℕ → Bool) (hs ht : List Heading) (near : Tables) (p : PairState) (n : ℕ) → MayMap m hs ht near p n → m.Related (only P p.source) (only P p.target) p.memory → SomeMap m (only P near) (pair_only P p) n
-part_may m P hs ht near p n may related = record {
-  hs = hs;
-  ht = ht;
-  may = record {
-    sound = record {
-      pair = record {
-        fits = may.sound.pair.fits;
-        related = related;
-        source_of = well_only P hs p.source may.sound.pair.source_of;
-        target_of = well_only P ht p.target may.sound.pair.target_of;
+-- a part that is related may be mapped where the whole may, and there is no memory
+pub part_may : (m : Meaning) (P : ℕ → Bool) (hs ht : List Heading) (near : Tables) (p : PairState) (n : ℕ) → MayMap m hs ht near p n → p.memory ≡ [] → m.Related (only P p.source) (only P p.target) p.memory
+    → SomeMap m (only P near) (part_of_pair P p) n
+part_may m P hs ht near p n may none related = subst (λ (x : PairState). SomeMap m (only P near) x n) (part_without P p none) some
+  where
+    some : SomeMap m (only P near) (pair_only P p) n
+    some = record {
+      hs = hs;
+      ht = ht;
+      may = record {
+        sound = record {
+          pair = record {
+            fits = may.sound.pair.fits;
+            related = related;
+            source_of = well_only P hs p.source may.sound.pair.source_of;
+            target_of = well_only P ht p.target may.sound.pair.target_of;
+          };
+          source = tables_sound P n p.source may.sound.source;
+          target = tables_sound P n p.target may.sound.target;
+          memory = may.sound.memory;
+        };
+        closed = may.closed;
+        near_of = well_only P hs near may.near_of;
+        near_sound = tables_sound P n near may.near_sound;
       };
-      source = tables_sound P n p.source may.sound.source;
-      target = tables_sound P n p.target may.sound.target;
-      memory = may.sound.memory;
-    };
-    closed = may.closed;
-    near_of = well_only P hs near may.near_of;
-    near_sound = tables_sound P n near may.near_sound;
-  };
-}
+    }
 
 -- the first table of a part is the part of the first table
 pub first_only : (P : ℕ → Bool) (ts : Tables) → first_table (only P ts) ≡ rows_only P (first_table ts)

@@ -15,6 +15,7 @@ use Rattle.foreign_keys.specs.KeyParts.{FkParts}
 use Rattle.foreign_keys.specs.References.{goal_of, dangles, referred, far_part}
 use Rattle.op_fk_decompose.specs.Decompose.{alone, joined_in, joined, refs, ref_at, dangling, dangling_at, kept_rows, kept_at, aux_from, decompose_fk}
 use Rattle.op_fk_decompose.specs.inner.DecomposeKept.{none_joined}
+use Rattle.pair_parts.specs.Parts.{memory_only}
 use Rattle.pair_parts.specs.Splits.{Splits}
 use Rattle.fk_parts.specs.Closed.{IsClosed}
 use Rattle.fk_parts.proofs.GoalLemmas.{goal_in, dangles_in, refs_in, alone_in}
@@ -108,7 +109,7 @@ splits_decompose Fits k P hs ht p pair closed =
       related = λ xs ys it. record {
         fits = it.fits;
         related = (
-          it.related.0,
+          ap (memory_only P) it.related.0,
           λ q.
               ap (λ (x : Rows). row_of x q) (first_only P p.source)
               ∙ related_part k P (first_table p.target) (second_table p.target) s_rise t_rise closed (first_table p.source) it.related.1 q

@@ -14,6 +14,7 @@ use Rattle.row_parts.specs.RowCells.{Cell, is_there, kept_if, map_cell, in_cell,
 use Rattle.foreign_keys.specs.KeyParts.{FkParts}
 use Rattle.foreign_keys.specs.References.{referred}
 use Rattle.op_fk_join.specs.Join.{joined_row, joined_here, key_here, join_refs, unjoined_here, unjoined, unreferred_here, unreferred, aux_from, join_fk}
+use Rattle.pair_parts.specs.Parts.{memory_only}
 use Rattle.pair_parts.specs.Splits.{Splits}
 use Rattle.fk_parts.specs.Closed.{IsClosed}
 use Rattle.fk_parts.proofs.GoalLemmas.{goal_in, refs_in}
@@ -92,7 +93,7 @@ splits_join Fits k P hs ht p pair closed =
       related = λ xs ys it. record {
         fits = it.fits;
         related = (
-          it.related.0,
+          ap (memory_only P) it.related.0,
           λ q.
               ap (λ (x : Rows). row_of x q) far ∙ related_part k P s t r s_rise t_rise r_rise closed it.related.1 q
               ∙ ap (λ (x : Rows). joined_here k x (rows_only P t) q) (sym one)

@@ -9,8 +9,8 @@ use Rattle.op_fk_decompose.specs.Columns.{column_parts, decompose_columns}
 use Rattle.op_fk_join.specs.Columns.{join_columns, side_parts}
 use Rattle.fk_closing.specs.Brought.{IsClosing}
 use Rattle.fk_closing.specs.Keys.{AreFkKeys, KeyRows}
+use Rattle.pair_parts.specs.Apart.{KeepsApart, SameElsewhere}
 use Rattle.pair_parts.specs.Splits.{Splits}
-use Rattle.fk_parts.specs.Apart.{KeepsApart, SameElsewhere}
 use Rattle.fk_parts.specs.Closed.{IsClosedOver, PassListed}
 
 -- identifiers of which each brings what it refers to, and one that refers to it

@@ -1,3 +1,2 @@
 pub mod Closed
-pub mod Apart
 pub mod Laws

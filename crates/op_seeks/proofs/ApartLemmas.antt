@@ -87,7 +87,7 @@ outer_apart first second place keys changes ids close old new n are is elsewhere
       fit = is.fit;
       makes = is.makes;
     })
-    (record { source = elsewhere.target; target = elsewhere.source }) in
+    (record { source = elsewhere.target; target = elsewhere.source; memory = elsewhere.memory }) in
     record { splits = splits_behind m (passes ids n) (exchanged new) apart.splits; at_source = apart.at_target; at_target = apart.at_source }
 
 pub join_apart : (first second place : ℕ) (keys : KeyRows) (changes : TableChanges) (ids : List ℕ) → CloseJoin first second place keys changes ids → JoinWitnesses first second place keys changes ids

@@ -5,4 +5,3 @@ pub use Rattle.fk_closing.specs.Found
 pub use Rattle.fk_closing.specs.Keys
 pub use Rattle.fk_parts.specs.Closed
 pub use Rattle.fk_parts.specs.Laws as FkPartsLaws
-pub use Rattle.fk_parts.specs.Apart

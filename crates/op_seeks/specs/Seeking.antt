@@ -1,5 +1,6 @@
 -- What an operator promises of the identifiers that a write through it has to see.
-use Rattle.std.specs.Prelude.{◌≡◌, ℕ, Bool, List, [], Option}
+use Rattle.std.specs.Prelude.{◌≡◌, ℕ, Bool, List, Option}
+use Rattle.id_memory.specs.Pairs.{IsOneToOne, Pairs, RiseFrom}
 use Rattle.op_law.specs.Tables.{Heading}
 use Rattle.op_law.specs.Meaning.{Meaning, PairState}
 use Rattle.op_law.specs.Premises.{IsPair, IsSoundPair}
@@ -7,8 +8,8 @@ use Rattle.row_changes.specs.Changed.{AreChangesOf, TableChanges, changed_tables
 use Rattle.operator_changes.specs.Calls.{MayChange, ahead, toward}
 use Rattle.operator_changes.specs.Footprint.{IsFootprint, passes}
 use Rattle.fk_closing.specs.Keys.{KeyRows}
+use Rattle.pair_parts.specs.Apart.{KeepsApart, SameElsewhere}
 use Rattle.pair_parts.specs.Splits.{Splits}
-use Rattle.fk_parts.specs.Apart.{KeepsApart, SameElsewhere}
 use Rattle.fk_parts.specs.Closed.{PassListed}
 use Rattle.fk_parts.specs.Laws.{AreClosing}
 use Rattle.op_seeks.specs.Places.{AreKeysIn, side_at}
@@ -32,7 +33,12 @@ pub record IsChangedPair (m : Meaning) (fk : Option FkPlace) (changes : TableCha
 abbrev pub ApartOver : Meaning → Option FkPlace → KeyRows → TableChanges → List ℕ → Type 0
 ApartOver m fk keys changes ids = (old new : PairState) (n : ℕ) → AreKeysIn fk old keys → IsChangedPair m fk changes old new n → SameElsewhere (passes ids n) old new → KeepsApart m old new (passes ids n)
 
--- THE LAWS OF AN OPERATOR ON A FOREIGN KEY: identifiers that are closed by the keys split its pairs, and it has no memory
+-- the identifiers of a memory rise, and no pair stands twice in it
+pub record IsMemory (m : Pairs) : Type 0 where
+  pub rises : RiseFrom 0 m
+  pub one : IsOneToOne m
+
+-- THE LAWS OF AN OPERATOR ON A FOREIGN KEY: identifiers that are closed by the keys split its pairs, of which each has a memory
 pub record SeekLaws (m : Meaning) (fk : Option FkPlace) : Type 0 where
   pub splits : (keys : KeyRows) (ids : List ℕ) (P : ℕ → Bool) (hs ht : List Heading) (p : PairState) → AreKeysIn fk p keys → AreClosing keys ids → PassListed P ids (side_at fk p) → IsPair m hs ht p → Splits m p P
-  pub no_memory : (keys : KeyRows) (hs ht : List Heading) (p : PairState) → AreKeysIn fk p keys → IsPair m hs ht p → p.memory ≡ []
+  pub memory : (keys : KeyRows) (hs ht : List Heading) (p : PairState) → AreKeysIn fk p keys → IsPair m hs ht p → IsMemory p.memory

@@ -6,6 +6,7 @@ use Rattle.row_store.specs.Rows.{row_of}
 use Rattle.op_law.specs.Tables.{Tables}
 use Rattle.op_law.specs.Identifiers.{ids_over}
 use Rattle.op_law.specs.Local.{HalfLocal, only, pair_only, rows_only}
+use Rattle.pair_parts.specs.Parts.{memory_only}
 use Rattle.op_law.specs.Laws.{HalfLaws}
 use Rattle.op_law.specs.Meaning.{Meaning, PairState}
 use Rattle.op_law.specs.Premises.{SomePair}
@@ -94,7 +95,8 @@ module _ (m : Meaning) (laws : HalfLaws m) (here : HalfLocal m) (near far : Tabl
   part_is =
       let a : changed_tables (part_of ids p.source) near ≡ only P new.source = ap (λ (ts : Tables). changed_tables ts near) source_is ∙ sym (only_changes P p.source near source_rise near_pass) in
       let b : changed_tables (part_of ids p.target) far ≡ only P new.target = ap (λ (ts : Tables). changed_tables ts far) target_is ∙ sym (only_changes P p.target far target_rise far_pass) in
-      let c : p.memory ≡ [] = here.no_memory may.hs may.ht p may.old in
+      let none = here.no_memory may.hs may.ht p may.old in
+      let c : memory_only P p.memory ≡ p.memory = ap (memory_only P) none ∙ sym none in
       cc
 
   pub part_pair : SomePair m new_part

@@ -8,13 +8,13 @@ use Rattle.row_store.specs.Rows.{row_of}
 use Rattle.par_base.specs.declared.fault.Fault.{Fault}
 use Rattle.par_base.specs.declared.fault.Fault.TheVariants.{Refused, Memory as OutOfMemory}
 use Rattle.par_base.specs.declared.refusal.IdsSpent.{IdsSpent}
-use Rattle.id_memory.specs.Pairs.{Pairs, pair_of}
+use Rattle.id_memory.specs.Pairs.{Pairs}
 use Rattle.id_memory.specs.States.{CounterState}
 use Rattle.op_law.specs.Tables.{Tables}
 use Rattle.op_law.specs.Sound.{HasRow, TablesSound}
 use Rattle.op_law.proofs.SoundLaws.{tables_more}
 use Rattle.op_law.specs.Identifiers.{ids_over}
-use Rattle.op_law.specs.Local.{HalfLocal, only, pair_only, rows_only}
+use Rattle.op_law.specs.Local.{HalfLocal, only, rows_only}
 use Rattle.op_law.specs.Laws.{HalfLaws, Laws}
 use Rattle.op_law.specs.Calls.{first_refused, IsMapped, IsSpent, MapsWithin}
 use Rattle.op_law.specs.declared.pair.Far.{Far}
@@ -27,12 +27,16 @@ use Rattle.op_law.proofs.OnlyLaws.{by_test, first_table, other_tables, row_in, r
 use Rattle.operator_changes.specs.Calls.{toward, IsChangedTo, MayChange}
 use Rattle.row_changes.specs.Changed.{TableChanges, AreChangesOf, changed_tables}
 use Rattle.row_changes.specs.Differences.{AreDifferences}
+use Rattle.pair_changes.specs.declared.change.PairChange.{PairChange}
 use Rattle.pair_changes.specs.MemoryChanges.{IsMemoryDifference}
+use Rattle.pair_parts.specs.Parts.{memory_only, part_of_pair}
+use Rattle.pair_parts.proofs.MemoryLaws.{memory_same}
 use Rattle.operator_changes.specs.Parts.{part_of, pair_part}
 use Rattle.row_changes.specs.Picked.{PicksEach}
 use Rattle.operator_changes.specs.Footprint.{IsFootprint, passes, with_drawn}
 use Rattle.row_changes.specs.Touched.{AllPass, EachPass}
 use Rattle.operator_changes.proofs.DrawnLemmas.{only_same, under_passes, with_has, with_rise}
+use Rattle.operator_changes.proofs.MemoryLaws.{whole_difference}
 use Rattle.operator_changes.proofs.PartLemmas.{parts_are}
 use Rattle.row_changes.proofs.ChangedLaws.{only_changes, only_fit}
 use Rattle.row_changes.proofs.PickLaws.{picks_difference}
@@ -103,8 +107,11 @@ module _ (m : Meaning) (laws : HalfLaws m) (near : TableChanges) (p : PairState)
   target_is : part_of ids p.target ≡ only P p.target
   target_is = parts_are ids p.target foot.rise target_rise ∙ only_same (has_id ids) P n p.target (under_passes ids n) may.may.sound.target
 
-  small_is : small ≡ pair_only P p
-  small_is = let a = source_is in let b = target_is in let c = foot.no_memory in cc
+  memory_is : memory_only (has_id ids) p.memory ≡ memory_only P p.memory
+  memory_is = memory_same (has_id ids) P n p.memory (under_passes ids n) may.may.sound.memory
+
+  small_is : small ≡ part_of_pair P p
+  small_is = let a = source_is in let b = target_is in let c = memory_is in cc
 
   near_pass : EachPass P near
   near_pass = each_more (has_id ids) P near (has_passes ids n) foot.touches
@@ -119,16 +126,19 @@ module _ (m : Meaning) (laws : HalfLaws m) (near : TableChanges) (p : PairState)
   pub may_small : SomeMap m (changed_tables (part_of ids p.source) near) small n
   may_small =
       subst (λ (x : PairState). SomeMap m (changed_tables (part_of ids p.source) near) x n) (sym small_is)
-      (subst (λ (ts : Tables). SomeMap m ts (pair_only P p) n) (sym near_is) foot.may)
+      (subst (λ (ts : Tables). SomeMap m ts (part_of_pair P p) n) (sym near_is) foot.may)
 
-  small_forward : m.forward (changed_tables (part_of ids p.source) near) small n ≡ m.forward (only P whole) (pair_only P p) n
-  small_forward = ap (λ (x : PairState). m.forward (changed_tables (part_of ids p.source) near) x n) small_is ∙ ap (λ (ts : Tables). m.forward ts (pair_only P p) n) near_is
+  small_forward : m.forward (changed_tables (part_of ids p.source) near) small n ≡ m.forward (only P whole) (part_of_pair P p) n
+  small_forward = ap (λ (x : PairState). m.forward (changed_tables (part_of ids p.source) near) x n) small_is ∙ ap (λ (ts : Tables). m.forward ts (part_of_pair P p) n) near_is
 
   pub small_next : (m.forward (changed_tables (part_of ids p.source) near) small n).next ≡ to.next
   small_next = ap (λ (x : Mapped). x.next) small_forward ∙ foot.next
 
   far_is : (m.forward (changed_tables (part_of ids p.source) near) small n).far ≡ only P to.far
   far_is = ap (λ (x : Mapped). x.far) small_forward ∙ foot.far
+
+  far_memory_is : (m.forward (changed_tables (part_of ids p.source) near) small n).memory ≡ memory_only P to.memory
+  far_memory_is = ap (λ (x : Mapped). x.memory) small_forward ∙ foot.memory
 
   rises : n ≤ to.next
   rises = (laws.below may.hs may.ht whole p n may.may).rises
@@ -166,9 +176,12 @@ module _ (m : Meaning) (laws : HalfLaws m) (near : TableChanges) (p : PairState)
       (subst (λ (ts : Tables). PicksEach seen_ids (only (has_id seen_ids) p.target) ts cs) far_same
       (subst (λ (ts : Tables). PicksEach seen_ids ts far cs) old_same picks))
 
-  -- THERE ARE NONE OF THE MEMORY
-  pub memory_same : IsMemoryDifference p.memory to.memory []
-  memory_same = record { fit = tt; new = λ id. ap (λ (pairs : Pairs). pair_of pairs id) (foot.no_new_memory ∙ sym foot.no_memory) }
+  -- AND OF THE MEMORY
+  pub memory_changes : (now : Pairs) (cs : List PairChange) → now ≡ (m.forward (changed_tables (part_of ids p.source) near) small n).memory → IsMemoryDifference (memory_only (has_id ids) p.memory) now cs → IsMemoryDifference p.memory to.memory cs
+  memory_changes now cs is differ =
+      whole_difference P p.memory to.memory cs foot.memory_rest
+      (subst (λ (es : Pairs). IsMemoryDifference (memory_only P p.memory) es cs) (is ∙ far_memory_is)
+      (subst (λ (es : Pairs). IsMemoryDifference es now cs) memory_is differ))
 
   -- in a restricted table that may stand there are the identifiers of the footprint alone
   in_foot : (ts : Tables) (id : ℕ) → TablesSound n ts → HasRow id (only P ts) → has_id ids id ≡ true
@@ -226,15 +239,17 @@ module _ (m : Meaning) (laws : HalfLaws m) (near : TableChanges) (p : PairState)
   part_next x is = ap (λ (y : PairState). (m.forward (changed_tables y.source near) y n).next) is ∙ small_next m laws near p n may ids foot
 
   -- THE ANSWER, where the part was mapped
-  pub answered : (x : PairState) → x ≡ part → (old new : CounterState) → (far : Far) (cs : TableChanges) → IsMapped (m.forward (changed_tables x.source near) x n) old new (Ok far)
-      → PicksEach (seen_ids m laws near p n may ids foot) x.target far.side cs → IsChangedTo p (m.forward (changed_tables p.source near) p n) old new (Ok (record { side = record { tables = cs }; memory = [] }))
-  answered x is old new far cs mapped picks =
+  pub answered : (x : PairState) → x ≡ part → (old new : CounterState) → (far : Far) (cs : TableChanges) (pairs : List PairChange) → IsMapped (m.forward (changed_tables x.source near) x n) old new (Ok far)
+      → PicksEach (seen_ids m laws near p n may ids foot) x.target far.side cs → IsMemoryDifference x.memory far.memory.entries pairs
+      → IsChangedTo p (m.forward (changed_tables p.source near) p n) old new (Ok (record { side = record { tables = cs }; memory = pairs }))
+  answered x is old new far cs pairs mapped picks differ =
       let next = part_next x is in
-      let far_was = mapped.1.0 ∙ ap (λ (y : PairState). (m.forward (changed_tables y.source near) y n).far) is in (
+      let far_was = mapped.1.0 ∙ ap (λ (y : PairState). (m.forward (changed_tables y.source near) y n).far) is in
+      let memory_was = mapped.1.1 ∙ ap (λ (y : PairState). (m.forward (changed_tables y.source near) y n).memory) is in (
         subst (λ (k : ℕ). k ≤ first_refused old) next mapped.0,
         record {
           side = side_is m laws near p n may ids foot far.side cs far_was (subst (λ (y : PairState). PicksEach (seen_ids m laws near p n may ids foot) y.target far.side cs) is picks);
-          memory = memory_same m laws near p n may ids foot;
+          memory = memory_changes m laws near p n may ids foot far.memory.entries pairs memory_was (subst (λ (y : PairState). IsMemoryDifference y.memory far.memory.entries pairs) is differ);
         },
         mapped.2 ∙ ap (λ (k : ℕ). record old { next = k }) next,
       )

@@ -3,5 +3,6 @@ pub mod DrawnLemmas
 mod FootLemmas
 mod LocalLemmas
 mod LoopLemmas
+pub mod MemoryLaws
 mod PartLemmas
 mod WholeLemmas

@@ -5,6 +5,8 @@ use Rattle.op_law.specs.Tables.{Tables, Heading}
 use Rattle.op_law.specs.Local.{HalfLocal, only, pair_only}
 use Rattle.op_law.specs.Laws.{HalfLaws}
 use Rattle.op_law.specs.Meaning.{Meaning, Mapped, PairState}
+use Rattle.pair_parts.specs.Parts.{memory_only, part_of_pair}
+use Rattle.pair_parts.proofs.MemoryLaws.{part_without}
 use Rattle.op_law.specs.Premises.{MayMap, pair_after}
 use Rattle.op_rows.specs.inner.CellLemmas.{has_id, AllRise}
 use Rattle.op_rows.specs.inner.Tabulated.{all_rise}
@@ -61,13 +63,18 @@ module _ (m : Meaning) (laws : HalfLaws m) (here : HalfLocal m) where
     pub local_footprint : IsFootprint m near p n (touched near)
     local_footprint =
         let part = may_only P may.hs may.ht whole p n may.may in
+        let none = here.no_memory may.hs may.ht p may.may.sound.pair in
+        let none_new = here.no_memory may.hs may.ht (pair_after m whole p n) (laws.kept may.hs may.ht whole p n may.may) in
+        let none_part = here.no_memory may.hs may.ht (pair_after m (only P whole) (pair_only P p) n) (laws.kept may.hs may.ht (only P whole) (pair_only P p) n part) in
+        let same : pair_only P p ≡ part_of_pair P p = part_without P p none in
+        let mapped : m.forward (only P whole) (part_of_pair P p) n ≡ m.forward (only P whole) (pair_only P p) n = ap (λ (x : PairState). m.forward (only P whole) x n) (sym same) in
         record {
           rise = rise_over near [] tt;
           touches = touched_pass near;
-          may = record { hs = may.hs; ht = may.ht; may = part };
-          far = here.forward P may.hs may.ht whole p n may.may;
-          next = here.draws_none may.hs may.ht (only P whole) (pair_only P p) n part ∙ sym (here.draws_none may.hs may.ht whole p n may.may);
+          may = record { hs = may.hs; ht = may.ht; may = subst (λ (x : PairState). MayMap m may.hs may.ht (only P whole) x n) same part };
+          far = ap (λ (x : Mapped). x.far) mapped ∙ here.forward P may.hs may.ht whole p n may.may;
+          memory = ap (λ (x : Mapped). x.memory) mapped ∙ none_part ∙ sym (ap (memory_only P) none_new);
+          next = ap (λ (x : Mapped). x.next) mapped ∙ here.draws_none may.hs may.ht (only P whole) (pair_only P p) n part ∙ sym (here.draws_none may.hs may.ht whole p n may.may);
           rest = rest_is;
-          no_memory = here.no_memory may.hs may.ht p may.may.sound.pair;
-          no_new_memory = here.no_memory may.hs may.ht (pair_after m whole p n) (laws.kept may.hs may.ht whole p n may.may);
+          memory_rest = ap (memory_only Q) (none_new ∙ sym none);
         }

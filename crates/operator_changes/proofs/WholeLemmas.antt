@@ -9,7 +9,9 @@ use Rattle.row_store.specs.Rows.{Rows, row_of}
 use Rattle.op_law.specs.Tables.{Tables}
 use Rattle.op_law.specs.Identifiers.{ids_over}
 use Rattle.op_law.specs.Laws.{HalfLaws}
-use Rattle.op_law.specs.Local.{only, pair_only, rows_only}
+use Rattle.op_law.specs.Local.{only, rows_only}
+use Rattle.pair_parts.specs.Parts.{memory_only, part_of_pair}
+use Rattle.pair_parts.proofs.MemoryLaws.{part_without}
 use Rattle.op_law.specs.Meaning.{Mapped, Meaning, PairState}
 use Rattle.op_law.specs.Premises.{SomeMap}
 use Rattle.op_law.specs.Sound.{HasRow}
@@ -107,17 +109,18 @@ whole_footprint m laws near p n may none none_new =
       ]
     ] in
     let whole_same : only P whole ≡ whole = only_all P whole in_whole in
-    let pair_same : pair_only P p ≡ p = let a = only_all P p.source in_source in let b = only_all P p.target in_target in same_sides p (only P p.source) (only P p.target) a b in
+    let pair_same : part_of_pair P p ≡ p =
+    let a = only_all P p.source in_source in let b = only_all P p.target in_target in sym (part_without P p none) ∙ same_sides p (only P p.source) (only P p.target) a b in
     let far_same : only P to.far ≡ to.far = only_all P to.far in_far in
-    let forward_same : m.forward (only P whole) (pair_only P p) n ≡ to = ap (λ (ts : Tables). m.forward ts (pair_only P p) n) whole_same ∙ ap (λ (x : PairState). m.forward whole x n) pair_same in
+    let forward_same : m.forward (only P whole) (part_of_pair P p) n ≡ to = ap (λ (ts : Tables). m.forward ts (part_of_pair P p) n) whole_same ∙ ap (λ (x : PairState). m.forward whole x n) pair_same in
     let long : length to.far ≡ length p.target = tables_long may.ht to.far (laws.kept may.hs may.ht whole p n may.may).target_of ∙ sym (tables_long may.ht p.target pair.target_of) in
     record {
       rise = rise_over near base (rise_ids whole _ (all_rise may.hs whole may.may.near_of) (rise_ids p.source _ (all_rise may.hs p.source pair.source_of) (rise_ids p.target [] (all_rise may.ht p.target pair.target_of) tt)));
       touches = each_pass near base (has_id ids) (λ id e. e);
       may = subst (λ (x : PairState). SomeMap m (only P whole) x n) (sym pair_same) (subst (λ (ts : Tables). SomeMap m ts p n) (sym whole_same) (record { hs = may.hs; ht = may.ht; may = may.may }));
       far = ap (λ (x : Mapped). x.far) forward_same ∙ sym far_same;
+      memory = ap (λ (x : Mapped). x.memory) forward_same ∙ none_new ∙ sym (ap (memory_only P) none_new);
       next = ap (λ (x : Mapped). x.next) forward_same;
       rest = only_none P to.far in_far ∙ ap nothing long ∙ sym (only_none P p.target in_target);
-      no_memory = none;
-      no_new_memory = none_new;
+      memory_rest = ap (memory_only (λ q. not (P q))) (none_new ∙ sym none);
     }

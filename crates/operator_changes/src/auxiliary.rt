@@ -1,5 +1,5 @@
 //! The changes of the auxiliary tables from those of both sides.
-ghost use Rattle.std.specs.Prelude.{◌≡◌, true, [], IfOk};
+ghost use Rattle.std.specs.Prelude.{◌≡◌, true, IfOk};
 ghost use Rattle.op_law.specs.Calls.{seen, tables_of, StepsWithin};
 ghost use Rattle.op_law.specs.Identifiers.{IdsRise};
 ghost use Rattle.op_law.specs.Premises.{SomePair};
@@ -13,7 +13,6 @@ use crate::PairRead;
 use crate::mapping::{far_of, near_of};
 use crate::part::read_pair;
 use expr_lang::Steps;
-use id_memory::PairMemory;
 use op_law::{Aux, Operator, Pair, Side};
 use par_base::{List, Memory};
 use row_changes::{SideChanges, add_touched, changed_copies, differences_at, touched_ids};
@@ -30,7 +29,6 @@ fn changed_part(
 ) -> Result<Pair, Memory>
     requires near { AreChangesOf (ahead backward (seen part.now)).source near.now.tables }
     requires far { AreChangesOf (ahead backward (seen part.now)).target far.now.tables }
-    requires memory { part.now.memory.entries ≡ [] }
     ensures { IfOk result (λ made. ahead backward (seen made)
         ≡ changed_pair (ahead backward (seen part.now)) near.now.tables far.now.tables) }
 {
@@ -50,7 +48,7 @@ fn changed_part(
     Ok(Pair {
         source,
         target,
-        memory: PairMemory::new(alloc),
+        memory: part.memory.copy()?,
     })
 }
 

@@ -2,9 +2,11 @@
 //! auxiliary tables.
 //!
 //! It promises the crates above that what is told is exactly the difference between the old far
-//! side and memory and those that the mapping gives, that only the rows of a footprint are read, and
-//! that an operator which treats each identifier by itself takes at most six steps for each
-//! identifier that the changes name. It knows no single operator, and nothing of versions.
+//! side and memory and those that the mapping gives, that only the rows and the entries of a footprint
+//! are read, and that an operator which treats each identifier by itself takes at most six steps for
+//! each identifier that the changes name. It knows no single operator, and nothing of versions.
+//!
+//! Lemmas that crates above may use stand in proofs/: `DrawnLemmas` and `MemoryLaws`.
 #![tactic(auto)]
 
 mod auxiliary;

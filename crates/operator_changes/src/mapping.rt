@@ -13,7 +13,8 @@ use crate::{FarChanges, PairRead};
 use expr_lang::Steps;
 use id_memory::IdCounter;
 use op_law::{Far, Operator, Pair, Side};
-use par_base::{Fault, IdsSpent, List};
+use pair_changes::pair_difference;
+use par_base::{Fault, IdsSpent};
 use row_changes::{SideChanges, changed_copies, differences_at};
 use std::alloc::Global;
 use std::sync::ledger::Ledger;
@@ -88,7 +89,7 @@ fn map_part<O: Operator, L: Ledger>(
 
 /// Exactly the difference between the old far side and memory and those that the mapping of the
 /// changed near side gives, for any operator and a footprint of the changes. It is refused exactly
-/// where the mapping is, and reads the rows of the footprint and no others.
+/// where the mapping is, and reads the rows and the entries of the footprint and no others.
 pub fn changes_by<O: Operator, V: PairRead, L: Ledger>(
     alloc: Global,
     operator: &O,
@@ -123,9 +124,7 @@ pub fn changes_by<O: Operator, V: PairRead, L: Ledger>(
         far_of(&part, backward).tables(),
         far.side.tables(),
     )?;
+    let memory = pair_difference(alloc, &part.memory, &far.memory)?;
     *ids = drawn;
-    Ok(FarChanges {
-        side,
-        memory: List::new(alloc),
-    })
+    Ok(FarChanges { side, memory })
 }

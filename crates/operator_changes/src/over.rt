@@ -6,6 +6,7 @@ ghost use Rattle.operator_changes.specs.Calls.{ahead};
 ghost use Rattle.operator_changes.specs.Pairs.{of_sides, side_at, table_at};
 
 use crate::PairRead;
+use id_memory::PairMemory;
 use op_law::{Side, copy_of};
 use par_base::{Memory, Row};
 use row_store::Table;
@@ -69,5 +70,9 @@ impl PairRead for SidesRead<'_> {
     ) -> Result<Option<Row>, Memory> {
         let side = side_of(self.source, self.target, target);
         Ok(row_in(alloc, side.tables(), which, id)?)
+    }
+
+    fn entries(&self, alloc: Global, _ids: &[u64]) -> Result<PairMemory, Memory> {
+        Ok(PairMemory::new(alloc))
     }
 }

@@ -9,7 +9,6 @@ ghost use Rattle.operator_changes.specs.Pairs.{side_at, table_at};
 ghost use Rattle.operator_changes.specs.Parts.{pair_part, part_of};
 
 use crate::PairRead;
-use id_memory::PairMemory;
 use op_law::{Pair, Side};
 use par_base::{List, Memory, Row};
 use row_store::Table;
@@ -66,7 +65,7 @@ fn read_part<V: PairRead>(
     Ok(tables)
 }
 
-/// The pair with the rows of these identifiers alone, and without its memory.
+/// The pair with the rows and the entries of these identifiers alone.
 pub(crate) fn read_pair<V: PairRead>(
     alloc: Global,
     old: &mut V,
@@ -78,9 +77,10 @@ pub(crate) fn read_pair<V: PairRead>(
 {
     let source = Side::new(read_part(alloc, old, false, ids)?);
     let target = Side::new(read_part(alloc, old, true, ids)?);
+    let memory = old.entries(alloc, ids)?;
     Ok(Pair {
         source,
         target,
-        memory: PairMemory::new(alloc),
+        memory,
     })
 }

@@ -1,9 +1,12 @@
 //! Readers of an old pair.
 ghost use Rattle.std.specs.Prelude.{◌≡◌, ◌≤◌, length, IfOk};
 ghost use Rattle.row_store.specs.Rows.{row_of};
+ghost use Rattle.op_law.specs.Identifiers.{IdsRise, has_id};
 ghost use Rattle.op_law.specs.Meaning.{PairState};
+ghost use Rattle.pair_parts.specs.Parts.{memory_only};
 ghost use Rattle.operator_changes.specs.Pairs.{side_at, table_at};
 
+use id_memory::PairMemory;
 use par_base::{Memory, Row};
 use std::alloc::Global;
 
@@ -27,4 +30,10 @@ pub trait PairRead {
         ensures value { IfOk result (λ row. row
             ≡ row_of (table_at (side_at target (pair self.old)) which) id) }
         ensures same { pair self.new ≡ pair self.old };
+
+    /// A memory of the entries of these identifiers alone.
+    fn entries(&self, alloc: Global, ids: &[u64]) -> Result<PairMemory, Memory>
+        requires { IdsRise 0 ids.now }
+        ensures { IfOk result (λ made. made.entries
+            ≡ memory_only (has_id ids.now) (pair self.now).memory) };
 }

@@ -14,7 +14,7 @@ use Rattle.row_changes.specs.Changed.{TableChanges, changed_tables}
 use Rattle.row_changes.specs.Touched.{touched}
 use Rattle.operator_changes.proofs.DrawnLemmas.{over_passes}
 use Rattle.operator_changes.specs.Calls.{MayChange}
-use Rattle.operator_changes.specs.Footprint.{passes}
+use Rattle.operator_changes.specs.Footprint.{IsFootprint, passes}
 use Rattle.pair_rows.proofs.ChangedLemmas.{rows_of}
 use Rattle.pair_rows.specs.Halves.{first_of, second_of}
 use Rattle.pair_rows.specs.Shown.{Joining}
@@ -25,12 +25,12 @@ use Rattle.outer_law.specs.Entries.{IsOuter}
 use Rattle.outer_law.specs.OuterOn.{outer_backward, outer_on}
 use Rattle.outer_law.specs.Placed.{Placing, beginning, ending, placed, standing}
 use Rattle.outer_law.proofs.BackwardLaws.{backward_half}
+use Rattle.pair_parts.specs.Parts.{memory_only, part_of_pair}
+use Rattle.pair_parts.proofs.SplitLaws.{splits_behind}
 use Rattle.cond_parts.specs.Apart.{MapsPairApart}
-use Rattle.cond_parts.specs.Footprint.{IsPairFootprint}
-use Rattle.cond_parts.specs.Parts.{memory_only, part_of_pair}
 use Rattle.cond_parts.proofs.FootLemmas.{not_touched, part_may, rows_untouched, touched_passes, untouched}
 use Rattle.cond_parts.proofs.MemoryLemmas.{Brings, Each, brings_first, brings_second, each_brings, rows_of_each}
-use Rattle.cond_parts.proofs.PartLaws.{splits_behind, two_same}
+use Rattle.cond_parts.proofs.PartLaws.{two_same}
 use Rattle.cond_parts.proofs.TableLemmas.{table_only}
 use Rattle.outer_parts.specs.Backward.{ClosedBackwardMapsApart, ClosedIsBackwardFootprint, IsClosedBackward}
 use Rattle.outer_parts.specs.Closed.{IsOuterClosed}
@@ -182,7 +182,7 @@ module _ (j : Joining) (near : TableChanges) (p : PairState) (n : ℕ) (ids : Li
   part_pair : IsPair (flip (outer_on j)) may.hs may.ht (part_of_pair P p)
   part_pair = turned_on j may.hs may.ht (part_of_pair P p) ((closed_splits j P may.ht may.hs (exchanged p) pair_before closed_before).related may.ht may.hs pair_before)
 
-  pub backward_foot : IsPairFootprint (flip (outer_on j)) near p n ids
+  pub backward_foot : IsFootprint (flip (outer_on j)) near p n ids
   backward_foot = record {
     rise = c.rise;
     touches = c.touches;
@@ -199,9 +199,9 @@ module _ (j : Joining) (near : TableChanges) (p : PairState) (n : ℕ) (ids : Li
 
   pub backward_apart : MapsPairApart (flip (outer_on j)) near p n P
   backward_apart = record {
-    splits = splits_behind (outer_on j) (exchanged p) P (closed_splits j P may.ht may.hs (exchanged p) pair_before closed_before);
+    splits = splits_behind (outer_on j) P (exchanged p) (closed_splits j P may.ht may.hs (exchanged p) pair_before closed_before);
     apart = record {
-      splits = splits_behind (outer_on j) (exchanged (pair_after (flip (outer_on j)) whole p n)) P (closed_splits j P may.ht may.hs (exchanged (pair_after (flip (outer_on j)) whole p n)) pair_now closed_after);
+      splits = splits_behind (outer_on j) P (exchanged (pair_after (flip (outer_on j)) whole p n)) (closed_splits j P may.ht may.hs (exchanged (pair_after (flip (outer_on j)) whole p n)) pair_now closed_after);
       at_source = refl;
       at_target = refl;
     };

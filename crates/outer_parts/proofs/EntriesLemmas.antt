@@ -11,8 +11,8 @@ use Rattle.pair_rows.specs.Shown.{Joining, all_pairs, has, is_shown, join_cells,
 use Rattle.pair_rows.specs.inner.Lookups.{filter_append}
 use Rattle.outer_law.specs.Entries.{IsOuter, entries, is_alone, is_entry, new_entries, some_row, with_absent}
 use Rattle.outer_law.specs.OuterOn.{shown}
+use Rattle.pair_parts.specs.Parts.{memory_only}
 use Rattle.cond_parts.specs.Forward.{BringsShown}
-use Rattle.cond_parts.specs.Parts.{memory_only}
 use Rattle.cond_parts.proofs.FilterLemmas.{each_append, each_filter, filter_part, filter_rest, has_part, numbered_part, numbered_rest, pairs_part}
 use Rattle.cond_parts.proofs.JoinedLemmas.{joined_memory, joined_part, joined_same}
 use Rattle.cond_parts.proofs.MatchLemmas.{new_alike, new_inside, shown_alike}

@@ -8,7 +8,7 @@ use Rattle.pair_rows.specs.Stays.{stands}
 use Rattle.pair_rows.specs.inner.Numbers.{count_cons}
 use Rattle.pair_rows.specs.inner.PairLemmas.{count_no, count_yes}
 use Rattle.outer_law.specs.Entries.{with_half}
-use Rattle.cond_parts.specs.Parts.{memory_only}
+use Rattle.pair_parts.specs.Parts.{memory_only}
 use Rattle.cond_parts.proofs.MemoryLemmas.{Each}
 
 -- what stands in an entry is counted

@@ -12,15 +12,14 @@ use Rattle.row_changes.specs.Changed.{TableChanges, changed_tables}
 use Rattle.row_changes.specs.Touched.{touched}
 use Rattle.operator_changes.proofs.DrawnLemmas.{over_passes}
 use Rattle.operator_changes.specs.Calls.{MayChange}
-use Rattle.operator_changes.specs.Footprint.{passes}
+use Rattle.operator_changes.specs.Footprint.{IsFootprint, passes}
 use Rattle.pair_rows.specs.Shown.{Joining}
 use Rattle.pair_rows.specs.Sides.{table_at}
 use Rattle.pair_rows.specs.inner.TwoSides.{one_table, table_sound, two_tables}
 use Rattle.outer_law.specs.Entries.{IsOuter, entries, new_entries}
 use Rattle.outer_law.specs.OuterOn.{outer_forward, outer_on, shown}
 use Rattle.outer_law.proofs.ForwardLaws.{forward_half, rise_sound}
-use Rattle.cond_parts.specs.Footprint.{IsPairFootprint}
-use Rattle.cond_parts.specs.Parts.{memory_only, part_of_pair}
+use Rattle.pair_parts.specs.Parts.{memory_only, part_of_pair}
 use Rattle.cond_parts.proofs.FootLemmas.{part_may, touched_passes, untouched}
 use Rattle.cond_parts.proofs.TableLemmas.{table_only}
 use Rattle.pair_rows.specs.Halves.{first_of, second_of}
@@ -114,7 +113,7 @@ module _ (j : Joining) (near : TableChanges) (p : PairState) (n : ℕ) (ids : Li
   part : IsPair (outer_on j) may.hs may.ht (part_of_pair P p)
   part = (closed_splits j P may.hs may.ht p may.may.sound.pair closed).related may.hs may.ht may.may.sound.pair
 
-  pub forward_foot : IsPairFootprint (outer_on j) near p n ids
+  pub forward_foot : IsFootprint (outer_on j) near p n ids
   forward_foot = record {
     rise = c.rise;
     touches = c.touches;

@@ -13,8 +13,8 @@ use Rattle.pair_rows.specs.Shown.{IsJoined, Joining}
 use Rattle.pair_rows.specs.Sides.{table_at}
 use Rattle.pair_rows.specs.inner.PairLemmas.{count_filter}
 use Rattle.outer_law.specs.Entries.{AreHalves, IsOuter, with_absent}
+use Rattle.pair_parts.specs.Parts.{memory_only}
 use Rattle.cond_parts.specs.Closed.{BringsRows}
-use Rattle.cond_parts.specs.Parts.{memory_only}
 use Rattle.cond_parts.proofs.JoinedLemmas.{part_joined}
 use Rattle.cond_parts.proofs.TableLemmas.{table_only}
 use Rattle.outer_parts.specs.Closed.{BringsHalf, BringsOther, ClosedSplits}

@@ -18,7 +18,7 @@ use Rattle.pair_rows.specs.inner.ShownLaws.{has_joined}
 use Rattle.pair_rows.specs.inner.TakenPairs.{has_before, has_behind, unchanged_pair}
 use Rattle.outer_law.specs.Entries.{IsOuter, with_absent, with_half}
 use Rattle.outer_law.specs.Placed.{Parts, Placed, Placing, ending, first_alone, first_both, first_got, first_more, full, is_present, last_both, last_got, own_alone, parts_of, place_both, place_by, place_changed, place_first, place_halves, place_row, place_second, placed, second_alone, second_both, second_got, second_more, standing}
-use Rattle.cond_parts.specs.Parts.{memory_only}
+use Rattle.pair_parts.specs.Parts.{memory_only}
 use Rattle.cond_parts.proofs.AssignedLemmas.{chosen_is, memory_behind, pair_below}
 use Rattle.cond_parts.proofs.GotLemmas.{LeastFrom, got_from, got_next, got_only, got_part, got_pass, got_rest}
 use Rattle.cond_parts.proofs.MemoryLemmas.{Brings, Each, pair_in}

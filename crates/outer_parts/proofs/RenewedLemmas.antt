@@ -10,8 +10,8 @@ use Rattle.pair_rows.specs.Shown.{Joining, numbered}
 use Rattle.pair_rows.specs.Stays.{stands}
 use Rattle.pair_rows.specs.inner.Lookups.{filter_append}
 use Rattle.outer_law.specs.Entries.{IsOuter, entries, is_entry, new_entries}
+use Rattle.pair_parts.specs.Parts.{memory_only}
 use Rattle.cond_parts.specs.Forward.{BringsShown}
-use Rattle.cond_parts.specs.Parts.{memory_only}
 use Rattle.cond_parts.proofs.MemoryLemmas.{rows_of_each}
 use Rattle.cond_parts.proofs.StandingLemmas.{stands_append}
 use Rattle.cond_parts.proofs.StayLemmas.{stands_either}

@@ -12,8 +12,8 @@ use Rattle.pair_rows.specs.Shown.{Joining, has, is_shown, row_at}
 use Rattle.pair_rows.specs.inner.PairLemmas.{all_in}
 use Rattle.pair_rows.specs.inner.ShownLaws.{there_cells}
 use Rattle.outer_law.specs.Entries.{IsOuter, is_alone, some_row, with_absent}
+use Rattle.pair_parts.specs.Parts.{memory_only}
 use Rattle.cond_parts.specs.Forward.{BringsShown}
-use Rattle.cond_parts.specs.Parts.{memory_only}
 use Rattle.cond_parts.proofs.FilterLemmas.{in_whole}
 use Rattle.cond_parts.proofs.MatchLemmas.{cells_part, has_same, new_inside, none_new, row_same, shown_alike, shown_by, still}
 use Rattle.cond_parts.proofs.MemoryLemmas.{Each, each_both, each_map, each_of, each_there, pair_in}

@@ -11,7 +11,7 @@ use Rattle.pair_rows.specs.Stays.{stands}
 use Rattle.pair_rows.specs.inner.Changed.{AreRowsOf}
 use Rattle.outer_law.specs.Entries.{AreHalves}
 use Rattle.outer_law.specs.Placed.{standing}
-use Rattle.cond_parts.specs.Parts.{memory_only}
+use Rattle.pair_parts.specs.Parts.{memory_only}
 use Rattle.cond_parts.proofs.MemoryLemmas.{BringsIt, Each, both_ways, stands_rest, stands_whole}
 use Rattle.cond_parts.proofs.StayLemmas.{stands_either, stands_more}
 use Rattle.outer_parts.specs.Backward.{BringsStill}

@@ -15,7 +15,7 @@ use Rattle.pair_rows.specs.inner.Changed.{AreRowsOf}
 use Rattle.pair_rows.specs.inner.FoundPairs.{all_paired}
 use Rattle.outer_law.specs.Entries.{IsOuter, with_absent}
 use Rattle.outer_law.specs.Placed.{Placed, Placing, beginning, full, place_row, placed, standing}
-use Rattle.cond_parts.specs.Parts.{memory_only}
+use Rattle.pair_parts.specs.Parts.{memory_only}
 use Rattle.cond_parts.proofs.AssignedLemmas.{each_kept, each_passes, kept_part}
 use Rattle.cond_parts.proofs.FilterLemmas.{has_part}
 use Rattle.cond_parts.proofs.JoinedLemmas.{joined_memory}

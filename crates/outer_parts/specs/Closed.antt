@@ -8,17 +8,17 @@ use Rattle.op_law.specs.Tables.{Heading}
 use Rattle.row_changes.specs.Changed.{TableChanges, changed_tables}
 use Rattle.row_changes.specs.Touched.{EachPass, touched}
 use Rattle.operator_changes.specs.Calls.{MayChange}
-use Rattle.operator_changes.specs.Footprint.{passes}
+use Rattle.operator_changes.specs.Footprint.{IsFootprint, passes}
 use Rattle.pair_rows.specs.Halves.{first_of, second_of}
 use Rattle.pair_rows.specs.Shown.{Joining}
 use Rattle.pair_rows.specs.Sides.{table_at}
 use Rattle.pair_rows.specs.Stays.{stands}
 use Rattle.outer_law.specs.OuterOn.{outer_on}
+use Rattle.pair_parts.specs.Splits.{Splits}
+use Rattle.pair_parts.specs.Parts.{memory_only}
 use Rattle.cond_parts.specs.Apart.{MapsPairApart}
 use Rattle.cond_parts.specs.Closed.{BringsRows}
-use Rattle.cond_parts.specs.Footprint.{IsPairFootprint}
 use Rattle.cond_parts.specs.Forward.{BringsShown}
-use Rattle.cond_parts.specs.Parts.{SplitsPair, memory_only}
 
 -- a row that stands in an entry brings one that has it
 abbrev pub BringsHalf : (ℕ → Bool) → (ℕ × ℕ × ℕ → ℕ) → Pairs → Type 0
@@ -33,7 +33,7 @@ pub record IsOuterClosed (P : ℕ → Bool) (m : Pairs) : Type 0 where
 
 -- identifiers that are closed in the memory split a pair
 abbrev pub ClosedSplits : Type 0
-ClosedSplits = (j : Joining) (P : ℕ → Bool) (hs ht : List Heading) (p : PairState) → IsPair (outer_on j) hs ht p → IsOuterClosed P p.memory → SplitsPair (outer_on j) p P
+ClosedSplits = (j : Joining) (P : ℕ → Bool) (hs ht : List Heading) (p : PairState) → IsPair (outer_on j) hs ht p → IsOuterClosed P p.memory → Splits (outer_on j) p P
 
 -- a row of S or T that passes and stands in an entry that doesn't stands in one that passes, of which no half is changed
 abbrev pub BringsOther : (ℕ → Bool) → (ℕ → Bool) → (ℕ × ℕ × ℕ → ℕ) → Pairs → Type 0
@@ -50,7 +50,7 @@ pub record IsClosedForward (j : Joining) (near : TableChanges) (p : PairState) (
 
 -- such identifiers are a footprint
 abbrev pub ClosedIsForwardFootprint : Type 0
-ClosedIsForwardFootprint = (j : Joining) (near : TableChanges) (p : PairState) (n : ℕ) (ids : List ℕ) → MayChange (outer_on j) near p n → IsClosedForward j near p n ids → IsPairFootprint (outer_on j) near p n ids
+ClosedIsForwardFootprint = (j : Joining) (near : TableChanges) (p : PairState) (n : ℕ) (ids : List ℕ) → MayChange (outer_on j) near p n → IsClosedForward j near p n ids → IsFootprint (outer_on j) near p n ids
 
 -- and split the old pair and the new one
 abbrev pub ClosedForwardMapsApart : Type 0

@@ -1,1 +1,3 @@
+mod CopyLemmas
+pub mod MemoryLaws
 pub mod SplitLaws

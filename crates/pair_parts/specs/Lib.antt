@@ -1,2 +1,4 @@
+pub mod Parts
 pub mod Splits
+pub mod Apart
 pub mod Laws

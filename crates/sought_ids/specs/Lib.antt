@@ -3,6 +3,5 @@ pub use Rattle.op_seeks.specs.Found
 pub use Rattle.op_seeks.specs.Places
 pub use Rattle.op_seeks.specs.Seeking
 pub use Rattle.op_seeks.specs.declared.place.FkPlace
-pub use Rattle.op_seeks.specs.Apart
 pub use Rattle.op_seeks.specs.Closed
 pub use Rattle.op_seeks.specs.Keys

@@ -47,7 +47,8 @@ use Rattle.table_keys.specs.States.{KeysState}
 use Rattle.kept_keys.specs.Kept.{AreKeysOf}
 use Rattle.kept_keys.specs.Changed.{IsPrepared}
 use Rattle.write_propagation.specs.Alone.{AreNoChanges, IsAlone}
-use Rattle.write_propagation.specs.Calls.{CopiesTree}
+use Rattle.pair_changes.specs.declared.change.PairChange.{PairChange}
+use Rattle.write_propagation.specs.Calls.{AreMemoryChangesNow, CopiesTree}
 use Rattle.write_propagation.specs.Making.{AreAuxChanges, IsMaking, IsPlanOf, IsPlanWith, MayPlan, first_changes, made_over, seen_write}
 use Rattle.write_propagation.specs.Keys.{KeysLead}
 use Rattle.write_propagation.specs.Plans.{Plans, rows_written}
@@ -269,9 +270,10 @@ module _ {O : Type 0} (meaning : O → Meaning) (laws : (o : O) → Laws (meanin
 
     -- ---- the plan of it
 
-    module _ (auxes : List (Numbered SideChanges)) (none : AreNoChanges tree.operators auxes) (plan : Plan) (with_it : IsPlanWith meaning d tree made auxes plan) where
+    module _ (auxes : List (Numbered SideChanges)) (none : AreNoChanges tree.operators auxes) (memories : List (Numbered (List PairChange))) (are : AreMemoryChangesNow [] made.memories tree.operators memories)
+        (plan : Plan) (with_it : IsPlanWith meaning d tree made auxes memories plan) where
       plan_of_it : IsPlanOf meaning d tree test making plan
-      plan_of_it = with_it test copies (no_aux auxes none)
+      plan_of_it = with_it test copies (no_aux auxes none) are
 
       -- THE PLAN OF THE CHANGES ALONE IS THAT OF THE WRITE
       pub alone_planned : Plans meaning d w.set w.table rows w.ids.next (Ok plan)

@@ -7,6 +7,9 @@ use Rattle.op_law.specs.Tables.{Heading, Tables}
 use Rattle.op_law.specs.Laws.{HalfLaws, Laws}
 use Rattle.op_law.specs.Local.{HalfLocal, only, pair_only, rows_only}
 use Rattle.op_law.specs.Meaning.{Mapped, Meaning, PairState}
+use Rattle.id_memory.specs.Pairs.{Pairs}
+use Rattle.pair_parts.specs.Parts.{memory_only, part_of_pair}
+use Rattle.pair_parts.proofs.MemoryLaws.{part_without}
 use Rattle.op_law.specs.Premises.{MayMap, pair_after}
 use Rattle.version_model.specs.Put.{put}
 use Rattle.version_model.specs.States.{IsWell, State}
@@ -16,14 +19,15 @@ use Rattle.version_model.proofs.RunLaws.{IsReady, after_rises, after_well, may_c
 use Rattle.db_state.proofs.PartLaws.{only_map}
 use Rattle.changes_walk.proofs.ReachLaws.{IsInside}
 use Rattle.write_propagation.specs.declared.tree.Tree.{Tree}
-use Rattle.write_propagation.proofs.PartLemmas.{IsPartOf, Rests, may_only, near_is, put_only, put_own, small_is}
+use Rattle.write_propagation.proofs.PartLemmas.{IsPartOf, Rests, entries_rest, may_only, near_is, put_entries, put_only, put_own, small_is}
 
--- mapping what passes gives what passes of the mapping, draws and remembers the same, and elsewhere the mapping changes nothing
+-- mapping what passes gives what passes of the mapping, draws the same, and elsewhere the mapping changes nothing
 pub record MapsApart (m : Meaning) (P : ℕ → Bool) (near : Tables) (old : PairState) (n : ℕ) : Type 0 where
-  pub far : (m.forward (only P near) (pair_only P old) n).far ≡ only P (m.forward near old n).far
-  pub next : (m.forward (only P near) (pair_only P old) n).next ≡ (m.forward near old n).next
-  pub memory : (m.forward (only P near) (pair_only P old) n).memory ≡ (m.forward near old n).memory
+  pub far : (m.forward (only P near) (part_of_pair P old) n).far ≡ only P (m.forward near old n).far
+  pub next : (m.forward (only P near) (part_of_pair P old) n).next ≡ (m.forward near old n).next
+  pub memory : (m.forward (only P near) (part_of_pair P old) n).memory ≡ memory_only P (m.forward near old n).memory
   pub rest : only (λ q. not (P q)) (m.forward near old n).far ≡ only (λ q. not (P q)) old.target
+  pub memory_rest : memory_only (λ q. not (P q)) (m.forward near old n).memory ≡ memory_only (λ q. not (P q)) old.memory
 
 -- an operator that treats each identifier by itself does so
 pub local_maps : (m : Meaning) → HalfLaws m → HalfLocal m → (P : ℕ → Bool) (hs ht : List Heading) (near : Tables) (old : PairState) (n : ℕ) → MayMap m hs ht near old n
@@ -33,11 +37,15 @@ local_maps m laws here P hs ht near old n may same =
     let small = may_only m here P hs ht near old n may in
     let none = here.no_memory hs ht (pair_after m near old n) (laws.kept hs ht near old n may) in
     let none_small = here.no_memory hs ht (pair_after m (only P near) (pair_only P old) n) (laws.kept hs ht (only P near) (pair_only P old) n small) in
+    let none_old = here.no_memory hs ht old may.sound.pair in
+    let same_pair : pair_only P old ≡ part_of_pair P old = part_without P old none_old in
+    let mapped_same : m.forward (only P near) (part_of_pair P old) n ≡ m.forward (only P near) (pair_only P old) n = ap (λ (x : PairState). m.forward (only P near) x n) (sym same_pair) in
     let rest_may : MayMap m hs ht (only fails old.source) (pair_only fails old) n = subst (λ (ts : Tables). MayMap m hs ht ts (pair_only fails old) n) same (may_only m here fails hs ht near old n may) in
     record {
-      far = here.forward P hs ht near old n may;
-      next = here.draws_none hs ht (only P near) (pair_only P old) n small ∙ sym (here.draws_none hs ht near old n may);
-      memory = none_small ∙ sym none;
+      far = ap (λ (x : Mapped). x.far) mapped_same ∙ here.forward P hs ht near old n may;
+      next = ap (λ (x : Mapped). x.next) mapped_same ∙ here.draws_none hs ht (only P near) (pair_only P old) n small ∙ sym (here.draws_none hs ht near old n may);
+      memory = ap (λ (x : Mapped). x.memory) mapped_same ∙ none_small ∙ sym (ap (memory_only P) none);
+      memory_rest = ap (memory_only fails) (none ∙ sym none_old);
       rest = sym (here.forward fails hs ht near old n may) ∙ ap (λ (ts : Tables). (m.forward ts (pair_only fails old) n).far) same ∙ ap (λ (x : Mapped). x.far) (laws.still hs ht (pair_only fails old) n rest_may);
     }
 
@@ -61,17 +69,19 @@ module _ {O : Type 0} (meaning : O → Meaning) (laws : (o : O) → Laws (meanin
       record {
         tables = λ t i. put_only P a.tables b.tables p.far (mapped meaning old a p).far t (now.tables t i) ∙ ap (λ (x : Tables). put b.tables p.far x t) far;
         memory = λ n i.
-            let both : (mapped meaning old a p).memory ≡ (mapped meaning other b p).memory = sym maps.memory ∙ sym (ap (λ (x : Mapped). x.memory) is) in
-            let own = now.memory n i in
-            cc;
+            let both : memory_only P (mapped meaning old a p).memory ≡ (mapped meaning other b p).memory = sym maps.memory ∙ sym (ap (λ (x : Mapped). x.memory) is) in
+            put_entries P a.memory b.memory p.number (mapped meaning old a p).memory n (now.memory n i) ∙ ap (λ (x : Pairs). put b.memory (p.number ∷ []) (x ∷ []) n) both;
         next = sym maps.next ∙ sym (ap (λ (x : Mapped). x.next) is);
       }
 
   after_rest : (a : State) (p : Crossing O) → Rests fails tree old a → MapsApart (at p) P (map a.tables p.near) (pair_in old p) a.next → Rests fails tree old (after meaning old a p)
-  after_rest a p rests maps t i =
-      put_only fails a.tables (λ u. rows_only fails (a.tables u)) p.far (mapped meaning old a p).far t refl
-      ∙ ap (λ (x : Tables). put (λ u. rows_only fails (a.tables u)) p.far x t) (maps.rest ∙ sym (only_map fails old.tables p.far))
-      ∙ put_own (λ u. rows_only fails (a.tables u)) (λ u. rows_only fails (old.tables u)) p.far t (rests t i)
+  after_rest a p rests maps = record {
+    tables = λ t i.
+        put_only fails a.tables (λ u. rows_only fails (a.tables u)) p.far (mapped meaning old a p).far t refl
+        ∙ ap (λ (x : Tables). put (λ u. rows_only fails (a.tables u)) p.far x t) (maps.rest ∙ sym (only_map fails old.tables p.far))
+        ∙ put_own (λ u. rows_only fails (a.tables u)) (λ u. rows_only fails (old.tables u)) p.far t (rests.tables t i);
+    memory = λ n i. entries_rest fails a.memory old.memory p.number (mapped meaning old a p).memory n maps.memory_rest (rests.memory n i);
+  }
 
   -- the near tables of a crossing are those at the end
   near_stays : (p : Crossing O) (ps : List (Crossing O)) (b : State) → Ordered (p ∷ ps) → map (run meaning other b (p ∷ ps)).tables p.near ≡ map b.tables p.near
@@ -90,7 +100,7 @@ module _ {O : Type 0} (meaning : O → Meaning) (laws : (o : O) → Laws (meanin
       let next : a.next ≤ end.next = subst (λ (n : ℕ). n ≤ end.next) (sym now.next) up in
       let near = near_stays p ps b order ∙ near_is meaning laws tree heading old sound P other before a b p now inside.0 in
       let elsewhere : only fails (map a.tables p.near) ≡ only fails (map old.tables p.near) =
-      sym (only_map fails a.tables p.near) ∙ map_same (λ u. rows_only fails (a.tables u)) (λ u. rows_only fails (old.tables u)) p.near (λ u j. rests u (inside.0.near u j)) ∙ only_map fails old.tables p.near in
+      sym (only_map fails a.tables p.near) ∙ map_same (λ u. rows_only fails (a.tables u)) (λ u. rows_only fails (old.tables u)) p.near (λ u j. rests.tables u (inside.0.near u j)) ∙ only_map fails old.tables p.near in
       let maps = carries.0 a may more next near elsewhere in
       let rise = after_rises meaning laws heading old sound a p well more ready.0 in
       let rise_b = after_rises meaning laws heading other small b p well_b more_b ready_b.0 in

@@ -16,7 +16,7 @@ use Rattle.db_state.specs.Covered.{Covers, CoversItself}
 use Rattle.db_state.specs.Fields.{state_for}
 use Rattle.db_state.specs.declared.parts.Parts.{Parts}
 use Rattle.write_propagation.specs.Calls.{CopiesTree, beside, told_pairs, told_rows}
-use Rattle.db_state.specs.Parts.{passes, seen_of}
+use Rattle.db_state.specs.Parts.{entries_of, passes, seen_of}
 use Rattle.db_state.specs.declared.sight.Sight.{Sight}
 use Rattle.version_model.specs.States.{State}
 use Rattle.changes_walk.specs.Reach.{IsBeside, IsWhole}
@@ -43,7 +43,7 @@ module _ {O : Type 0} (meaning : O → Meaning) (d : Parts O) (tree : Tree) (who
 
   module _ (sight : Sight) (read tables : List (Numbered TableState)) (memories : List (Numbered MemoryState))
       (is_read : (t : ℕ) → In t (table_numbers (made_tables d.graph.edges)) → Covers (forest d.graph.edges) d.layout.operators tree.operators t → seen_of sight (rows_now d.stored read) t ≡ seen_of sight (state_for meaning d).tables t)
-      (copied : told_rows tables ≡ beside (seen_of sight (rows_now d.stored read)) tree.tables) (held : told_pairs memories ≡ beside (pairs_at d.memories) tree.operators) where
+      (copied : told_rows tables ≡ beside (seen_of sight (rows_now d.stored read)) tree.tables) (held : told_pairs memories ≡ beside (entries_of sight (pairs_at d.memories)) tree.operators) where
     abbrev now : State
     now = part (passes sight) tree (state_for meaning d)
 
@@ -58,8 +58,8 @@ module _ {O : Type 0} (meaning : O → Meaning) (d : Parts O) (tree : Tree) (who
     copied_memory n =
         let s = state_for meaning d in
         in_or_not n tree.operators (pairs_at memories n ≡ now.memory n)
-        (λ i. seen_told (λ (x : MemoryState). x.entries) (pairs_at d.memories) memories tree.operators held n i [] ∙ sym (part_memory (passes sight) tree s n i))
-        (λ none. seen_untold (λ (x : MemoryState). x.entries) (pairs_at d.memories) memories tree.operators held n none [] ∙ sym (no_memory (passes sight) tree s n none))
+        (λ i. seen_told (λ (x : MemoryState). x.entries) (entries_of sight (pairs_at d.memories)) memories tree.operators held n i [] ∙ sym (part_memory (passes sight) tree s n i))
+        (λ none. seen_untold (λ (x : MemoryState). x.entries) (entries_of sight (pairs_at d.memories)) memories tree.operators held n none [] ∙ sym (no_memory (passes sight) tree s n none))
 
     pub copies_tree : CopiesTree meaning d tree sight (record { tables = tables; memories = memories })
     copies_tree = record { tables = copied_table; memories = copied_memory }

@@ -5,10 +5,9 @@ use Rattle.row_store.specs.Rows.{Rows, RiseFrom}
 use Rattle.row_store.proofs.UndoLaws.{ext}
 use Rattle.version_graph.specs.Forest.{Crossing}
 use Rattle.op_law.specs.Tables.{AllRise, Heading, Tables}
-use Rattle.op_law.specs.Laws.{HalfLaws}
-use Rattle.op_law.specs.Local.{only, pair_only, rows_only}
+use Rattle.op_law.specs.Local.{only, rows_only}
 use Rattle.op_law.specs.Meaning.{Meaning, PairState}
-use Rattle.op_law.specs.Premises.{IsPair, MayMap, pair_after}
+use Rattle.op_law.specs.Premises.{MayMap}
 use Rattle.op_law.proofs.OnlyLaws.{by_test, same_rows}
 use Rattle.op_rows.specs.inner.Tabulated.{all_rise}
 use Rattle.row_changes.specs.Changed.{AreChangesOf, TableChanges, changed_tables}
@@ -45,17 +44,14 @@ tables_rise (t ∷ ts) [] rise = rise
 tables_rise (t ∷ ts) (c ∷ cs) rise = (changed_rise t c rise.0, tables_rise ts cs rise.1)
 
 -- what a footprint gives, by the test that it passes
-footprint_maps : (m : Meaning) (laws : HalfLaws m) (P : ℕ → Bool) (near : TableChanges) (p : PairState) (n : ℕ) (ids : List ℕ) → passes ids n ≡ P → ((hs ht : List Heading) (q : PairState) → IsPair m hs ht q → q.memory ≡ [])
-    → IsFootprint m near p n ids → MapsApart m P (changed_tables p.source near) p n
-footprint_maps m laws P near p n ids same none foot =
-    let part = foot.may in
+footprint_maps : (m : Meaning) (P : ℕ → Bool) (near : TableChanges) (p : PairState) (n : ℕ) (ids : List ℕ) → passes ids n ≡ P → IsFootprint m near p n ids → MapsApart m P (changed_tables p.source near) p n
+footprint_maps m P near p n ids same foot =
     let own : MapsApart m (passes ids n) (changed_tables p.source near) p n = record {
       far = foot.far;
       next = foot.next;
-      memory = none part.hs part.ht (pair_after m (only (passes ids n) (changed_tables p.source near)) (pair_only (passes ids n) p) n)
-          (laws.kept part.hs part.ht (only (passes ids n) (changed_tables p.source near)) (pair_only (passes ids n) p) n part.may)
-          ∙ sym foot.no_new_memory;
+      memory = foot.memory;
       rest = foot.rest;
+      memory_rest = foot.memory_rest;
     } in
     subst (λ (Q : ℕ → Bool). MapsApart m Q (changed_tables p.source near) p n) same own
 
@@ -64,13 +60,13 @@ module _ {O : Type 0} (meaning : O → Meaning) (heading : ℕ → Heading) (old
   at = directed p.backward (meaning p.operator)
 
   -- A FOOTPRINT OF THE NEAR CHANGES, AS THEY ARE AT THE END OF THE PART
-  pub footprint_carries : HalfLaws at → ((hs ht : List Heading) (q : PairState) → IsPair at hs ht q → q.memory ≡ []) → AllRise (map old.tables p.near) → AreChangesOf (map old.tables p.near) near → EachPass P near
+  pub footprint_carries : AllRise (map old.tables p.near) → AreChangesOf (map old.tables p.near) near → EachPass P near
       → map end.tables p.near ≡ changed_tables (only P (map old.tables p.near)) near → ((n : ℕ) → old.next ≤ n → n ≤ end.next → passes ids n ≡ P)
       → ((n : ℕ) → MayChange at near (pair_in old p) n → IsFootprint at near (pair_in old p) n ids)
       → (a : State) → MayMap at (map heading p.near) (map heading p.far) (map a.tables p.near) (pair_in old p) a.next → old.next ≤ a.next → a.next ≤ end.next
       → map end.tables p.near ≡ only P (map a.tables p.near) → only (λ q. not (P q)) (map a.tables p.near) ≡ only (λ q. not (P q)) (map old.tables p.near)
       → MapsApart at P (map a.tables p.near) (pair_in old p) a.next
-  footprint_carries laws none rise fit pass ends same foot a may more less here there =
+  footprint_carries rise fit pass ends same foot a may more less here there =
       let Q : ℕ → Bool = λ q. not (P q) in
       let ts = map old.tables p.near in
       let us = map a.tables p.near in
@@ -84,4 +80,4 @@ module _ {O : Type 0} (meaning : O → Meaning) (heading : ℕ → Heading) (old
         may = subst (λ (x : Tables). MayMap at (map heading p.near) (map heading p.far) x (pair_in old p) a.next) (sym is) may;
       } in
       subst (λ (x : Tables). MapsApart at P x (pair_in old p) a.next) is
-      (footprint_maps at laws P near (pair_in old p) a.next ids (same a.next more less) none (foot a.next change))
+      (footprint_maps at P near (pair_in old p) a.next ids (same a.next more less) (foot a.next change))

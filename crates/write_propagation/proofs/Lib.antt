@@ -1,6 +1,7 @@
 mod ItemLemmas
 mod WholeLemmas
 mod SpreadLemmas
+mod MemoryLemmas
 mod PartLemmas
 mod ApartLemmas
 mod FootprintLemmas

@@ -32,11 +32,14 @@ use Rattle.row_changes.proofs.ChangedLaws.{changed_rise}
 use Rattle.row_changes.proofs.DifferenceLaws.{part_makes, whole_old}
 use Rattle.operator_changes.specs.Calls.{ahead}
 use Rattle.operator_changes.specs.Footprint.{passes, with_drawn}
-use Rattle.sought_ids.specs.Apart.{KeepsApart, SameElsewhere}
+use Rattle.pair_parts.specs.Apart.{KeepsApart, SameElsewhere}
+use Rattle.pair_parts.specs.Parts.{memory_only}
+use Rattle.pair_parts.proofs.MemoryLaws.{memory_same}
+use Rattle.id_memory.specs.Pairs.{Pairs}
 use Rattle.sought_ids.specs.Closed.{PassListed}
 use Rattle.sought_ids.specs.Keys.{KeyRows}
 use Rattle.sought_ids.specs.Places.{AreKeysIn, side_at}
-use Rattle.sought_ids.specs.Seeking.{ApartOver, IsChangedPair, SeekLaws}
+use Rattle.sought_ids.specs.Seeking.{ApartOver, IsChangedPair, IsMemory, SeekLaws}
 use Rattle.sought_ids.specs.FkPlace.{FkPlace}
 use Rattle.table_keys.specs.States.{KeysState}
 use Rattle.kept_keys.specs.Kept.{AreKeysOf}
@@ -72,12 +75,12 @@ use Rattle.write_propagation.specs.declared.tree.Tree.{Tree}
 use Rattle.write_propagation.proofs.ApartLemmas.{CarriesAt, local_maps}
 use Rattle.write_propagation.proofs.FootprintLemmas.{footprint_carries}
 use Rattle.write_propagation.proofs.PartLemmas.{IsPartOf, Rests}
-use Rattle.write_propagation.proofs.PartRowsLemmas.{all_listed, below_alike, foot_over, half_local, key_among, key_numbers, left_alone, none_over, pass_listed, rows_alike, side_sound, tables_changed, tables_fit, tables_pass, tables_rise, tables_sound}
+use Rattle.write_propagation.proofs.PartRowsLemmas.{all_listed, below_alike, foot_over, half_local, key_among, key_numbers, left_alone, memory_of, none_stand, pass_listed, rows_alike, side_sound, tables_changed, tables_fit, tables_pass, tables_rise, tables_sound}
 use Rattle.write_propagation.proofs.PartShownLemmas.{CarriesAll, before_part, end_up, local_keeps, of_end, part_shown, rests, small_old, small_sound}
 use Rattle.write_propagation.proofs.SeenLemmas.{named_pass, pass_wider}
-use Rattle.write_propagation.proofs.ShownLemmas.{Shows, end_sound, small_is}
+use Rattle.write_propagation.proofs.ShownLemmas.{Remembers, Shows, end_sound, small_is}
 use Rattle.write_propagation.proofs.TreeLemmas.{part_table}
-use Rattle.write_propagation.proofs.WholeLemmas.{crossing_at, number_of, path, path_inside, path_over}
+use Rattle.write_propagation.proofs.WholeLemmas.{crossing_at, lives, number_of, path, path_inside, path_over}
 
 -- ---- the write of the part
 
@@ -122,7 +125,8 @@ module _ {O : Type 0} (meaning : O → Meaning) (seeks : O → Option FkPlace) (
   same_part =
       state_is _ _ _ _ _ _
       (fun_ext (λ t. ap (λ (x : Rows). if is_in t tree.tables then x else []) (rows_alike (has_id ids) test (s.tables t) (good.sound.well.tables t).0 (below_alike ids d.ids.next (s.tables t) (good.sound.well.rows t)))))
-      refl refl
+      (fun_ext (λ n. ap (λ (x : Pairs). if is_in n tree.operators then x else []) (memory_same (has_id ids) test d.ids.next (s.memory n) (under_passes ids d.ids.next) (good.sound.well.memories n))))
+      refl
 
   pub named_ids : AllPass (has_id ids) w.changes
   named_ids = pass_wider (has_id (named_in w.changes)) (has_id ids) closed.begins w.changes (named_pass w.changes)
@@ -235,9 +239,7 @@ module _ {O : Type 0} (meaning : O → Meaning) (seeks : O → Option FkPlace) (
           local_maps (directed p.backward (meaning p.operator)) (way_laws p.backward (meaning p.operator) (laws p.operator)) (half_local p.backward (meaning p.operator) (laws p.operator) local) test
           (map (headings es) p.near) (map (headings es) p.far) (map a.tables p.near) (pair_in s p) a.next may there
       carries_at p inside (inr by) a may more less here there =
-          let own = ahead p.backward (pair_in s p) in
-          footprint_carries meaning (headings es) s test p small_end (map last p.near) seen (way_laws p.backward (meaning p.operator) (laws p.operator))
-          (none_over (meaning p.operator) (seeks p.operator) (seeking p.operator) by.keys own (by.are s right) p.backward)
+          footprint_carries meaning (headings es) s test p small_end (map last p.near) seen
           (tables_rise s.tables p.near (λ t. (good.sound.well.tables t).0))
           (tables_fit s.tables last p.near (λ t i. table_fits t (inside.near t i)))
           (tables_pass test last p.near (λ t i. names t))
@@ -274,7 +276,7 @@ module _ {O : Type 0} (meaning : O → Meaning) (seeks : O → Option FkPlace) (
 
       end_tables : (t : ℕ) → In t tree.tables → changed (s.tables t) (last t) ≡ end.tables t
       end_tables t i =
-          part_makes test (s.tables t) (end.tables t) (last t) (good.sound.well.tables t).0 (sound_end.well.tables t).0 (sym (elsewhere t i)) (names t)
+          part_makes test (s.tables t) (end.tables t) (last t) (good.sound.well.tables t).0 (sound_end.well.tables t).0 (sym (elsewhere.tables t i)) (names t)
           (table_made t i ∙ sym (is_part.tables t i))
 
       module _ (e : Link O) (i : In e (forest es)) (own : In e.number tree.operators) where
@@ -306,10 +308,10 @@ module _ {O : Type 0} (meaning : O → Meaning) (seeks : O → Option FkPlace) (
         in_targets t k = of_tree.tables e i own t (inr k)
 
         same_rows : (ns : List ℕ) → ((t : ℕ) → In t ns → In t tree.tables) → only fails (map end.tables ns) ≡ only fails (map s.tables ns)
-        same_rows ns inside = sym (only_map fails end.tables ns) ∙ map_same (λ t. rows_only fails (end.tables t)) (λ t. rows_only fails (s.tables t)) ns (λ t k. elsewhere t (inside t k)) ∙ only_map fails s.tables ns
+        same_rows ns inside = sym (only_map fails end.tables ns) ∙ map_same (λ t. rows_only fails (end.tables t)) (λ t. rows_only fails (s.tables t)) ns (λ t k. elsewhere.tables t (inside t k)) ∙ only_map fails s.tables ns
 
         beside : SameElsewhere test old new
-        beside = record { source = same_rows e.sources in_sources; target = same_rows e.targets in_targets }
+        beside = record { source = same_rows e.sources in_sources; target = same_rows e.targets in_targets; memory = elsewhere.memory e.number own }
 
         keeps_local : (meaning e.operator).is_local ≡ true → KeepsApart (meaning e.operator) old new test
         keeps_local local =
@@ -366,6 +368,32 @@ module _ {O : Type 0} (meaning : O → Meaning) (seeks : O → Option FkPlace) (
           let sees = subst (λ (p : Crossing O). SeesOver meaning seeks items making.made.tables seen p) over.is (each_at (SeesOver meaning seeks items making.made.tables seen) ps o.0 o.1 enough) in
           keeps_over e i own over.back (subst (λ (f : Link O). SeesOver meaning seeks items making.made.tables seen (crossing over.back f)) (sym same) sees)
 
+      -- each has a memory before and after
+      module _ (e : Link O) (i : In e (forest es)) (own : In e.number tree.operators) where
+        stood : IsPair (meaning e.operator) (map (headings es) e.sources) (map (headings es) e.targets) (pair_in s (crossing false e))
+        stood = each_at (λ (f : Link O). IsRelated meaning (headings es) s (crossing false f)) (forest es) e i good.sound.related
+
+        stands_now : IsPair (meaning e.operator) (map (headings es) e.sources) (map (headings es) e.targets) (pair_in end (crossing false e))
+        stands_now = each_at (λ (f : Link O). IsRelated meaning (headings es) end (crossing false f)) (forest es) e i sound_end.related
+
+        has_memories : IsMemory (s.memory e.number) × IsMemory (end.memory e.number)
+        has_memories = elim (closed.closed e i own) as (λ _. IsMemory (s.memory e.number) × IsMemory (end.memory e.number)) [
+          | inl local ↦
+              let here = half_local false (meaning e.operator) (laws e.operator) local in
+              let hs = map (headings es) e.sources in
+              let ht = map (headings es) e.targets in
+              (none_stand (s.memory e.number) (here.no_memory hs ht (pair_in s (crossing false e)) stood), none_stand (end.memory e.number) (here.no_memory hs ht (pair_in end (crossing false e)) stands_now))
+          | inr by ↦
+              let of_pair = memory_of (meaning e.operator) (seeks e.operator) (seeking e.operator) by.keys (pair_in s (crossing false e)) (by.are s right) (map (headings es) e.sources) (map (headings es) e.targets) in
+              (of_pair (pair_in s (crossing false e)) stood, of_pair (pair_in end (crossing false e)) stands_now)
+        ]
+
+      remembered : (n : ℕ) → In n tree.operators → Remembers test (s.memory n) × Remembers test (end.memory n)
+      remembered n i =
+          let l = lives es w.set w.table tree plans.walked n i in
+          let has = has_memories l.0 l.1 (subst (λ (k : ℕ). In k tree.operators) l.2 i) in
+          (λ is. subst (λ (k : ℕ). IsMemory (s.memory k)) (sym l.2) has.0, λ is. subst (λ (k : ℕ). IsMemory (end.memory k)) (sym l.2) has.1)
+
       -- THE WRITE OF THE PART IS THE PART OF THE WRITE
       pub part_found : Shows meaning d tree w test
-      part_found = part_shown meaning laws d good tree w plans test split_test named_test carries keeps
+      part_found = part_shown meaning laws d good tree w plans test split_test named_test carries keeps remembered

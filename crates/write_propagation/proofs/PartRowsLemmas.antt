@@ -1,10 +1,11 @@
 -- Rows that pass two tests alike, changes of tables, and operators with a foreign key.
 use Rattle.std.specs.Prelude.{◌⊎◌, if◌then◌else◌}
-use Rattle.std.proofs.Common.{◌≡◌, ℕ, List, [], ◌∷◌, Bool, true, false, map, Option, Some, None, inl, inr, refl, sym, ◌∙◌}
+use Rattle.std.proofs.Common.{◌≡◌, ℕ, List, [], ◌∷◌, Bool, true, false, map, Option, Some, None, inl, inr, refl, sym, ◌∙◌, subst, arith}
 use Rattle.std.proofs.lemmas.Bool.{cases_lt}
 use Rattle.par_base.specs.declared.value.Value.{Value}
 use Rattle.row_store.specs.Rows.{Rows, RiseFrom, row_of}
 use Rattle.row_store.specs.Changes.{AreOld, ChangesRise}
+use Rattle.id_memory.specs.Pairs.{Pairs}
 use Rattle.row_store.specs.declared.change.Change.{Change}
 use Rattle.row_store.proofs.UndoLaws.{ext}
 use Rattle.version_graph.specs.Sets.{In}
@@ -27,7 +28,7 @@ use Rattle.operator_changes.specs.Footprint.{IsFootprint, passes}
 use Rattle.sought_ids.specs.Closed.{PassListed}
 use Rattle.sought_ids.specs.Keys.{KeyRows}
 use Rattle.sought_ids.specs.Places.{AreKeysIn, side_at}
-use Rattle.sought_ids.specs.Seeking.{FootprintOf, SeekLaws}
+use Rattle.sought_ids.specs.Seeking.{FootprintOf, IsMemory, SeekLaws}
 use Rattle.sought_ids.specs.FkPlace.{FkPlace}
 use Rattle.table_keys.specs.Keys.{keys_by}
 use Rattle.table_keys.specs.declared.columns.KeyColumns.TheVariants.{All as AllColumns, One}
@@ -116,19 +117,14 @@ pass_listed ids n st sound = record {
 abbrev own_keys : ℕ → Tables → KeyRows
 own_keys place st = record { keys = keys_by (One place) (first_table st); rows = keys_by AllColumns (second_table st) }
 
-module _ (m : Meaning) (fk : Option FkPlace) (laws : SeekLaws m fk) (keys : KeyRows) (own : PairState) (are : AreKeysIn fk own keys) where
-  -- it has no memory, whatever the pair
-  none_of : (hs ht : List Heading) (q : PairState) → IsPair m hs ht q → q.memory ≡ []
-  none_of hs ht q pair = by_place fk laws are
-    where
-      by_place : (f : Option FkPlace) → SeekLaws m f → AreKeysIn f own keys → q.memory ≡ []
-      by_place None it nothing = absurd nothing
-      by_place (Some x) it has = it.no_memory (own_keys x.place (side_at (Some x) q)) hs ht q (record { keys = refl; rows = refl }) pair
+-- its pairs have memories, whatever the pair of which these are the keys
+pub memory_of : (m : Meaning) (fk : Option FkPlace) → SeekLaws m fk → (keys : KeyRows) (own : PairState) → AreKeysIn fk own keys → (hs ht : List Heading) (q : PairState) → IsPair m hs ht q → IsMemory q.memory
+memory_of m None laws keys own are hs ht q pair = absurd are
+memory_of m (Some x) laws keys own are hs ht q pair = laws.memory (own_keys x.place (side_at (Some x) q)) hs ht q (record { keys = refl; rows = refl }) pair
 
-  -- nor has it from the other side
-  pub none_over : (back : Bool) (hs ht : List Heading) (q : PairState) → IsPair (directed back m) hs ht q → q.memory ≡ []
-  none_over false hs ht q pair = none_of hs ht q pair
-  none_over true hs ht q pair = none_of ht hs (record { source = q.target; target = q.source; memory = q.memory }) (record { fits = pair.fits; related = pair.related; source_of = pair.target_of; target_of = pair.source_of })
+-- one without entries is a memory
+pub none_stand : (es : Pairs) → es ≡ [] → IsMemory es
+none_stand es none = subst (λ (x : Pairs). IsMemory x) (sym none) (record { rises = tt; one = λ s t. omega arith })
 
 -- a footprint of a crossing's near changes, as it is crossed
 pub foot_over : (m : Meaning) (fk : Option FkPlace) (keys : KeyRows) (near : TableChanges) (ids : List ℕ) (back : Bool) (p : PairState) → AreKeysIn fk (ahead back p) keys → FootprintOf m fk back keys near ids

@@ -12,12 +12,13 @@ use Rattle.version_graph.proofs.WalkLaws.{walk_in_order}
 use Rattle.op_law.specs.Tables.{Heading}
 use Rattle.op_law.specs.Laws.{Laws}
 use Rattle.op_law.specs.Local.{only, pair_only, rows_only}
-use Rattle.op_law.specs.Meaning.{Meaning, PairState, exchanged, flip}
+use Rattle.op_law.specs.Meaning.{Meaning, PairState, exchanged}
 use Rattle.op_law.specs.Premises.{IsPair}
 use Rattle.op_law.proofs.OnlyLaws.{by_test}
 use Rattle.pair_parts.specs.Splits.{Splits}
-use Rattle.pair_parts.proofs.SplitLaws.{splits_anywhere, splits_behind, turned}
-use Rattle.sought_ids.specs.Apart.{KeepsApart}
+use Rattle.pair_parts.proofs.SplitLaws.{keeps_behind, splits_anywhere, splits_behind, turned}
+use Rattle.pair_parts.specs.Apart.{KeepsApart}
+use Rattle.pair_parts.specs.Parts.{memory_only, part_of_pair}
 use Rattle.row_changes.specs.Touched.{AllPass}
 use Rattle.row_changes.proofs.ChangedLaws.{other_changed}
 use Rattle.version_model.specs.Put.{put}
@@ -42,13 +43,9 @@ use Rattle.write_propagation.specs.declared.plans.RowWrite.{RowWrite}
 use Rattle.write_propagation.specs.declared.tree.Tree.{Tree}
 use Rattle.write_propagation.proofs.ApartLemmas.{CarriesAt, run_apart}
 use Rattle.write_propagation.proofs.PartLemmas.{IsPartOf, Rests, put_only, put_own}
-use Rattle.write_propagation.proofs.ShownLemmas.{Shows, end_is, small_is}
+use Rattle.write_propagation.proofs.ShownLemmas.{Remembers, Shows, end_is, small_is}
 use Rattle.write_propagation.proofs.TreeLemmas.{part_may, part_memory, part_table, tree_sound}
 use Rattle.write_propagation.proofs.WholeLemmas.{path, path_inside}
-
--- what keeps a change to itself keeps it from the other side
-keeps_behind : (m : Meaning) (old new : PairState) (P : ℕ → Bool) → KeepsApart m old new P → KeepsApart (flip m) (exchanged old) (exchanged new) P
-keeps_behind m old new P apart = record { splits = splits_behind m P new apart.splits; at_source = apart.at_target; at_target = apart.at_source }
 
 -- an operator that treats each identifier by itself keeps any change to itself
 pub local_keeps : (m : Meaning) → Laws m → m.is_local ≡ true → (hs ht : List Heading) (old new : PairState) (P : ℕ → Bool) → IsPair m hs ht old → IsPair m hs ht new
@@ -72,12 +69,12 @@ ordered_reached {O} operators (p ∷ ps) order =
     (λ e. subst (λ (l : List (Crossing O)). Ordered l) (sym (passes_by operators p ps e)) rest)
 
 -- a state's pair, restricted
-pub only_pair : {O : Type 0} (P : ℕ → Bool) (a b : State) (p : Crossing O) → ((t : ℕ) → In t p.near → rows_only P (a.tables t) ≡ b.tables t) → ((t : ℕ) → In t p.far → rows_only P (a.tables t) ≡ b.tables t) → a.memory p.number ≡ b.memory p.number
-    → pair_only P (pair_in a p) ≡ pair_in b p
+pub only_pair : {O : Type 0} (P : ℕ → Bool) (a b : State) (p : Crossing O) → ((t : ℕ) → In t p.near → rows_only P (a.tables t) ≡ b.tables t) → ((t : ℕ) → In t p.far → rows_only P (a.tables t) ≡ b.tables t) → memory_only P (a.memory p.number) ≡ b.memory p.number
+    → part_of_pair P (pair_in a p) ≡ pair_in b p
 only_pair P a b p near far memory =
     let n : only P (map a.tables p.near) ≡ map b.tables p.near = sym (only_map P a.tables p.near) ∙ map_same (λ t. rows_only P (a.tables t)) b.tables p.near near in
     let f : only P (map a.tables p.far) ≡ map b.tables p.far = sym (only_map P a.tables p.far) ∙ map_same (λ t. rows_only P (a.tables t)) b.tables p.far far in
-    let m : a.memory p.number ≡ b.memory p.number = memory in
+    let m : memory_only P (a.memory p.number) ≡ b.memory p.number = memory in
     cc
 
 module _ {O : Type 0} (meaning : O → Meaning) (laws : (o : O) → Laws (meaning o)) (d : Parts O) (good : IsDatabase meaning d) (tree : Tree) (w : RowWrite) (plans : MayPlan meaning d tree w)
@@ -116,7 +113,7 @@ module _ {O : Type 0} (meaning : O → Meaning) (laws : (o : O) → Laws (meanin
   others e false i own t k = of_tree.tables e i own t (inr k)
 
   -- the pair of the part is the part of the pair
-  part_pair : (a b : State) → IsPartOf test tree a b → (e : Link O) (back : Bool) → In e (forest es) → In e.number tree.operators → pair_only test (pair_in a (crossing back e)) ≡ pair_in b (crossing back e)
+  part_pair : (a b : State) → IsPartOf test tree a b → (e : Link O) (back : Bool) → In e (forest es) → In e.number tree.operators → part_of_pair test (pair_in a (crossing back e)) ≡ pair_in b (crossing back e)
   part_pair a b is e back i own = only_pair test a b (crossing back e) (λ t k. is.tables t (sides e back i own t k)) (λ t k. is.tables t (others e back i own t k)) (is.memory e.number own)
 
   -- THE PART IS SOUND
@@ -188,11 +185,15 @@ module _ {O : Type 0} (meaning : O → Meaning) (laws : (o : O) → Laws (meanin
 
   module _ (named : AllPass test w.changes) where
     rests_start : Rests fails tree s start
-    rests_start t i =
+    rests_start =
         let same : rows_only fails rows ≡ rows_only fails (s.tables w.table) = other_changed test fails (s.tables w.table) w.changes (good.sound.well.tables w.table).0 named (λ q e. not-true (test q) e) in
-        put_only fails s.tables (λ u. rows_only fails (s.tables u)) (w.table ∷ []) (rows ∷ []) t refl
-        ∙ ap (λ (x : Rows). put (λ u. rows_only fails (s.tables u)) (w.table ∷ []) (x ∷ []) t) same
-        ∙ put_own (λ u. rows_only fails (s.tables u)) (λ u. rows_only fails (s.tables u)) (w.table ∷ []) t refl
+        record {
+          tables = λ t i.
+              put_only fails s.tables (λ u. rows_only fails (s.tables u)) (w.table ∷ []) (rows ∷ []) t refl
+              ∙ ap (λ (x : Rows). put (λ u. rows_only fails (s.tables u)) (w.table ∷ []) (x ∷ []) t) same
+              ∙ put_own (λ u. rows_only fails (s.tables u)) (λ u. rows_only fails (s.tables u)) (w.table ∷ []) t refl;
+          memory = λ n i. refl;
+        }
 
     module _ (carries : CarriesAll) where
       both : IsPartOf test tree (run meaning s start ps) (run meaning small small_begin ps) × Rests fails tree s (run meaning s start ps)
@@ -210,10 +211,11 @@ module _ {O : Type 0} (meaning : O → Meaning) (laws : (o : O) → Laws (meanin
       pub rests : Rests fails tree s end
       rests = subst (λ (x : State). Rests fails tree s x) (sym (end_is meaning laws d good tree w plans)) both.1
 
-      module _ (apart : (e : Link O) → In e (forest es) → In e.number tree.operators → KeepsApart (meaning e.operator) (pair_in s (crossing false e)) (pair_in end (crossing false e)) test) where
+      module _ (apart : (e : Link O) → In e (forest es) → In e.number tree.operators → KeepsApart (meaning e.operator) (pair_in s (crossing false e)) (pair_in end (crossing false e)) test)
+          (remembered : (n : ℕ) → In n tree.operators → Remembers test (s.memory n) × Remembers test (end.memory n)) where
         apart_over : (e : Link O) (back : Bool) → In e (forest es) → In e.number tree.operators → KeepsApart (directed back (meaning e.operator)) (pair_in s (crossing back e)) (pair_in end (crossing back e)) test
         apart_over e false i own = apart e i own
-        apart_over e true i own = keeps_behind (meaning e.operator) (pair_in s (crossing false e)) (pair_in end (crossing false e)) test (apart e i own)
+        apart_over e true i own = keeps_behind (meaning e.operator) test (pair_in s (crossing false e)) (pair_in end (crossing false e)) (apart e i own)
 
         -- from what is stored
         abbrev back : Link O → Bool
@@ -224,6 +226,7 @@ module _ {O : Type 0} (meaning : O → Meaning) (laws : (o : O) → Laws (meanin
         part_shown = record {
           part = of_end;
           rests = rests;
+          remembered = remembered;
           aux_before = before_part;
           aux_part = λ e i own.
               ap (λ (x : PairState). (directed (back e) (meaning e.operator)).aux_at_source x) (sym (part_pair end (seen_write meaning d tree w test) of_end e (back e) i own)) ∙ (apart_over e (back e) i own).splits.at_source;

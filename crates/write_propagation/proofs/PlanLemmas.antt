@@ -29,7 +29,7 @@ use Rattle.row_changes.specs.declared.change.SideChanges.{SideChanges}
 use Rattle.row_changes.specs.Touched.{AllPass}
 use Rattle.row_changes.proofs.DifferenceLaws.{differences_of_part, differences_fit, differences_make, part_makes, whole_old}
 use Rattle.changes_walk.specs.Changing.{latest_changes}
-use Rattle.version_model.specs.Kept.{Database, latest_of, newer_pairs, pairs_at, pairs_now, rows_at, auxes_at, numbers_in}
+use Rattle.version_model.specs.Kept.{Database, pairs_at, pairs_now, rows_at, auxes_at, numbers_in}
 use Rattle.version_model.specs.Sound.{IsSound}
 use Rattle.version_model.specs.States.{State, headings}
 use Rattle.version_model.specs.Steps.{directed, pair_in, run}
@@ -48,8 +48,8 @@ use Rattle.kept_keys.specs.Changed.{IsPrepared}
 use Rattle.kept_keys.proofs.KeptLaws.{committed_right, prepared_ready}
 use Rattle.kept_changes.specs.Changes.{changes_at, sides_at, pair_changes_at, IsMemoryAt, IsOldAt, IsSideAt}
 use Rattle.pair_changes.specs.declared.change.PairChange.{PairChange}
-use Rattle.pair_changes.specs.Changed.{changed_pairs}
-use Rattle.write_propagation.specs.Calls.{stored_in}
+use Rattle.pair_changes.specs.Changed.{PairsLeadTo, changed_pairs}
+use Rattle.write_propagation.specs.Calls.{IsMemoryChange, stored_in}
 use Rattle.write_propagation.specs.Making.{IsMaking, IsPlanOf, MakesWrite, MayPlan, made_over, seen_write}
 use Rattle.write_propagation.specs.Keys.{KeysLead}
 use Rattle.write_propagation.specs.Plans.{Plans, rows_written}
@@ -66,7 +66,11 @@ use Rattle.write_propagation.proofs.LeadLemmas.{IsPlanTo, leads, no_changes}
 use Rattle.write_propagation.proofs.ToldLemmas.{listed, tells_apart, unlisted}
 use Rattle.write_propagation.proofs.TreeLemmas.{outside_memory, outside_table, part_memory, part_table, same_pair}
 use Rattle.write_propagation.proofs.WholeLemmas.{lives, operators_apart, path, path_inside}
-use Rattle.id_memory.specs.Pairs.{Pairs}
+use Rattle.id_memory.specs.Pairs.{Pairs, RiseFrom}
+use Rattle.sought_ids.specs.Seeking.{IsMemory}
+use Rattle.pair_parts.specs.Parts.{memory_only}
+use Rattle.operator_changes.proofs.MemoryLaws.{whole_difference}
+use Rattle.write_propagation.proofs.MemoryLemmas.{lead_makes}
 use Rattle.write_propagation.specs.declared.plans.Plan.{Plan}
 use Rattle.write_propagation.proofs.ShownLemmas.{Shows, end_sound, related_in}
 
@@ -123,7 +127,7 @@ module _ {O : Type 0} (meaning : O → Meaning) (laws : (o : O) → Laws (meanin
     -- and what they make of it they make of the whole table
     makes_rows : changed before cs ≡ small.tables t → changed (s.tables t) cs ≡ end.tables t
     makes_rows made =
-        part_makes test (s.tables t) (end.tables t) cs (good.sound.well.tables t).0 (sound_end.well.tables t).0 (sym (shows.rests t i)) pass
+        part_makes test (s.tables t) (end.tables t) cs (good.sound.well.tables t).0 (sound_end.well.tables t).0 (sym (shows.rests.tables t i)) pass
         (ap (λ (x : Rows). changed x cs) (sym seen_before) ∙ made ∙ sym (shows.part.tables t i))
 
   -- ---- auxiliary tables
@@ -237,17 +241,39 @@ module _ {O : Type 0} (meaning : O → Meaning) (laws : (o : O) → Laws (meanin
 
       -- ---- memories
 
-      -- a memory that was made is that of the new state
-      memory_now : (n : ℕ) → In n tree.operators → pairs_now d.memories making.made.memories n ≡ end.memory n
-      memory_now n own =
-          let old : pairs_at d.memories n ≡ pairs_at making.copies.memories n = sym (part_memory test tree s n own) ∙ sym (is.memories n) in
-          ap (λ (x : Pairs). newer_pairs (latest_of making.made.memories n) x) old ∙ ap (λ (x : State). x.memory n) is.made ∙ sym (shows.part.memory n own)
-
       memory_own : (i : Numbered (List PairChange)) → In i plan.memories → In i.number tree.operators
       memory_own i j = subst (λ (l : List ℕ). In i.number l) for.memories.listed (in_map (λ (x : Numbered (List PairChange)). x.number) i plan.memories j)
 
-      memory_made : (i : Numbered (List PairChange)) → In i plan.memories → changed_pairs (pairs_at d.memories i.number) i.value ≡ end.memory i.number
-      memory_made i j = (for.memories.values i j).makes ∙ memory_now i.number (memory_own i j)
+      -- what was copied of a memory, and what was made of it, are parts of the whole ones
+      memory_before : (n : ℕ) → In n tree.operators → pairs_at making.copies.memories n ≡ memory_only test (s.memory n)
+      memory_before n own = is.memories n ∙ part_memory test tree s n own
+
+      memory_now : (n : ℕ) → In n tree.operators → pairs_now making.copies.memories making.made.memories n ≡ memory_only test (end.memory n)
+      memory_now n own = ap (λ (x : State). x.memory n) is.made ∙ sym (shows.part.memory n own)
+
+      -- so the changes lead from the whole one to the whole one
+      module _ (i : Numbered (List PairChange)) (j : In i plan.memories) where
+        change : IsMemoryChange (memory_only test (s.memory i.number)) (memory_only test (end.memory i.number)) i.value
+        change =
+            subst (λ (x : Pairs). IsMemoryChange x (memory_only test (end.memory i.number)) i.value) (memory_before i.number (memory_own i j))
+            (subst (λ (x : Pairs). IsMemoryChange (pairs_at making.copies.memories i.number) x i.value) (memory_now i.number (memory_own i j)) (for.memories.values i j))
+
+        memory_rises : RiseFrom 0 (s.memory i.number)
+        memory_rises = ((shows.remembered i.number (memory_own i j)).0 change.stood).rises
+
+        memory_kept : IsMemory (end.memory i.number)
+        memory_kept = (shows.remembered i.number (memory_own i j)).1 (record { rises = change.lead.rises; one = change.lead.one })
+
+        memory_lead : PairsLeadTo (s.memory i.number) (end.memory i.number) i.value
+        memory_lead = record {
+          rises = memory_kept.rises;
+          one = memory_kept.one;
+          difference = whole_difference test (s.memory i.number) (end.memory i.number) i.value (shows.rests.memory i.number (memory_own i j)) change.lead.difference;
+        }
+
+        -- they make it
+        memory_made : changed_pairs (s.memory i.number) i.value ≡ end.memory i.number
+        memory_made = lead_makes (s.memory i.number) (end.memory i.number) i.value memory_rises memory_lead
 
       to_memory : (e : Link O) → In e (forest es) → changed_pairs (pairs_at d.memories e.number) (pair_changes_at plan.memories e.number) ≡ end.memory e.number
       to_memory e i =
@@ -341,7 +367,7 @@ module _ {O : Type 0} (meaning : O → Meaning) (laws : (o : O) → Laws (meanin
               let l = lives es w.set w.table tree plans.walked i.number (memory_own i j) in
               let live : In i.number (numbers es) = subst (λ (n : ℕ). In n (numbers es)) (sym l.2) (link_number es l.0 l.1) in
               let kept : In i.number (numbers_in d.memories) = subst (λ (ns : List ℕ). In i.number ns) (sym good.memories) (in_reverse i.number (numbers es) live) in
-              (kept, (pairs_now d.memories making.made.memories i.number, (for.memories.values i j).lead))),
+              (kept, (end.memory i.number, memory_lead i j))),
         );
       }
 

@@ -15,6 +15,9 @@ use Rattle.op_law.specs.Laws.{HalfLaws, Laws}
 use Rattle.op_law.specs.Local.{HalfLocal, only, pair_only, rows_only}
 use Rattle.op_law.specs.Meaning.{Meaning, PairState}
 use Rattle.op_law.specs.Premises.{IsPair}
+use Rattle.id_memory.specs.Pairs.{Pairs}
+use Rattle.pair_parts.specs.Parts.{memory_only}
+use Rattle.sought_ids.specs.Seeking.{IsMemory}
 use Rattle.row_changes.specs.Touched.{AllPass}
 use Rattle.row_changes.proofs.ChangedLaws.{other_changed}
 use Rattle.version_model.specs.Sound.{IsSound}
@@ -42,8 +45,9 @@ use Rattle.write_propagation.specs.declared.plans.RowWrite.{RowWrite}
 use Rattle.write_propagation.specs.declared.tree.Tree.{Tree}
 use Rattle.write_propagation.proofs.PartLemmas.{IsLocalInside, IsPartOf, Rests, put_only, put_own, run_part, run_rests}
 use Rattle.db_state.proofs.PartLaws.{only_map}
-use Rattle.write_propagation.proofs.TreeLemmas.{Agrees, all_agrees, all_rows, all_sound, local_sound, part_may, part_memory, part_table, same_pair, write_agrees}
-use Rattle.write_propagation.proofs.WholeLemmas.{path, path_inside}
+use Rattle.write_propagation.proofs.TreeLemmas.{Agrees, all_agrees, all_entries, all_rows, all_sound, local_sound, part_may, part_memory, part_table, same_pair, write_agrees}
+use Rattle.write_propagation.proofs.PartRowsLemmas.{none_stand}
+use Rattle.write_propagation.proofs.WholeLemmas.{lives, path, path_inside}
 use Rattle.db_state.specs.declared.sight.Sight.{Sight}
 use Rattle.db_state.specs.declared.sight.Sight.TheVariants.{All, Of, Part}
 
@@ -56,6 +60,10 @@ no_rows : (test : ℕ → Bool) → ((q : ℕ) → test q ≡ true) → (rows : 
 no_rows test all [] = refl
 no_rows test all (r ∷ rs) = cond-false (not (test r.0)) (r ∷ rows_only (λ q. not (test q)) rs) (rows_only (λ q. not (test q)) rs) (ap not (all r.0)) ∙ no_rows test all rs
 
+no_entries : (test : ℕ → Bool) → ((q : ℕ) → test q ≡ true) → (es : Pairs) → memory_only (λ q. not (test q)) es ≡ []
+no_entries test all [] = refl
+no_entries test all (e ∷ es) = cond-false (not (test e.0)) (e ∷ memory_only (λ q. not (test q)) es) (memory_only (λ q. not (test q)) es) (ap not (all e.0)) ∙ no_entries test all es
+
 no_tables : (test : ℕ → Bool) → ((q : ℕ) → test q ≡ true) → (ts us : Tables) → length ts ≡ length us → only (λ q. not (test q)) ts ≡ only (λ q. not (test q)) us
 no_tables test all [] [] long = refl
 no_tables test all [] (u ∷ us) long = absurd (let none : ⊥ = cc in none)
@@ -63,6 +71,10 @@ no_tables test all (t ∷ ts) [] long = absurd (let none : ⊥ = cc in none)
 no_tables test all (t ∷ ts) (u ∷ us) long =
     let rest : length ts ≡ length us = cc in
     ap (λ (x : Rows). x ∷ only (λ q. not (test q)) ts) (no_rows test all t ∙ sym (no_rows test all u)) ∙ ap (λ (x : Tables). rows_only (λ q. not (test q)) u ∷ x) (no_tables test all ts us rest)
+
+-- where what passes is a memory, all is
+abbrev pub Remembers : (ℕ → Bool) → Pairs → Type 0
+Remembers test es = IsMemory (memory_only test es) → IsMemory es
 
 -- ---- what a write shows of a tree
 
@@ -73,11 +85,12 @@ module _ {O : Type 0} (meaning : O → Meaning) (d : Parts O) (tree : Tree) (w :
   abbrev aux_in : State → Link O → Tables
   aux_in x e = aux_of meaning x (stored_way d.layout.operators e)
 
-  -- what passes the test, of the tables of the tree and of the auxiliary tables of its operators, is what the write of what passes makes, and what fails stays
+  -- what passes the test, of the tables and memories of the tree and of the auxiliary tables of its operators, is what the write of what passes makes, and what fails stays
   pub record Shows : Type 0 where
     pub aux_before : (e : Link O) → In e (forest d.graph.edges) → In e.number tree.operators → aux_in (part test tree (state_for meaning d)) e ≡ only test (aux_in (state_for meaning d) e)
     pub part : IsPartOf test tree whole_end (seen_write meaning d tree w test)
     pub rests : Rests (λ id. not (test id)) tree (state_for meaning d) whole_end
+    pub remembered : (n : ℕ) → In n tree.operators → Remembers test ((state_for meaning d).memory n) × Remembers test (whole_end.memory n)
     pub aux_part : (e : Link O) → In e (forest d.graph.edges) → In e.number tree.operators → aux_in (seen_write meaning d tree w test) e ≡ only test (aux_in whole_end e)
     pub aux_rests : (e : Link O) → In e (forest d.graph.edges) → In e.number tree.operators → only (λ id. not (test id)) (aux_in (state_for meaning d) e) ≡ only (λ id. not (test id)) (aux_in whole_end e)
 
@@ -158,8 +171,12 @@ module _ {O : Type 0} (meaning : O → Meaning) (laws : (o : O) → Laws (meanin
     -- THE WRITE OF THE TREE IS THE WRITE THERE
     pub all_shown : Shows meaning d tree w test
     all_shown = record {
-      part = record { tables = λ t i. all_rows test all (end.tables t) ∙ agree.tables t i; memory = agree.memory; next = agree.next };
-      rests = λ t i. no_rows test all (end.tables t) ∙ sym (no_rows test all (s.tables t));
+      part = record { tables = λ t i. all_rows test all (end.tables t) ∙ agree.tables t i; memory = λ n i. all_entries test all (end.memory n) ∙ agree.memory n i; next = agree.next };
+      rests = record {
+        tables = λ t i. no_rows test all (end.tables t) ∙ sym (no_rows test all (s.tables t));
+        memory = λ n i. no_entries test all (end.memory n) ∙ sym (no_entries test all (s.memory n));
+      };
+      remembered = λ n i. (λ is. subst (λ (x : Pairs). IsMemory x) (all_entries test all (s.memory n)) is, λ is. subst (λ (x : Pairs). IsMemory x) (all_entries test all (end.memory n)) is);
       aux_before = λ e i own.
           let before = all_agrees test all tree s in
           ap (λ (x : PairState). (at e).aux_at_source x)
@@ -234,9 +251,12 @@ module _ {O : Type 0} (meaning : O → Meaning) (laws : (o : O) → Laws (meanin
     -- elsewhere nothing changes
 
     rests_start : Rests fails tree s start
-    rests_start t i =
+    rests_start =
         let same : rows_only fails rows ≡ rows_only fails (s.tables w.table) = other_changed test fails (s.tables w.table) w.changes (rise_before w.table) named (λ q e. not-true (test q) e) in
-        put_only fails s.tables (λ u. rows_only fails (s.tables u)) (w.table ∷ []) (rows ∷ []) t refl ∙ put_same_at t same
+        record {
+          tables = λ t i. put_only fails s.tables (λ u. rows_only fails (s.tables u)) (w.table ∷ []) (rows ∷ []) t refl ∙ put_same_at t same;
+          memory = λ n i. refl;
+        }
       where
         put_same_at : (t : ℕ) → rows_only fails rows ≡ rows_only fails (s.tables w.table) → put (λ u. rows_only fails (s.tables u)) (w.table ∷ []) (rows_only fails rows ∷ []) t ≡ rows_only fails (s.tables t)
         put_same_at t same = ap (λ (x : Rows). put (λ u. rows_only fails (s.tables u)) (w.table ∷ []) (x ∷ []) t) same ∙ put_own (λ u. rows_only fails (s.tables u)) (λ u. rows_only fails (s.tables u)) (w.table ∷ []) t refl
@@ -278,16 +298,23 @@ module _ {O : Type 0} (meaning : O → Meaning) (laws : (o : O) → Laws (meanin
       same_memory : end.memory e.number ≡ s.memory e.number
       same_memory = none_after e i own ∙ sym (none_before e i own)
 
+      -- nor has the part one
+      old_memory : s.memory e.number ≡ (part test tree s).memory e.number
+      old_memory = let none = none_before e i own in none ∙ sym (ap (memory_only test) none) ∙ small_old.memory e.number own
+
+      new_memory : end.memory e.number ≡ small.memory e.number
+      new_memory = let none = none_after e i own in none ∙ sym (ap (memory_only test) none) ∙ of_end.memory e.number own
+
       -- what passes of the old ones is that of the part
       old_part : aux_of meaning (part test tree s) (over e) ≡ only test (aux_of meaning s (over e))
       old_part =
-          ap (λ (x : PairState). (at e).aux_at_source x) (sym (only_pair test s (part test tree s) (over e) (λ t k. small_old.tables t (sides e i own t k)) (λ t k. small_old.tables t (others e i own t k)) (small_old.memory e.number own)))
+          ap (λ (x : PairState). (at e).aux_at_source x) (sym (only_pair test s (part test tree s) (over e) (λ t k. small_old.tables t (sides e i own t k)) (λ t k. small_old.tables t (others e i own t k)) old_memory))
           ∙ law.aux test hs ht (pair_in s (over e)) (related_in s good.sound e i)
 
       -- what passes of the new ones was made
       made_part : aux_of meaning small (over e) ≡ only test (aux_of meaning end (over e))
       made_part =
-          ap (λ (x : PairState). (at e).aux_at_source x) (sym (only_pair test end small (over e) (λ t k. of_end.tables t (sides e i own t k)) (λ t k. of_end.tables t (others e i own t k)) (of_end.memory e.number own)))
+          ap (λ (x : PairState). (at e).aux_at_source x) (sym (only_pair test end small (over e) (λ t k. of_end.tables t (sides e i own t k)) (λ t k. of_end.tables t (others e i own t k)) new_memory))
           ∙ law.aux test hs ht (pair_in end (over e)) (related_in end end_sound e i)
 
       -- what fails stays
@@ -295,13 +322,19 @@ module _ {O : Type 0} (meaning : O → Meaning) (laws : (o : O) → Laws (meanin
       same_rest =
           let rest : State = record { tables = λ t. rows_only fails (s.tables t); memory = s.memory; next = s.next } in
           let old = only_pair fails s rest (over e) (λ t k. refl) (λ t k. refl) refl in
-          let new = only_pair fails end rest (over e) (λ t k. rests t (sides e i own t k)) (λ t k. rests t (others e i own t k)) same_memory in
+          let new = only_pair fails end rest (over e) (λ t k. rests.tables t (sides e i own t k)) (λ t k. rests.tables t (others e i own t k)) same_memory in
           sym (law.aux fails hs ht (pair_in s (over e)) (related_in s good.sound e i)) ∙ ap (λ (x : PairState). (at e).aux_at_source x) (old ∙ sym new)
           ∙ law.aux fails hs ht (pair_in end (over e)) (related_in end end_sound e i)
 
     -- THE WRITE OF WHAT PASSES IS WHAT PASSES OF THE WRITE
     pub local_shown : Shows meaning d tree w test
-    local_shown = record { part = of_end; rests = rests; aux_before = old_part; aux_part = made_part; aux_rests = same_rest }
+    local_shown = record { part = of_end; rests = rests; remembered = all_remembered; aux_before = old_part; aux_part = made_part; aux_rests = same_rest }
+      where
+        all_remembered : (n : ℕ) → In n tree.operators → Remembers test (s.memory n) × Remembers test (end.memory n)
+        all_remembered n i =
+            let l = lives es w.set w.table tree plans.walked n i in
+            let own : In l.0.number tree.operators = subst (λ (k : ℕ). In k tree.operators) l.2 i in
+            (λ is. none_stand (s.memory n) (ap s.memory l.2 ∙ none_before l.0 l.1 own), λ is. none_stand (end.memory n) (ap end.memory l.2 ∙ none_after l.0 l.1 own))
 
   -- so it is of whatever is seen
   pub shown : (sight : Sight) → MayShow meaning es tree.operators sight → AllPass (passes sight) w.changes → Shows meaning d tree w (passes sight)

@@ -23,7 +23,11 @@ use Rattle.version_model.proofs.HeadingLaws.{in_or_not}
 use Rattle.version_model.proofs.PutLaws.{map_same, put_else}
 use Rattle.version_model.proofs.RunLaws.{run_memory, run_table}
 use Rattle.storage_law.proofs.LinkLaws.{not_in_false}
-use Rattle.op_law.specs.Local.{only, pair_only, rows_only}
+use Rattle.op_law.specs.Local.{only, rows_only}
+use Rattle.id_memory.specs.Pairs.{Pairs}
+use Rattle.pair_parts.specs.Parts.{memory_only, part_of_pair}
+use Rattle.pair_parts.proofs.MemoryLaws.{memory_sound}
+use Rattle.pair_parts.proofs.SplitLaws.{splits_anywhere}
 use Rattle.op_rows.specs.inner.RowwiseLocal.{well_only}
 use Rattle.version_model.specs.Writes.{MayWrite}
 use Rattle.changes_walk.specs.Reach.{IsWhole}
@@ -58,23 +62,28 @@ pub all_rows : (test : ℕ → Bool) → ((q : ℕ) → test q ≡ true) → (ro
 all_rows test all [] = refl
 all_rows test all (r ∷ rs) = cond-true (test r.0) (r ∷ rows_only test rs) (rows_only test rs) (all r.0) ∙ ap (λ (x : Rows). r ∷ x) (all_rows test all rs)
 
+-- so are entries
+pub all_entries : (test : ℕ → Bool) → ((q : ℕ) → test q ≡ true) → (es : Pairs) → memory_only test es ≡ es
+all_entries test all [] = refl
+all_entries test all (e ∷ es) = cond-true (test e.0) (e ∷ memory_only test es) (memory_only test es) (all e.0) ∙ ap (λ (x : Pairs). e ∷ x) (all_entries test all es)
+
 pub part_table : (test : ℕ → Bool) (tree : Tree) (s : State) (t : ℕ) → In t tree.tables → (part test tree s).tables t ≡ rows_only test (s.tables t)
 part_table test tree s t i = cond-true (is_in t tree.tables) (rows_only test (s.tables t)) [] (is_in_true t tree.tables i)
 
-pub part_memory : (test : ℕ → Bool) (tree : Tree) (s : State) (n : ℕ) → In n tree.operators → (part test tree s).memory n ≡ s.memory n
-part_memory test tree s n i = cond-true (is_in n tree.operators) (s.memory n) [] (is_in_true n tree.operators i)
+pub part_memory : (test : ℕ → Bool) (tree : Tree) (s : State) (n : ℕ) → In n tree.operators → (part test tree s).memory n ≡ memory_only test (s.memory n)
+part_memory test tree s n i = cond-true (is_in n tree.operators) (memory_only test (s.memory n)) [] (is_in_true n tree.operators i)
 
 pub no_table : (test : ℕ → Bool) (tree : Tree) (s : State) (t : ℕ) → (In t tree.tables → ⊥) → (part test tree s).tables t ≡ []
 no_table test tree s t none = cond-false (is_in t tree.tables) (rows_only test (s.tables t)) [] (not_in_false t tree.tables none)
 
 pub no_memory : (test : ℕ → Bool) (tree : Tree) (s : State) (n : ℕ) → (In n tree.operators → ⊥) → (part test tree s).memory n ≡ []
-no_memory test tree s n none = cond-false (is_in n tree.operators) (s.memory n) [] (not_in_false n tree.operators none)
+no_memory test tree s n none = cond-false (is_in n tree.operators) (memory_only test (s.memory n)) [] (not_in_false n tree.operators none)
 
 -- all rows of the tree's tables are those of the state
 pub all_agrees : (test : ℕ → Bool) → ((q : ℕ) → test q ≡ true) → (tree : Tree) (s : State) → Agrees tree s (part test tree s)
 all_agrees test all tree s = record {
   tables = λ t i. sym (part_table test tree s t i ∙ all_rows test all (s.tables t));
-  memory = λ n i. sym (part_memory test tree s n i);
+  memory = λ n i. sym (part_memory test tree s n i ∙ all_entries test all (s.memory n));
   next = refl;
 }
 
@@ -168,11 +177,11 @@ module _ {O : Type 0} (meaning : O → Meaning) (laws : (o : O) → Laws (meanin
             | false ↦ (tt, tt)
           ];
       rows = λ t. elim (is_in t tree.tables) as (λ b. RowsSound s.next (if b then rows_only test (s.tables t) else [])) [ true ↦ rows_sound test s.next (s.tables t) (sound.well.rows t) | false ↦ tt ];
-      memories = λ n. elim (is_in n tree.operators) as (λ b. PairsSound s.next (if b then s.memory n else [])) [ true ↦ sound.well.memories n | false ↦ tt ];
+      memories = λ n. elim (is_in n tree.operators) as (λ b. PairsSound s.next (if b then memory_only test (s.memory n) else [])) [ true ↦ memory_sound test s.next (s.memory n) (sound.well.memories n) | false ↦ tt ];
     };
     alone = record {
       tables = λ t none. elim (is_in t tree.tables) as (λ b. (if b then rows_only test (s.tables t) else []) ≡ []) [ true ↦ ap (rows_only test) (sound.alone.tables t none) | false ↦ refl ];
-      memories = λ n none. elim (is_in n tree.operators) as (λ b. (if b then s.memory n else []) ≡ []) [ true ↦ sound.alone.memories n none | false ↦ refl ];
+      memories = λ n none. elim (is_in n tree.operators) as (λ b. (if b then memory_only test (s.memory n) else []) ≡ []) [ true ↦ ap (memory_only test) (sound.alone.memories n none) | false ↦ refl ];
     };
     drawn = sound.drawn;
   }
@@ -195,9 +204,10 @@ module _ {O : Type 0} (meaning : O → Meaning) (laws : (o : O) → Laws (meanin
       let pair = pair_in s (crossing false e) in
       let n : map small.tables e.sources ≡ only test pair.source = map_same small.tables (λ t. rows_only test (s.tables t)) e.sources (λ t k. part_table test tree s t (whole.tables e i own t (inl k))) ∙ only_map test s.tables e.sources in
       let f : map small.tables e.targets ≡ only test pair.target = map_same small.tables (λ t. rows_only test (s.tables t)) e.targets (λ t k. part_table test tree s t (whole.tables e i own t (inr k))) ∙ only_map test s.tables e.targets in
-      let m : small.memory e.number ≡ s.memory e.number = part_memory test tree s e.number own in
-      let same : pair_only test pair ≡ pair_in small (crossing false e) = cc in
-      subst (λ (p : PairState). IsPair (meaning e.operator) hs ht p) same (((laws e.operator).0.local (local e i own)).related test hs ht pair (was_related e i)))
+      let m : small.memory e.number ≡ memory_only test (s.memory e.number) = part_memory test tree s e.number own in
+      let same : part_of_pair test pair ≡ pair_in small (crossing false e) = cc in
+      subst (λ (p : PairState). IsPair (meaning e.operator) hs ht p) same
+      ((splits_anywhere (meaning e.operator) (laws e.operator) test hs ht pair (local e i own) (was_related e i)).related hs ht (was_related e i)))
 
   -- rows that a table may get, and of these what passes the test
   pub part_may : (w t : ℕ) (rows : Rows) (next : ℕ) → MayWrite es s w t rows next → MayWrite es (part test tree s) w t (rows_only test rows) next

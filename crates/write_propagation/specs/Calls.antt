@@ -9,6 +9,7 @@ use Rattle.version_graph.specs.Edges.{is_in}
 use Rattle.version_graph.specs.Sets.{In}
 use Rattle.op_law.specs.Meaning.{Meaning}
 use Rattle.op_law.specs.declared.side.Aux.{Aux}
+use Rattle.sought_ids.specs.Seeking.{IsMemory}
 use Rattle.changes_walk.specs.Changing.{latest_changes}
 use Rattle.pair_changes.specs.declared.change.PairChange.{PairChange}
 use Rattle.pair_changes.specs.Changed.{PairsLeadTo, changed_pairs}
@@ -63,6 +64,7 @@ pub record KeepsPairs (old new : List (Numbered MemoryState)) : Type 0 where
 
 -- the changes lead from one memory to the other, and make it
 pub record IsMemoryChange (old new : Pairs) (changes : List PairChange) : Type 0 where
+  pub stood : IsMemory old
   pub lead : PairsLeadTo old new changes
   pub makes : changed_pairs old changes ≡ new
 

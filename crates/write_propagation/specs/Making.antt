@@ -12,6 +12,7 @@ use Rattle.op_law.specs.Calls.{IsSpent, first_refused}
 use Rattle.op_law.specs.Identifiers.{IdsRise, has_id}
 use Rattle.op_law.specs.Local.{only, rows_only}
 use Rattle.op_law.specs.Meaning.{Meaning}
+use Rattle.pair_changes.specs.declared.change.PairChange.{PairChange}
 use Rattle.op_law.specs.Tables.{Tables}
 use Rattle.row_changes.specs.Changed.{TableChanges}
 use Rattle.row_changes.specs.Differences.{AreDifferences}
@@ -146,13 +147,13 @@ pub record AreAuxChanges {O : Type 0} (meaning : O → Meaning) (d : Parts O) (t
 pub record IsPlanOf {O : Type 0} (meaning : O → Meaning) (d : Parts O) (tree : Tree) (test : ℕ → Bool) (making : Making) (plan : Plan) : Type 0 where
   pub stored : AreChangesNow making.made.tables (stored_in d tree) plan.stored
   pub auxes : AreAuxChanges meaning d test making tree.operators plan.auxes
-  pub memories : AreMemoryChangesNow d.memories making.made.memories tree.operators plan.memories
+  pub memories : AreMemoryChangesNow making.copies.memories making.made.memories tree.operators plan.memories
   pub ids : plan.ids ≡ making.made.ids
   pub changed : plan.changed ≡ changed_of making.made.tables tree.tables
   pub carried : plan.carried ≡ making.made.tables
 
--- the plan of what was made, whatever was copied, with these changes of auxiliary tables
-abbrev pub IsPlanWith : {O : Type 0} → (O → Meaning) → Parts O → Tree → Changing → List (Numbered SideChanges) → Plan → Type 0
-IsPlanWith meaning d tree made auxes plan =
+-- the plan of what was made, whatever was copied, with these changes of auxiliary tables and memories
+abbrev pub IsPlanWith : {O : Type 0} → (O → Meaning) → Parts O → Tree → Changing → List (Numbered SideChanges) → List (Numbered (List PairChange)) → Plan → Type 0
+IsPlanWith meaning d tree made auxes memories plan =
     (test : ℕ → Bool) (copies : Copies) → let making : Making = record { copies = copies; made = made } in
-    AreAuxChanges meaning d test making tree.operators auxes → IsPlanOf meaning d tree test making plan
+    AreAuxChanges meaning d test making tree.operators auxes → AreMemoryChangesNow copies.memories made.memories tree.operators memories → IsPlanOf meaning d tree test making plan

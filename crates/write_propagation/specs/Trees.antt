@@ -7,6 +7,7 @@ use Rattle.version_graph.specs.Forest.{Crossing, crossed, step_told}
 use Rattle.version_graph.specs.declared.parts.Placed.{Placed}
 use Rattle.version_graph.specs.declared.parts.Step.{Step}
 use Rattle.op_law.specs.Local.{rows_only}
+use Rattle.pair_parts.specs.Parts.{memory_only}
 use Rattle.version_model.specs.Calls.{IsCrossing}
 use Rattle.version_model.specs.States.{State}
 use Rattle.changes_walk.specs.Reach.{IsReach}
@@ -16,11 +17,11 @@ use Rattle.write_propagation.specs.declared.tree.Tree.{Tree}
 abbrev pub IsTree : {O : Type 0} → List (Placed O) → ℕ → ℕ → Tree → Type 0
 IsTree es set table tree = IsReach es set table tree.operators tree.tables
 
--- of one tree's tables the rows of some identifiers alone, and its memories
+-- of one tree's tables the rows of some identifiers alone, and of its memories their entries
 abbrev pub part : (ℕ → Bool) → Tree → State → State
 part test tree s = record {
   tables = λ t. if is_in t tree.tables then rows_only test (s.tables t) else [];
-  memory = λ n. if is_in n tree.operators then s.memory n else [];
+  memory = λ n. if is_in n tree.operators then memory_only test (s.memory n) else [];
   next = s.next;
 }
 

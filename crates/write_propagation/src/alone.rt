@@ -18,6 +18,7 @@ use crate::filling::prepare;
 use crate::making::first_made;
 use crate::planning::plan_with;
 use crate::plans::{Plan, RowWrite};
+use crate::remembering::memory_changes;
 use crate::tree::Tree;
 use db_state::Db;
 use op_law::{Aux, Operator};
@@ -98,6 +99,8 @@ pub(crate) fn plan_alone<O: Operator>(
     let made = first_made(alloc, written)?;
     prepare(alloc, keys, tree.tables.as_slice(), made.tables.as_slice())?;
     let auxes = no_changes(alloc, tree.operators.as_slice())?;
-    let plan = plan_with(alloc, db, tree, made, auxes)?;
+    let operators = tree.operators.as_slice();
+    let memories = memory_changes(alloc, &[], made.memories.as_slice(), operators)?;
+    let plan = plan_with(alloc, db, tree, made, auxes, memories)?;
     Ok(plan)
 }

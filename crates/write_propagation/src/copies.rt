@@ -4,12 +4,12 @@ ghost use Rattle.version_graph.specs.Edges.{is_in};
 ghost use Rattle.version_graph.specs.Forest.{forest};
 ghost use Rattle.version_model.specs.Kept.{rows_now, pairs_at, numbers_in};
 ghost use Rattle.db_state.specs.Fields.{state_for};
-ghost use Rattle.db_state.specs.Parts.{listed_in, seen_of, Ascends, MaySee, SeenWithin};
+ghost use Rattle.db_state.specs.Parts.{entries_of, listed_in, seen_of, Ascends, MaySee, SeenWithin};
 ghost use Rattle.changes_walk.specs.Reach.{IsWhole};
 ghost use Rattle.write_propagation.specs.Calls.{beside, told_pairs, told_rows, CopiesTree};
 
 use crate::tree::Tree;
-use db_state::{Db, Sight, now_seen, read_over};
+use db_state::{Db, Sight, memory_seen, now_seen, read_over};
 use expr_lang::Steps;
 use id_memory::PairMemory;
 use layout_rules::holds;
@@ -18,7 +18,7 @@ use par_base::{List, Memory};
 use row_store::Table;
 use std::alloc::Global;
 use std::sync::ledger::Ledger;
-use version_model::{Numbered, memory_at};
+use version_model::{Numbered, value_of};
 
 /// The tables and memories of a tree, as they are read.
 #[derive(Drop)]
@@ -51,17 +51,37 @@ pub fn copy_tables(
     Ok(copies)
 }
 
-/// Copies of the memories of these numbers.
+/// A copy of the entries that are seen of the memory of a number.
+fn copy_memory(
+    alloc: Global,
+    kept: &[Numbered<PairMemory>],
+    number: u32,
+    sight: Sight<'_>,
+) -> Result<PairMemory, Memory>
+    requires { Ascends sight }
+    ensures { IfOk result (λ made. made.entries
+        ≡ entries_of sight.entry (pairs_at kept.now) number) }
+{
+    match value_of(kept, number) {
+        Some(memory) => memory_seen(alloc, memory, sight),
+        None => Ok(PairMemory::new(alloc)),
+    }
+}
+
+/// Copies of the entries that are seen of the memories of these numbers.
 pub fn copy_memories(
     alloc: Global,
     kept: &[Numbered<PairMemory>],
     numbers: &[u32],
+    sight: Sight<'_>,
 ) -> Result<List<Numbered<PairMemory>>, Memory>
-    ensures { IfOk result (λ copies. told_pairs copies ≡ beside (pairs_at kept.now) numbers.now) }
+    requires { Ascends sight }
+    ensures { IfOk result (λ copies. told_pairs copies
+        ≡ beside (entries_of sight.entry (pairs_at kept.now)) numbers.now) }
 {
     let mut copies = List::new(alloc);
     for number in numbers {
-        let value = memory_at(alloc, kept, *number)?;
+        let value = copy_memory(alloc, kept, *number, sight)?;
         copies.push(Numbered {
             number: *number,
             value,
@@ -84,7 +104,7 @@ pub fn kept_of(alloc: Global, kept: &[Numbered<Table>], tables: &[u32]) -> Resul
     Ok(made)
 }
 
-/// What is seen of the tables of a tree, read from what is stored, and its memories.
+/// What is seen of the tables and the memories of a tree, read from what is stored.
 pub fn copy_tree<O: Operator, L: Ledger>(
     alloc: Global,
     db: &Db<O>,
@@ -108,6 +128,7 @@ pub fn copy_tree<O: Operator, L: Ledger>(
         tree.tables.as_slice(),
         sight,
     )?;
-    let memories = copy_memories(alloc, db.memories(), tree.operators.as_slice())?;
+    let operators = tree.operators.as_slice();
+    let memories = copy_memories(alloc, db.memories(), operators, sight)?;
     Ok(Copies { tables, memories })
 }

@@ -16,6 +16,7 @@ use db_state::{Db, Sight};
 use expr_lang::Steps;
 use id_memory::PairMemory;
 use op_law::Operator;
+use pair_parts::memory_part;
 use par_base::{Fault, IdsSpent, List, Memory, Row};
 use row_store::Table;
 use std::alloc::Global;
@@ -65,6 +66,13 @@ impl StateRead for Seen<'_> {
 
     fn memory(&self, alloc: Global, operator: u32) -> Result<PairMemory, Memory> {
         memory_at(alloc, self.copies.memories.as_slice(), operator)
+    }
+
+    fn entries(&self, alloc: Global, operator: u32, ids: &[u64]) -> Result<PairMemory, Memory> {
+        match value_of(self.copies.memories.as_slice(), operator) {
+            Some(memory) => memory_part(alloc, memory, ids),
+            None => Ok(PairMemory::new(alloc)),
+        }
     }
 }
 

@@ -35,6 +35,7 @@ use changes_walk::Changing;
 use db_state::{Db, Sight, are_local};
 use expr_lang::Steps;
 use op_law::Operator;
+use pair_changes::PairChange;
 use par_base::{Fault, IdsSpent, List, Memory};
 use row_changes::SideChanges;
 use row_store::Changes;
@@ -56,24 +57,19 @@ pub(crate) fn named_ids(alloc: Global, changes: &Changes) -> Result<List<u64>, M
     Ok(ids)
 }
 
-/// The plan of what was made, with these changes of auxiliary tables.
+/// The plan of what was made, with these changes of auxiliary tables and of memories.
 pub(crate) fn plan_with<O: Operator>(
     alloc: Global,
     db: &Db<O>,
     tree: &Tree,
     made: Changing,
     auxes: List<Numbered<SideChanges>>,
+    memories: List<Numbered<List<PairChange>>>,
 ) -> Result<Plan, Memory>
-    ensures { IfOk result (IsPlanWith O.meaning db.now tree.now made auxes) }
+    ensures { IfOk result (IsPlanWith O.meaning db.now tree.now made auxes memories) }
 {
     let numbers = kept_of(alloc, db.stored(), tree.tables.as_slice())?;
     let stored = table_changes(alloc, made.tables.as_slice(), numbers.as_slice())?;
-    let memories = memory_changes(
-        alloc,
-        db.memories(),
-        made.memories.as_slice(),
-        tree.operators.as_slice(),
-    )?;
     let changed = changed_tables(alloc, made.tables.as_slice(), tree.tables.as_slice())?;
     Ok(Plan {
         stored,
@@ -103,8 +99,14 @@ fn plan_of<O: Operator, L: Ledger>(
     ensures steps { SeenWithin 8 sight.entry (length tree.now.operators) steps.old steps.new }
 {
     let auxes = tree_aux_changes(alloc, db, tree, &making, sight, steps)?;
-    let Making { copies: _, made } = making;
-    let plan = plan_with(alloc, db, tree, made, auxes)?;
+    let Making { copies, made } = making;
+    let memories = memory_changes(
+        alloc,
+        copies.memories.as_slice(),
+        made.memories.as_slice(),
+        tree.operators.as_slice(),
+    )?;
+    let plan = plan_with(alloc, db, tree, made, auxes, memories)?;
     Ok(plan)
 }
 

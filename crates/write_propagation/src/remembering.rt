@@ -26,6 +26,7 @@ fn change_to(
     ensures { IfOk result (IsMemoryChange old.now.entries
         (newer_pairs (latest_of_lem made.now number) old.now.entries)) }
 {
+    let _ = old.iter();
     match latest_of(made, number) {
         Some(new) => {
             let changes = pair_difference(alloc, old, new)?;
@@ -50,7 +51,7 @@ fn memory_change(
     }
 }
 
-/// The changes of the memories under these numbers to those that were made last. A memory in whose
+/// The changes of the copied memories under these numbers to those that were made last. A memory in whose
 /// place none was made takes no time; else both are gone over.
 pub(crate) fn memory_changes(
     alloc: Global,

@@ -1,5 +1,6 @@
 -- Each operator keeps the laws of seeking.
-use Rattle.std.specs.Prelude.{None}
+use Rattle.std.proofs.Common.{◌≡◌, [], None, sym, subst, arith}
+use Rattle.id_memory.specs.Pairs.{Pairs}
 use Rattle.op_law.specs.Meaning.{Meaning, exchanged, flip}
 use Rattle.op_any.specs.Operators.{Built, meaning_of}
 use Rattle.op_any.specs.Operators.{CreateTable, DropTable, Rename, AddColumn, AddTracked, DropColumn, Split, Merge, DecomposeSingle, DecomposePk, OuterJoinPk, JoinPk, DecomposeFk, OuterJoinFk, JoinFk, JoinOn, DecomposeOn, OuterJoinOn}
@@ -7,11 +8,15 @@ use Rattle.op_fk_decompose.specs.Columns.{decompose_columns}
 use Rattle.pair_parts.proofs.SplitLaws.{splits_behind, turned}
 use Rattle.fk_parts.proofs.PartLaws.{decompose_splits, join_splits}
 use Rattle.op_seeks.specs.Places.{place_of}
-use Rattle.op_seeks.specs.Seeking.{SeekLaws}
+use Rattle.op_seeks.specs.Seeking.{IsMemory, SeekLaws}
+
+-- one without entries is a memory
+none_stand : (m : Pairs) → m ≡ [] → IsMemory m
+none_stand m none = subst (λ (x : Pairs). IsMemory x) (sym none) (record { rises = tt; one = λ s t. omega arith })
 
 -- an operator without a foreign key promises nothing
 none_seeks : (m : Meaning) → SeekLaws m None
-none_seeks m = record { splits = λ keys ids P hs ht p none closing listed pair. absurd none; no_memory = λ keys hs ht p none pair. absurd none }
+none_seeks m = record { splits = λ keys ids P hs ht p none closing listed pair. absurd none; memory = λ keys hs ht p none pair. absurd none }
 
 pub built_seeks : (b : Built) → SeekLaws (meaning_of b) (place_of b)
 built_seeks CreateTable = none_seeks (meaning_of CreateTable)
@@ -28,17 +33,17 @@ built_seeks (OuterJoinPk first second) = none_seeks (meaning_of (OuterJoinPk fir
 built_seeks (JoinPk first second) = none_seeks (meaning_of (JoinPk first second))
 built_seeks (DecomposeFk first second place) = record {
   splits = λ keys ids P hs ht p are closing listed pair. decompose_splits first second place keys ids P hs ht p are closing listed pair;
-  no_memory = λ keys hs ht p are pair. pair.related.0;
+  memory = λ keys hs ht p are pair. none_stand p.memory pair.related.0;
 }
 built_seeks (OuterJoinFk first second place) = record {
   splits = λ keys ids P hs ht p are closing listed pair.
       splits_behind (decompose_columns first second place) P (exchanged p)
       (decompose_splits first second place keys ids P ht hs (exchanged p) are closing listed (turned (flip (decompose_columns first second place)) hs ht p pair));
-  no_memory = λ keys hs ht p are pair. pair.related.0;
+  memory = λ keys hs ht p are pair. none_stand p.memory pair.related.0;
 }
 built_seeks (JoinFk first second place) = record {
   splits = λ keys ids P hs ht p are closing listed pair. join_splits first second place keys ids P hs ht p are closing listed pair;
-  no_memory = λ keys hs ht p are pair. pair.related.0;
+  memory = λ keys hs ht p are pair. none_stand p.memory pair.related.0;
 }
 built_seeks (JoinOn first second c) = none_seeks (meaning_of (JoinOn first second c))
 built_seeks (DecomposeOn first second c) = none_seeks (meaning_of (DecomposeOn first second c))

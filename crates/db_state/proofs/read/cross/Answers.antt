@@ -48,8 +48,8 @@ read_far-requires g c =
     let aux = some_kept c.in-Some-value_of.aux.now c.aux.result.now p.aux c.args.step.operator c.in-Some-value_of.ensures c.aux.ensures in
     let memory = some_kept c.in-Some-value_of-2.memory.now c.memories.result.now p.memories c.args.step.operator c.in-Some-value_of-2.ensures c.memories.ensures in
     may_read g.O.Operator.meaning g.met.O.Operator.laws p c.graph.ensures.kept c.args.sight e c.requires.lives c.requires.sees q over (rows_now p.stored c.args.made.now) c.requires.near
-    c.in_ok-near.near c.args.step.operator (ap (λ (s : Step). s.operator) c.requires.tells) c.in-Some-value_of.aux.now c.in_ok-beside.beside c.in-Some-value_of-2.memory.now
-    near aux c.in_ok-beside.ensures memory
+    c.in_ok-near.near c.args.step.operator (ap (λ (s : Step). s.operator) c.requires.tells) c.in-Some-value_of.aux.now c.in_ok-beside.beside c.in-Some-value_of-2.memory.now c.in_ok-entries.entries
+    near aux c.in_ok-beside.ensures memory c.in_ok-entries.ensures
 
 pub put_side-requires : goal.put_side-requires
 put_side-requires g c =
@@ -61,8 +61,8 @@ put_side-requires g c =
     let aux = some_kept c.in-Some-value_of.aux.now c.aux.result.now p.aux c.args.step.operator c.in-Some-value_of.ensures c.aux.ensures in
     let memory = some_kept c.in-Some-value_of-2.memory.now c.memories.result.now p.memories c.args.step.operator c.in-Some-value_of-2.ensures c.memories.ensures in
     far_long g.O.Operator.meaning g.met.O.Operator.laws p c.graph.ensures.kept c.args.sight e c.requires.lives c.requires.sees q over (rows_now p.stored c.args.made.now) c.requires.near
-    c.in_ok-near.near c.args.step.operator (ap (λ (s : Step). s.operator) c.requires.tells) c.in-Some-value_of.aux.now c.in_ok-beside.beside c.in-Some-value_of-2.memory.now
-    near aux c.in_ok-beside.ensures memory
+    c.in_ok-near.near c.args.step.operator (ap (λ (s : Step). s.operator) c.requires.tells) c.in-Some-value_of.aux.now c.in_ok-beside.beside c.in-Some-value_of-2.memory.now c.in_ok-entries.entries
+    near aux c.in_ok-beside.ensures memory c.in_ok-entries.ensures
     c.in_ok-far.far c.in_ok-far.ensures.far
 
 pub returns-clause-passes : goal.returns-clause-passes
@@ -77,8 +77,8 @@ returns-clause-passes g c other crosses tells =
     let memory = some_kept c.in-Some-value_of-2.memory.now c.memories.result.now p.memories c.args.step.operator c.in-Some-value_of-2.ensures c.memories.ensures in
     subst (λ (x : Crossing _). Settles (seen_of c.args.sight (state_for g.O.Operator.meaning p).tables) x.far (seen_of c.args.sight (rows_now p.stored c.args.made.now)) (seen_of c.args.sight (rows_now p.stored c.put_side.new.made))) same
     (settles g.O.Operator.meaning g.met.O.Operator.laws p c.graph.ensures.kept c.args.sight e c.requires.lives c.requires.sees q over (rows_now p.stored c.args.made.now) c.requires.near
-    c.in_ok-near.near c.args.step.operator (ap (λ (s : Step). s.operator) c.requires.tells) c.in-Some-value_of.aux.now c.in_ok-beside.beside c.in-Some-value_of-2.memory.now
-    near aux c.in_ok-beside.ensures memory
+    c.in_ok-near.near c.args.step.operator (ap (λ (s : Step). s.operator) c.requires.tells) c.in-Some-value_of.aux.now c.in_ok-beside.beside c.in-Some-value_of-2.memory.now c.in_ok-entries.entries
+    near aux c.in_ok-beside.ensures memory c.in_ok-entries.ensures
     c.in_ok-far.far (rows_now p.stored c.put_side.new.made) c.in_ok-far.ensures.far (c.in_ok-put_side.ensures p.stored))
 
 pub returns-in_err-far-clause-steps : goal.returns-in_err-far-clause-steps
@@ -119,3 +119,6 @@ returns-in_err-near-clause-steps g c = seen_none 2 c.args.sight 1 c.args.steps.n
 
 pub returns-in_err-beside-clause-steps : goal.returns-in_err-beside-clause-steps
 returns-in_err-beside-clause-steps g c = seen_none 2 c.args.sight 1 c.args.steps.now
+
+pub returns-in_err-entries-clause-steps : goal.returns-in_err-entries-clause-steps
+returns-in_err-entries-clause-steps g c = seen_none 2 c.args.sight 1 c.args.steps.now

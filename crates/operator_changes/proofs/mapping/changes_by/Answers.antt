@@ -4,16 +4,16 @@ use Rattle.id_memory.specs.States.{CounterState}
 use Rattle.op_law.specs.Calls.{seen, IsMapped}
 use Rattle.op_law.specs.Premises.{SomeMap}
 use Rattle.op_law.specs.Tables.{Tables, contents}
-use Rattle.operator_changes.specs.Calls.{ahead, toward, IsChangedTo}
+use Rattle.operator_changes.specs.Calls.{ahead, toward}
 use Rattle.row_changes.specs.Changed.{changed_tables}
 use Rattle.row_changes.specs.Picked.{PicksEach}
 use Rattle.operator_changes.specs.Footprint.{passes, with_drawn}
 use Rattle.op_rows.specs.inner.CellLemmas.{has_id, IdsRise}
 use Rattle.operator_changes.proofs.DrawnLemmas.{with_passes}
 use Rattle.row_changes.proofs.PickLaws.{each_pass_of}
-use Rattle.pair_changes.specs.declared.change.PairChange.{PairChange}
+use Rattle.pair_changes.specs.MemoryChanges.{IsMemoryDifference}
 use Rattle.operator_changes.proofs.FootLemmas.{answered, far_many, part_fits, part_may, part_next, part_rises, part_steps, spent, toward_laws}
-use Rattle.operator_changes.proofs.PartLemmas.{part_ahead}
+use Rattle.operator_changes.proofs.PartLemmas.{memory_either, part_ahead}
 use Rattle.operator_changes.proofs.LoopLemmas.{contents_long}
 use Rattle.operator_changes.proofs.mapping.changes_by.Goals as goal
 
@@ -148,8 +148,21 @@ returns-clause-answer g c =
     let picks = subst (λ (l : List ℕ). PicksEach l (contents c.tables.result.now) (contents c.tables-2.result.now) cs) listed c.in_ok-side.ensures in
     let old = subst (λ (ts : Tables). PicksEach (with_drawn foot n (m.forward (changed_tables p.source near) p n).next) ts (contents c.tables-2.result.now) cs) (c.tables.ensures.all ∙ c.far_of.ensures) picks in
     let both = subst (λ (ts : Tables). PicksEach (with_drawn foot n (m.forward (changed_tables p.source near) p n).next) x.target ts cs) c.tables-2.ensures.all old in
-    subst (λ (l : List PairChange). IsChangedTo p (m.forward (changed_tables p.source near) p n) c.args.ids.now c.map_part.new.ids (Ok (record { side = c.in_ok-side.side; memory = l }))) (sym c.new.ensures)
-    (answered m laws near p n c.requires.may foot c.requires.foot x is c.args.ids.now c.map_part.new.ids c.in_ok-far.far cs mapped both)
+    let differ : IsMemoryDifference x.memory c.in_ok-far.far.memory.entries c.in_ok-memory.memory = memory_either b (seen c.in_ok-part.part) c.in_ok-far.far.memory.entries c.in_ok-memory.memory c.in_ok-memory.ensures.lead.difference in
+    answered m laws near p n c.requires.may foot c.requires.foot x is c.args.ids.now c.map_part.new.ids c.in_ok-far.far cs c.in_ok-memory.memory mapped both differ
+
+pub returns-in_err-memory-clause-steps : goal.returns-in_err-memory-clause-steps
+returns-in_err-memory-clause-steps g c =
+    let b = c.args.backward in
+    let o = g.O.Operator.meaning c.args.operator.now in
+    let m = toward b o in
+    let laws = toward_laws b o (g.met.O.Operator.laws c.args.operator.now) in
+    let near = c.args.near.now.tables in
+    let p = ahead b (g.V.PairRead.pair c.args.old.now) in
+    let n = c.args.ids.now.next in
+    let x = ahead b (seen c.in_ok-part.part) in
+    let is = part_ahead b c.args.foot.now (seen c.in_ok-part.part) (g.V.PairRead.pair c.args.old.now) c.in_ok-part.ensures.part in
+    part_steps m laws near p n c.requires.may c.args.foot.now c.requires.foot x is c.args.steps.now c.map_part.new.steps c.in_ok-far.ensures.steps
 
 pub returns-clause-steps : goal.returns-clause-steps
 returns-clause-steps g c =

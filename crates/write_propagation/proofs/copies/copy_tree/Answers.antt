@@ -5,7 +5,7 @@ use Rattle.version_graph.specs.Forest.{forest}
 use Rattle.version_model.specs.Kept.{pairs_at, rows_now}
 use Rattle.version_model.specs.declared.numbered.Numbered.{Numbered}
 use Rattle.db_state.specs.Covered.{Covers, CoversItself}
-use Rattle.db_state.specs.Parts.{MaySee, SeenWithin, listed_in, seen_of}
+use Rattle.db_state.specs.Parts.{MaySee, SeenWithin, entries_of, listed_in, seen_of}
 use Rattle.db_state.specs.Fields.{state_for}
 use Rattle.write_propagation.specs.Calls.{beside}
 use Rattle.write_propagation.proofs.CopyLemmas.{copies_tree, covers_itself}
@@ -30,7 +30,9 @@ returns-clause-copies g c =
     let copied =
     c.in_ok-tables.ensures ∙ ap (λ (l : List (Numbered TableState)). beside (seen_of c.args.sight (rows_now l c.as_slice-2.result.now)) c.as_slice-3.result.now) c.stored.ensures
     ∙ ap (λ (l : List (Numbered TableState)). beside (seen_of c.args.sight (rows_now d.stored l)) c.as_slice-3.result.now) c.as_slice-2.ensures ∙ ap (λ (l : List ℕ). beside (seen_of c.args.sight (rows_now d.stored read)) l) c.as_slice-3.ensures in
-    let held = c.in_ok-memories.ensures ∙ ap (λ (l : List (Numbered MemoryState)). beside (pairs_at l) c.as_slice-4.result.now) c.memories.ensures ∙ ap (λ (l : List ℕ). beside (pairs_at d.memories) l) c.as_slice-4.ensures in
+    let held =
+    c.in_ok-memories.ensures ∙ ap (λ (l : List (Numbered MemoryState)). beside (entries_of c.args.sight (pairs_at l)) c.as_slice-operators.result.now) c.memories.ensures
+    ∙ ap (λ (l : List ℕ). beside (entries_of c.args.sight (pairs_at d.memories)) l) c.as_slice-operators.ensures in
     copies_tree g.O.Operator.meaning d tree c.requires.whole c.args.sight read c.in_ok-tables.tables c.in_ok-memories.memories
     (λ t live over. c.in_ok-read.ensures.read t live (subst (λ (ns : List ℕ). Covers (forest d.graph.edges) d.layout.operators ns t) (sym c.as_slice.ensures) over)) copied held
 

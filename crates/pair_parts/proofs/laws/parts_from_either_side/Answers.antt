@@ -1,5 +1,5 @@
-use Rattle.cond_parts.proofs.PartLaws.{keeps_behind, splits_behind}
-use Rattle.cond_parts.proofs.laws.parts_from_either_side.Goals as goal
+use Rattle.pair_parts.proofs.SplitLaws.{keeps_behind, splits_behind}
+use Rattle.pair_parts.proofs.laws.parts_from_either_side.Goals as goal
 
 pub returns-clause-splits : goal.returns-clause-splits
 returns-clause-splits g c operator = splits_behind (g.O.Operator.meaning operator)
