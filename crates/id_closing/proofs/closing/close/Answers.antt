@@ -21,7 +21,7 @@ loop-next-preserved g c =
             | inr left ↦ inl left
             | inl old ↦
                 elim (inv.followed q old) [
-                  | inr done ↦ inr (g.R.Rule.more rule q c.loop-next.found found more.stay done)
+                  | inr done ↦ inr (g.met.R.Rule.more rule q c.loop-next.found found more.stay done)
                   | inl was ↦
                       elim (end_is (ids_left c.pop.new.self) id q (subst (λ (xs : List ℕ). has_id xs q ≡ true) were was)) [
                         | inl rest ↦ inl (more.remain q rest)

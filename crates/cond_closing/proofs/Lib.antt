@@ -1,0 +1,6 @@
+mod SearchLemmas
+mod EntryLemmas
+mod StillLemmas
+mod RowLemmas
+mod EqualLemmas
+mod ForwardLemmas
