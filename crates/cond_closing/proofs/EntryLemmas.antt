@@ -36,12 +36,21 @@ later_entry e es d rise is =
     let other : (e.0 == d.0) ≡ false = ne_eqb e.0 d.0 (λ q. absurd (omega (arith, above, q))) in
     rw other is
 
+-- either of a pair that is there
+pub first_in : Option (ℕ × ℕ) → ℕ
+first_in None = 0
+first_in (Some pair) = pair.0
+
+pub second_in : Option (ℕ × ℕ) → ℕ
+second_in None = 0
+second_in (Some pair) = pair.1
+
 -- entries of one identifier are one
 pub same_entry : (e : Triple) (es : Pairs) (d : Triple) → (e.0 == d.0) ≡ true → IsEntry (e ∷ es) d → e ≡ d
 same_entry e es d q is =
     let some : Some (e.1, e.2) ≡ Some (d.1, d.2) = rw q at is in
-    let first : e.1 ≡ d.1 = cc in
-    let second : e.2 ≡ d.2 = cc in
+    let first : e.1 ≡ d.1 = ap first_in some in
+    let second : e.2 ≡ d.2 = ap second_in some in
     ap (λ (k : ℕ). (k, e.1, e.2)) (eqb-true e.0 d.0 q) ∙ ap (λ (k : ℕ). (d.0, k, e.2)) first ∙ ap (λ (k : ℕ). (d.0, d.1, k)) second
 
 -- an entry that alone passes a test that some pass

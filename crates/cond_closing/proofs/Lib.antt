@@ -1,6 +1,3 @@
 mod SearchLemmas
 mod EntryLemmas
 mod StillLemmas
-mod RowLemmas
-mod EqualLemmas
-mod ForwardLemmas

@@ -25,11 +25,11 @@ stays it e = is_still it.what it.changed e
 
 -- p has an entry with q as this half that isn't changed
 pub record IsStill (half : Half) (it : ChangingMemory) (q p : ℕ) : Type 0 where
-  pub first : ℕ
-  pub second : ℕ
-  pub is : IsEntry it.entries (p, first, second)
-  pub has : pick_of half (p, first, second) ≡ q
-  pub still : stays it (p, first, second) ≡ true
+  pub entry : ℕ × ℕ × ℕ
+  pub own : entry.0 ≡ p
+  pub is : IsEntry it.entries entry
+  pub has : pick_of half entry ≡ q
+  pub still : stays it entry ≡ true
 
 -- such an identifier; none, where there is none
 abbrev pub IsStillBy : Half → ChangingMemory → ℕ → Option ℕ → Type 0
