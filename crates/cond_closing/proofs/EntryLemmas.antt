@@ -37,11 +37,11 @@ later_entry e es d rise is =
     rw other is
 
 -- either of a pair that is there
-pub first_in : Option (ℕ × ℕ) → ℕ
+abbrev pub first_in : Option (ℕ × ℕ) → ℕ
 first_in None = 0
 first_in (Some pair) = pair.0
 
-pub second_in : Option (ℕ × ℕ) → ℕ
+abbrev pub second_in : Option (ℕ × ℕ) → ℕ
 second_in None = 0
 second_in (Some pair) = pair.1
 

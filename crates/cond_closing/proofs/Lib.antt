@@ -1,3 +1,4 @@
 mod SearchLemmas
 mod EntryLemmas
 mod StillLemmas
+mod ColumnLemmas

@@ -1,4 +1,4 @@
-use Rattle.std.proofs.Common.{◌≡◌, ℕ, ◌-◌, ◌^◌, ◌<◌, true}
+use Rattle.std.proofs.Common.{◌≡◌, ◌-◌, ◌^◌, ◌<◌, true}
 use Rattle.op_law.specs.Identifiers.{has_id}
 use Rattle.pair_rows.specs.Halves.{pick_of}
 use Rattle.table_keys.specs.States.{behind}

@@ -1,4 +1,4 @@
-use Rattle.std.proofs.Common.{Option, None, sym, ◌∙◌, subst}
+use Rattle.std.proofs.Common.{Option, sym, ◌∙◌, subst}
 use Rattle.table_keys.specs.States.{behind}
 use Rattle.cond_closing.specs.Entries.{IsNextWith}
 use Rattle.cond_closing.proofs.SearchLemmas.{Triple}
