@@ -1,6 +1,6 @@
 -- Columns of joined rows, and what an equality of two says.
 use Rattle.std.proofs.Common.{◌≡◌, ℕ, ℤ, zero, suc, ◌+◌, ◌<◌, ◌==◌, ◌&&◌, ◌||◌, List, [], ◌∷◌, Bool, true, false, length, slice_get, unwrap_or, Option, Some, None, refl, ap, sym, ◌∙◌, subst, arith}
-use Rattle.std.specs.Prelude.{option_map}
+use Rattle.std.specs.Prelude.{option_map, IfSome}
 use Rattle.std.specs.Ordering.{int_cmp, nat_cmp, is_eq, ordering_then}
 use Rattle.std.specs.declared.cmp.Ordering.{Ordering}
 use Rattle.std.specs.declared.cmp.Ordering.TheVariants as order
@@ -45,23 +45,28 @@ null_past zero = refl
 null_past (suc place) = refl
 
 -- a place that stands first at one of a list has the value there
+
+further : (ps : List ℕ) (v : Value) (vs : List Value) (place column : ℕ) (o : Option ℕ) → ((k : ℕ) → o ≡ Some k → value_or Null (value_for ps vs place) ≡ value_at k vs)
+    → option_map (λ (at : ℕ). suc at) o ≡ Some column → value_or Null (value_for ps vs place) ≡ value_at column (v ∷ vs)
+further ps v vs place column None is h = absurd (cc)
+further ps v vs place column (Some k) is h = let next : suc k ≡ column = cc in is k refl ∙ ap (λ (i : ℕ). value_at i (v ∷ vs)) next
+
 value_here : (ps : List ℕ) (vs : List Value) (place column : ℕ) → place_in ps place ≡ Some column → value_or Null (value_for ps vs place) ≡ value_at column vs
 value_here [] vs place column here = absurd (cc)
 value_here (p ∷ ps) [] place column here = sym (null_past column)
 value_here (p ∷ ps) (v ∷ vs) place column here =
     by_test (p == place)
     (λ e. let some : Some 0 ≡ Some column = rw e at here in let first : 0 ≡ column = cc in rw e (ap (λ (k : ℕ). value_at k (v ∷ vs)) first))
-    (λ e. let rest : option_map (λ at. suc at) (place_in ps place) ≡ Some column = rw e at here in rw e (further (place_in ps place) refl rest))
-  where
-    further : (o : Option ℕ) → place_in ps place ≡ o → option_map (λ (at : ℕ). suc at) o ≡ Some column → value_or Null (value_for ps vs place) ≡ value_at column (v ∷ vs)
-    further None at h = absurd (cc)
-    further (Some k) at h = let next : suc k ≡ column = cc in value_here ps vs place k at ∙ ap (λ (i : ℕ). value_at i (v ∷ vs)) next
+    (λ e.
+    let rest : option_map (λ at. suc at) (place_in ps place) ≡ Some column = rw e at here in
+    rw e (further ps v vs place column (place_in ps place) (λ k at. value_here ps vs place k at) rest))
 
 module _ (first second : List ℕ) (place column : ℕ) where
   -- a column of the first table
   pub first_column : IsColumn first second place column → (x y : List Value) → value_at place (joined_row first second x y) ≡ value_at column x
   first_column is x y =
       at_filled (length first + length second) 0 place (value_of_both first second x y) is.within
+      ∙ ap (value_of_both first second x y) (omega arith)
       ∙ ap (λ (o : Option Value). value_or (value_or Null o) (value_for first x place)) (none_for second y place is.not_there)
       ∙ value_here first x place column is.here
 
@@ -69,6 +74,7 @@ module _ (first second : List ℕ) (place column : ℕ) where
   pub second_column : IsColumn second first place column → (x y : List Value) → value_at place (joined_row first second x y) ≡ value_at column y
   second_column is x y =
       at_filled (length first + length second) 0 place (value_of_both first second x y) (let h = is.within in omega (arith, h))
+      ∙ ap (value_of_both first second x y) (omega arith)
       ∙ ap (λ (o : Option Value). value_or (value_or Null (value_for second y place)) o) (none_for first x place is.not_there)
       ∙ value_here second y place column is.here
 
@@ -150,3 +156,8 @@ module _ (j : Joining) (t u : Term ℕ) (x y : ℕ) where
   and_right makes row other h =
       let r = joined_row j.first j.second row other in
       makes row other (and_parts (is_true (val t r)) (is_true (val u r)) (of_truth (is_true (val t r) && is_true (val u r)) h)).1
+
+-- what follows of an answer, where there is one
+pub some_then : {X : Type 0} (P Q : X → Type 0) (o : Option X) → ((x : X) → P x → Q x) → IfSome o P → IfSome o Q
+some_then P Q None then h = tt
+some_then P Q (Some x) then h = then x h

@@ -2,3 +2,8 @@ mod SearchLemmas
 mod EntryLemmas
 mod StillLemmas
 mod ColumnLemmas
+mod RowLemmas
+mod StandLemmas
+mod ReadLemmas
+mod ShownLemmas
+mod ForwardLemmas

@@ -7,25 +7,23 @@ use Rattle.table_keys.specs.Keys.{keys_by}
 use Rattle.table_keys.specs.declared.columns.KeyColumns.TheVariants.{One}
 use Rattle.pair_rows.specs.declared.half.Half.{Half}
 use Rattle.pair_rows.specs.declared.half.Half.TheVariants.{First, Second}
-use Rattle.pair_rows.specs.Shown.{Joining}
+use Rattle.op_cond_join.specs.Joinings.{joining}
+use Rattle.cond_closing.specs.Columns.{MakesEqual}
+use Rattle.cond_closing.specs.declared.by_keys.ByKeys.{ByKeys}
 
--- an operator, a column of S and one of T, and the keys of S and of T in them
-pub record KeyedTables : Type 0 where
-  pub joining : Joining
-  pub x : ℕ
-  pub y : ℕ
-  pub first : Rows
-  pub second : Rows
+-- its columns, x of S and y of T, are equal wherever the condition holds
+abbrev pub HasEqual : ByKeys → Type 0
+HasEqual it = MakesEqual (joining it.join.now) (joining it.join.now).condition it.x it.y
 
--- they are the keys of these tables
-pub record AreKeysOf (k : KeyedTables) (s t : Rows) : Type 0 where
-  pub first : k.first ≡ keys_by (One k.x) s
-  pub second : k.second ≡ keys_by (One k.y) t
+-- its keys are those of these tables in the columns
+pub record AreKeysOf (it : ByKeys) (s t : Rows) : Type 0 where
+  pub first : it.first.now.rows ≡ keys_by (One it.x) s
+  pub second : it.second.now.rows ≡ keys_by (One it.y) t
 
 -- the column of the half's table
-abbrev pub column_of : Half → KeyedTables → ℕ
-column_of First k = k.x
-column_of Second k = k.y
+abbrev pub column_of : Half → ByKeys → ℕ
+column_of First it = it.x
+column_of Second it = it.y
 
 -- all rows that have the key are among these
 abbrev pub HasKeyed : Rows → List Value → List ℕ → Type 0

@@ -4,4 +4,6 @@ pub mod Matching
 pub mod Columns
 pub mod Keyed
 pub mod Tabled
+pub mod Shown
+pub mod Calls
 pub mod inner

@@ -1,15 +1,9 @@
 -- Two tables whose rows are gone over.
 use Rattle.std.specs.Prelude.{◌≡◌}
 use Rattle.row_store.specs.Rows.{Rows}
-use Rattle.pair_rows.specs.Shown.{Joining}
+use Rattle.cond_closing.specs.declared.by_rows.ByRows.{ByRows}
 
--- an operator, and its tables
-pub record BothTables : Type 0 where
-  pub joining : Joining
-  pub first : Rows
-  pub second : Rows
-
--- they are these
-pub record AreTables (b : BothTables) (s t : Rows) : Type 0 where
-  pub first : b.first ≡ s
-  pub second : b.second ≡ t
+-- its tables are these
+pub record AreTables (it : ByRows) (s t : Rows) : Type 0 where
+  pub first : it.first.now.rows ≡ s
+  pub second : it.second.now.rows ≡ t

@@ -1,11 +1,11 @@
 //! Matches by all rows of the other table: the condition is evaluated at each.
-ghost use Rattle.std.specs.Prelude.{◌≡◌, ℕ, IfOk, OnOk, true};
+ghost use Rattle.std.specs.Prelude.{◌≡◌, IfOk, OnOk, true};
 ghost use Rattle.op_law.specs.Identifiers.{has_id};
 ghost use Rattle.op_cond_join.specs.Joinings.{joining, Reads};
 ghost use Rattle.id_closing.specs.Found.{AreAmong};
 ghost use Rattle.cond_closing.specs.Matching.{joined_of, meets, others_of, own_of};
 ghost use Rattle.cond_closing.specs.Matching.{FindsMatches, FindsMatchesAt, HasMatches};
-ghost use Rattle.cond_closing.specs.Tabled.{AreTables, BothTables};
+ghost use Rattle.cond_closing.specs.Tabled.{AreTables};
 
 use crate::Matching;
 use expr_lang::{Steps, holds};
@@ -15,84 +15,44 @@ use par_base::{List, Memory, Row};
 use row_parts::row_of_both;
 use row_store::Table;
 use std::alloc::Global;
-use std::marker::Model;
 use std::sync::ledger::Ledger;
 
 /// Both tables.
 ///
 /// It evaluates the condition once for each row of the other table: for conditions in which no
 /// columns are equal.
-#[derive(Drop)]
+#[derive(Clone, Copy)]
 pub struct ByRows<'a> {
-    join: &'a JoinOn,
-    first: &'a Table,
-    second: &'a Table,
-}
-
-impl<'a> Model for ByRows<'a> {
-    ghost use Rattle.op_cond_join.specs.Joinings.{joining, Reads};
-    ghost use Rattle.cond_closing.specs.Tabled.{BothTables};
-
-    ghost Value = { BothTables };
-
-    ghost view = { λ it. record {
-      joining = joining it.join.now;
-      first = it.first.now.rows;
-      second = it.second.now.rows;
-    } };
-
-    ghost invariant = { λ it. Reads it.join.now };
+    pub join: &'a JoinOn,
+    pub first: &'a Table,
+    pub second: &'a Table,
 }
 
 /// A row of one table whose matches are sought.
 #[derive(Clone, Copy)]
-struct Sought<'a> {
-    join: &'a JoinOn,
-    half: Half,
-    row: &'a Row,
+pub(crate) struct Sought<'a> {
+    pub(crate) join: &'a JoinOn,
+    pub(crate) half: Half,
+    pub(crate) row: &'a Row,
 }
 
-impl<'a> ByRows<'a> {
-    /// Both tables together. It takes no memory.
-    pub fn new(join: &'a JoinOn, first: &'a Table, second: &'a Table) -> ByRows<'a>
-        requires { Reads join.now }
-        ensures { result ≡ record {
-          joining = joining join.now;
-          first = first.now.rows;
-          second = second.now.rows;
-        } }
-    {
-        ByRows {
-            join,
-            first,
-            second,
-        }
+/// The half's table.
+fn own_table<'a>(it: &ByRows<'a>, half: Half) -> &'a Table
+    ensures { result.now.rows ≡ own_of half it.now.first.now.rows it.now.second.now.rows }
+{
+    match half {
+        Half::First => it.first,
+        Half::Second => it.second,
     }
+}
 
-    /// The operator.
-    fn join(&self) -> &JoinOn
-        ensures joins { joining result.now ≡ self.now.joining }
-        ensures reads { Reads result.now }
-    {
-        self.join
-    }
-
-    fn own(&self, half: Half) -> &Table
-        ensures { result.now.rows ≡ own_of half self.now.first self.now.second }
-    {
-        match half {
-            Half::First => self.first,
-            Half::Second => self.second,
-        }
-    }
-
-    fn others(&self, half: Half) -> &Table
-        ensures { result.now.rows ≡ others_of half self.now.first self.now.second }
-    {
-        match half {
-            Half::First => self.second,
-            Half::Second => self.first,
-        }
+/// The other table.
+fn other_table<'a>(it: &ByRows<'a>, half: Half) -> &'a Table
+    ensures { result.now.rows ≡ others_of half it.now.first.now.rows it.now.second.now.rows }
+{
+    match half {
+        Half::First => it.second,
+        Half::Second => it.first,
     }
 }
 
@@ -177,13 +137,17 @@ fn add_for_row<L: Ledger>(
     ids: &mut List<u64>,
     steps: &mut Steps<L>,
 ) -> Result<(), Memory>
-    ensures matches { OnOk result (FindsMatches it.now.joining (AreTables it.now) half ids.new
-        row.now) }
+    requires { Reads it.now.join.now }
+    ensures matches { OnOk result (FindsMatches (joining it.now.join.now) (AreTables it.now) half
+        ids.new row.now) }
     ensures stay { OnOk result (AreAmong ids.old ids.new) }
 {
-    let join = it.join();
-    let sought = Sought { join, half, row };
-    add_all_met(alloc, &sought, it.others(half), ids, steps)
+    let sought = Sought {
+        join: it.join,
+        half,
+        row,
+    };
+    add_all_met(alloc, &sought, other_table(it, half), ids, steps)
 }
 
 /// Adds the matches of the row of an identifier.
@@ -195,18 +159,21 @@ fn add_for_id<L: Ledger>(
     ids: &mut List<u64>,
     steps: &mut Steps<L>,
 ) -> Result<(), Memory>
-    ensures matches { OnOk result (FindsMatchesAt it.now.joining (AreTables it.now) half ids.new
-        id) }
+    requires { Reads it.now.join.now }
+    ensures matches { OnOk result (FindsMatchesAt (joining it.now.join.now) (AreTables it.now) half
+        ids.new id) }
     ensures stay { OnOk result (AreAmong ids.old ids.new) }
 {
-    match it.own(half).get(id) {
+    match own_table(it, half).get(id) {
         Some(row) => add_for_row(alloc, it, half, row, ids, steps),
         None => Ok(()),
     }
 }
 
 impl<'a> Matching for ByRows<'a> {
-    ghost joins = { λ it. it.joining };
+    ghost joins = { λ it. joining it.join.now };
+
+    ghost fits = { λ it. Reads it.join.now };
 
     ghost knows = { λ it. AreTables it };
 

@@ -6,9 +6,13 @@ mod by_rows;
 mod columns;
 mod entries;
 mod matching;
+mod reading;
+mod shown;
 mod steady;
 
 pub use by_keys::ByKeys;
 pub use by_rows::ByRows;
 pub use columns::equal_columns;
 pub use matching::Matching;
+pub use reading::read_ids;
+pub use shown::shown_ids;

@@ -13,9 +13,12 @@ use std::sync::ledger::Ledger;
 
 /// What finds all rows of one table that match a row of the other. It may find further ones.
 ///
-/// `joins` is the operator's places and condition, and `knows` says of which tables it finds them.
+/// `joins` is the operator's places and condition, `fits` is what is supposed of them, and `knows` says
+/// of which tables S and T the rows are.
 pub trait Matching {
     ghost joins: { Self → Joining };
+
+    ghost fits: { Self → Type 0 };
 
     ghost knows: { Self → Rows → Rows → Type 0 };
 
@@ -28,6 +31,7 @@ pub trait Matching {
         ids: &mut List<u64>,
         steps: &mut Steps<L>,
     ) -> Result<(), Memory>
+        requires { fits self.now }
         ensures matches { OnOk result (FindsMatches (joins self.now) (knows self.now) half ids.new
             row.now) }
         ensures stay { OnOk result (AreAmong ids.old ids.new) };
@@ -41,6 +45,7 @@ pub trait Matching {
         ids: &mut List<u64>,
         steps: &mut Steps<L>,
     ) -> Result<(), Memory>
+        requires { fits self.now }
         ensures matches { OnOk result (FindsMatchesAt (joins self.now) (knows self.now) half ids.new
             id) }
         ensures stay { OnOk result (AreAmong ids.old ids.new) };
