@@ -115,7 +115,7 @@ module _ (j : Joining) (knows : Rows → Rows → Type 0) (near : TableChanges) 
   first : (a b : ℕ) → C a ≡ true → matches j (table_at 0 (changed_tables p.source near)) (table_at 1 (changed_tables p.source near)) a b ≡ true → P b ≡ true
   first a b named match =
       by_test (C b)
-      (λ e. begun b (begins.touched b e))
+      (λ e. begun b (begins.named b e))
       (λ e.
       let f = matched j (table_at 0 (changed_tables p.source near)) (table_at 1 (changed_tables p.source near)) a b match in
       let old : row_of (table_at 1 p.source) b ≡ Some f.other = sym (untouched 1 p.source near rise b e) ∙ f.other_at in
@@ -129,7 +129,7 @@ module _ (j : Joining) (knows : Rows → Rows → Type 0) (near : TableChanges) 
   second : (a b : ℕ) → C b ≡ true → matches j (table_at 0 (changed_tables p.source near)) (table_at 1 (changed_tables p.source near)) a b ≡ true → P a ≡ true
   second a b named match =
       by_test (C a)
-      (λ e. begun a (begins.touched a e))
+      (λ e. begun a (begins.named a e))
       (λ e.
       let f = matched j (table_at 0 (changed_tables p.source near)) (table_at 1 (changed_tables p.source near)) a b match in
       let old : row_of (table_at 0 p.source) a ≡ Some f.row = sym (untouched 0 p.source near rise a e) ∙ f.at in
@@ -171,7 +171,7 @@ module _ (j : Joining) (knows : Rows → Rows → Type 0) (near : TableChanges) 
   shown = record {
     closed = record {
       rise = closing.rise;
-      touches = each_pass near [] (has_id ids) (λ q h. closing.begins q (begins.touched q h));
+      touches = each_pass near [] (has_id ids) (λ q h. closing.begins q (begins.named q h));
       brings = record { rows = rows; entries = entries; first = first; second = second };
     };
     first = standing first_of First (λ e. refl) (λ q h. (closing.closed q h).first) (λ e is. (entry_under n p.memory e may.may.sound.memory is).1);

@@ -60,7 +60,7 @@ module _ (some all : List ℕ) (among : AreAmong some all) where
 -- all that changes of S and T begin with
 pub shown_among : (some all : List ℕ) → AreAmong some all → (j : Joining) (knows : Rows → Rows → Type 0) (m : Pairs) (near : TableChanges) → BeginsShown j knows m near some → BeginsShown j knows m near all
 shown_among some all among j knows m near b = record {
-  touched = λ q h. among q (b.touched q h);
+  named = λ q h. among q (b.named q h);
   first_entries = λ q h. entries_among some all among First m q (b.first_entries q h);
   second_entries = λ q h. entries_among some all among Second m q (b.second_entries q h);
   first = begins_among some all among j knows First near b.first;

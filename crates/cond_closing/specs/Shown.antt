@@ -29,7 +29,7 @@ pub record BeginsAt (j : Joining) (knows : Rows → Rows → Type 0) (half : Hal
 
 -- all that the changes name, the entries of these, and what matches new rows
 pub record BeginsShown (j : Joining) (knows : Rows → Rows → Type 0) (m : Pairs) (near : TableChanges) (begin : List ℕ) : Type 0 where
-  pub touched : AreAmong (touched near) begin
+  pub named : AreAmong (touched near) begin
   pub first_entries : EachOf (touched near) (HasEntries First m begin)
   pub second_entries : EachOf (touched near) (HasEntries Second m begin)
   pub first : BeginsAt j knows First near begin

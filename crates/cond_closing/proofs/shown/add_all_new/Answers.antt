@@ -1,8 +1,8 @@
-use Rattle.std.proofs.Common.{◌++◌, [], ◌∷◌, List, take, ap, sym, ◌∙◌, subst, arith}
+use Rattle.std.proofs.Common.{◌++◌, [], ◌∷◌, List, take, ap, sym, ◌∙◌, subst}
 use Rattle.std.proofs.lemmas.List.{take_more}
 use Rattle.row_store.specs.declared.change.Change.{Change}
 use Rattle.id_closing.specs.Told.{AllOf, OfNew}
-use Rattle.id_closing.proofs.ToldLaws.{all_end, all_more, all_then}
+use Rattle.id_closing.proofs.ToldLaws.{all_more, all_then}
 use Rattle.cond_closing.specs.Matching.{FindsMatches}
 use Rattle.cond_closing.proofs.ShownLemmas.{finds_among}
 use Rattle.cond_closing.proofs.shown.add_all_new.Goals as goal
