@@ -7,3 +7,4 @@ mod StandLemmas
 mod ReadLemmas
 mod ShownLemmas
 mod ForwardLemmas
+mod BackwardLemmas

@@ -32,9 +32,6 @@ both_added m q a b ids at x y is =
       subst (λ (k : ℕ). has_id ((ids ++ a ∷ []) ++ b ∷ []) k ≡ true) second (end_has (ids ++ a ∷ []) b),
     )
 
-pub both_none : (m : Pairs) (q : ℕ) (ids : List ℕ) → pair_of m q ≡ None → BringsBoth m q ids
-both_none m q ids none x y is = let bad : None ≡ Some (x, y) = sym none ∙ is in absurd (cc)
-
 -- the one that brought it
 pub by_is : (half : Half) (it : ChangingMemory) (q p : ℕ) (pair : ℕ × ℕ) → pair_of it.entries p ≡ Some pair → pick_of half (p, pair.0, pair.1) ≡ q → stays it (p, pair.0, pair.1) ≡ true → IsStill half it q p
 by_is half it q p pair at own still = record { entry = (p, pair.0, pair.1); own = refl; is = at; has = own; still = still }

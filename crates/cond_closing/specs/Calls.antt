@@ -3,7 +3,7 @@ use Rattle.std.specs.Prelude.{◌≡◌, ℕ, List}
 use Rattle.row_store.specs.Rows.{Rows}
 use Rattle.id_memory.specs.Pairs.{Pairs}
 use Rattle.op_law.specs.Identifiers.{has_id}
-use Rattle.op_law.specs.Meaning.{PairState}
+use Rattle.op_law.specs.Meaning.{PairState, flip}
 use Rattle.op_law.specs.Premises.{IsPair}
 use Rattle.op_law.specs.Tables.{Heading}
 use Rattle.row_changes.specs.Changed.{TableChanges}
@@ -13,11 +13,15 @@ use Rattle.operator_changes.specs.Footprint.{passes}
 use Rattle.pair_rows.specs.Halves.{first_of, second_of}
 use Rattle.pair_rows.specs.Shown.{Joining}
 use Rattle.pair_rows.specs.Sides.{table_at}
+use Rattle.op_cond_join.specs.Joinings.{joining}
 use Rattle.op_cond_join.specs.JoinOn.{join_on}
 use Rattle.cond_parts.specs.Apart.{BringsStanding, MapsPairApart}
+use Rattle.cond_parts.specs.Backward.{IsClosedBackward}
 use Rattle.cond_parts.specs.Footprint.{IsPairFootprint}
 use Rattle.cond_parts.specs.Forward.{IsClosedForward}
 use Rattle.cond_parts.specs.Parts.{SplitsPair}
+use Rattle.cond_closing.specs.Assigned.{AreRowKeys}
+use Rattle.cond_closing.specs.declared.assigned.ByValues.{ByValues}
 
 -- whatever pair has this memory, the identifiers split it
 abbrev pub SplitRead : Pairs → List ℕ → Type 0
@@ -45,3 +49,20 @@ AreShownFootprint j knows m near ids = (p : PairState) (n : ℕ) → IsKnown kno
 -- and keep them to themselves
 abbrev pub AreShownApart : Joining → (Rows → Rows → Type 0) → Pairs → TableChanges → List ℕ → Type 0
 AreShownApart j knows m near ids = (p : PairState) (n : ℕ) → IsKnown knows m p → MayChange (join_on j) near p n → MapsPairApart (join_on j) near p n (passes ids n)
+
+-- the pair has the memory and, as its S and T, the rows by value
+pub record IsValued (it : ByValues) (p : PairState) : Type 0 where
+  pub tables : AreRowKeys it (table_at 0 p.target) (table_at 1 p.target)
+  pub memory : p.memory ≡ it.memory.now.entries
+
+-- whatever such pair it is, and where the changes of R may be mapped, the identifiers are closed for them
+abbrev pub CloseAssigned : ByValues → TableChanges → List ℕ → Type 0
+CloseAssigned it near ids = (p : PairState) (n : ℕ) → IsValued it p → MayChange (flip (join_on (joining it.join.now))) near p n → IsClosedBackward (joining it.join.now) near p n ids
+
+-- they are a footprint of them
+abbrev pub AreAssignedFootprint : ByValues → TableChanges → List ℕ → Type 0
+AreAssignedFootprint it near ids = (p : PairState) (n : ℕ) → IsValued it p → MayChange (flip (join_on (joining it.join.now))) near p n → IsPairFootprint (flip (join_on (joining it.join.now))) near p n ids
+
+-- and keep them to themselves
+abbrev pub AreAssignedApart : ByValues → TableChanges → List ℕ → Type 0
+AreAssignedApart it near ids = (p : PairState) (n : ℕ) → IsValued it p → MayChange (flip (join_on (joining it.join.now))) near p n → MapsPairApart (flip (join_on (joining it.join.now))) near p n (passes ids n)

@@ -5,5 +5,6 @@ pub mod Columns
 pub mod Keyed
 pub mod Tabled
 pub mod Shown
+pub mod Assigned
 pub mod Calls
 pub mod inner

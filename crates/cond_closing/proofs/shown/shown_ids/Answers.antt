@@ -1,4 +1,4 @@
-use Rattle.std.proofs.Common.{◌≡◌, ℕ, List, true, ap, sym, ◌∙◌, subst}
+use Rattle.std.proofs.Common.{◌≡◌, ℕ, List, ap, ◌∙◌, subst}
 use Rattle.op_law.specs.Identifiers.{has_id}
 use Rattle.row_changes.specs.Touched.{touched}
 use Rattle.id_closing.specs.Closing.{IsClosing}
