@@ -1,6 +1,6 @@
 -- Identifiers that are closed under the rule, and begin with what changes of R bring, are closed for these.
 use Rattle.std.specs.Option.{option_map}
-use Rattle.std.proofs.Common.{◌≡◌, ℕ, ◌+◌, ◌<◌, ◌≤◌, ◌==◌, List, [], ◌∷◌, filter, Bool, true, false, cond, not, ◌&&◌, Option, Some, None, refl, ap, sym, ◌∙◌, subst, arith}
+use Rattle.std.proofs.Common.{◌≡◌, ℕ, ◌+◌, ◌<◌, ◌≤◌, ◌==◌, List, [], ◌∷◌, Bool, true, false, cond, not, ◌&&◌, Option, Some, None, refl, ap, sym, ◌∙◌, subst, arith}
 use Rattle.std.proofs.lemmas.Bool.{eqb-true, false≢true}
 use Rattle.par_base.specs.declared.value.Value.{Value}
 use Rattle.par_base.specs.SameRows.{same_row}
@@ -33,6 +33,7 @@ use Rattle.pair_rows.specs.declared.half.Half.TheVariants.{First, Second}
 use Rattle.pair_rows.specs.Given.{least, or_id, own}
 use Rattle.pair_rows.specs.Getting.{least_found}
 use Rattle.pair_rows.specs.Halves.{first_of, pick_of, second_of}
+use Rattle.pair_rows.specs.Shown.{Joining}
 use Rattle.pair_rows.specs.Sides.{table_at}
 use Rattle.pair_rows.specs.Stays.{stands}
 use Rattle.pair_rows.specs.inner.TwoSides.{one_table}
@@ -44,9 +45,7 @@ use Rattle.cond_parts.specs.Parts.{memory_only}
 use Rattle.id_closing.specs.Found.{AreAmong}
 use Rattle.id_closing.specs.Closing.{IsClosing}
 use Rattle.id_closing.specs.Told.{AllOf, changes_at, is_changed}
-use Rattle.id_closing.proofs.FoundLaws.{added_has, added_stays}
 use Rattle.id_closing.proofs.ToldLaws.{all_then}
-use Rattle.id_closing.specs.Found.{added}
 use Rattle.cond_closing.specs.Assigned.{found_of, AreRowKeys, BeginsAssigned, FindsAssigned, FindsBoth}
 use Rattle.cond_closing.specs.Calls.{IsValued}
 use Rattle.cond_closing.specs.Entries.{IsEntry}
@@ -175,7 +174,7 @@ module _ (it : ByValues) (near : TableChanges) (changed begin ids : List ℕ) (p
     (tables : AreRowKeys it (table_at 0 p.target) (table_at 1 p.target)) (memory : p.memory ≡ it.memory.now.entries) (may : MayChange (flip (join_on (joining it.join.now))) near p n)
     (same : (q : ℕ) → has_id changed q ≡ has_id (touched near) q)
     (begins : BeginsAssigned it near begin) (closing : IsClosing (IsBrought (assigned_memory p.memory changed)) begin ids) where
-  abbrev j : _
+  abbrev j : Joining
   j = joining it.join.now
 
   abbrev C : ℕ → Bool

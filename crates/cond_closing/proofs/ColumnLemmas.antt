@@ -1,17 +1,17 @@
 -- Columns of joined rows, and what an equality of two says.
-use Rattle.std.proofs.Common.{◌≡◌, ℕ, ℤ, zero, suc, ◌+◌, ◌<◌, ◌==◌, ◌&&◌, ◌||◌, List, [], ◌∷◌, Bool, true, false, length, slice_get, unwrap_or, Option, Some, None, refl, ap, sym, ◌∙◌, subst, arith}
+use Rattle.std.proofs.Common.{◌≡◌, ℕ, ℤ, zero, suc, ◌+◌, ◌<◌, ◌==◌, ◌&&◌, List, [], ◌∷◌, Bool, true, false, length, Option, Some, None, refl, ap, sym, ◌∙◌, arith}
 use Rattle.std.specs.Prelude.{option_map, IfSome}
 use Rattle.std.specs.Ordering.{int_cmp, nat_cmp, is_eq, ordering_then}
 use Rattle.std.specs.declared.cmp.Ordering.{Ordering}
 use Rattle.std.specs.declared.cmp.Ordering.TheVariants as order
 use Rattle.std.proofs.lemmas.Cmp.{ranked, int_ranked}
 use Rattle.std.specs.Cmp.Lexicographic.{slice_cmp}
-use Rattle.std.proofs.lemmas.Bool.{and_parts, eqb-true, false≢true}
+use Rattle.std.proofs.lemmas.Bool.{and_parts, false≢true}
 use Rattle.par_base.specs.declared.value.Value.{Value}
 use Rattle.par_base.specs.declared.value.Value.TheVariants.{Null, Int, Text, Reference}
 use Rattle.expr_lang.specs.Terms.{Term, Column, Binary}
-use Rattle.expr_lang.specs.Val.{holds_at, val}
-use Rattle.expr_lang.specs.Operations.{binary_of, compared, comparison_of, is_true, truth}
+use Rattle.expr_lang.specs.Val.{val}
+use Rattle.expr_lang.specs.Operations.{compared, is_true, truth}
 use Rattle.expr_lang.specs.declared.tree.BinaryOp.TheVariants as op
 use Rattle.op_law.proofs.OnlyLaws.{by_test}
 use Rattle.row_parts.specs.Places.{filled, row_of_both as joined_row, value_for, value_of_both}

@@ -1,11 +1,11 @@
 -- Identifiers that are closed under the rule, and begin with what changes of S and T bring, are closed for these.
 use Rattle.std.specs.Prelude.{◌||◌}
-use Rattle.std.proofs.Common.{◌≡◌, ◌⊎◌, ℕ, zero, suc, ◌==◌, List, [], ◌∷◌, Bool, true, false, not, ◌&&◌, filter, slice_get, unwrap_or, ◌<◌, Option, Some, None, refl, ap, sym, ◌∙◌, subst}
+use Rattle.std.proofs.Common.{◌≡◌, ℕ, zero, suc, List, [], ◌∷◌, Bool, true, false, not, ◌&&◌, filter, ◌<◌, Some, refl, ap, sym, ◌∙◌, subst}
 use Rattle.std.proofs.lemmas.Bool.{false≢true}
 use mathlib.Core.Logic.{inl, inr}
 use Rattle.expr_lang.specs.Val.{holds_at}
 use Rattle.par_base.specs.declared.value.Value.{Value}
-use Rattle.row_store.specs.Rows.{Rows, RiseFrom, row_of}
+use Rattle.row_store.specs.Rows.{Rows, row_of}
 use Rattle.row_store.specs.Changes.{after}
 use Rattle.id_memory.specs.Pairs.{Pairs, RiseFrom as PairsRise, pair_of}
 use Rattle.op_law.specs.Identifiers.{has_id}
@@ -14,7 +14,7 @@ use Rattle.op_law.specs.Tables.{Tables, AllRise}
 use Rattle.op_law.proofs.OnlyLaws.{by_test}
 use Rattle.op_rows.specs.inner.Tabulated.{all_rise}
 use Rattle.row_changes.specs.Changed.{TableChanges, changed_tables, AreChangesOf}
-use Rattle.row_changes.specs.Touched.{EachPass, touched}
+use Rattle.row_changes.specs.Touched.{touched}
 use Rattle.row_changes.proofs.ChangedLaws.{changed_at}
 use Rattle.row_changes.proofs.TouchedLaws.{each_pass}
 use Rattle.operator_changes.specs.Calls.{MayChange}
@@ -30,21 +30,18 @@ use Rattle.pair_rows.specs.Stays.{stands}
 use Rattle.op_cond_join.specs.JoinOn.{join_on}
 use Rattle.cond_parts.specs.Apart.{BringsStanding}
 use Rattle.cond_parts.specs.Closed.{BringsRows}
-use Rattle.cond_parts.specs.Forward.{IsClosedForward}
-use Rattle.cond_parts.specs.Parts.{memory_only}
 use Rattle.cond_parts.proofs.FootLemmas.{untouched}
-use Rattle.id_closing.specs.Found.{AreAmong}
 use Rattle.id_closing.specs.Closing.{IsClosing}
-use Rattle.id_closing.specs.Told.{changes_at, is_changed, OfNew}
+use Rattle.id_closing.specs.Told.{changes_at}
 use Rattle.id_closing.proofs.ToldLaws.{new_or_old}
-use Rattle.cond_closing.specs.Calls.{IsKnown, IsShown}
+use Rattle.cond_closing.specs.Calls.{IsKnown, IsShown, MayShow}
 use Rattle.cond_closing.specs.Entries.{IsEntry}
 use Rattle.cond_closing.specs.Matching.{FindsMatches}
 use Rattle.cond_closing.specs.Shown.{BeginsShown}
-use Rattle.cond_closing.specs.Steady.{BringsStill, ChangingMemory, HasStill, IsBrought, stays}
+use Rattle.cond_closing.specs.Steady.{BringsStill, ChangingMemory, IsBrought, stays}
 use Rattle.cond_closing.specs.declared.steady.Changing.TheVariants.{Halves}
 use Rattle.cond_closing.proofs.SearchLemmas.{Triple}
-use Rattle.cond_closing.proofs.StandLemmas.{StandsIn, either_of, entry_under, listed_passes, listed_under, stands_by, stands_in}
+use Rattle.cond_closing.proofs.StandLemmas.{either_of, entry_under, listed_passes, listed_under, stands_by, stands_in}
 
 -- what the tables of a side have after changes, by their number
 pub new_at : (which : ℕ) (ts : Tables) (near : TableChanges) (q : ℕ) → AllRise ts → AreChangesOf ts near → row_of (table_at which (changed_tables ts near)) q ≡ after (changes_at near which) q (row_of (table_at which ts) q)
@@ -78,7 +75,7 @@ abbrev pub shown_memory : Pairs → List ℕ → ChangingMemory
 shown_memory m changed = record { entries = m; changed = changed; what = Halves }
 
 module _ (j : Joining) (knows : Rows → Rows → Type 0) (near : TableChanges) (changed begin ids : List ℕ) (p : PairState) (n : ℕ)
-    (tables : knows (table_at 0 p.source) (table_at 1 p.source)) (may : MayChange (join_on j) near p n)
+    (tables : knows (table_at 0 p.source) (table_at 1 p.source)) (may : MayShow near p n)
     (same : (q : ℕ) → has_id changed q ≡ has_id (touched near) q)
     (begins : BeginsShown j knows p.memory near begin) (closing : IsClosing (IsBrought (shown_memory p.memory changed)) begin ids) where
   abbrev C : ℕ → Bool
@@ -88,10 +85,10 @@ module _ (j : Joining) (knows : Rows → Rows → Type 0) (near : TableChanges) 
   P = passes ids n
 
   rise : AllRise p.source
-  rise = all_rise may.hs p.source may.may.sound.pair.source_of
+  rise = may.rise
 
   entries_rise : PairsRise 0 p.memory
-  entries_rise = may.may.sound.pair.related.rises
+  entries_rise = may.entries
 
   begun : (q : ℕ) → has_id begin q ≡ true → P q ≡ true
   begun q h = listed_passes ids n q (closing.begins q h)
@@ -99,7 +96,7 @@ module _ (j : Joining) (knows : Rows → Rows → Type 0) (near : TableChanges) 
   -- both rows of an entry
   rows : BringsRows P p.memory
   rows id a b at pass =
-      let under = entry_under n p.memory (id, a, b) may.may.sound.memory at in
+      let under = entry_under n p.memory (id, a, b) may.sound at in
       let f = (closing.closed id (listed_under ids n id under.0 pass)).rows a b at in
       (listed_passes ids n a f.0, listed_passes ids n b f.1)
 
@@ -174,15 +171,24 @@ module _ (j : Joining) (knows : Rows → Rows → Type 0) (near : TableChanges) 
       touches = each_pass near [] (has_id ids) (λ q h. closing.begins q (begins.named q h));
       brings = record { rows = rows; entries = entries; first = first; second = second };
     };
-    first = standing first_of First (λ e. refl) (λ q h. (closing.closed q h).first) (λ e is. (entry_under n p.memory e may.may.sound.memory is).1);
-    second = standing second_of Second (λ e. refl) (λ q h. (closing.closed q h).second) (λ e is. (entry_under n p.memory e may.may.sound.memory is).2);
+    first = standing first_of First (λ e. refl) (λ q h. (closing.closed q h).first) (λ e is. (entry_under n p.memory e may.sound is).1);
+    second = standing second_of Second (λ e. refl) (λ q h. (closing.closed q h).second) (λ e is. (entry_under n p.memory e may.sound is).2);
   }
 
 -- whatever pair has the memory
 pub closes_shown : (j : Joining) (knows : Rows → Rows → Type 0) (m : Pairs) (near : TableChanges) (changed begin ids : List ℕ) → ((q : ℕ) → has_id changed q ≡ has_id (touched near) q)
     → BeginsShown j knows m near begin → IsClosing (IsBrought (shown_memory m changed)) begin ids
-    → (p : PairState) (n : ℕ) → IsKnown knows m p → MayChange (join_on j) near p n → IsShown j near p n ids
+    → (p : PairState) (n : ℕ) → IsKnown knows m p → MayShow near p n → IsShown j near p n ids
 closes_shown j knows m near changed begin ids same begins closing p n known may =
     shown j knows near changed begin ids p n known.tables may same
     (subst (λ (es : Pairs). BeginsShown j knows es near begin) (sym known.memory) begins)
     (subst (λ (es : Pairs). IsClosing (IsBrought (shown_memory es changed)) begin ids) (sym known.memory) closing)
+
+-- where JOIN may map the changes
+pub may_show : (j : Joining) (near : TableChanges) (p : PairState) (n : ℕ) → MayChange (join_on j) near p n → MayShow near p n
+may_show j near p n may = record {
+  rise = all_rise may.hs p.source may.may.sound.pair.source_of;
+  fit = may.fit;
+  entries = may.may.sound.pair.related.rises;
+  sound = may.may.sound.memory;
+}

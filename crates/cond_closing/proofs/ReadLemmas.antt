@@ -1,6 +1,6 @@
 -- Identifiers that are closed under the rule are closed in the memory.
-use Rattle.std.proofs.Common.{◌≡◌, ℕ, List, [], Bool, true, not, ◌&&◌, Some, refl, sym, ◌∙◌, subst}
-use Rattle.id_memory.specs.Pairs.{Pairs, RiseFrom, pair_of}
+use Rattle.std.proofs.Common.{◌≡◌, ℕ, List, [], true, refl, sym, ◌∙◌, subst}
+use Rattle.id_memory.specs.Pairs.{Pairs, RiseFrom}
 use Rattle.op_law.specs.Identifiers.{has_id}
 use Rattle.pair_rows.specs.declared.half.Half.{Half}
 use Rattle.pair_rows.specs.declared.half.Half.TheVariants.{First, Second}
@@ -9,12 +9,10 @@ use Rattle.pair_rows.specs.Stays.{stands}
 use Rattle.cond_parts.specs.Closed.{BringsEntry, IsClosedIn}
 use Rattle.cond_parts.specs.Parts.{memory_only}
 use Rattle.id_closing.specs.Closing.{IsClosing}
-use Rattle.cond_closing.specs.Entries.{IsEntry}
-use Rattle.cond_closing.specs.Steady.{BringsStill, ChangingMemory, HasStill, IsBrought}
+use Rattle.cond_closing.specs.Steady.{BringsStill, ChangingMemory, IsBrought}
 use Rattle.cond_closing.specs.declared.steady.Changing.TheVariants.{Entries}
-use Rattle.cond_closing.proofs.EntryLemmas.{first_in}
 use Rattle.cond_closing.proofs.SearchLemmas.{Triple}
-use Rattle.cond_closing.proofs.StandLemmas.{StandsIn, all_stand, stands_by, stands_in}
+use Rattle.cond_closing.proofs.StandLemmas.{all_stand, stands_by, stands_in}
 
 -- no row is changed
 abbrev pub unchanging : Pairs → List ℕ → ChangingMemory

@@ -1,5 +1,5 @@
 -- What a write of S and T begins with, as it grows.
-use Rattle.std.proofs.Common.{◌≡◌, ℕ, ◌+◌, ◌<◌, ◌≤◌, ◌==◌, List, [], ◌∷◌, ◌++◌, Bool, true, false, cond, length, take, get_or, Some, refl, ap, sym, ◌∙◌, subst}
+use Rattle.std.proofs.Common.{◌≡◌, ℕ, ◌+◌, ◌<◌, ◌≤◌, ◌==◌, List, [], ◌∷◌, ◌++◌, Bool, true, false, cond, length, take, get_or, refl, sym, subst}
 use Rattle.std.proofs.lemmas.List.{take_more, take_all}
 use mathlib.Core.Logic.{inl, inr}
 use Rattle.par_base.specs.declared.value.Value.{Value}
@@ -12,7 +12,7 @@ use Rattle.pair_rows.specs.declared.half.Half.{Half}
 use Rattle.pair_rows.specs.declared.half.Half.TheVariants.{First, Second}
 use Rattle.pair_rows.specs.Shown.{Joining}
 use Rattle.id_closing.specs.Found.{AreAmong}
-use Rattle.id_closing.specs.Told.{AllOf, OfNew, changes_at}
+use Rattle.id_closing.specs.Told.{OfNew, changes_at}
 use Rattle.id_closing.proofs.FoundLaws.{end_is}
 use Rattle.id_closing.proofs.ToldLaws.{all_then}
 use Rattle.cond_closing.specs.Entries.{HasEntries}

@@ -1,17 +1,17 @@
 -- Rows that stand in entries that pass a test, and what closed identifiers bring of them.
 use Rattle.std.specs.Prelude.{nat_lt, ◌||◌}
-use Rattle.std.proofs.Common.{◌≡◌, ◌⊎◌, ℕ, ◌+◌, ◌<◌, ◌==◌, List, [], ◌∷◌, filter, Bool, true, false, not, Option, Some, refl, ap, sym, ◌∙◌, subst, arith}
+use Rattle.std.proofs.Common.{◌≡◌, ◌⊎◌, ℕ, ◌+◌, ◌<◌, ◌==◌, List, [], ◌∷◌, filter, Bool, true, false, not, refl, ap, ◌∙◌, subst, arith}
 use Rattle.std.proofs.lemmas.Bool.{eqb-true, eq-eqb, false≢true}
 use Rattle.std.proofs.lemmas.Bool.Decides.{nat_tests}
 use mathlib.Core.Logic.{inl, inr}
-use Rattle.id_memory.specs.Pairs.{Pairs, RiseFrom, pair_of}
+use Rattle.id_memory.specs.Pairs.{Pairs, RiseFrom}
 use Rattle.op_law.specs.Identifiers.{has_id}
 use Rattle.op_law.specs.Sound.{PairsSound}
 use Rattle.op_law.proofs.OnlyLaws.{by_test}
 use Rattle.operator_changes.specs.Footprint.{passes}
 use Rattle.pair_rows.specs.Stays.{stands}
 use Rattle.cond_closing.specs.Entries.{IsEntry}
-use Rattle.cond_closing.proofs.EntryLemmas.{entry_from, later_entry, own_entry, same_entry}
+use Rattle.cond_closing.proofs.EntryLemmas.{later_entry, own_entry, same_entry}
 use Rattle.cond_closing.proofs.SearchLemmas.{Triple}
 
 -- an entry in which q stands, that passes the test

@@ -1,6 +1,6 @@
 -- What an identifier brings, from what is found for it.
-use Rattle.std.proofs.Common.{◌≡◌, ℕ, ◌+◌, ◌<◌, ◌≤◌, ◌==◌, List, [], ◌∷◌, ◌++◌, Bool, true, false, Option, Some, None, refl, ap, sym, ◌∙◌, subst, arith}
-use Rattle.std.proofs.lemmas.Bool.{cases_lt, eqb-true, false≢true}
+use Rattle.std.proofs.Common.{◌≡◌, ℕ, ◌+◌, ◌<◌, List, [], ◌∷◌, ◌++◌, true, false, Option, Some, None, refl, ap, sym, ◌∙◌, subst}
+use Rattle.std.proofs.lemmas.Bool.{cases_lt, false≢true}
 use mathlib.Core.Logic.{inl, inr}
 use Rattle.id_memory.specs.Pairs.{Pairs, pair_of}
 use Rattle.op_law.specs.Identifiers.{has_id}
@@ -9,7 +9,7 @@ use Rattle.pair_rows.specs.declared.half.Half.TheVariants.{First, Second}
 use Rattle.pair_rows.specs.Halves.{pick_of}
 use Rattle.id_closing.specs.Found.{added}
 use Rattle.id_closing.proofs.FoundLaws.{added_has, added_stays, end_has, end_stays}
-use Rattle.cond_closing.specs.Entries.{IsEntry, IsFirstWith, IsNextWith, NoneWith, other_of}
+use Rattle.cond_closing.specs.Entries.{IsEntry, IsNextWith, NoneWith, other_of}
 use Rattle.cond_closing.specs.Steady.{BringsBoth, BringsStill, ChangingMemory, IsBrought, IsStill, IsStillBy, stays}
 use Rattle.cond_closing.proofs.EntryLemmas.{first_in, it_is, second_in, up_to}
 use Rattle.cond_closing.proofs.SearchLemmas.{Triple}

@@ -1,12 +1,13 @@
 -- What the calls answer, whatever pair has this memory, and whatever the next identifier is.
 use Rattle.std.specs.Prelude.{◌≡◌, ℕ, List}
 use Rattle.row_store.specs.Rows.{Rows}
-use Rattle.id_memory.specs.Pairs.{Pairs}
+use Rattle.id_memory.specs.Pairs.{Pairs, RiseFrom}
 use Rattle.op_law.specs.Identifiers.{has_id}
 use Rattle.op_law.specs.Meaning.{PairState, flip}
 use Rattle.op_law.specs.Premises.{IsPair}
-use Rattle.op_law.specs.Tables.{Heading}
-use Rattle.row_changes.specs.Changed.{TableChanges}
+use Rattle.op_law.specs.Sound.{PairsSound}
+use Rattle.op_law.specs.Tables.{AllRise, Heading}
+use Rattle.row_changes.specs.Changed.{AreChangesOf, TableChanges}
 use Rattle.row_changes.specs.Touched.{touched}
 use Rattle.operator_changes.specs.Calls.{MayChange}
 use Rattle.operator_changes.specs.Footprint.{passes}
@@ -32,17 +33,24 @@ pub record IsKnown (knows : Rows → Rows → Type 0) (m : Pairs) (p : PairState
   pub tables : knows (table_at 0 p.source) (table_at 1 p.source)
   pub memory : p.memory ≡ m
 
+-- changes of S and T of a pair that may stand while n is the next identifier, whatever the operator is: tables and entries rise, these are below n, and the old rows are the pair's
+pub record MayShow (near : TableChanges) (p : PairState) (n : ℕ) : Type 0 where
+  pub rise : AllRise p.source
+  pub fit : AreChangesOf p.source near
+  pub entries : RiseFrom 0 p.memory
+  pub sound : PairsSound n p.memory
+
 -- closed for changes of S and T, with an entry that isn't changed for each row
 pub record IsShown (j : Joining) (near : TableChanges) (p : PairState) (n : ℕ) (ids : List ℕ) : Type 0 where
   pub closed : IsClosedForward j near p n ids
   pub first : BringsStanding (has_id (touched near)) (passes ids n) first_of p.memory
   pub second : BringsStanding (has_id (touched near)) (passes ids n) second_of p.memory
 
--- whatever such pair it is, and where the changes may be mapped, the identifiers are closed for them
+-- whatever such pair it is, the identifiers are closed for the changes
 abbrev pub CloseShown : Joining → (Rows → Rows → Type 0) → Pairs → TableChanges → List ℕ → Type 0
-CloseShown j knows m near ids = (p : PairState) (n : ℕ) → IsKnown knows m p → MayChange (join_on j) near p n → IsShown j near p n ids
+CloseShown j knows m near ids = (p : PairState) (n : ℕ) → IsKnown knows m p → MayShow near p n → IsShown j near p n ids
 
--- they are a footprint of them
+-- where the operator may map them, they are a footprint of them
 abbrev pub AreShownFootprint : Joining → (Rows → Rows → Type 0) → Pairs → TableChanges → List ℕ → Type 0
 AreShownFootprint j knows m near ids = (p : PairState) (n : ℕ) → IsKnown knows m p → MayChange (join_on j) near p n → IsPairFootprint (join_on j) near p n ids
 

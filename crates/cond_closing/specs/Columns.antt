@@ -1,5 +1,5 @@
 -- Columns of two tables that are equal wherever a condition holds of their joined rows.
-use Rattle.std.specs.Prelude.{◌≡◌, ℕ, suc, ◌+◌, ◌<◌, ◌==◌, true, false, List, [], ◌∷◌, length, option_map, Option, Some, None, if◌then◌else◌}
+use Rattle.std.specs.Prelude.{◌≡◌, ℕ, suc, ◌+◌, ◌<◌, ◌==◌, true, List, [], ◌∷◌, length, option_map, Option, Some, None, if◌then◌else◌}
 use Rattle.expr_lang.specs.Terms.{Term}
 use Rattle.expr_lang.specs.Val.{holds_at}
 use Rattle.par_base.specs.declared.value.Value.{Value}

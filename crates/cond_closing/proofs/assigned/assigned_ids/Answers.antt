@@ -3,9 +3,6 @@ use Rattle.op_law.specs.Identifiers.{has_id}
 use Rattle.row_changes.specs.Touched.{touched}
 use Rattle.op_cond_join.specs.Joinings.{joining}
 use Rattle.id_closing.specs.Closing.{IsClosing}
-use Rattle.id_closing.proofs.ToldLaws.{all_then}
-use Rattle.id_closing.specs.Told.{changes_at}
-use Rattle.cond_closing.specs.Assigned.{BeginsAssigned, FindsAssigned}
 use Rattle.cond_closing.specs.Steady.{IsBrought}
 use Rattle.cond_closing.proofs.BackwardLemmas.{assigned_memory, begins_more, closes_assigned}
 use Rattle.cond_closing.proofs.assigned.assigned_ids.Goals as goal

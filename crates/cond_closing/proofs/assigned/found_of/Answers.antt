@@ -8,7 +8,7 @@ pub returns-in-Some : goal.returns-in-Some
 returns-in-Some c rows a are found =
     found_own c.args.places.now c.args.old.now c.args.half c.args.row.now c.args.keys.now.rows c.in_ok-mine.mine c.in-Some.id c.in-Some.is (c.in_ok-mine.ensures c.args.row.now c.in_ok-values.ensures) rows a are found
 
-pub returns-in-None : goal.returns-in-None
-returns-in-None c rows a are found =
+pub returns : goal.returns
+returns c rows a are found =
     let least = subst (λ (key : List Value). IsLeastFrom c.args.keys.now.rows key 0 c.least_with.result) (c.as_slice.ensures ∙ c.in_ok-values.ensures) c.least_with.ensures in
     found_least c.args.places.now c.args.old.now c.args.half c.args.row.now c.args.keys.now.rows c.in_ok-mine.mine c.in-None.is (c.in_ok-mine.ensures c.args.row.now c.in_ok-values.ensures) c.get.ensures.rise c.least_with.result least rows a are found

@@ -3,7 +3,7 @@ use Rattle.op_law.specs.Identifiers.{has_id}
 use Rattle.row_changes.specs.Touched.{touched}
 use Rattle.id_closing.specs.Closing.{IsClosing}
 use Rattle.cond_closing.specs.Steady.{IsBrought}
-use Rattle.cond_closing.proofs.ForwardLemmas.{closes_shown, shown_memory}
+use Rattle.cond_closing.proofs.ForwardLemmas.{closes_shown, may_show, shown_memory}
 use Rattle.cond_closing.proofs.ShownLemmas.{shown_among}
 use Rattle.cond_closing.proofs.shown.shown_ids.Goals as goal
 
@@ -24,10 +24,10 @@ returns-clause-closed g c =
 -- and so a footprint
 pub returns-clause-foot : goal.returns-clause-foot
 returns-clause-foot g c p n known may =
-    c.closed_is_footprint.ensures.forward (g.M.Matching.joins c.args.matching.now) c.args.near.now.tables p n c.in_ok-ids.ids may (returns-clause-closed g c p n known may).closed
+    c.closed_is_footprint.ensures.forward (g.M.Matching.joins c.args.matching.now) c.args.near.now.tables p n c.in_ok-ids.ids may (returns-clause-closed g c p n known (may_show (g.M.Matching.joins c.args.matching.now) c.args.near.now.tables p n may)).closed
 
 -- which keeps the changes apart
 pub returns-clause-apart : goal.returns-clause-apart
 returns-clause-apart g c p n known may =
-    let it = returns-clause-closed g c p n known may in
+    let it = returns-clause-closed g c p n known (may_show (g.M.Matching.joins c.args.matching.now) c.args.near.now.tables p n may) in
     c.closed_maps_apart.ensures.forward (g.M.Matching.joins c.args.matching.now) c.args.near.now.tables p n c.in_ok-ids.ids may it.closed it.first it.second
