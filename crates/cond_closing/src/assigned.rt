@@ -177,11 +177,7 @@ fn add_for_all(
 }
 
 /// What changes of R begin with: what they name, and what is found for their new rows.
-fn begin_at_rows(
-    alloc: Global,
-    it: &ByValues<'_>,
-    near: &SideChanges,
-) -> Result<List<u64>, Memory>
+fn begin_at_rows(alloc: Global, it: &ByValues<'_>, near: &SideChanges) -> Result<List<u64>, Memory>
     ensures { IfOk result (BeginsAssigned it.now near.now.tables) }
 {
     let mut ids = touched_ids(alloc, near.tables.as_slice())?;

@@ -57,13 +57,7 @@ fn other_table<'a>(it: &ByRows<'a>, half: Half) -> &'a Table
 }
 
 /// Both rows, joined.
-fn joined(
-    alloc: Global,
-    join: &JoinOn,
-    half: Half,
-    row: &Row,
-    other: &Row,
-) -> Result<Row, Memory>
+fn joined(alloc: Global, join: &JoinOn, half: Half, row: &Row, other: &Row) -> Result<Row, Memory>
     ensures { IfOk result (λ made. made ≡ joined_of (joining join.now) half row.now other.now) }
 {
     let first = join.first.as_slice();

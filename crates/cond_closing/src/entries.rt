@@ -47,11 +47,7 @@ fn place_behind(items: &[(u64, u64, u64)], a: u64, after: Option<u64>) -> usize
 }
 
 /// The first triple that begins with `a` and a number behind the last one.
-fn next_listed(
-    items: &[(u64, u64, u64)],
-    a: u64,
-    after: Option<u64>,
-) -> Option<(u64, u64, u64)>
+fn next_listed(items: &[(u64, u64, u64)], a: u64, after: Option<u64>) -> Option<(u64, u64, u64)>
     requires { SortedFrom 0 items.now }
     ensures some { IfSome result (λ item. IsFirstListed items.now a (behind after) item) }
     ensures none { IfNone result (NoneListed items.now a (behind after)) }

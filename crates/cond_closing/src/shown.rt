@@ -57,11 +57,7 @@ fn add_both_entries(memory: &PairMemory, id: u64, ids: &mut List<u64>) -> Result
 }
 
 /// Adds the entries of these identifiers as either half.
-fn add_all_entries(
-    memory: &PairMemory,
-    touched: &[u64],
-    ids: &mut List<u64>,
-) -> Result<(), Memory>
+fn add_all_entries(memory: &PairMemory, touched: &[u64], ids: &mut List<u64>) -> Result<(), Memory>
     ensures first { OnOk result (EachOf touched.now (HasEntries First memory.now.entries ids.new)) }
     ensures second { OnOk result (EachOf touched.now
         (HasEntries Second memory.now.entries ids.new)) }

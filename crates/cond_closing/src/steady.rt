@@ -149,12 +149,7 @@ fn still_of(it: &Steady<'_>, half: Half, id: u64, by: Option<u64>) -> Option<u64
 }
 
 /// All that the identifier brings.
-fn brought_in(
-    alloc: Global,
-    it: &Steady<'_>,
-    id: u64,
-    by: Option<u64>,
-) -> Result<List<u64>, Memory>
+fn brought_in(alloc: Global, it: &Steady<'_>, id: u64, by: Option<u64>) -> Result<List<u64>, Memory>
     ensures { IfOk result (IsBrought it.now id) }
 {
     let mut ids = it.rows(alloc, id)?;
