@@ -1,4 +1,4 @@
-use Rattle.std.proofs.Common.{ℕ, List, [], ◌∷◌, ◌++◌, true, ◌≡◌, ap, sym, ◌∙◌, subst}
+use Rattle.std.proofs.Common.{ℕ, List, true, ◌≡◌, sym, subst}
 use Rattle.op_law.specs.Identifiers.{has_id}
 use Rattle.id_closing.proofs.FoundLaws.{end_has}
 use Rattle.outer_closing.proofs.reading.with_absent.Goals as goal
