@@ -1,0 +1,163 @@
+-- Columns of joined rows, and what an equality of two says.
+use Rattle.std.proofs.Common.{◌≡◌, ℕ, ℤ, zero, suc, ◌+◌, ◌<◌, ◌==◌, ◌&&◌, List, [], ◌∷◌, Bool, true, false, length, Option, Some, None, refl, ap, sym, ◌∙◌, arith}
+use Rattle.std.specs.Prelude.{option_map, IfSome}
+use Rattle.std.specs.Ordering.{int_cmp, nat_cmp, is_eq, ordering_then}
+use Rattle.std.specs.declared.cmp.Ordering.{Ordering}
+use Rattle.std.specs.declared.cmp.Ordering.TheVariants as order
+use Rattle.std.proofs.lemmas.Cmp.{ranked, int_ranked}
+use Rattle.std.specs.Cmp.Lexicographic.{slice_cmp}
+use Rattle.std.proofs.lemmas.Bool.{and_parts, false≢true}
+use Rattle.par_base.specs.declared.value.Value.{Value}
+use Rattle.par_base.specs.declared.value.Value.TheVariants.{Null, Int, Text, Reference}
+use Rattle.expr_lang.specs.Terms.{Term, Column, Binary}
+use Rattle.expr_lang.specs.Val.{val}
+use Rattle.expr_lang.specs.Operations.{compared, is_true, truth}
+use Rattle.expr_lang.specs.declared.tree.BinaryOp.TheVariants as op
+use Rattle.op_law.proofs.OnlyLaws.{by_test}
+use Rattle.row_parts.specs.Places.{filled, row_of_both as joined_row, value_for, value_of_both}
+use Rattle.row_parts.specs.RowCells.{value_or}
+use Rattle.row_parts.specs.RowEdits.{value_at}
+use Rattle.pair_rows.specs.Shown.{Joining}
+use Rattle.cond_closing.specs.Columns.{AreColumns, IsColumn, MakesEqual, place_in}
+
+-- the values that were filled in
+at_filled : (count from place : ℕ) (f : ℕ → Value) → place < count → value_at place (filled count from f) ≡ f (from + place)
+at_filled zero from place f h = absurd (omega arith)
+at_filled (suc count) from zero f h = ap f (omega arith)
+at_filled (suc count) from (suc place) f h = at_filled count (from + 1) place f (omega arith) ∙ ap f (omega arith)
+
+-- a place that isn't in a list has no value there
+none_for : (ps : List ℕ) (vs : List Value) (place : ℕ) → place_in ps place ≡ None → value_for ps vs place ≡ None
+none_for [] vs place none = refl
+none_for (p ∷ ps) [] place none = refl
+none_for (p ∷ ps) (v ∷ vs) place none =
+    by_test (p == place)
+    (λ e. let bad : Some 0 ≡ None = rw e at none in absurd (cc))
+    (λ e. let rest : option_map (λ at. suc at) (place_in ps place) ≡ None = rw e at none in rw e (none_for ps vs place (no_more (place_in ps place) rest)))
+  where
+    no_more : (o : Option ℕ) → option_map (λ (at : ℕ). suc at) o ≡ None → o ≡ None
+    no_more None h = refl
+    no_more (Some x) h = absurd (cc)
+
+-- past the end of no values
+null_past : (place : ℕ) → value_at place [] ≡ Null
+null_past zero = refl
+null_past (suc place) = refl
+
+-- a place that stands first at one of a list has the value there
+
+further : (ps : List ℕ) (v : Value) (vs : List Value) (place column : ℕ) (o : Option ℕ) → ((k : ℕ) → o ≡ Some k → value_or Null (value_for ps vs place) ≡ value_at k vs)
+    → option_map (λ (at : ℕ). suc at) o ≡ Some column → value_or Null (value_for ps vs place) ≡ value_at column (v ∷ vs)
+further ps v vs place column None is h = absurd (cc)
+further ps v vs place column (Some k) is h = let next : suc k ≡ column = cc in is k refl ∙ ap (λ (i : ℕ). value_at i (v ∷ vs)) next
+
+value_here : (ps : List ℕ) (vs : List Value) (place column : ℕ) → place_in ps place ≡ Some column → value_or Null (value_for ps vs place) ≡ value_at column vs
+value_here [] vs place column here = absurd (cc)
+value_here (p ∷ ps) [] place column here = sym (null_past column)
+value_here (p ∷ ps) (v ∷ vs) place column here =
+    by_test (p == place)
+    (λ e. let some : Some 0 ≡ Some column = rw e at here in let first : 0 ≡ column = cc in rw e (ap (λ (k : ℕ). value_at k (v ∷ vs)) first))
+    (λ e.
+    let rest : option_map (λ at. suc at) (place_in ps place) ≡ Some column = rw e at here in
+    rw e (further ps v vs place column (place_in ps place) (λ k at. value_here ps vs place k at) rest))
+
+module _ (first second : List ℕ) (place column : ℕ) where
+  -- a column of the first table
+  pub first_column : IsColumn first second place column → (x y : List Value) → value_at place (joined_row first second x y) ≡ value_at column x
+  first_column is x y =
+      at_filled (length first + length second) 0 place (value_of_both first second x y) is.within
+      ∙ ap (value_of_both first second x y) (omega arith)
+      ∙ ap (λ (o : Option Value). value_or (value_or Null o) (value_for first x place)) (none_for second y place is.not_there)
+      ∙ value_here first x place column is.here
+
+  -- a column of the second
+  pub second_column : IsColumn second first place column → (x y : List Value) → value_at place (joined_row first second x y) ≡ value_at column y
+  second_column is x y =
+      at_filled (length first + length second) 0 place (value_of_both first second x y) (let h = is.within in omega (arith, h))
+      ∙ ap (value_of_both first second x y) (omega arith)
+      ∙ ap (λ (o : Option Value). value_or (value_or Null (value_for second y place)) o) (none_for first x place is.not_there)
+      ∙ value_here second y place column is.here
+
+-- what is compared as equal is
+
+of_truth : (b : Bool) → is_true (truth b) ≡ true → b ≡ true
+of_truth true h = refl
+of_truth false h = absurd (false≢true h)
+
+eq_is : (r : Ordering) → is_eq r ≡ true → r ≡ order.Equal
+eq_is order.Less h = absurd (false≢true h)
+eq_is order.Equal h = refl
+eq_is order.Greater h = absurd (false≢true h)
+
+nat_same : (x y : ℕ) → nat_cmp x y ≡ order.Equal → x ≡ y
+nat_same x y h = ranked x y order.Equal (sym h)
+
+int_same : (x y : ℤ) → int_cmp x y ≡ order.Equal → x ≡ y
+int_same x y h = int_ranked x y order.Equal (sym h)
+
+both_equal : (r s : Ordering) → ordering_then r s ≡ order.Equal → (r ≡ order.Equal) × (s ≡ order.Equal)
+both_equal order.Less s h = cc
+both_equal order.Equal s h = (refl, h)
+both_equal order.Greater s h = cc
+
+bytes_same : (xs ys : List ℕ) → slice_cmp nat_cmp xs ys ≡ order.Equal → xs ≡ ys
+bytes_same [] [] h = refl
+bytes_same [] (y ∷ ys) h = cc
+bytes_same (x ∷ xs) [] h = cc
+bytes_same (x ∷ xs) (y ∷ ys) h =
+    let both = both_equal (nat_cmp x y) (slice_cmp nat_cmp xs ys) h in
+    let first = nat_same x y both.0 in
+    let rest = bytes_same xs ys both.1 in
+    cc
+
+equal_same : (v w : Value) → is_true (compared is_eq v w) ≡ true → v ≡ w
+equal_same Null Null h = refl
+equal_same Null (Int y) h = absurd (false≢true h)
+equal_same Null (Text b) h = absurd (false≢true h)
+equal_same Null (Reference n) h = absurd (false≢true h)
+equal_same (Int x) Null h = absurd (false≢true h)
+equal_same (Int x) (Int y) h = ap (λ (n : ℤ). Int n) (int_same x y (eq_is (int_cmp x y) (of_truth (is_eq (int_cmp x y)) h)))
+equal_same (Int x) (Text b) h = absurd (false≢true h)
+equal_same (Int x) (Reference n) h = absurd (false≢true h)
+equal_same (Text a) Null h = absurd (false≢true h)
+equal_same (Text a) (Int y) h = absurd (false≢true h)
+equal_same (Text a) (Text b) h = ap (λ (bs : List ℕ). Text bs) (bytes_same a b (eq_is (slice_cmp nat_cmp a b) (of_truth (is_eq (slice_cmp nat_cmp a b)) h)))
+equal_same (Text a) (Reference n) h = absurd (false≢true h)
+equal_same (Reference m) Null h = absurd (false≢true h)
+equal_same (Reference m) (Int y) h = absurd (false≢true h)
+equal_same (Reference m) (Text b) h = absurd (false≢true h)
+equal_same (Reference m) (Reference n) h = ap (λ (id : ℕ). Reference id) (nat_same m n (eq_is (nat_cmp m n) (of_truth (is_eq (nat_cmp m n)) h)))
+
+module _ (j : Joining) (p q x y : ℕ) where
+  -- an equality of two columns, the first of S
+  pub columns_equal : AreColumns j p q x y → MakesEqual j (Binary op.Equal (Column p) (Column q)) x y
+  unfolding val
+  columns_equal are row other h =
+      let r = joined_row j.first j.second row other in
+      sym (are.first row other) ∙ equal_same (value_at p r) (value_at q r) h ∙ are.second row other
+
+  -- or the second
+  pub columns_turned : AreColumns j q p x y → MakesEqual j (Binary op.Equal (Column p) (Column q)) x y
+  unfolding val
+  columns_turned are row other h =
+      let r = joined_row j.first j.second row other in
+      sym (are.first row other) ∙ sym (equal_same (value_at p r) (value_at q r) h) ∙ are.second row other
+
+module _ (j : Joining) (t u : Term ℕ) (x y : ℕ) where
+  -- what either of two conditions makes equal both do
+  pub and_left : MakesEqual j t x y → MakesEqual j (Binary op.And t u) x y
+  unfolding val
+  and_left makes row other h =
+      let r = joined_row j.first j.second row other in
+      makes row other (and_parts (is_true (val t r)) (is_true (val u r)) (of_truth (is_true (val t r) && is_true (val u r)) h)).0
+
+  pub and_right : MakesEqual j u x y → MakesEqual j (Binary op.And t u) x y
+  unfolding val
+  and_right makes row other h =
+      let r = joined_row j.first j.second row other in
+      makes row other (and_parts (is_true (val t r)) (is_true (val u r)) (of_truth (is_true (val t r) && is_true (val u r)) h)).1
+
+-- what follows of an answer, where there is one
+pub some_then : {X : Type 0} (P Q : X → Type 0) (o : Option X) → ((x : X) → P x → Q x) → IfSome o P → IfSome o Q
+some_then P Q None then h = tt
+some_then P Q (Some x) then h = then x h

@@ -1,0 +1,10 @@
+mod SearchLemmas
+mod EntryLemmas
+mod StillLemmas
+mod ColumnLemmas
+mod RowLemmas
+mod StandLemmas
+mod ReadLemmas
+mod ShownLemmas
+mod ForwardLemmas
+mod BackwardLemmas

@@ -1,0 +1,10 @@
+pub mod Entries
+pub mod Steady
+pub mod Matching
+pub mod Columns
+pub mod Keyed
+pub mod Tabled
+pub mod Shown
+pub mod Assigned
+pub mod Calls
+pub mod inner
