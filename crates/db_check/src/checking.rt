@@ -72,10 +72,11 @@ fn admit_fields<O: Operator, L: Ledger>(
 }
 
 /// The database of these fields, refused exactly where they are not those of a valid one. It copies
-/// the near tables of each operator, and makes each table that isn't stored once. Where each operator
-/// treats each identifier by itself and more than 4,096 rows are stored, it goes by 16 spans of
-/// identifiers: it copies what is stored of a span, and lets all that it made of it go before the
-/// next one, so that it takes the memory of one span's tables beside the fields.
+/// the near tables of each operator, and makes each table that isn't stored once. Where each
+/// operator treats each identifier by itself and more than 4,096 rows are stored, it goes by 16
+/// spans of identifiers: it copies what is stored of a span, and lets all that it made of it go
+/// before the next one, so that it takes the memory of one span's tables beside the fields. Each
+/// span goes over all stored and auxiliary rows once; a copy of a row is a count.
 pub fn check<O: Operator + Drop, L: Ledger>(
     alloc: Global,
     mut parts: Parts<O>,
