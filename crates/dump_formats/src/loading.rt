@@ -20,11 +20,11 @@ use serde_json::Value as Json;
 use std::alloc::Global;
 use std::sync::ledger::Ledger;
 
-/// The JSON that the bytes spell.
-fn read_json(alloc: Global, bytes: &[u8]) -> Result<Json, Fault<DumpRefused>>
-    ensures { ReadsJson bytes.now result }
+/// The JSON that the bytes spell. They are let go.
+fn read_json(alloc: Global, bytes: List<u8>) -> Result<Json, Fault<DumpRefused>>
+    ensures { ReadsJson bytes result }
 {
-    match Json::from_slice(alloc, bytes) {
+    match Json::from_slice(alloc, bytes.as_slice()) {
         Ok(json) => Ok(json),
         Err(error) => {
             if error.is_memory() {
@@ -108,14 +108,15 @@ fn load_second<L: Ledger>(
 
 /// The database of which the bytes are a dump, with this limit of identifiers, and what was kept
 /// beside it. It is refused exactly where they are a dump of none. It takes time in the number of
-/// bytes, that of building the graph, and that of `check`, which asks each operator once.
+/// bytes, that of building the graph, and that of `check`, which asks each operator once. The bytes are
+/// let go as soon as they are read.
 pub fn load<L: Ledger>(
     alloc: Global,
-    bytes: &[u8],
+    bytes: List<u8>,
     limits: Limits,
     steps: &mut Steps<L>,
 ) -> Result<Loaded, Fault<DumpRefused>>
-    ensures { Loads bytes.now limits.max_id result }
+    ensures { Loads bytes limits.max_id result }
 {
     let json = read_json(alloc, bytes)?;
     if is_second(&json) {
