@@ -21,10 +21,10 @@ use std::alloc::Global;
 use std::sync::ledger::Ledger;
 
 /// The JSON that the bytes spell. They are let go.
-fn read_json(alloc: Global, bytes: List<u8>) -> Result<Json, Fault<DumpRefused>>
-    ensures { ReadsJson bytes result }
+fn read_json(alloc: Global, bytes: Vec<u8>) -> Result<Json, Fault<DumpRefused>>
+    ensures { ReadsJson bytes.items result }
 {
-    match Json::from_slice(alloc, bytes.as_slice()) {
+    match Json::from_slice(alloc, &bytes) {
         Ok(json) => Ok(json),
         Err(error) => {
             if error.is_memory() {
@@ -112,11 +112,11 @@ fn load_second<L: Ledger>(
 /// let go as soon as they are read.
 pub fn load<L: Ledger>(
     alloc: Global,
-    bytes: List<u8>,
+    bytes: Vec<u8>,
     limits: Limits,
     steps: &mut Steps<L>,
 ) -> Result<Loaded, Fault<DumpRefused>>
-    ensures { Loads bytes limits.max_id result }
+    ensures { Loads bytes.items limits.max_id result }
 {
     let json = read_json(alloc, bytes)?;
     if is_second(&json) {

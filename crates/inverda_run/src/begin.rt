@@ -14,7 +14,7 @@ use dump_formats::{Loaded, load};
 use expr_lang::Steps;
 use generated_run::{Engine, Sessions, Transactions};
 use outside::Files;
-use par_base::{Fault, Limits, List};
+use par_base::{Fault, Limits};
 use std::alloc::Global;
 use std::marker::Brand;
 use std::sync::ledger::{Blank, Ledger};
@@ -51,14 +51,14 @@ fn resumed(alloc: Global, loaded: Loaded) -> Transactions
 // What a run starts with over the database whose dump the bytes are.
 fn load_from<L: Ledger>(
     alloc: Global,
-    bytes: List<u8>,
+    bytes: Vec<u8>,
     limits: Limits,
     blank: Blank,
 ) -> Result<Transactions, NotBegun>
     requires name { blank.name ≡ L.name }
     requires parts { blank.parts ≡ L.parts }
     requires one { blank.parts ≡ 1 }
-    ensures { LoadsSessions bytes limits.max_id result }
+    ensures { LoadsSessions bytes.items limits.max_id result }
 {
     let mut steps = Steps::<L>::new(blank);
     match load(alloc, bytes, limits, &mut steps) {
