@@ -59,8 +59,8 @@ impl<'a> Rules<'a> {
 impl<'a> Rule for Rules<'a> {
     ghost brings = { λ it. IsBrought it };
 
-    /// All that the identifier brings. It takes two look-ups, and one more for each changed row that
-    /// refers to the identifier: such a row refers to one alone, so all of them are passed over once.
+    /// It takes two look-ups, and one more for each changed row that refers to the identifier: such
+    /// a row refers to one alone, so all of them are passed over once.
     fn brought(&self, alloc: Global, id: u64, by: Option<u64>) -> Result<List<u64>, Memory> {
         let mut ids = List::new(alloc);
         add_some(&mut ids, self.goal(id))?;
