@@ -1,18 +1,19 @@
 -- What is closed beside changes is closed.
-use Rattle.std.proofs.Common.{◌≡◌, ℕ, List, [], Bool, true, false, Some, refl, sym, ap, ◌∙◌}
+use Rattle.std.proofs.Common.{◌≡◌, ℕ, List, [], true, false, Some, refl, sym, ◌∙◌}
 use Rattle.par_base.specs.declared.value.Value.{Value}
 use Rattle.row_store.specs.Rows.{Rows, row_of}
 use Rattle.row_store.specs.declared.change.Change.{Change}
 use Rattle.op_law.specs.Identifiers.{has_id}
 use Rattle.op_law.proofs.OnlyLaws.{by_test}
 use Rattle.fk_closing.specs.Beside.{ClosesBeside}
-use Rattle.fk_closing.specs.Brought.{IsClosing, Witnessed}
-use Rattle.fk_closing.specs.Found.{AreAmong}
+use Rattle.id_closing.specs.Closing.{IsClosing}
+use Rattle.fk_closing.specs.Brought.{IsBrought, Witnessed}
+use Rattle.id_closing.specs.Found.{AreAmong}
 use Rattle.fk_closing.specs.Looking.{goal_at}
-use Rattle.fk_closing.specs.Told.{is_changed}
+use Rattle.id_closing.specs.Told.{is_changed}
 
 module _ (keys : Rows) (changes : List Change) (set wanted begin ids : List ℕ) (same : (q : ℕ) → has_id set q ≡ is_changed changes q) (all : AreAmong wanted begin) (stay : AreAmong set begin)
-    (closed : IsClosing (record { keys = keys; changed = set; witness = true }) begin ids) where
+    (closed : IsClosing (IsBrought (record { keys = keys; changed = set; witness = true })) begin ids) where
   -- a row that refers is itself one that was sought, or one is found that the changes don't name
   one_refers : (q p : ℕ) (v : List Value) → has_id ids q ≡ true → row_of keys p ≡ Some v → goal_at 0 v ≡ Some q → Witnessed 0 (has_id []) keys q ids
   one_refers q p v at is goal =

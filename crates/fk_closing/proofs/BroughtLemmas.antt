@@ -5,23 +5,12 @@ use mathlib.Core.Logic.{inl, inr}
 use Rattle.par_base.specs.declared.value.Value.{Value}
 use Rattle.row_store.specs.Rows.{Rows, row_of}
 use Rattle.op_law.specs.Identifiers.{has_id}
-use Rattle.fk_closing.specs.Found.{added, AreAmong}
+use Rattle.id_closing.specs.Found.{added}
 use Rattle.fk_closing.specs.Looking.{goal_at, goal_in, IsNextRef}
 use Rattle.fk_closing.specs.Brought.{Rule, IsBrought, IsWitnessBy, WitnessBrought}
-use Rattle.fk_closing.proofs.FoundLemmas.{added_has, added_stays, end_has, end_stays}
+use Rattle.id_closing.proofs.FoundLaws.{added_has, added_stays, end_has, end_stays}
 
 module _ (rule : Rule) (q : ℕ) where
-  witness_more : (b : Bool) (more all : List ℕ) → AreAmong more all → WitnessBrought rule b q more → WitnessBrought rule b q all
-  witness_more false more all among h = tt
-  witness_more true more all among h = λ w v still at goal. let f = h w v still at goal in record { id = f.id; refers = f.refers; stays = f.stays; among = among f.id f.among }
-
-  -- what is brought is among more identifiers
-  pub brought_more : (more all : List ℕ) → AreAmong more all → IsBrought rule q more → IsBrought rule q all
-  brought_more more all among h = record {
-    goal = λ v at g goal. among g (h.goal v at g goal);
-    witness = witness_more rule.witness more all among h.witness;
-  }
-
   witness_found : (b : Bool) (found : Option ℕ) (more : List ℕ) → ((g : ℕ) → found ≡ Some g → has_id more g ≡ true) → IsWitnessBy rule b q found → WitnessBrought rule b q more
   witness_found false found more has is = tt
   witness_found true None more has is = λ w v still at goal. absurd (is w v still at goal)

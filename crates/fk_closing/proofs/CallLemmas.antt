@@ -1,5 +1,5 @@
 -- Identifiers that are closed under the rules of an operator are closed as its footprints ask.
-use Rattle.std.proofs.Common.{◌≡◌, ℕ, ◌+◌, ◌-◌, List, [], ◌∷◌, length, true, false, Some, refl, sym, ◌∙◌}
+use Rattle.std.proofs.Common.{◌≡◌, ℕ, ◌+◌, ◌-◌, List, [], ◌∷◌, length, true, Some, refl, sym, ◌∙◌}
 use Rattle.par_base.specs.declared.value.Value.{Value}
 use Rattle.row_store.specs.Rows.{RiseFrom, row_of}
 use Rattle.op_law.specs.Tables.{Tables, AllRise}
@@ -24,10 +24,11 @@ use Rattle.fk_footprints.specs.DecomposeBackward.{IsClosedDecomposeBack}
 use Rattle.fk_footprints.proofs.DecomposeRowLemmas.{still_keeps as decompose_keeps}
 use Rattle.fk_footprints.proofs.JoinBackwardLaws.{still_keeps as join_keeps}
 use Rattle.fk_closing.specs.Keys.{AreFkKeys, KeyRows, shared_among}
-use Rattle.fk_closing.specs.Told.{changes_at, is_changed}
+use Rattle.id_closing.specs.Told.{changes_at, is_changed}
 use Rattle.fk_closing.specs.Begins.{BeginsAtRows, BeginsAtTables}
 use Rattle.fk_closing.specs.Looking.{HasGoal}
-use Rattle.fk_closing.specs.Brought.{Rule, IsClosing}
+use Rattle.id_closing.specs.Closing.{IsClosing}
+use Rattle.fk_closing.specs.Brought.{Rule, IsBrought}
 use Rattle.fk_closing.proofs.KeyLemmas.{goals_of_keys, row_is, shared_is, witness_over}
 use Rattle.fk_closing.proofs.ClosedLemmas.{touches_all, goals_closed, new_goals_closed, others_closed, witness_closed, least_closed}
 
@@ -44,7 +45,7 @@ witness_rule keys changed = record { keys = keys.keys; changed = changed; witnes
 module _ (place : ℕ) (keys : KeyRows) (near : TableChanges) (p : PairState) (n : ℕ) (changed begin ids : List ℕ) where
   -- JOIN ON FK, from S and T
   pub join_closes : (first second : ℕ) → AreFkKeys place p.source keys → MayChange (join_columns first second place) near p n → BeginsAtTables place keys.keys near begin
-      → IsClosing (witness_rule keys changed) begin ids → IsClosedJoin (side_parts (first - 1) second place) near p n ids
+      → IsClosing (IsBrought (witness_rule keys changed)) begin ids → IsClosedJoin (side_parts (first - 1) second place) near p n ids
   join_closes first second are may begins closing =
       let k = side_parts (first - 1) second place in
       let rise = all_rise may.hs p.source may.may.sound.pair.source_of in
@@ -59,7 +60,7 @@ module _ (place : ℕ) (keys : KeyRows) (near : TableChanges) (p : PairState) (n
 
   -- with a row of S that stays for each row of T
   pub join_witness : (first second : ℕ) → AreFkKeys place p.source keys → MayChange (join_columns first second place) near p n → BeginsAtTables place keys.keys near begin
-      → ((q : ℕ) → has_id changed q ≡ is_changed (changes_at near 0) q) → IsClosing (witness_rule keys changed) begin ids
+      → ((q : ℕ) → has_id changed q ≡ is_changed (changes_at near 0) q) → IsClosing (IsBrought (witness_rule keys changed)) begin ids
       → BringsWitness (side_parts (first - 1) second place) (passes ids n) (first_table p.source) (second_table p.source) (first_table p.source) (first_table (changed_tables p.source near))
   join_witness first second are may begins same closing =
       witness_closed (side_parts (first - 1) second place) place (has_id changed) (λ v. refl) p.source p.source near n ids (all_rise may.hs p.source may.may.sound.pair.source_of) may.fit may.may.sound.source
@@ -69,7 +70,7 @@ module _ (place : ℕ) (keys : KeyRows) (near : TableChanges) (p : PairState) (n
   -- DECOMPOSE ON FK, from S and T
   pub decompose_back_closes : (first second : List ℕ) → AreFkKeys place p.source keys → MayChange (flip (decompose_columns first second place)) near p n → BeginsAtTables place keys.keys near begin
       → ((q : ℕ) → has_id changed q ≡ is_changed (changes_at near 0) q)
-      → IsClosing (witness_rule keys changed) begin ids → IsClosedDecomposeBack (column_parts first second place) near p n ids
+      → IsClosing (IsBrought (witness_rule keys changed)) begin ids → IsClosedDecomposeBack (column_parts first second place) near p n ids
   decompose_back_closes first second are may begins same closing =
       let k = column_parts first second place in
       let rise = all_rise may.hs p.source may.may.sound.pair.source_of in
@@ -88,7 +89,7 @@ module _ (place : ℕ) (keys : KeyRows) (near : TableChanges) (p : PairState) (n
   -- JOIN ON FK, from R
   pub join_back_closes : (first second : ℕ) → AreFkKeys place p.target keys → MayChange (flip (join_columns first second place)) near p n
       → BeginsAtRows (side_parts (first - 1) second place).second keys.rows near begin
-      → IsClosing (witness_rule keys changed) begin ids → IsClosedJoinBack (side_parts (first - 1) second place) near p n ids
+      → IsClosing (IsBrought (witness_rule keys changed)) begin ids → IsClosedJoinBack (side_parts (first - 1) second place) near p n ids
   join_back_closes first second are may begins closing =
       let k = side_parts (first - 1) second place in
       let rise = all_rise may.hs p.source may.may.sound.pair.source_of in
@@ -109,7 +110,7 @@ module _ (place : ℕ) (keys : KeyRows) (near : TableChanges) (p : PairState) (n
   -- with a row of S that stays for each row of T
   pub join_back_witness : (first second : ℕ) → AreFkKeys place p.target keys → MayChange (flip (join_columns first second place)) near p n
       → BeginsAtRows (side_parts (first - 1) second place).second keys.rows near begin
-      → ((q : ℕ) → has_id changed q ≡ is_changed (changes_at near 0) q) → IsClosing (witness_rule keys changed) begin ids
+      → ((q : ℕ) → has_id changed q ≡ is_changed (changes_at near 0) q) → IsClosing (IsBrought (witness_rule keys changed)) begin ids
       → BringsWitness (side_parts (first - 1) second place) (passes ids n) (first_table p.target) (second_table p.target) (first_table p.source) (first_table (changed_tables p.source near))
   join_back_witness first second are may begins same closing =
       witness_closed (side_parts (first - 1) second place) place (has_id changed) (λ v. refl) p.target p.source near n ids (all_rise may.hs p.source may.may.sound.pair.source_of) may.fit may.may.sound.target
@@ -120,7 +121,7 @@ module _ (place : ℕ) (keys : KeyRows) (near : TableChanges) (p : PairState) (n
   pub decompose_closes : (first second : List ℕ) → AreFkKeys place p.target keys → MayChange (decompose_columns first second place) near p n
       → BeginsAtRows (column_parts first second place).second (shared_among keys) near begin
       → ((q : ℕ) → has_id changed q ≡ is_changed (changes_at near 0) q)
-      → IsClosing (witness_rule keys changed) begin ids → IsClosedDecompose (column_parts first second place) near p n ids
+      → IsClosing (IsBrought (witness_rule keys changed)) begin ids → IsClosedDecompose (column_parts first second place) near p n ids
   decompose_closes first second are may begins same closing =
       let k = column_parts first second place in
       let rise = all_rise may.hs p.source may.may.sound.pair.source_of in

@@ -1,6 +1,6 @@
 -- Identifiers that are closed under the rules are closed.
 use Rattle.std.specs.Prelude.{nat_lt, ◌||◌}
-use Rattle.std.proofs.Common.{◌≡◌, ℕ, ◌<◌, List, [], Bool, true, false, not, Some, refl, ap, sym, ◌∙◌, arith}
+use Rattle.std.proofs.Common.{◌≡◌, ℕ, ◌<◌, List, [], ◌∷◌, Bool, true, false, not, Some, refl, ap, sym, ◌∙◌, arith}
 use Rattle.std.proofs.lemmas.Bool.{false≢true}
 use Rattle.std.proofs.lemmas.Bool.Decides.{nat_tests}
 use mathlib.Core.Logic.{inl, inr}
@@ -17,20 +17,21 @@ use Rattle.op_tables.specs.Lookups.{sound0, sound1}
 use Rattle.row_parts.specs.RowEdits.{value_at}
 use Rattle.row_changes.specs.Changed.{TableChanges, changed_tables, AreChangesOf}
 use Rattle.row_changes.specs.Touched.{EachPass, touched}
+use Rattle.row_changes.proofs.ChangedLaws.{changed_at}
 use Rattle.row_changes.proofs.TouchedLaws.{each_pass}
 use Rattle.operator_changes.specs.Footprint.{passes}
 use Rattle.foreign_keys.specs.KeyParts.{FkParts}
 use Rattle.foreign_keys.specs.References.{goal_of}
 use Rattle.key_index.specs.Found.{IsLeastFrom}
 use Rattle.fk_footprints.specs.Closed.{BringsGoals, SeesNoChange, BringsWitness}
-use Rattle.fk_closing.specs.Found.{AreAmong}
-use Rattle.fk_closing.specs.Told.{changes_at, is_changed}
+use Rattle.id_closing.specs.Found.{AreAmong}
+use Rattle.id_closing.specs.Told.{changes_at, is_changed}
+use Rattle.id_closing.proofs.ToldLaws.{new_or_old, unchanged, named, named_passes, pass_at}
 use Rattle.fk_closing.specs.Looking.{goal_at, HasGoal, HasLeast, HasRefs}
 use Rattle.fk_closing.specs.Brought.{Witnessed}
 use Rattle.fk_closing.specs.Keys.{AreFkKeys, KeyRows}
 use Rattle.fk_closing.proofs.KeyLemmas.{refs_of_keys}
 use Rattle.fk_closing.specs.Begins.{BeginsAtRows, BeginsAtTables}
-use Rattle.fk_closing.proofs.ToldLemmas.{new_or_old, unchanged, named, named_passes, pass_at, new_first, new_second}
 
 -- an identifier that passes and has a row is listed
 pub listed : (ids : List ℕ) (n : ℕ) (rows : Rows) (q : ℕ) (v : List Value) → RowsSound n rows → passes ids n q ≡ true → row_of rows q ≡ Some v → has_id ids q ≡ true
@@ -62,6 +63,20 @@ unnamed ids n near which q all out =
     by_test (is_changed (changes_at near which) q)
     (λ e. absurd (false≢true (sym out ∙ passing ids n q (named_passes (has_id ids) (changes_at near which) q (pass_at (has_id ids) near which all) e))))
     (λ e. e)
+
+-- what the first table has after its changes
+new_first : (ts : Tables) (near : TableChanges) (q : ℕ) → AllRise ts → AreChangesOf ts near → row_of (first_table (changed_tables ts near)) q ≡ after (changes_at near 0) q (row_of (first_table ts) q)
+new_first [] [] q rise fit = refl
+new_first [] (c ∷ cs) q rise fit = absurd fit
+new_first (t ∷ ts) [] q rise fit = absurd fit
+new_first (t ∷ ts) (c ∷ cs) q rise fit = changed_at t c q rise.0
+
+-- and the second
+new_second : (ts : Tables) (near : TableChanges) (q : ℕ) → AllRise ts → AreChangesOf ts near → row_of (second_table (changed_tables ts near)) q ≡ after (changes_at near 1) q (row_of (second_table ts) q)
+new_second [] [] q rise fit = refl
+new_second [] (c ∷ cs) q rise fit = absurd fit
+new_second (t ∷ ts) [] q rise fit = absurd fit
+new_second (t ∷ ts) (c ∷ cs) q rise fit = new_first ts cs q rise.1 fit.1
 
 -- the goal of a row of S by the place of its key
 goal_here : (k : FkParts) (place : ℕ) → ((v : List Value) → k.key v ≡ value_at place v) → (v : List Value) (g : ℕ) → goal_of (k.key v) ≡ Some g → goal_at place v ≡ Some g

@@ -1,5 +1,3 @@
-mod FoundLemmas
-mod ToldLemmas
 mod LookLemmas
 mod KeyLemmas
 mod BroughtLemmas

@@ -4,8 +4,8 @@ use Rattle.par_base.specs.declared.value.Value.{Value}
 use Rattle.row_store.specs.Rows.{Rows}
 use Rattle.row_changes.specs.Changed.{TableChanges}
 use Rattle.row_changes.specs.Touched.{touched}
-use Rattle.fk_closing.specs.Found.{AreAmong}
-use Rattle.fk_closing.specs.Told.{AllOf, OfNew, changes_at}
+use Rattle.id_closing.specs.Found.{AreAmong}
+use Rattle.id_closing.specs.Told.{AllOf, OfNew, changes_at}
 use Rattle.fk_closing.specs.Looking.{HasGoal, HasLeast, HasRefs}
 
 -- where S and T change: all that changes, to what new rows of S refer, and, by the foreign keys of S, the rows that refer to a changed row of T

@@ -2,8 +2,7 @@
 use Rattle.std.specs.Prelude.{◌≡◌, ℕ, Bool, true, false, List, Option, Some}
 use Rattle.par_base.specs.declared.value.Value.{Value}
 use Rattle.row_store.specs.Rows.{Rows, row_of}
-use Rattle.op_law.specs.Identifiers.{has_id, IdsRise}
-use Rattle.fk_closing.specs.Found.{AreAmong}
+use Rattle.op_law.specs.Identifiers.{has_id}
 use Rattle.fk_closing.specs.Looking.{goal_at, Refers, HasGoal, IsWitness}
 
 -- by which rules identifiers are followed
@@ -36,9 +35,3 @@ IsWitnessBy rule true q found = IsWitness 0 rule.keys (has_id rule.changed) q fo
 pub record IsBrought (rule : Rule) (q : ℕ) (more : List ℕ) : Type 0 where
   pub goal : (v : List Value) → row_of rule.keys q ≡ Some v → HasGoal 0 more v
   pub witness : WitnessBrought rule rule.witness q more
-
--- CLOSED: each of these brings none but these, and they hold those with which it began
-pub record IsClosing (rule : Rule) (begin ids : List ℕ) : Type 0 where
-  pub rise : IdsRise 0 ids
-  pub begins : AreAmong begin ids
-  pub closed : (q : ℕ) → has_id ids q ≡ true → IsBrought rule q ids

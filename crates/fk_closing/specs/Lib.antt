@@ -1,8 +1,9 @@
 pub mod Keys
-pub mod Found
-pub mod Told
 pub mod Looking
 pub mod Brought
 pub mod Beside
 pub mod Begins
 pub mod Calls
+pub mod inner
+pub use Rattle.id_closing.specs.Found
+pub use Rattle.id_closing.specs.Closing

@@ -2,16 +2,16 @@
 ghost use Rattle.std.specs.Prelude.{◌≡◌, IfOk, OnOk};
 ghost use Rattle.row_changes.specs.Touched.{touched};
 ghost use Rattle.fk_closing.specs.Begins.{BeginsAtRows, BeginsAtTables};
-ghost use Rattle.fk_closing.specs.Found.{AreAmong};
+ghost use Rattle.id_closing.specs.Found.{AreAmong};
 ghost use Rattle.fk_closing.specs.Keys.{keys_among};
 ghost use Rattle.fk_closing.specs.Looking.{HasLeast, HasRefs};
-ghost use Rattle.fk_closing.specs.Told.{AllOf, OfNew, OfRow};
+ghost use Rattle.id_closing.specs.Told.{AllOf, OfNew, OfRow};
 
-use crate::found::{add_all, add_some};
 use crate::looking::add_refs;
-use crate::told::{add_goals, changes_at};
+use crate::told::add_goals;
 use crate::{Among, FkKeys};
 use foreign_keys::RowParts;
+use id_closing::{add_all, add_some, changes_at};
 use par_base::{List, Memory, Row};
 use row_changes::{SideChanges, touched_ids};
 use row_store::Change;

@@ -1,47 +1,16 @@
-//! The identifiers that some bring with them, and those that these bring, to the end.
-ghost use Rattle.std.specs.Prelude.{[], true, IfOk, OnOk};
+//! Identifiers that are closed by the foreign keys of S, alone or beside changes.
+ghost use Rattle.std.specs.Prelude.{[], true, IfOk};
+ghost use Rattle.id_closing.specs.Closing.{IsClosing};
 ghost use Rattle.fk_closing.specs.Beside.{ClosesBeside};
-ghost use Rattle.fk_closing.specs.Brought.{IsBrought, IsClosing};
-ghost use Rattle.fk_closing.specs.Found.{AreIds, FindsMore};
+ghost use Rattle.fk_closing.specs.Brought.{IsBrought};
 
 use crate::FkKeys;
-use crate::found::{add_all, find_all};
 use crate::rules::Rules;
-use crate::told::changed_ids;
+use id_closing::{add_all, changed_ids, close};
 use par_base::{List, Memory};
 use row_map::IdSet;
 use row_store::Change;
 use std::alloc::Global;
-
-/// Finds what an identifier brings.
-fn follow(
-    alloc: Global,
-    rules: &Rules<'_>,
-    id: u64,
-    found: &mut IdSet,
-    left: &mut List<u64>,
-) -> Result<(), Memory>
-    requires { AreIds found.old }
-    ensures more { OnOk result (FindsMore found.old left.old found.new left.new) }
-    ensures all { OnOk result (IsBrought rules.now id found.new) }
-{
-    let ids = rules.brought(alloc, id)?;
-    find_all(found, left, ids.as_slice())
-}
-
-/// These identifiers, and all that is brought with them. Each is found once and followed once, so
-/// it ends, and takes the look-ups of a rule for each identifier that is found.
-pub(crate) fn close(alloc: Global, rules: &Rules<'_>, begin: &[u64]) -> Result<List<u64>, Memory>
-    ensures { IfOk result (IsClosing rules.now begin.now) }
-{
-    let mut found = IdSet::new(alloc);
-    let mut left = List::new(alloc);
-    find_all(&mut found, &mut left, begin)?;
-    while let Some(id) = left.pop() {
-        follow(alloc, rules, id, &mut found, &mut left)?;
-    }
-    found.list(alloc)
-}
 
 /// These identifiers, to what their rows of S refer, for each of them a row of S that refers to it,
 /// where there is one, and all that these bring.
@@ -49,8 +18,11 @@ pub(crate) fn close(alloc: Global, rules: &Rules<'_>, begin: &[u64]) -> Result<L
 /// It takes two look-ups for each identifier that is found. What is found leads on only where an
 /// identifier stands in both S and T.
 pub fn closed_ids(alloc: Global, keys: &FkKeys<'_>, wanted: &[u64]) -> Result<List<u64>, Memory>
-    ensures { IfOk result (IsClosing (record { keys = keys.now.keys; changed = []; witness = true })
-        wanted.now) }
+    ensures { IfOk result (IsClosing (IsBrought (record {
+      keys = keys.now.keys;
+      changed = [];
+      witness = true;
+    })) wanted.now) }
 {
     let changed = &IdSet::new(alloc);
     let rules = Rules {

@@ -3,13 +3,12 @@ ghost use Rattle.std.specs.Prelude.{IfOk};
 ghost use Rattle.op_law.specs.Meaning.{flip};
 ghost use Rattle.op_fk_decompose.specs.Columns.{decompose_columns};
 ghost use Rattle.fk_closing.specs.Calls.{AreFootprint, CloseDecompose, CloseDecomposeBack};
-ghost use Rattle.fk_closing.specs.Found.{AreAmong};
+ghost use Rattle.id_closing.specs.Found.{AreAmong};
 
 use crate::begins::{begin_at_rows, begin_at_tables};
-use crate::close::close;
 use crate::rules::Rules;
-use crate::told::{changed_ids, changes_at};
 use crate::{Among, FkKeys};
+use id_closing::{changed_ids, changes_at, close};
 use op_fk_decompose::DecomposeFk;
 use par_base::{List, Memory};
 use row_changes::SideChanges;

@@ -1,7 +1,7 @@
 //! Rows that refer to others, in order.
 ghost use Rattle.std.specs.Prelude.{◌≡◌, OnOk};
 ghost use Rattle.op_law.specs.Identifiers.{has_id};
-ghost use Rattle.fk_closing.specs.Found.{AreAmong};
+ghost use Rattle.id_closing.specs.Found.{AreAmong};
 ghost use Rattle.fk_closing.specs.Looking.{HasRefs, IsWitness};
 
 use crate::FkKeys;

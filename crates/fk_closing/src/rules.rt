@@ -3,10 +3,11 @@ ghost use Rattle.std.specs.Prelude.{◌≡◌, IfOk};
 ghost use Rattle.row_store.specs.Rows.{row_of};
 ghost use Rattle.fk_closing.specs.Looking.{goal_in};
 ghost use Rattle.fk_closing.specs.Brought.{IsBrought, IsWitnessBy};
+ghost use Rattle.fk_closing.specs.inner.BroughtLaws.{brought_more};
 
 use crate::FkKeys;
-use crate::found::add_some;
 use crate::looking::witness_of;
+use id_closing::{Rule, add_some};
 use par_base::{List, Memory};
 use row_map::IdSet;
 use std::alloc::Global;
@@ -53,15 +54,19 @@ impl<'a> Rules<'a> {
             None
         }
     }
+}
 
-    /// All that the identifier brings. It takes two look-ups, and one more for each changed row that
-    /// refers to the identifier: such a row refers to one alone, so all of them are passed over once.
-    pub(crate) fn brought(&self, alloc: Global, id: u64) -> Result<List<u64>, Memory>
-        ensures { IfOk result (IsBrought self.now id) }
-    {
+impl<'a> Rule for Rules<'a> {
+    ghost brings = { λ it. IsBrought it };
+
+    /// It takes two look-ups, and one more for each changed row that refers to the identifier: such
+    /// a row refers to one alone, so all of them are passed over once.
+    fn brought(&self, alloc: Global, id: u64, by: Option<u64>) -> Result<List<u64>, Memory> {
         let mut ids = List::new(alloc);
         add_some(&mut ids, self.goal(id))?;
         add_some(&mut ids, self.witness(id))?;
         Ok(ids)
     }
+
+    ghost more = { λ it. brought_more it };
 }

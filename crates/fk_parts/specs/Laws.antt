@@ -7,7 +7,8 @@ use Rattle.row_changes.specs.Changed.{TableChanges, changed_tables}
 use Rattle.foreign_keys.specs.KeyParts.{FkParts}
 use Rattle.op_fk_decompose.specs.Columns.{column_parts, decompose_columns}
 use Rattle.op_fk_join.specs.Columns.{join_columns, side_parts}
-use Rattle.fk_closing.specs.Brought.{IsClosing}
+use Rattle.fk_closing.specs.Brought.{IsBrought}
+use Rattle.fk_closing.specs.Closing.{IsClosing}
 use Rattle.fk_closing.specs.Keys.{AreFkKeys, KeyRows}
 use Rattle.pair_parts.specs.Apart.{KeepsApart, SameElsewhere}
 use Rattle.pair_parts.specs.Splits.{Splits}
@@ -15,7 +16,7 @@ use Rattle.fk_parts.specs.Closed.{IsClosedOver, PassListed}
 
 -- identifiers of which each brings what it refers to, and one that refers to it
 abbrev pub AreClosing : KeyRows → List ℕ → Type 0
-AreClosing keys ids = (wanted : List ℕ) × IsClosing (record { keys = keys.keys; changed = []; witness = true }) wanted ids
+AreClosing keys ids = (wanted : List ℕ) × IsClosing (IsBrought (record { keys = keys.keys; changed = []; witness = true })) wanted ids
 
 -- whatever passes of the rows of S and T, on this side of a pair, exactly where it is one of these, splits the pair
 abbrev pub ClosingSplits : Meaning → ℕ → (PairState → Tables) → Type 0

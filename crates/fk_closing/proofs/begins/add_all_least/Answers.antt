@@ -3,8 +3,8 @@ use Rattle.std.proofs.lemmas.List.{take_more}
 use Rattle.row_store.specs.declared.change.Change.{Change}
 use Rattle.fk_closing.specs.Keys.{keys_among}
 use Rattle.fk_closing.specs.Looking.{HasLeast}
-use Rattle.fk_closing.specs.Told.{AllOf, OfNew}
-use Rattle.fk_closing.proofs.ToldLemmas.{all_more, all_then}
+use Rattle.id_closing.specs.Told.{AllOf, OfNew}
+use Rattle.id_closing.proofs.ToldLaws.{all_more, all_then}
 use Rattle.fk_closing.proofs.begins.add_all_least.Goals as goal
 
 pub loop-change-preserved : goal.loop-change-preserved

@@ -1,8 +1,8 @@
 use Rattle.std.proofs.Common.{take}
-use Rattle.fk_closing.specs.Found.{AreAmong}
+use Rattle.id_closing.specs.Found.{AreAmong}
 use Rattle.fk_closing.specs.Keys.{keys_among}
 use Rattle.fk_closing.specs.Looking.{HasLeast}
-use Rattle.fk_closing.specs.Told.{AllOf, OfNew}
+use Rattle.id_closing.specs.Told.{AllOf, OfNew}
 use Rattle.fk_closing.proofs.begins.add_all_least.Given as goal
 
 abbrev pub invariant-loop-change : goal.invariant-loop-change

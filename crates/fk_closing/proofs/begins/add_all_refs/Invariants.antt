@@ -1,7 +1,7 @@
 use Rattle.std.proofs.Common.{take}
-use Rattle.fk_closing.specs.Found.{AreAmong}
+use Rattle.id_closing.specs.Found.{AreAmong}
 use Rattle.fk_closing.specs.Looking.{HasRefs}
-use Rattle.fk_closing.specs.Told.{AllOf}
+use Rattle.id_closing.specs.Told.{AllOf}
 use Rattle.fk_closing.proofs.begins.add_all_refs.Given as goal
 
 abbrev pub invariant-loop-change : goal.invariant-loop-change

@@ -2,7 +2,7 @@ use Rattle.std.proofs.Common.{rules, ◌≡◌, List, ap, ◌∙◌, subst}
 use Rattle.par_base.specs.declared.value.Value.{Value}
 use Rattle.fk_closing.specs.Keys.{keys_among}
 use Rattle.key_index.specs.Found.{IsLeastFrom}
-use Rattle.fk_closing.proofs.FoundLemmas.{added_has, added_stays}
+use Rattle.id_closing.proofs.FoundLaws.{added_has, added_stays}
 use Rattle.fk_closing.proofs.LookLemmas.{least_one}
 use Rattle.fk_closing.proofs.begins.add_least.Goals as goal
 

@@ -2,7 +2,7 @@ use Rattle.std.proofs.Common.{◌≡◌, ℕ, List, true, ap, sym, ◌∙◌, su
 use Rattle.row_store.specs.declared.change.Change.{Change}
 use Rattle.op_law.specs.Identifiers.{has_id}
 use Rattle.fk_footprints.proofs.DecomposeBackwardLaws.{closed_decompose_back}
-use Rattle.fk_closing.specs.Told.{changes_at, is_changed}
+use Rattle.id_closing.specs.Told.{changes_at, is_changed}
 use Rattle.fk_closing.specs.Begins.{BeginsAtTables}
 use Rattle.fk_closing.proofs.CallLemmas.{decompose_back_closes}
 use Rattle.fk_closing.proofs.decompose.decompose_back_footprint.Goals as goal

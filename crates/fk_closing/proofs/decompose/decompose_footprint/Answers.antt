@@ -4,7 +4,7 @@ use Rattle.op_law.specs.Identifiers.{has_id}
 use Rattle.op_fk_decompose.specs.Columns.{column_parts}
 use Rattle.fk_footprints.proofs.DecomposeForwardLaws.{closed_decompose}
 use Rattle.fk_closing.specs.Keys.{shared_among}
-use Rattle.fk_closing.specs.Told.{changes_at, is_changed}
+use Rattle.id_closing.specs.Told.{changes_at, is_changed}
 use Rattle.fk_closing.specs.Begins.{BeginsAtRows}
 use Rattle.fk_closing.proofs.CallLemmas.{decompose_closes}
 use Rattle.fk_closing.proofs.decompose.decompose_footprint.Goals as goal

@@ -3,7 +3,7 @@ use Rattle.op_law.specs.Identifiers.{has_id}
 use Rattle.fk_footprints.proofs.JoinBackwardLaws.{closed_join_back}
 use Rattle.op_fk_join.specs.Columns.{side_parts}
 use Rattle.row_store.specs.declared.change.Change.{Change}
-use Rattle.fk_closing.specs.Told.{changes_at, is_changed}
+use Rattle.id_closing.specs.Told.{changes_at, is_changed}
 use Rattle.fk_closing.specs.Begins.{BeginsAtRows}
 use Rattle.fk_closing.proofs.CallLemmas.{join_back_closes, join_back_witness}
 use Rattle.fk_closing.proofs.join.join_back_footprint.Goals as goal

@@ -2,7 +2,7 @@ use Rattle.std.proofs.Common.{◌≡◌, ℕ, List, true, sym, subst, ap, ◌∙
 use Rattle.op_law.specs.Identifiers.{has_id}
 use Rattle.fk_footprints.proofs.JoinForwardLaws.{closed_join}
 use Rattle.row_store.specs.declared.change.Change.{Change}
-use Rattle.fk_closing.specs.Told.{changes_at, is_changed}
+use Rattle.id_closing.specs.Told.{changes_at, is_changed}
 use Rattle.fk_closing.specs.Begins.{BeginsAtTables}
 use Rattle.fk_closing.proofs.CallLemmas.{join_closes, join_witness}
 use Rattle.fk_closing.proofs.join.join_footprint.Goals as goal

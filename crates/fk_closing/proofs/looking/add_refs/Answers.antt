@@ -1,5 +1,5 @@
 use Rattle.table_keys.specs.States.{behind}
-use Rattle.fk_closing.proofs.FoundLemmas.{end_stays}
+use Rattle.id_closing.proofs.FoundLaws.{end_stays}
 use Rattle.fk_closing.proofs.BroughtLemmas.{refs_more}
 use Rattle.fk_closing.proofs.looking.add_refs.Goals as goal
 

@@ -3,7 +3,7 @@ use Rattle.par_base.specs.declared.value.Value.{Value}
 use Rattle.row_store.specs.Rows.{row_of}
 use Rattle.op_law.specs.Identifiers.{has_id}
 use Rattle.table_keys.specs.States.{behind}
-use Rattle.fk_closing.specs.Found.{AreAmong}
+use Rattle.id_closing.specs.Found.{AreAmong}
 use Rattle.fk_closing.specs.Looking.{goal_at}
 use Rattle.fk_closing.proofs.looking.add_refs.Given as goal
 

@@ -1,6 +1,6 @@
 use Rattle.std.proofs.Common.{rules, ◌≡◌, ap, ◌∙◌}
 use Rattle.fk_closing.specs.Looking.{goal_at}
-use Rattle.fk_closing.proofs.FoundLemmas.{added_has, added_stays}
+use Rattle.id_closing.proofs.FoundLaws.{added_has, added_stays}
 use Rattle.fk_closing.proofs.told.add_goal.Goals as goal
 
 pub returns-in_ok-add_some-clause-goal : goal.returns-in_ok-add_some-clause-goal

@@ -1,7 +1,7 @@
 use Rattle.std.proofs.Common.{take}
-use Rattle.fk_closing.specs.Found.{AreAmong}
+use Rattle.id_closing.specs.Found.{AreAmong}
 use Rattle.fk_closing.specs.Looking.{HasGoal}
-use Rattle.fk_closing.specs.Told.{AllOf, OfNew}
+use Rattle.id_closing.specs.Told.{AllOf, OfNew}
 use Rattle.fk_closing.proofs.told.add_goals.Given as goal
 
 abbrev pub invariant-loop-change : goal.invariant-loop-change

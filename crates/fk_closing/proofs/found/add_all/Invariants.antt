@@ -1,9 +1,0 @@
-use Rattle.std.proofs.Common.{take}
-use Rattle.fk_closing.specs.Found.{AreAmong}
-use Rattle.fk_closing.proofs.found.add_all.Given as goal
-
-abbrev pub invariant-loop-id : goal.invariant-loop-id
-invariant-loop-id l = record {
-  all : AreAmong (take l.id-index l.more) l.ids;
-  stay : AreAmong l.fn.ids l.ids;
-}
