@@ -37,8 +37,12 @@ use Rattle.db_check.specs.inner.Tests.{MayStand, Tells}
 use Rattle.db_check.specs.inner.Calls.{AreWell, MayRead, WasUp, state_with}
 use Rattle.db_check.proofs.ListLemmas.{found_has, own_value}
 
+-- what has an entry lives
+pub entry_lives : {O : Type 0} (p : Parts O) (ns : List ℕ) → ns ≡ reverse (numbers p.graph.edges) → (n : ℕ) → In n ns → In n (numbers p.graph.edges)
+entry_lives p ns is n i = subst (λ (l : List ℕ). In n l) (reverse-reverse (numbers p.graph.edges)) (in_reverse n (reverse (numbers p.graph.edges)) (subst (λ (l : List ℕ). In n l) is i))
+
 module _ {O : Type 0} (meaning : O → Meaning) (p : Parts O) (built : IsBuilt meaning p) (listed : IsListed p) where
-  shaped : IsShaped p
+  pub shaped : IsShaped p
   shaped = record {
     graph = built.graph;
     finished = built.finished;
@@ -49,10 +53,6 @@ module _ {O : Type 0} (meaning : O → Meaning) (p : Parts O) (built : IsBuilt m
     auxes = listed.entries.auxes;
     memories = listed.entries.memories;
   }
-
-  -- what has an entry lives
-  entry_lives : (ns : List ℕ) → ns ≡ reverse (numbers p.graph.edges) → (n : ℕ) → In n ns → In n (numbers p.graph.edges)
-  entry_lives ns is n i = subst (λ (l : List ℕ). In n l) (reverse-reverse (numbers p.graph.edges)) (in_reverse n (reverse (numbers p.graph.edges)) (subst (λ (l : List ℕ). In n l) is i))
 
 -- THE END: both passes went through
 pub is_one : {O : Type 0} (meaning : O → Meaning) → ((o : O) → Laws (meaning o)) → (p : Parts O) → MayRead meaning p → (rows : ℕ → Rows) → {n : ℕ} → 1 ≤ n → n ≡ p.ids.next → WasUp meaning p (forest p.graph.edges) rows → IsDatabase meaning p
@@ -65,16 +65,16 @@ is_one {O} meaning laws p may rows from is was =
       well = record { tables = was.over.well.tables; rows = was.over.well.below; memories = may.memories };
       alone = record {
         tables = was.over.alone;
-        memories = λ k out. ap (λ o. option_map_or (λ x. x.entries) o []) (none_at p.memories k (λ i. out (entry_lives meaning p may.built may.listed (numbers_in p.memories) entries.memories k i)));
+        memories = λ k out. ap (λ o. option_map_or (λ x. x.entries) o []) (none_at p.memories k (λ i. out (entry_lives p (numbers_in p.memories) entries.memories k i)));
       };
       drawn = subst (λ (k : ℕ). 1 ≤ k) is from;
     } in
     let store : Store meaning p s = record {
       tables = entries.tables;
       rows = λ t st. sym (was.over.stored t st);
-      auxes = entry_lives meaning p may.built may.listed (numbers_in p.aux) entries.auxes;
+      auxes = entry_lives p (numbers_in p.aux) entries.auxes;
       aux = λ e i. (was.over.over e i (inr i)).aux;
-      memories = entry_lives meaning p may.built may.listed (numbers_in p.memories) entries.memories;
+      memories = entry_lives p (numbers_in p.memories) entries.memories;
       memory = λ e i. refl;
       next = refl;
     } in

@@ -1,9 +1,14 @@
 mod EndLemmas
 mod FoundLemmas
+mod GatherLemmas
 mod ListLemmas
+mod OnlyLemmas
+mod PartLemmas
 mod PassLemmas
 mod PlaceLemmas
 mod ReadLemmas
+mod SpanLemmas
 mod SplitLemmas
 mod StepLemmas
 mod TestLemmas
+mod WholeLemmas

@@ -32,7 +32,7 @@ fn push_number<O>(graph: &Graph<O>, place: usize, made: &mut List<u32>) -> Resul
     }
 }
 
-fn live_numbers<O>(alloc: Global, graph: &Graph<O>) -> Result<List<u32>, Memory>
+pub(crate) fn live_numbers<O>(alloc: Global, graph: &Graph<O>) -> Result<List<u32>, Memory>
     ensures { IfOk result (λ made. made ≡ reverse (numbers_lem graph.now.edges)) }
 {
     let mut made = List::new(alloc);

@@ -7,3 +7,6 @@ mod LineLemmas
 mod MoveLemmas
 mod BoundLemmas
 mod LeftLemmas
+pub use Rattle.engine_versions.proofs.ChainLaws
+pub use Rattle.engine_versions.proofs.KeptTextLaws
+pub use Rattle.write_propagation.proofs.HoldLaws

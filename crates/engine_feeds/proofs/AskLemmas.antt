@@ -23,18 +23,18 @@ use Rattle.version_notes.proofs.WatchLaws.{fits_first, quiet_given, quiet_left, 
 use Rattle.change_feed.specs.Shown.{Fit}
 use Rattle.op_any.specs.Operators.{AnyView}
 use Rattle.db_state.specs.declared.parts.Parts.{Parts}
-use Rattle.engine_core.specs.Kept.{data_of}
+use Rattle.engine_transactions.specs.EngineCoreKept.{data_of}
 use Rattle.engine_transactions.specs.Kept.{kept_in as kept_beneath}
 use Rattle.engine_state.specs.AnyDatabase.{AnyDatabase}
 use Rattle.engine_state.specs.SharedChecks.{known_version}
 use Rattle.engine_state.specs.declared.reply.Reply.TheVariants.{Unwatched, Watching}
-use Rattle.engine_core.specs.Spoken.{operators_in}
-use Rattle.engine_versions.specs.KeptTexts.{texts_of}
-use Rattle.engine_versions.proofs.ChainLaws.{then_fails, then_is}
-use Rattle.engine_sessions.specs.Calls.{IsAnswer}
-use Rattle.engine_sessions.specs.Standing.{kept_in as kept_beside}
-use Rattle.engine_sessions.specs.declared.answer.Answer.{Answer}
-use Rattle.engine_sessions.specs.declared.answer.Answer.TheVariants.{Plain}
+use Rattle.engine_transactions.specs.Spoken.{operators_in}
+use Rattle.engine_transactions.specs.KeptTexts.{texts_of}
+use Rattle.engine_transactions.proofs.ChainLaws.{then_fails, then_is}
+use Rattle.engine_transactions.specs.EngineSessionsCalls.{IsAnswer}
+use Rattle.engine_transactions.specs.EngineSessionsStanding.{kept_in as kept_beside}
+use Rattle.engine_transactions.specs.Answer.{Answer}
+use Rattle.engine_transactions.specs.Answer.TheVariants.{Plain}
 use Rattle.engine_transactions.specs.Calls.{standing_of as standing_beneath, Keeps}
 use Rattle.engine_transactions.specs.declared.executing.Executing.{Executing}
 use Rattle.engine_transactions.specs.declared.kept.Kept.{Kept as Transactions}

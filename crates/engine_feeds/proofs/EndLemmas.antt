@@ -10,11 +10,11 @@ use Rattle.session_tx.specs.declared.commit_fault.CommitFault.{CommitFault}
 use Rattle.engine_state.specs.AnyDatabase.{AnyDatabase}
 use Rattle.engine_state.specs.declared.reply.Reply.TheVariants.{Committed, Kept}
 use Rattle.engine_state.specs.declared.reply.WriteReply.{WriteReply}
-use Rattle.engine_versions.proofs.ChainLaws.{ok_is}
-use Rattle.engine_sessions.specs.InFull.{in_full}
-use Rattle.engine_sessions.specs.Standing.{Standing as SessionsStanding, used_by}
-use Rattle.engine_sessions.specs.declared.answer.Answer.{Answer}
-use Rattle.engine_sessions.specs.declared.answer.Answer.TheVariants.{Plain}
+use Rattle.engine_transactions.proofs.ChainLaws.{ok_is}
+use Rattle.engine_transactions.specs.InFull.{in_full}
+use Rattle.engine_transactions.specs.EngineSessionsStanding.{Standing as SessionsStanding, used_by}
+use Rattle.engine_transactions.specs.Answer.{Answer}
+use Rattle.engine_transactions.specs.Answer.TheVariants.{Plain}
 use Rattle.engine_transactions.specs.Act.{act, at_hand, behind_commit, committed, committed_as, kept_by, named_at, with_transaction, written_by}
 use Rattle.engine_transactions.specs.Kinds.{kind_in, writes_rows_in}
 use Rattle.engine_transactions.specs.Leads.{committed_data, data_after, data_behind, open_data, written_data}

@@ -13,8 +13,8 @@ use Rattle.version_notes.specs.Notes.{first_note}
 use Rattle.version_notes.proofs.ToldLaws.{AreSound, Steps, append_none, notes_more, rows_counted, steps_dropped, steps_ended, steps_said, steps_same, steps_taken, steps_then, steps_told, was_told}
 use Rattle.engine_state.specs.SharedChecks.{known_version}
 use Rattle.engine_state.specs.declared.reply.Reply.TheVariants.{Watching}
-use Rattle.engine_sessions.specs.declared.answer.Answer.{Answer}
-use Rattle.engine_sessions.specs.declared.answer.Answer.TheVariants.{Plain}
+use Rattle.engine_transactions.specs.Answer.{Answer}
+use Rattle.engine_transactions.specs.Answer.TheVariants.{Plain}
 use Rattle.engine_transactions.specs.Act.{act as act_unwatched}
 use Rattle.engine_transactions.specs.Standing.{Standing as TransactionsStanding}
 use Rattle.engine_feeds.specs.Act.{act, can_watch, data_in, ended_at, taken_for, told_of, watches_behind}

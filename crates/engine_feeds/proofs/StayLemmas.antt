@@ -25,7 +25,7 @@ use Rattle.version_model.specs.Evolving.{grown_state, with_link}
 use Rattle.version_model.specs.States.{State}
 use Rattle.version_model.proofs.PutLaws.{put_other}
 use Rattle.engine_state.specs.AnyDatabase.{AnyDatabase}
-use Rattle.engine_versions.specs.Evolve.{state_after}
+use Rattle.engine_transactions.specs.Evolve.{state_after}
 use Rattle.version_notes.specs.Versions.{named_with, tables_at, tables_of}
 
 -- a version that lives has the same tables

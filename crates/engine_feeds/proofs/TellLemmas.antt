@@ -15,7 +15,7 @@ use Rattle.version_graph.proofs.NameLaws.{name_is, same_name}
 use Rattle.version_model.specs.Sound.{IsSound}
 use Rattle.op_any.specs.Operators.{AnyView, any_meaning}
 use Rattle.db_state.specs.declared.parts.Parts.{Parts}
-use Rattle.write_propagation.specs.declared.undo.Undo.{Undo}
+use Rattle.engine_transactions.specs.WriteUndo.{Undo}
 use Rattle.change_feed.specs.declared.note.VersionNote.{VersionNote}
 use Rattle.change_feed.specs.Feeds.{events_prepared, events_told}
 use Rattle.change_feed.specs.Watchers.{WatcherState}
@@ -26,10 +26,10 @@ use Rattle.version_notes.specs.Runs.{IsOrdered, runs_notes, LeadAlong as LeadAlo
 use Rattle.version_notes.proofs.RunLaws.{Along, cleared_along, run_along, told_along}
 use Rattle.version_notes.proofs.WatchLaws.{SameElse, SameTables, SameWatched, dropped_silent, nothing_between, quiet_dropped, quiet_there, silent_else, told_nothing}
 use Rattle.engine_state.specs.AnyDatabase.{AnyDatabase}
-use Rattle.engine_core.specs.Kept.{data_of}
-use Rattle.engine_versions.proofs.ChainLaws.{ok_is}
-use Rattle.engine_sessions.specs.Calls.{IsAnswer}
-use Rattle.engine_sessions.specs.declared.answer.Answer.{Answer}
+use Rattle.engine_transactions.specs.EngineCoreKept.{data_of}
+use Rattle.engine_transactions.proofs.ChainLaws.{ok_is}
+use Rattle.engine_transactions.specs.EngineSessionsCalls.{IsAnswer}
+use Rattle.engine_transactions.specs.Answer.{Answer}
 use Rattle.engine_transactions.specs.Act.{act, Answers as AnswersBeneath}
 use Rattle.engine_transactions.specs.Calls.{standing_of as standing_beneath, IsIdle, Keeps}
 use Rattle.engine_transactions.specs.Held.{Holds, HoldsAs, IsBack, Settles, answer_in}

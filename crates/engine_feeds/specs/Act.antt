@@ -12,8 +12,8 @@ use Rattle.version_graph.specs.Edges.{set_named}
 use Rattle.engine_state.specs.AnyDatabase.{AnyDatabase}
 use Rattle.engine_state.specs.SharedChecks.{known_version}
 use Rattle.engine_state.specs.declared.reply.Reply.TheVariants.{Unwatched, Watching}
-use Rattle.engine_sessions.specs.declared.answer.Answer.{Answer}
-use Rattle.engine_sessions.specs.declared.answer.Answer.TheVariants.{Plain}
+use Rattle.engine_transactions.specs.Answer.{Answer}
+use Rattle.engine_transactions.specs.Answer.TheVariants.{Plain}
 use Rattle.engine_transactions.specs.Act.{act as act_unwatched}
 use Rattle.engine_transactions.specs.Standing.{Standing as TransactionsStanding}
 use Rattle.engine_feeds.specs.Notes.{event_notes}

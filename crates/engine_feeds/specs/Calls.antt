@@ -5,8 +5,8 @@ use Rattle.par_base.specs.declared.fault.Fault.{Fault}
 use Rattle.par_base.specs.declared.refusal.Refusal.{Refusal}
 use Rattle.change_feed.specs.Watches.{WatchesState}
 use Rattle.statements.specs.Views.{StatementView}
-use Rattle.engine_sessions.specs.Calls.{IsAnswer}
-use Rattle.engine_sessions.specs.declared.answer.Answer.{Answer}
+use Rattle.engine_transactions.specs.EngineSessionsCalls.{IsAnswer}
+use Rattle.engine_transactions.specs.Answer.{Answer}
 use Rattle.engine_transactions.specs.Calls.{standing_of as standing_beneath, Keeps}
 use Rattle.engine_transactions.specs.declared.kept.Kept.{Kept as Transactions}
 use Rattle.engine_feeds.specs.Act.{Answers}

@@ -7,7 +7,7 @@ use Rattle.change_feed.specs.Shown.{count_rows}
 use Rattle.change_feed.specs.Watchers.{counted, rows_shown}
 use Rattle.change_feed.specs.Watches.{AllFresh, WatchState, watch_of}
 use Rattle.statements.specs.Views.{StatementView, Unwatch, Watch}
-use Rattle.engine_sessions.specs.declared.answer.Answer.{Answer}
+use Rattle.engine_transactions.specs.Answer.{Answer}
 use Rattle.version_notes.specs.Mirrors.{AreQuiet}
 use Rattle.version_notes.specs.Numbers.{AreNumbered}
 use Rattle.version_notes.specs.Versions.{tables_of}

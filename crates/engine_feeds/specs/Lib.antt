@@ -20,12 +20,12 @@ pub use Rattle.engine_transactions.specs.Answer
 pub use Rattle.engine_transactions.specs.EngineSessionsLaws as SessionsLaws
 pub use Rattle.engine_transactions.specs.EngineSessionsTexts as Texts
 pub use Rattle.engine_transactions.specs.Spoken
-pub use Rattle.engine_transactions.specs.EngineSessionsKept as EngineCoreKept
+pub use Rattle.engine_transactions.specs.EngineCoreKept
 pub use Rattle.engine_transactions.specs.EngineCoreTexts
 pub use Rattle.engine_transactions.specs.Laid
-pub use Rattle.engine_transactions.specs.EngineSessionsAct as EngineSessionsAct
+pub use Rattle.engine_transactions.specs.EngineSessionsAct
 pub use Rattle.engine_transactions.specs.AnyDatabase
-pub use Rattle.engine_transactions.specs.Undo
+pub use Rattle.engine_transactions.specs.EngineCoreUndo
 pub use Rattle.engine_transactions.specs.Reply
 pub use Rattle.engine_transactions.specs.declared.table_read.TableRead
 pub use Rattle.engine_transactions.specs.History
@@ -39,3 +39,15 @@ pub use Rattle.engine_transactions.specs.SharedChecks
 pub use Rattle.engine_transactions.specs.MigrationSides
 pub use Rattle.engine_transactions.specs.Accesses
 pub use Rattle.engine_transactions.specs.EngineCoreLaws
+pub use Rattle.engine_transactions.specs.Answer.TheVariants
+pub use Rattle.engine_transactions.specs.Replies as EngineTransactionsReplies
+pub use Rattle.version_notes.specs.Notes as VersionNotes
+pub use Rattle.engine_transactions.specs.Told
+pub use Rattle.version_notes.specs.Differences
+pub use Rattle.version_notes.specs.Versions
+pub use Rattle.engine_transactions.specs.Kinds
+pub use Rattle.engine_transactions.specs.Leads
+pub use Rattle.engine_transactions.specs.declared.statement_kind.StatementKind
+pub use Rattle.engine_transactions.specs.KeptTexts
+pub use Rattle.engine_transactions.specs.EngineStatementsCalls
+pub use Rattle.engine_transactions.specs.Found

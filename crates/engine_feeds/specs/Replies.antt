@@ -2,9 +2,9 @@
 use Rattle.std.specs.Prelude.{ℕ, List, [], ◌∷◌, flat_map, Ok, Err}
 use Rattle.par_base.specs.Checked.{Checked}
 use Rattle.statements.specs.Views.{StatementView}
-use Rattle.engine_core.specs.Texts.{refusal_bytes}
-use Rattle.engine_sessions.specs.Texts.{answer_bytes}
-use Rattle.engine_sessions.specs.declared.answer.Answer.{Answer}
+use Rattle.engine_transactions.specs.EngineCoreTexts.{refusal_bytes}
+use Rattle.engine_transactions.specs.EngineSessionsTexts.{answer_bytes}
+use Rattle.engine_transactions.specs.Answer.{Answer}
 use Rattle.engine_feeds.specs.Act.{act}
 use Rattle.engine_feeds.specs.Standing.{Standing}
 

@@ -8,9 +8,8 @@ ghost use Rattle.engine_feeds.specs.Calls.{standing_with, Carries};
 ghost use Rattle.engine_feeds.specs.Kept.{AreKept};
 
 use change_feed::{Left, Watcher, Watches};
-use engine_sessions::Answer;
 use engine_state::{Reply, known_set};
-use engine_transactions::Kept;
+use engine_transactions::{Answer, Kept};
 use expr_lang::Steps;
 use par_base::{Fault, Name, Refusal};
 use std::alloc::Global;

@@ -15,8 +15,7 @@ ghost use Rattle.engine_feeds.specs.Kept.{AreKept};
 ghost use Rattle.engine_feeds.specs.Plain.{is_plain, HearNothing};
 
 use change_feed::{Watcher, Watches};
-use engine_sessions::Answer;
-use engine_transactions::{Kept, writes_rows};
+use engine_transactions::{Answer, Kept, writes_rows};
 use expr_lang::Steps;
 use par_base::{Fault, Memory, Name, Refusal};
 use statements::Statement;

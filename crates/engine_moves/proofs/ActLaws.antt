@@ -12,7 +12,7 @@ use Rattle.op_any.specs.Operators.{AnyView}
 use Rattle.engine_state.specs.declared.reply.Reply.{Reply}
 use Rattle.engine_state.specs.declared.reply.Reply.TheVariants.{Pending}
 use Rattle.migration.specs.Pending.{next_flip, pending_for}
-use Rattle.engine_versions.proofs.ChainLaws.{both_give, ok_is}
+use Rattle.engine_core.proofs.ChainLaws.{both_give, ok_is}
 use Rattle.engine_core.specs.Act.{act as act_at_once}
 use Rattle.engine_core.specs.KeptTexts.{texts_of}
 use Rattle.engine_core.specs.Laid.{Laid}

@@ -15,7 +15,7 @@ use Rattle.migration.specs.Pending.{next_flip}
 use Rattle.migration.specs.Sides.{changing}
 use Rattle.migration.proofs.PendingLaws.{closing_up}
 use Rattle.engine_state.specs.declared.reply.Reply.{Reply}
-use Rattle.engine_versions.proofs.ChainLaws.{both_give, ok_is, then_is}
+use Rattle.engine_core.proofs.ChainLaws.{both_give, ok_is, then_is}
 use Rattle.engine_core.specs.Laid.{moved_count}
 use Rattle.engine_moves.specs.Act.{flipped_by, stepped_at}
 use Rattle.engine_moves.specs.Laws.{StepsBy, StepsEndAsMoved}

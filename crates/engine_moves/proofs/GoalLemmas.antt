@@ -20,11 +20,11 @@ use Rattle.engine_state.specs.AnyDatabase.{AnyDatabase}
 use Rattle.engine_state.specs.SharedChecks.{enough_ids}
 use Rattle.engine_state.specs.declared.reply.Reply.{Reply}
 use Rattle.engine_state.specs.declared.reply.Reply.TheVariants.{Done}
-use Rattle.engine_statements.specs.Found.{condition_list, found, known_condition, known_references}
-use Rattle.engine_statements.specs.Statements.{acted_select, columns_of, listed_places, state_with, wrote}
-use Rattle.engine_versions.specs.Evolve.{created, dropped_version}
-use Rattle.engine_versions.proofs.ChainLaws.{both_give, ok_is}
-use Rattle.engine_versions.proofs.KeptTextLaws.{dropped_is, made_of}
+use Rattle.engine_core.specs.Found.{condition_list, found, known_condition, known_references}
+use Rattle.engine_core.specs.Statements.{acted_select, columns_of, listed_places, state_with, wrote}
+use Rattle.engine_core.specs.Evolve.{created, dropped_version}
+use Rattle.engine_core.proofs.ChainLaws.{both_give, ok_is}
+use Rattle.engine_core.proofs.KeptTextLaws.{dropped_is, made_of}
 use Rattle.engine_core.specs.Act.{act, acted, acted_data, is_built, planned_write, tells_layout, with_data}
 use Rattle.engine_core.specs.Laid.{Laid}
 use Rattle.engine_core.proofs.LaidLaws.{acted_beside}

@@ -18,7 +18,7 @@ use Rattle.migration.proofs.PendingLaws.{none_pending}
 use Rattle.migration.proofs.StepLaws.{lives_found, next_told}
 use Rattle.engine_state.specs.declared.reply.Reply.{Reply}
 use Rattle.engine_state.specs.declared.reply.Reply.TheVariants.{Flipped, Pending}
-use Rattle.engine_versions.proofs.ChainLaws.{then_is}
+use Rattle.engine_core.proofs.ChainLaws.{then_is}
 use Rattle.engine_core.specs.Act.{act as act_at_once}
 use Rattle.engine_core.specs.Kept.{Answers, MayFlip, state_of}
 use Rattle.engine_core.specs.Laid.{Laid, flipped_laid}

@@ -4,7 +4,7 @@ use Rattle.std.specs.Prelude.{OnErr}
 use Rattle.layout_rules.specs.declared.layout.Layout.{Layout}
 use Rattle.op_any.specs.Operators.{AnyView}
 use Rattle.db_state.specs.declared.parts.Parts.{Parts}
-use Rattle.write_propagation.specs.declared.undo.Undo.{Undo}
+use Rattle.engine_core.specs.WriteUndo.{Undo}
 use Rattle.engine_state.specs.AnyDatabase.{AnyDatabase}
 use Rattle.engine_core.specs.Kept.{data_of, state_of}
 use Rattle.engine_core.specs.Laid.{Laid}

@@ -15,5 +15,9 @@
 mod laws;
 mod mover;
 
+pub use engine_core::{
+    Engine, FoundTable, Undo, Written, find_table, moves_store_targets, refusal_text,
+    replies_are_lines, reply_text, select_rows, writes_are_by_identifier, writes_stay_undoable,
+};
 pub use laws::{pending_is_unseen, steps_end_as_moved};
 pub use mover::Mover;

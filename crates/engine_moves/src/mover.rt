@@ -8,14 +8,14 @@ ghost use Rattle.engine_core.specs.Spoken.{TextsCome};
 ghost use Rattle.engine_core.specs.Undo.{acted_write, AnswersWrite, LeavesWrite};
 ghost use Rattle.op_any.specs.BuiltOn.{AreBuiltOn};
 ghost use Rattle.op_any.specs.Operators.{any_meaning};
-ghost use Rattle.write_propagation.specs.Capacity.{HoldsAsMuch};
-ghost use Rattle.write_propagation.specs.Undo.{IsRevertible, Restores};
+ghost use Rattle.engine_core.specs.Capacity.{HoldsAsMuch};
+ghost use Rattle.engine_core.specs.WritesUndone.{IsRevertible, Restores};
 ghost use Rattle.engine_state.specs.Replies.{IsReply};
 ghost use Rattle.migration.specs.Pending.{IsPending};
 ghost use Rattle.engine_moves.specs.Act.{act, at_once, is_materialize as is_materialize_lem, moved, started, stepped};
 ghost use Rattle.engine_moves.specs.Moving.{moving_of};
 
-use engine_core::{Engine, Written};
+use engine_core::{Engine, Undo, Written};
 use engine_state::Reply;
 use expr_lang::Steps;
 use migration::{keep_pending, next_flip, pending_without, start_move, steps_are_flips};
@@ -26,7 +26,6 @@ use std::alloc::Global;
 use std::marker::Model;
 use std::mem;
 use std::sync::ledger::Ledger;
-use write_propagation::Undo;
 
 /// An engine, and the operators whose data are still to go to their other side, ascending. Where
 /// there are none, no move is pending.

@@ -9,7 +9,7 @@ use Rattle.csv_io.specs.Tables.{csv_rows}
 use Rattle.engine_state.specs.SharedChecks.{known_version}
 use Rattle.engine_state.specs.declared.reply.Reply.{Reply}
 use Rattle.engine_state.specs.declared.reply.Reply.TheVariants.{Done}
-use Rattle.engine_core.specs.Laid.{Laid}
+use Rattle.engine_moves.specs.Laid.{Laid}
 use Rattle.engine_moves.specs.Act.{act as act_in_full}
 use Rattle.engine_moves.specs.Laws.{SameLaid, is_step}
 use Rattle.engine_moves.specs.Moving.{Moving}

@@ -19,9 +19,9 @@ use Rattle.engine_state.specs.AnyDatabase.{AnyDatabase}
 use Rattle.engine_state.specs.SharedChecks.{known_version}
 use Rattle.engine_state.specs.declared.reply.Reply.{Reply}
 use Rattle.engine_state.specs.declared.reply.Reply.TheVariants.{Done, Moved}
-use Rattle.engine_versions.proofs.ChainLaws.{both_give, ok_is}
-use Rattle.engine_core.specs.Act.{act as act_at_once}
-use Rattle.engine_core.specs.Laid.{Laid, materialized, moved_count}
+use Rattle.engine_moves.proofs.ChainLaws.{both_give, ok_is}
+use Rattle.engine_moves.specs.EngineCoreAct.{act as act_at_once}
+use Rattle.engine_moves.specs.Laid.{Laid, materialized, moved_count}
 use Rattle.engine_moves.specs.Act.{act as act_in_full, pending_behind}
 use Rattle.engine_moves.specs.Moving.{Moving}
 use Rattle.engine_moves.proofs.ActLaws.{started_stays, stepped_stays}

@@ -10,8 +10,8 @@ use Rattle.version_graph.specs.Sets.{Within}
 use Rattle.version_graph.specs.declared.parts.Placed.{Placed}
 use Rattle.version_graph.proofs.SetLaws.{in_right}
 use Rattle.op_any.specs.Operators.{AnyView}
-use Rattle.engine_core.specs.KeptTexts.{texts_of}
-use Rattle.engine_core.specs.Spoken.{TextsCome, operators_in}
+use Rattle.engine_moves.specs.KeptTexts.{texts_of}
+use Rattle.engine_moves.specs.Spoken.{TextsCome, operators_in}
 use Rattle.engine_sessions.specs.Standing.{Standing, used_by}
 use Rattle.engine_sessions.specs.InFull.{in_full, wants_csv}
 use Rattle.engine_sessions.specs.Act.{act, counted}

@@ -10,7 +10,7 @@ use Rattle.layout_planner.specs.declared.planning.TableCount.{TableCount}
 use Rattle.engine_state.specs.SharedChecks.{known_version}
 use Rattle.engine_state.specs.declared.reply.Reply.{Reply}
 use Rattle.engine_state.specs.declared.reply.Reply.TheVariants.{Done}
-use Rattle.engine_core.specs.Laid.{Laid}
+use Rattle.engine_moves.specs.Laid.{Laid}
 use Rattle.engine_moves.specs.Act.{act as act_in_full}
 use Rattle.engine_moves.specs.Moving.{Moving}
 use Rattle.engine_sessions.specs.declared.answer.Answer.{Answer}

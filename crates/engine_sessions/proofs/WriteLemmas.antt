@@ -10,9 +10,9 @@ use Rattle.op_any.specs.Operators.{AnyView}
 use Rattle.db_state.specs.declared.parts.Parts.{Parts}
 use Rattle.engine_state.specs.AnyDatabase.{AnyDatabase}
 use Rattle.engine_state.specs.declared.reply.Reply.{Reply}
-use Rattle.engine_core.specs.Kept.{data_of, state_of}
-use Rattle.engine_core.specs.Undo.{AnswersWrite, acted_write}
-use Rattle.engine_core.specs.declared.written.Written.{Written}
+use Rattle.engine_moves.specs.EngineCoreKept.{data_of, state_of}
+use Rattle.engine_moves.specs.EngineCoreUndo.{AnswersWrite, acted_write}
+use Rattle.engine_moves.specs.Written.{Written}
 use Rattle.engine_sessions.specs.Act.{written_in}
 use Rattle.engine_sessions.specs.Standing.{Standing}
 

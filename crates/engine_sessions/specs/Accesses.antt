@@ -5,7 +5,7 @@ use Rattle.statements.specs.Views.{StatementView, Insert, Update, Delete, Select
 use Rattle.version_graph.specs.declared.parts.Placed.{Placed}
 use Rattle.op_any.specs.Operators.{AnyView}
 use Rattle.engine_state.specs.AnyDatabase.{AnyDatabase}
-use Rattle.engine_statements.specs.Found.{Found, found}
+use Rattle.engine_moves.specs.Found.{Found, found}
 use Rattle.layout_planner.specs.Costs.{count_of}
 use Rattle.layout_planner.specs.Counts.{counts_in}
 use Rattle.layout_planner.specs.declared.planning.TableCount.{TableCount}

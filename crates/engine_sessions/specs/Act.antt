@@ -10,8 +10,8 @@ use Rattle.statements.specs.Views.{StatementView, Advise, Select, Session, Use}
 use Rattle.engine_state.specs.SharedChecks.{known_version}
 use Rattle.engine_state.specs.declared.reply.Reply.{Reply}
 use Rattle.engine_state.specs.declared.reply.Reply.TheVariants.{Done, Rows}
-use Rattle.engine_statements.specs.Statements.{acted_select}
-use Rattle.engine_core.specs.Undo.{acted_write}
+use Rattle.engine_moves.specs.Statements.{acted_select}
+use Rattle.engine_moves.specs.EngineCoreUndo.{acted_write}
 use Rattle.engine_moves.specs.Act.{act as act_in_full}
 use Rattle.engine_moves.specs.Moving.{Moving}
 use Rattle.layout_planner.specs.Best.{best}

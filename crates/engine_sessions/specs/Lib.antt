@@ -5,13 +5,13 @@ pub mod Act
 pub mod Texts
 pub mod Calls
 pub mod Laws
-pub use Rattle.engine_core.specs.Spoken
-pub use Rattle.engine_core.specs.Texts as EngineCoreTexts
-pub use Rattle.engine_core.specs.Act as EngineCoreAct
-pub use Rattle.engine_core.specs.Kept
-pub use Rattle.engine_core.specs.Undo
-pub use Rattle.engine_core.specs.KeptTexts
-pub use Rattle.engine_core.specs.Laid
+pub use Rattle.engine_moves.specs.Spoken
+pub use Rattle.engine_moves.specs.EngineCoreTexts
+pub use Rattle.engine_moves.specs.EngineCoreAct
+pub use Rattle.engine_moves.specs.EngineCoreKept
+pub use Rattle.engine_moves.specs.EngineCoreUndo
+pub use Rattle.engine_moves.specs.KeptTexts
+pub use Rattle.engine_moves.specs.Laid
 pub use Rattle.engine_moves.specs.Act as EngineMovesAct
 pub use Rattle.engine_moves.specs.Moving
 pub use Rattle.engine_moves.specs.Pending
@@ -19,4 +19,16 @@ pub use Rattle.engine_moves.specs.MigrationSides
 pub use Rattle.engine_state.specs.AnyDatabase
 pub use Rattle.engine_state.specs.SharedChecks
 pub use Rattle.engine_state.specs.declared.reply.Reply
-pub use Rattle.engine_core.specs.Laws as EngineCoreLaws
+pub use Rattle.engine_moves.specs.EngineCoreLaws
+pub use Rattle.engine_moves.specs.Found
+pub use Rattle.engine_moves.specs.WriteUndo
+pub use Rattle.engine_moves.specs.Capacity
+pub use Rattle.engine_moves.specs.Plans
+pub use Rattle.engine_moves.specs.WritesUndone
+pub use Rattle.engine_moves.specs.Statements
+pub use Rattle.engine_moves.specs.Told
+pub use Rattle.engine_moves.specs.Evolve
+pub use Rattle.engine_moves.specs.Shown
+pub use Rattle.engine_moves.specs.Counts
+pub use Rattle.engine_moves.specs.EngineStatementsLaws
+pub use Rattle.engine_moves.specs.EngineStatementsCalls

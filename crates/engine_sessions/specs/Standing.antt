@@ -4,8 +4,8 @@ use Rattle.std.specs.Option.{option_map}
 use Rattle.std.specs.List.{find}
 use Rattle.op_any.specs.Operators.{AnyView}
 use Rattle.db_state.specs.declared.parts.Parts.{Parts}
-use Rattle.engine_core.specs.Laid.{Laid}
-use Rattle.engine_core.specs.Kept.{empty_state, state_of}
+use Rattle.engine_moves.specs.Laid.{Laid}
+use Rattle.engine_moves.specs.EngineCoreKept.{empty_state, state_of}
 use Rattle.engine_moves.specs.Moving.{Moving}
 use Rattle.layout_planner.specs.declared.planning.TableCount.{TableCount}
 use Rattle.engine_sessions.specs.declared.uses.VersionInUse.{VersionInUse}

@@ -2,7 +2,7 @@
 use Rattle.std.specs.Prelude.{◌++◌, ℕ, List, codes, decimal, flat_map, length}
 use Rattle.par_base.specs.declared.value.Value.{Value}
 use Rattle.csv_io.specs.Tables.{csv_text}
-use Rattle.engine_core.specs.Texts.{line, reply_bytes}
+use Rattle.engine_moves.specs.EngineCoreTexts.{line, reply_bytes}
 use Rattle.layout_planner.specs.declared.planning.VersionCost.{VersionCost}
 use Rattle.engine_sessions.specs.declared.answer.Answer.{Answer}
 use Rattle.engine_sessions.specs.declared.answer.Answer.TheVariants.{Plain, Csv, Advice}

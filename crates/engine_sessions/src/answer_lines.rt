@@ -1,13 +1,13 @@
 //! The lines of an answer.
 ghost use Rattle.std.specs.Prelude.{◌≡◌, ◌++◌, string_bytes, IfOk, OnOk};
-ghost use Rattle.engine_core.specs.Texts.{line};
+ghost use Rattle.engine_moves.specs.EngineCoreTexts.{line};
 ghost use Rattle.engine_state.specs.Replies.{HasWidth};
 ghost use Rattle.engine_sessions.specs.Calls.{IsAnswer};
 ghost use Rattle.engine_sessions.specs.Texts.{advice_lines, answer_bytes, cost_text, csv_lines};
 
 use crate::Answer;
 use csv_io::rows_csv;
-use engine_core::reply_text;
+use engine_moves::reply_text;
 use layout_planner::VersionCost;
 use par_base::{Memory, Name, Row, Text};
 use std::alloc::Global;

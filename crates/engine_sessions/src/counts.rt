@@ -3,12 +3,12 @@ ghost use Rattle.std.specs.Prelude.{◌≡◌, ◌++◌, filter, nat_lt, IfOk, O
 ghost use Rattle.op_any.specs.Operators.{any_meaning};
 ghost use Rattle.statements.specs.Views.{statement_view};
 ghost use Rattle.db_state.specs.Fields.{database_for};
-ghost use Rattle.engine_statements.specs.Found.{found};
+ghost use Rattle.engine_moves.specs.Found.{found};
 ghost use Rattle.layout_planner.specs.Counts.{counts_in, is_living};
 ghost use Rattle.engine_sessions.specs.Accesses.{accessed, is_move as is_move_lem, kept_behind, one_more as one_more_lem, raised, raised_by, table_found};
 
 use db_state::Db;
-use engine_statements::find_table;
+use engine_moves::find_table;
 use layout_planner::{TableCount, count_of};
 use op_any::AnyOp;
 use par_base::{Fault, List, Memory};

@@ -28,7 +28,10 @@ mod uses;
 pub use answer::Answer;
 pub use answer_lines::answer_text;
 pub use counts::{copy_counts, count_access, find_accessed, keep_behind, raise};
-pub use engine_core::{Engine, moves_store_targets, refusal_text, replies_are_lines};
+pub use engine_moves::{
+    Engine, FoundTable, Undo, Written, find_table, moves_store_targets, refusal_text,
+    replies_are_lines, writes_are_by_identifier, writes_stay_undoable,
+};
 pub use in_full::wants_csv;
 pub use laws::{
     counts_stay_beside_the_graph, full_statements_need_the_data_alone,

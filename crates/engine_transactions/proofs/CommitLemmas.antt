@@ -15,7 +15,7 @@ use Rattle.op_law.proofs.OnlyLaws.{by_test}
 use Rattle.op_any.specs.Operators.{AnyView}
 use Rattle.version_model.specs.Kept.{numbers_in}
 use Rattle.db_state.specs.declared.parts.Parts.{Parts}
-use Rattle.write_propagation.specs.declared.undo.Undo.{Undo}
+use Rattle.engine_sessions.specs.WriteUndo.{Undo}
 use Rattle.session_tx.specs.Calls.{after_run, is_changed, next_number, IsSettled}
 use Rattle.session_tx.specs.Commits.{after_runs, commit, read_fault, running, runs_of, unless, with_runs}
 use Rattle.session_tx.specs.Meaning.{Ran, Standing as Executed}
@@ -23,8 +23,8 @@ use Rattle.session_tx.specs.Serial.{end_of}
 use Rattle.session_tx.specs.Transactions.{TransactionState}
 use Rattle.session_tx.proofs.FreshLaws.{after_history, after_last}
 use Rattle.engine_state.specs.declared.reply.WriteReply.{WriteReply}
-use Rattle.engine_core.specs.KeptTexts.{texts_of}
-use Rattle.engine_core.specs.Spoken.{operators_in}
+use Rattle.engine_sessions.specs.KeptTexts.{texts_of}
+use Rattle.engine_sessions.specs.Spoken.{operators_in}
 use Rattle.engine_sessions.specs.Standing.{Standing as SessionsStanding, kept_in, standing_of}
 use Rattle.engine_transactions.specs.Calls.{executed, IsIdle, IsSame, Keeps}
 use Rattle.engine_transactions.specs.Executing.{HaveNumbers, RunsTo, Shows}

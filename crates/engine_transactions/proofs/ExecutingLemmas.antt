@@ -16,19 +16,19 @@ use Rattle.op_any.specs.BuiltOn.{AreBuiltOn}
 use Rattle.op_any.specs.Operators.{AnyView, any_meaning}
 use Rattle.version_model.specs.Kept.{numbers_in}
 use Rattle.db_state.specs.declared.parts.Parts.{Parts}
-use Rattle.write_propagation.specs.Capacity.{HoldsAsMuch, HoldsAtLeast}
-use Rattle.write_propagation.specs.Plans.{IsSame}
-use Rattle.write_propagation.specs.Undo.{IsAgain, Restores, StaysUndoable, Undoes}
-use Rattle.write_propagation.specs.declared.undo.Undo.{Undo}
-use Rattle.write_propagation.proofs.HoldLaws.{holds_enough, holds_more}
+use Rattle.engine_sessions.specs.Capacity.{HoldsAsMuch, HoldsAtLeast}
+use Rattle.engine_sessions.specs.Plans.{IsSame}
+use Rattle.engine_sessions.specs.WritesUndone.{IsAgain, Restores, StaysUndoable, Undoes}
+use Rattle.engine_sessions.specs.WriteUndo.{Undo}
+use Rattle.engine_sessions.proofs.HoldLaws.{holds_enough, holds_more}
 use Rattle.session_tx.specs.Calls.{after_run, before_runs, last_number, taken_back, LeadsRun}
 use Rattle.session_tx.specs.Meaning.{Ran, Standing as Executed, Unsettled}
 use Rattle.engine_state.specs.declared.reply.Reply.{Reply}
 use Rattle.engine_state.specs.declared.reply.WriteReply.{WriteReply}
 use Rattle.engine_state.specs.AnyDatabase.{AnyDatabase}
-use Rattle.engine_core.specs.Kept.{data_of, state_of}
-use Rattle.engine_core.specs.Laid.{Laid}
-use Rattle.engine_core.specs.Undo.{AnswersWrite, TellsTables}
+use Rattle.engine_sessions.specs.EngineCoreKept.{data_of, state_of}
+use Rattle.engine_sessions.specs.Laid.{Laid}
+use Rattle.engine_sessions.specs.EngineCoreUndo.{AnswersWrite, TellsTables}
 use Rattle.engine_sessions.specs.Act.{written_in}
 use Rattle.engine_sessions.specs.Standing.{Standing as SessionsStanding, kept_in, standing_of}
 use Rattle.engine_sessions.specs.declared.sessions.Sessions.{Sessions}

@@ -6,13 +6,13 @@ use Rattle.statements.specs.Views.{StatementView, Tree, CreateVersion, DropVersi
 use Rattle.statements.specs.declared.statement.TableName.{TableName}
 use Rattle.engine_state.specs.AnyDatabase.{AnyDatabase}
 use Rattle.engine_state.specs.declared.reply.Reply.{Reply}
-use Rattle.engine_statements.specs.Found.{found}
-use Rattle.engine_statements.specs.Statements.{acted_select}
-use Rattle.engine_core.specs.Act.{with_data}
-use Rattle.engine_core.specs.Laid.{Laid}
-use Rattle.engine_moves.specs.Act.{pending_behind}
+use Rattle.engine_sessions.specs.Found.{found}
+use Rattle.engine_sessions.specs.Statements.{acted_select}
+use Rattle.engine_sessions.specs.EngineCoreAct.{with_data}
+use Rattle.engine_sessions.specs.Laid.{Laid}
+use Rattle.engine_sessions.specs.EngineMovesAct.{pending_behind}
 use Rattle.engine_sessions.specs.Act.{answer_of}
-use Rattle.engine_moves.specs.Moving.{Moving}
+use Rattle.engine_sessions.specs.Moving.{Moving}
 use Rattle.engine_sessions.specs.InFull.{in_full}
 use Rattle.engine_sessions.specs.declared.answer.Answer.{Answer}
 use Rattle.engine_transactions.specs.Act.{act, at_hand, at_once, kept_by, named_at, noted, read_of, selected_by, written_by}

@@ -4,7 +4,7 @@ use Rattle.std.proofs.lemmas.List.{reverse-append, reverse-reverse}
 use mathlib.Core.List.{reverse}
 use Rattle.op_any.specs.Operators.{AnyView}
 use Rattle.db_state.specs.declared.parts.Parts.{Parts}
-use Rattle.write_propagation.specs.declared.undo.Undo.{Undo}
+use Rattle.engine_sessions.specs.WriteUndo.{Undo}
 use Rattle.session_tx.specs.Calls.{after_run}
 use Rattle.session_tx.specs.Commits.{after_runs}
 use Rattle.session_tx.specs.Meaning.{Ran, Standing as Executed, Unsettled}

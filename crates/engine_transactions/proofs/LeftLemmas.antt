@@ -7,12 +7,12 @@ use Rattle.version_graph.specs.declared.parts.Placed.{Placed}
 use Rattle.version_graph.proofs.SetLaws.{is_in_true}
 use Rattle.op_any.specs.Operators.{AnyView}
 use Rattle.db_state.specs.declared.parts.Parts.{Parts}
-use Rattle.engine_core.specs.Spoken.{TextsCome}
+use Rattle.engine_sessions.specs.Spoken.{TextsCome}
 use Rattle.engine_state.specs.Replies.{IsReply}
 use Rattle.engine_state.specs.declared.reply.WriteReply.{WriteReply}
 use Rattle.engine_state.specs.declared.reply.WriteReply.TheVariants as write
-use Rattle.engine_moves.specs.Act.{pending_behind}
-use Rattle.engine_moves.specs.Pending.{IsPending}
+use Rattle.engine_sessions.specs.EngineMovesAct.{pending_behind}
+use Rattle.engine_sessions.specs.Pending.{IsPending}
 use Rattle.engine_sessions.specs.Standing.{Standing as SessionsStanding, kept_in}
 use Rattle.engine_transactions.specs.Calls.{reply_of, Keeps}
 use Rattle.engine_transactions.specs.declared.executing.Executing.{Executing}

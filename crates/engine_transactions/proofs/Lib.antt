@@ -20,3 +20,6 @@ pub use Rattle.engine_sessions.proofs.TextLaws
 pub use Rattle.engine_sessions.proofs.CountLaws
 mod AccessLemmas
 mod LeftLemmas
+pub use Rattle.engine_sessions.proofs.ChainLaws
+pub use Rattle.engine_sessions.proofs.KeptTextLaws
+pub use Rattle.engine_sessions.proofs.ActLaws

@@ -22,12 +22,12 @@ use Rattle.engine_state.specs.AnyDatabase.{AnyDatabase}
 use Rattle.engine_state.specs.SharedChecks.{enough_ids}
 use Rattle.engine_state.specs.declared.reply.Reply.{Reply}
 use Rattle.engine_state.specs.declared.reply.WriteReply.{WriteReply}
-use Rattle.engine_statements.specs.Found.{Found, condition_list, found, known_condition, known_references, known_table, set_of, unknown_in_rows}
+use Rattle.engine_sessions.specs.Found.{Found, condition_list, found, known_condition, known_references, known_table, set_of, unknown_in_rows}
 use Rattle.op_checks.specs.NameChecks.{known_id, repeated, unrepeated}
-use Rattle.engine_statements.specs.Statements.{set_columns, set_values, Planned, columns_of, known_sets, planned_delete, planned_insert, planned_update, right_counts, state_with, wrote}
-use Rattle.engine_versions.proofs.ChainLaws.{both_give, ok_is}
-use Rattle.engine_core.specs.Act.{planned_write}
-use Rattle.engine_core.specs.Undo.{acted_write}
+use Rattle.engine_sessions.specs.Statements.{set_columns, set_values, Planned, columns_of, known_sets, planned_delete, planned_insert, planned_update, right_counts, state_with, wrote}
+use Rattle.engine_sessions.proofs.ChainLaws.{both_give, ok_is}
+use Rattle.engine_sessions.specs.EngineCoreAct.{planned_write}
+use Rattle.engine_sessions.specs.EngineCoreUndo.{acted_write}
 use Rattle.engine_sessions.specs.Act.{written_in}
 use Rattle.engine_sessions.specs.Standing.{Standing as SessionsStanding}
 use Rattle.engine_transactions.specs.History.{has_changed}

@@ -6,7 +6,7 @@ use Rattle.par_base.specs.inner.SameLaws.{row_equal, row_same}
 use Rattle.par_base.specs.declared.value.Value.{Value}
 use Rattle.row_store.specs.Rows.{Rows}
 use Rattle.op_law.proofs.OnlyLaws.{by_test}
-use Rattle.write_propagation.specs.Told.{TellsApart}
+use Rattle.engine_sessions.specs.Told.{TellsApart}
 use Rattle.engine_transactions.specs.History.{same_rows}
 
 both_first : (a b : Bool) → a && b ≡ true → a ≡ true

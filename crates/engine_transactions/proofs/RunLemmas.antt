@@ -11,7 +11,7 @@ use Rattle.statements.specs.declared.statement.Statement.{Statement}
 use Rattle.version_graph.specs.Edges.{AreEdges}
 use Rattle.op_any.specs.Operators.{AnyView}
 use Rattle.db_state.specs.declared.parts.Parts.{Parts}
-use Rattle.write_propagation.specs.declared.undo.Undo.{Undo}
+use Rattle.engine_sessions.specs.WriteUndo.{Undo}
 use Rattle.session_tx.specs.Calls.{last_number, HasRuns, LeadsRun, LeadsSettled}
 use Rattle.session_tx.specs.Commits.{after_runs, commit, read_fault, results, running, taken_back_times, unless, LeadsRuns, WasRunAll}
 use Rattle.session_tx.specs.Meaning.{Ran, Standing as Executed, Unsettled}

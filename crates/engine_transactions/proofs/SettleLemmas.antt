@@ -9,7 +9,7 @@ use Rattle.op_law.proofs.OnlyLaws.{by_test}
 use Rattle.op_any.specs.Operators.{AnyView}
 use Rattle.version_model.specs.Kept.{numbers_in}
 use Rattle.db_state.specs.declared.parts.Parts.{Parts}
-use Rattle.write_propagation.specs.declared.undo.Undo.{Undo}
+use Rattle.engine_sessions.specs.WriteUndo.{Undo}
 use Rattle.session_tx.specs.Calls.{is_changed, last_number, next_number, IsSettled}
 use Rattle.session_tx.specs.Meaning.{Standing as Executed, Unsettled}
 use Rattle.engine_sessions.specs.Standing.{Standing as SessionsStanding, kept_in, standing_of}

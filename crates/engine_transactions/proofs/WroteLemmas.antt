@@ -12,12 +12,12 @@ use Rattle.engine_state.specs.AnyDatabase.{AnyDatabase}
 use Rattle.engine_state.specs.declared.reply.Reply.{Reply}
 use Rattle.engine_state.specs.declared.reply.Reply.TheVariants as reply
 use Rattle.engine_state.specs.declared.reply.WriteReply.{WriteReply}
-use Rattle.engine_statements.specs.Statements.{state_with}
-use Rattle.engine_core.specs.Act.{with_data}
-use Rattle.engine_core.specs.Laid.{Laid}
-use Rattle.engine_core.specs.Undo.{acted_write}
-use Rattle.engine_moves.specs.Act.{act as act_in_full, pending_behind}
-use Rattle.engine_moves.specs.Moving.{Moving}
+use Rattle.engine_sessions.specs.Statements.{state_with}
+use Rattle.engine_sessions.specs.EngineCoreAct.{with_data}
+use Rattle.engine_sessions.specs.Laid.{Laid}
+use Rattle.engine_sessions.specs.EngineCoreUndo.{acted_write}
+use Rattle.engine_sessions.specs.EngineMovesAct.{act as act_in_full, pending_behind}
+use Rattle.engine_sessions.specs.Moving.{Moving}
 use Rattle.engine_sessions.specs.Accesses.{accessed, is_move, kept_behind, raised_by}
 use Rattle.engine_sessions.specs.Act.{answer_of, behind, counted}
 use Rattle.engine_sessions.specs.Standing.{Standing as SessionsStanding, kept_in, moving_in, standing_of}

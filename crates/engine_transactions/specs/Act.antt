@@ -14,12 +14,12 @@ use Rattle.session_tx.specs.Serial.{end_of}
 use Rattle.session_tx.specs.declared.commit_fault.CommitFault.{CommitFault}
 use Rattle.session_tx.specs.declared.commit_fault.CommitFault.TheVariants as fault
 use Rattle.engine_state.specs.AnyDatabase.{AnyDatabase}
-use Rattle.engine_moves.specs.Act.{act as act_in_full}
+use Rattle.engine_sessions.specs.EngineMovesAct.{act as act_in_full}
 use Rattle.engine_state.specs.declared.reply.Reply.TheVariants.{Committed, Done, Kept}
 use Rattle.engine_state.specs.declared.reply.WriteReply.{WriteReply}
 use Rattle.engine_sessions.specs.Accesses.{accessed, kept_behind, raised}
 use Rattle.engine_sessions.specs.Act.{act as act_beside, answer_of}
-use Rattle.engine_statements.specs.Found.{Found, found}
+use Rattle.engine_sessions.specs.Found.{Found, found}
 use Rattle.engine_sessions.specs.InFull.{in_full, name_in_full}
 use Rattle.engine_sessions.specs.Standing.{Standing as SessionsStanding, moving_in, used_by}
 use Rattle.engine_sessions.specs.declared.answer.Answer.{Answer}

@@ -1,6 +1,6 @@
 -- Beginnings: no transaction is open, and nothing has happened.
 use Rattle.std.specs.Prelude.{ℕ, List}
-use Rattle.engine_core.specs.Laid.{Laid}
+use Rattle.engine_sessions.specs.Laid.{Laid}
 use Rattle.layout_planner.specs.declared.planning.TableCount.{TableCount}
 use Rattle.engine_sessions.specs.Standing.{DifferInSessions as SessionsDiffer, begun_again as sessions_again, begun_with as sessions_with, empty_standing as empty_sessions}
 use Rattle.engine_transactions.specs.Standing.{Standing, begun}

@@ -3,7 +3,7 @@ use Rattle.std.specs.Prelude.{◌≡◌, ℕ, ◌≤◌, List, []}
 use Rattle.statements.specs.Views.{StatementView}
 use Rattle.session_tx.specs.Calls.{last_number}
 use Rattle.session_tx.specs.Meaning.{Standing as Executed}
-use Rattle.engine_core.specs.Spoken.{TextsCome}
+use Rattle.engine_sessions.specs.Spoken.{TextsCome}
 use Rattle.engine_state.specs.declared.reply.Reply.{Reply}
 use Rattle.engine_state.specs.declared.reply.Reply.TheVariants as reply
 use Rattle.engine_state.specs.declared.reply.WriteReply.{WriteReply}

@@ -8,12 +8,12 @@ use Rattle.op_any.specs.BuiltOn.{AreBuiltOn}
 use Rattle.op_any.specs.Operators.{AnyView, any_meaning}
 use Rattle.version_model.specs.Kept.{numbers_in}
 use Rattle.db_state.specs.declared.parts.Parts.{Parts}
-use Rattle.write_propagation.specs.Capacity.{HoldsAtLeast}
-use Rattle.write_propagation.specs.Undo.{Undoes}
-use Rattle.write_propagation.specs.declared.undo.Undo.{Undo}
+use Rattle.engine_sessions.specs.Capacity.{HoldsAtLeast}
+use Rattle.engine_sessions.specs.WritesUndone.{Undoes}
+use Rattle.engine_sessions.specs.WriteUndo.{Undo}
 use Rattle.session_tx.specs.Calls.{last_number, next_number}
 use Rattle.session_tx.specs.Meaning.{Standing as Executed, Unsettled}
-use Rattle.engine_core.specs.Kept.{state_of}
+use Rattle.engine_sessions.specs.EngineCoreKept.{state_of}
 use Rattle.engine_sessions.specs.Standing.{Standing as SessionsStanding, kept_in, standing_of}
 use Rattle.engine_transactions.specs.History.{dropped_in, history_of, last_change, number_in}
 use Rattle.engine_transactions.specs.Leads.{Leads}

@@ -4,7 +4,7 @@ use Rattle.par_base.specs.Checked.{Checked, ◌then◌}
 use Rattle.par_base.specs.declared.refusal.Refusal.TheVariants.{ReadAfterWrite}
 use Rattle.statements.specs.Views.{StatementView, Begin, Commit, CreateVersion, Delete, DropVersion, Import, Insert, Rollback, Select, Update}
 use Rattle.engine_state.specs.AnyDatabase.{AnyDatabase}
-use Rattle.engine_statements.specs.Found.{found}
+use Rattle.engine_sessions.specs.Found.{found}
 use Rattle.engine_sessions.specs.Act.{act as act_beside, counted, read_in}
 use Rattle.engine_sessions.specs.InFull.{in_full, wants_csv}
 use Rattle.engine_sessions.specs.Standing.{Standing as SessionsStanding, used_by}

@@ -1,14 +1,14 @@
 -- How the runs of an event lead along the data.
 use Rattle.std.specs.Prelude.{◌≡◌, List, [], ◌∷◌, map, Option, Some, None, Result, Ok, Err}
-use Rattle.write_propagation.specs.Told.{CarriedLead}
-use Rattle.write_propagation.specs.declared.undo.Undo.{Undo}
+use Rattle.engine_sessions.specs.Told.{CarriedLead}
+use Rattle.engine_sessions.specs.WriteUndo.{Undo}
 use Rattle.statements.specs.Views.{StatementView}
 use Rattle.session_tx.specs.Meaning.{Ran}
 use Rattle.session_tx.specs.Commits.{commit}
 use Rattle.session_tx.specs.declared.commit_fault.CommitFault.{CommitFault}
 use Rattle.engine_state.specs.AnyDatabase.{AnyDatabase}
 use Rattle.engine_state.specs.declared.reply.WriteReply.{WriteReply}
-use Rattle.engine_core.specs.Undo.{TellsTables}
+use Rattle.engine_sessions.specs.EngineCoreUndo.{TellsTables}
 use Rattle.engine_sessions.specs.Standing.{Standing as SessionsStanding}
 use Rattle.engine_transactions.specs.Act.{at_hand}
 use Rattle.engine_transactions.specs.Kinds.{kind_in}

@@ -4,7 +4,7 @@ use Rattle.statements.specs.Views.{StatementView}
 use Rattle.engine_transactions.specs.Standing.{Standing}
 use Rattle.par_base.specs.Checked.{Checked}
 use Rattle.engine_transactions.specs.Act.{act}
-use Rattle.engine_core.specs.Texts.{refusal_bytes}
+use Rattle.engine_sessions.specs.EngineCoreTexts.{refusal_bytes}
 use Rattle.engine_sessions.specs.Texts.{answer_bytes}
 use Rattle.engine_sessions.specs.declared.answer.Answer.{Answer}
 

@@ -6,8 +6,7 @@ ghost use Rattle.engine_transactions.specs.Meaning.{write_reply as write_reply_l
 
 use crate::history::{ChangeNumbers, keep_numbers, last_change, set_numbers};
 use crate::{KeptWrite, TableRead};
-use engine_core::Written;
-use engine_sessions::Sessions;
+use engine_sessions::{Sessions, Undo, Written, writes_stay_undoable};
 use engine_state::{Reply, WriteReply};
 use expr_lang::Steps;
 use op_any::AnyOp;
@@ -16,7 +15,6 @@ use session_tx::Executor;
 use std::alloc::{AllocError, Global};
 use std::mem;
 use std::sync::ledger::Ledger;
-use write_propagation::{Undo, writes_stay_undoable};
 
 /// An engine with its sessions, the numbers of changes, and what takes back the writes that aren't
 /// settled, the newest last.

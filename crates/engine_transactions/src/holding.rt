@@ -20,7 +20,7 @@ use crate::held::Held;
 use crate::open_transaction::{end, forget, keep, keeps_write};
 use crate::statement_kind::{StatementKind, kind_of};
 use crate::{Kept, KeptWrite};
-use engine_sessions::Answer;
+use engine_sessions::{Answer, Undo};
 use engine_state::Reply;
 use expr_lang::Steps;
 use par_base::{Fault, Refusal};
@@ -28,7 +28,6 @@ use statements::Statement;
 use std::alloc::Global;
 use std::mem;
 use std::sync::ledger::Ledger;
-use write_propagation::Undo;
 
 // Whether a write tells the version of its table.
 fn tells_version(statement: &Statement) -> bool

@@ -3,11 +3,11 @@ ghost use Rattle.std.specs.Prelude.{◌≡◌, Some, None, IfOk};
 ghost use Rattle.std.specs.Option.{option_map_or};
 ghost use Rattle.op_any.specs.Operators.{any_meaning};
 ghost use Rattle.db_state.specs.Fields.{database_for};
-ghost use Rattle.engine_statements.specs.Found.{found};
+ghost use Rattle.engine_sessions.specs.Found.{found};
 ghost use Rattle.engine_transactions.specs.Act.{read_of};
 
 use db_state::Db;
-use engine_statements::find_table;
+use engine_sessions::find_table;
 use op_any::AnyOp;
 use par_base::{Fault, Memory, Name};
 use statements::TableName;

@@ -3,7 +3,7 @@ ghost use Rattle.std.specs.Prelude.{◌≡◌, [], IfOk, OnErr};
 ghost use Rattle.expr_lang.specs.Operations.{text_limit};
 ghost use Rattle.statements.specs.Texts.{TextsWithin};
 ghost use Rattle.statements.specs.Views.{statement_view};
-ghost use Rattle.engine_core.specs.Spoken.{TextsCome};
+ghost use Rattle.engine_sessions.specs.Spoken.{TextsCome};
 ghost use Rattle.engine_sessions.specs.Calls.{IsAnswer};
 ghost use Rattle.engine_sessions.specs.Standing.{kept_in as kept_beside, standing_of as standing_beside};
 ghost use Rattle.engine_transactions.specs.Act.{act, Answers};

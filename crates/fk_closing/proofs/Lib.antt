@@ -5,3 +5,4 @@ mod KeyLemmas
 mod BroughtLemmas
 mod ClosedLemmas
 mod CallLemmas
+mod BesideLemmas

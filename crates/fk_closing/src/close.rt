@@ -1,13 +1,16 @@
 //! The identifiers that some bring with them, and those that these bring, to the end.
 ghost use Rattle.std.specs.Prelude.{[], true, IfOk, OnOk};
+ghost use Rattle.fk_closing.specs.Beside.{ClosesBeside};
 ghost use Rattle.fk_closing.specs.Brought.{IsBrought, IsClosing};
 ghost use Rattle.fk_closing.specs.Found.{AreIds, FindsMore};
 
 use crate::FkKeys;
-use crate::found::find_all;
+use crate::found::{add_all, find_all};
 use crate::rules::Rules;
+use crate::told::changed_ids;
 use par_base::{List, Memory};
 use row_map::IdSet;
+use row_store::Change;
 use std::alloc::Global;
 
 /// Finds what an identifier brings.
@@ -56,4 +59,30 @@ pub fn closed_ids(alloc: Global, keys: &FkKeys<'_>, wanted: &[u64]) -> Result<Li
         has_witness: true,
     };
     close(alloc, &rules, wanted)
+}
+
+/// As `closed_ids`, beside changes of which the identifiers are wanted as well: a row that these name
+/// is brought as one that refers only where no other does, since it may refer no longer when they are
+/// made.
+///
+/// It takes two look-ups for each identifier that is found, and one for each changed row that is
+/// passed over.
+pub fn closed_beside(
+    alloc: Global,
+    keys: &FkKeys<'_>,
+    changes: &[Change],
+    wanted: &[u64],
+) -> Result<List<u64>, Memory>
+    ensures { IfOk result (ClosesBeside keys.now.keys changes.now wanted.now) }
+{
+    let changed = changed_ids(alloc, changes)?;
+    let mut begin = changed.list(alloc)?;
+    add_all(&mut begin, wanted)?;
+    let rules = Rules {
+        keys,
+        changed: &changed,
+        has_witness: true,
+    };
+    let closed = close(alloc, &rules, begin.as_slice())?;
+    Ok(closed)
 }

@@ -10,14 +10,14 @@ use Rattle.par_base.specs.Checked.{Checked}
 use Rattle.statements.specs.Views.{StatementView}
 use Rattle.op_any.specs.Operators.{AnyView}
 use Rattle.db_state.specs.declared.parts.Parts.{Parts}
-use Rattle.engine_transactions.specs.Spoken.{TextsCome}
-use Rattle.engine_transactions.specs.Answer.{Answer}
-use Rattle.engine_transactions.specs.Standing.{Standing}
-use Rattle.engine_transactions.specs.Act.{act}
+use Rattle.script_run.specs.Spoken.{TextsCome}
+use Rattle.script_run.specs.Answer.{Answer}
+use Rattle.script_run.specs.TransactionsStanding.{Standing}
+use Rattle.script_run.specs.TransactionsAct.{act}
 use Rattle.script_generator.specs.Generated.{below, ending, evolution, generated_script, insert_task, insert_todo, is_fourth}
 use Rattle.script_generator.specs.Laws.{IsLikeParsed}
 use Rattle.script_run.specs.Kept.{Keeps}
-use Rattle.engine_transactions.specs.Replies.{next_state, state_after}
+use Rattle.script_run.specs.Replies.{next_state, state_after}
 use Rattle.script_run.proofs.SpelledLaws.{stay_spelled}
 use Rattle.generated_run.specs.Summed.{refusals, refused_in}
 use Rattle.generated_run.specs.Calls.{Tallies}

@@ -1,8 +1,8 @@
 -- What the inner calls give.
 use Rattle.std.specs.Prelude.{◌≡◌, List, length, codes}
 use Rattle.statements.specs.Views.{StatementView}
-use Rattle.engine_statements.specs.AnyDatabase.{AnyDatabase}
-use Rattle.engine_transactions.specs.Standing.{Standing}
+use Rattle.script_run.specs.AnyDatabase.{AnyDatabase}
+use Rattle.script_run.specs.TransactionsStanding.{Standing}
 use Rattle.script_generator.specs.Generated.{table_of}
 use Rattle.script_generator.specs.declared.summary.Summary.{Summary}
 use Rattle.generated_run.specs.Summed.{refused_in, rows_at}

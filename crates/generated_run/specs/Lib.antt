@@ -9,17 +9,17 @@ pub use Rattle.script_run.specs.WatchedAct
 pub use Rattle.script_run.specs.WatchedOutput
 pub use Rattle.script_run.specs.WatchedCalls
 pub use Rattle.script_run.specs.WatchedKept
-pub use Rattle.engine_transactions.specs.Replies as Output
-pub use Rattle.engine_transactions.specs.Standing
-pub use Rattle.engine_transactions.specs.Begun
-pub use Rattle.engine_transactions.specs.Kept as TransactionsKept
-pub use Rattle.engine_transactions.specs.Calls as TransactionsCalls
-pub use Rattle.engine_transactions.specs.declared.kept.Kept as Transactions
-pub use Rattle.engine_transactions.specs.EngineSessionsStanding as SessionsStanding
-pub use Rattle.engine_transactions.specs.EngineSessionsLaws as Laws
-pub use Rattle.engine_transactions.specs.Act
-pub use Rattle.engine_transactions.specs.EngineSessionsTexts as Texts
-pub use Rattle.engine_transactions.specs.Answer
-pub use Rattle.engine_transactions.specs.EngineSessionsKept as EngineCoreKept
-pub use Rattle.engine_transactions.specs.EngineCoreTexts
-pub use Rattle.engine_transactions.specs.Laid
+pub use Rattle.script_run.specs.Replies as Output
+pub use Rattle.script_run.specs.TransactionsStanding as Standing
+pub use Rattle.script_run.specs.Begun
+pub use Rattle.script_run.specs.TransactionsKept
+pub use Rattle.script_run.specs.TransactionsCalls
+pub use Rattle.script_run.specs.Transactions
+pub use Rattle.script_run.specs.SessionsStanding
+pub use Rattle.script_run.specs.SessionsLaws as Laws
+pub use Rattle.script_run.specs.TransactionsAct as Act
+pub use Rattle.script_run.specs.EngineSessionsTexts as Texts
+pub use Rattle.script_run.specs.Answer
+pub use Rattle.script_run.specs.EngineCoreKept
+pub use Rattle.script_run.specs.EngineCoreTexts
+pub use Rattle.script_run.specs.Laid

@@ -3,14 +3,14 @@ use Rattle.std.specs.Prelude.{ℕ, ◌+◌, List, [], ◌∷◌, length, Ok, Err
 use Rattle.par_base.specs.Checked.{Checked}
 use Rattle.statements.specs.Views.{StatementView}
 use Rattle.statements.specs.declared.statement.TableName.{TableName}
-use Rattle.engine_statements.specs.AnyDatabase.{AnyDatabase}
-use Rattle.engine_statements.specs.Found.{Found, found}
-use Rattle.engine_transactions.specs.Answer.{Answer}
-use Rattle.engine_transactions.specs.Standing.{Standing}
-use Rattle.engine_transactions.specs.Act.{act}
+use Rattle.script_run.specs.AnyDatabase.{AnyDatabase}
+use Rattle.script_run.specs.Found.{Found, found}
+use Rattle.script_run.specs.Answer.{Answer}
+use Rattle.script_run.specs.TransactionsStanding.{Standing}
+use Rattle.script_run.specs.TransactionsAct.{act}
 use Rattle.script_generator.specs.Generated.{generated_script, table_of}
 use Rattle.script_generator.specs.declared.summary.Summary.{Summary}
-use Rattle.engine_transactions.specs.Replies.{next_state, state_after}
+use Rattle.script_run.specs.Replies.{next_state, state_after}
 
 -- ---- how many statements were refused
 

@@ -2,14 +2,14 @@
 ghost use Rattle.std.specs.Prelude.{◌≡◌, length, IfOk};
 ghost use Rattle.op_any.specs.Operators.{any_meaning};
 ghost use Rattle.db_state.specs.Fields.{database_for};
-ghost use Rattle.engine_statements.specs.Calls.{rows_in, IsTableOf};
+ghost use Rattle.script_run.specs.EngineStatementsCalls.{rows_in, IsTableOf};
 ghost use Rattle.generated_run.specs.Summed.{rows_at as rows_at_lem};
 
 use db_state::{Db, read_table};
-use engine_statements::{FoundTable, find_table};
 use expr_lang::Steps;
 use op_any::AnyOp;
 use par_base::{Fault, Memory};
+use script_run::{FoundTable, find_table};
 use statements::TableName;
 use std::alloc::Global;
 use std::sync::ledger::Ledger;

@@ -9,6 +9,8 @@
 mod counting;
 mod run;
 
-pub use engine_transactions::{Engine, Sessions, Transactions, named_statements_need_no_session};
 pub use run::run_generated;
-pub use script_run::{End, Stream, Watched, run_source};
+pub use script_run::{
+    End, Engine, Sessions, Stream, Transactions, Watched, named_statements_need_no_session,
+    run_source,
+};

@@ -5,7 +5,7 @@ use Rattle.std.proofs.Common.{◌≡◌, ℕ, List, take, sym, ap, subst, ◌∙
 use Rattle.outside.specs.Causes.{Rose}
 use Rattle.generated_run.specs.Laws.{HasCounts}
 use Rattle.generated_run.specs.Standing.{Standing}
-use Rattle.script_laws.specs.Kept.{ScriptsKeepCounts}
+use Rattle.watch_laws.specs.ScriptLawsKept.{ScriptsKeepCounts}
 use Rattle.script_generator.specs.Generated.{generated_script}
 use Rattle.script_generator.specs.Summary.{summary_lines}
 use Rattle.generated_run.specs.Summed.{generated_end, generated_summary}

@@ -2,7 +2,7 @@
 use Rattle.std.specs.Prelude.{Option, Some, None}
 use Rattle.std.proofs.Common.{◌≡◌, ℕ, List, ap, subst, sym, ◌∙◌}
 use Rattle.change_feed.specs.Watchers.{WatcherState}
-use Rattle.engine_sessions.specs.declared.sessions.Sessions.{Sessions}
+use Rattle.watch_laws.specs.Sessions.{Sessions}
 use Rattle.generated_run.specs.SessionsStanding.{kept_in as kept_beside, standing_of as standing_beside}
 use Rattle.generated_run.specs.WatchedStanding.{Standing as WatchedStanding}
 use Rattle.generated_run.specs.WatchedCalls.{standing_of}

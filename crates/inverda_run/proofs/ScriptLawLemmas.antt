@@ -13,9 +13,9 @@ use Rattle.generated_run.specs.WatchedStanding.{Standing as WatchedStanding}
 use Rattle.generated_run.specs.Begun.{begun_again}
 use Rattle.generated_run.specs.WatchedOutput.{joined}
 use Rattle.run_words.specs.Words.{Asked}
-use Rattle.script_laws.specs.SessionLawsKept.{DatabasesAreKept, EmptyIsKept}
-use Rattle.script_laws.specs.SessionLawsSaid.{AreSaid, nothing_said}
-use Rattle.script_laws.specs.Kept.{IsKeptAt}
+use Rattle.watch_laws.specs.SessionLawsKept.{DatabasesAreKept, EmptyIsKept}
+use Rattle.watch_laws.specs.SessionLawsSaid.{AreSaid, nothing_said}
+use Rattle.watch_laws.specs.ScriptLawsKept.{IsKeptAt}
 use Rattle.watch_laws.specs.Said.{SaidNeedNoSession}
 use Rattle.watch_laws.specs.Scripts.{ScriptsAreOrdinary, ScriptsStayKept}
 use Rattle.inverda_run.specs.Laws.{LoadsTheDumped}

@@ -15,9 +15,9 @@ use Rattle.generated_run.specs.WatchedStanding.{Standing as WatchedStanding}
 use Rattle.generated_run.specs.Begun.{DifferInSessions, begun_again}
 use Rattle.generated_run.specs.SessionsStanding.{DifferInSessions as SessionsDiffer, Standing as SessionsStanding}
 use Rattle.generated_run.specs.WatchedAct.{act}
-use Rattle.engine_sessions.specs.Act.{act as act_beside}
-use Rattle.script_laws.specs.Beside.{next_state as next_beside, replies as replies_beside, state_after as state_beside, text_of as text_beside}
-use Rattle.script_laws.proofs.SaidLemmas.{all_beside, differ_at}
+use Rattle.watch_laws.specs.EngineSessionsAct.{act as act_beside}
+use Rattle.watch_laws.specs.ScriptLawsBeside.{next_state as next_beside, replies as replies_beside, state_after as state_beside, text_of as text_beside}
+use Rattle.watch_laws.proofs.SaidLemmas.{all_beside, differ_at}
 use Rattle.generated_run.specs.Laws.{IsNamed, NeedNoSession, SameButSessions}
 use Rattle.generated_run.specs.Texts.{answer_bytes}
 use Rattle.generated_run.specs.Answer.{Answer}
@@ -28,7 +28,7 @@ use Rattle.generated_run.proofs.OutputLaws.{out-append}
 use Rattle.outside.specs.FileTold.{ToldAs}
 use Rattle.inverda_run.specs.Starts.{Loaded, StartsBy, Told, all_waiting}
 use Rattle.inverda_run.specs.Statuses.{Ran, Written}
-use Rattle.script_laws.specs.Said.{ActsAtOnce}
+use Rattle.watch_laws.specs.ScriptLawsSaid.{ActsAtOnce}
 use Rattle.watch_laws.specs.Beside.{StandsBeside, UnwatchedAreAnswered}
 use Rattle.watch_laws.specs.Said.{again_with}
 use Rattle.inverda_run.specs.Laws.{BeginsAgain, LoadsTheDumped, RunsAreOne, TwoRuns}

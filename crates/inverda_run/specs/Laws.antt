@@ -13,7 +13,7 @@ use Rattle.generated_run.specs.Laws.{IsNamed}
 use Rattle.generated_run.specs.WatchedOutput.{out, state_after}
 use Rattle.generated_run.specs.Statuses.{Done, limit}
 use Rattle.inverda_run.specs.Starts.{IsDumpText, Loaded, Told}
-use Rattle.script_laws.specs.Said.{ActsAtOnce}
+use Rattle.watch_laws.specs.ScriptLawsSaid.{ActsAtOnce}
 use Rattle.watch_laws.specs.Beside.{WatchesNothing}
 use Rattle.watch_laws.specs.Said.{again_with}
 use Rattle.inverda_run.specs.Decided.{Behind}

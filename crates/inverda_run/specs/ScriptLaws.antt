@@ -13,9 +13,9 @@ use Rattle.generated_run.specs.Begun.{DifferInSessions}
 use Rattle.generated_run.specs.Output.{replies as replies_unwatched}
 use Rattle.generated_run.specs.WatchedOutput.{out, replies, state_after}
 use Rattle.generated_run.specs.Statuses.{Done}
-use Rattle.script_laws.specs.SessionLawsSaid.{AreSaid, nothing_said}
-use Rattle.script_laws.specs.Kept.{IsKeptAt}
-use Rattle.script_laws.specs.Written.{IsOrdinary}
+use Rattle.watch_laws.specs.SessionLawsSaid.{AreSaid, nothing_said}
+use Rattle.watch_laws.specs.ScriptLawsKept.{IsKeptAt}
+use Rattle.watch_laws.specs.Written.{IsOrdinary}
 use Rattle.transaction_laws.specs.Serial.{OneAfterTheOther, end_of}
 use Rattle.watch_laws.specs.Beside.{WatchesNothing, others}
 use Rattle.inverda_run.specs.Starts.{Told}

@@ -15,8 +15,8 @@ use generated_run::{Transactions, run_generated};
 use outside::{Failed, Files, Sink, write_all};
 use par_base::{Memory, Text};
 use script_generator::summary_text;
-use script_laws::scripts_keep_counts;
 use std::alloc::Global;
+use watch_laws::scripts_keep_counts;
 
 // Carries out the script of `n` numbers, and gives the lines of its summary.
 fn summarize(alloc: Global, transactions: &mut Transactions, n: u32) -> Result<Text, Memory>

@@ -2,10 +2,10 @@
 ghost use Rattle.inverda_run.specs.ScriptLaws.{RunsAreOrdinary, RunsAreSerial, RunsStayKept, SaidRunsAreOne};
 
 use crate::laws::two_runs_are_one;
-use script_laws::{moves_store_what_they_name, scripts_keep_states, statements_keep_states};
 use transaction_laws::transactions_are_serial;
 use watch_laws::{
-    said_scripts_need_no_session, scripts_are_ordinary, statements_are_answered, watches_are_beside,
+    moves_store_what_they_name, said_scripts_need_no_session, scripts_are_ordinary,
+    scripts_keep_states, statements_are_answered, statements_keep_states, watches_are_beside,
 };
 
 /// Each version is an ordinary database throughout a run, from the empty or the loaded database on,

@@ -25,9 +25,8 @@ use generated_run::{End as ScriptEnd, Stream, run_source};
 use outside::{Files, Sink, Source};
 use par_base::{Fault, Limits};
 use run_words::{read_words, words_say_one_thing};
-use script_laws::scripts_keep_counts;
 use std::alloc::Global;
-use watch_laws::watches_are_beside;
+use watch_laws::{scripts_keep_counts, watches_are_beside};
 
 // How a run ends that has carried out its script, but for a dump.
 fn ended(end: ScriptEnd) -> End

@@ -16,10 +16,9 @@ use db_state::{Db, Sight, are_local, read_over, row_at};
 use expr_lang::Steps;
 use layout_rules::way_to_storage;
 use op_law::{Operator, copy_of};
-use op_seeks::Seeks;
 use par_base::{List, Memory, Row};
 use row_store::Table;
-use sought_ids::closed_over;
+use sought_ids::{Seeks, closed_over};
 use std::alloc::Global;
 use std::sync::ledger::Ledger;
 use table_keys::TableKeys;
@@ -87,7 +86,7 @@ fn row_over<O: Seeks, L: Ledger>(
         ≡ row_of ((state_for O.meaning db.now).tables asked.table) asked.id) }
 {
     let begin = one_id(alloc, asked.id)?;
-    match closed_over(alloc, db.graph(), keys, operators, begin)? {
+    match closed_over(alloc, db.graph(), keys, operators, &[], begin)? {
         Some(ids) => row_in_part(alloc, db, operators, ids.as_slice(), asked, steps),
         None => row_at(alloc, db, asked.table, asked.id, steps),
     }

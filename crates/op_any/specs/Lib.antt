@@ -8,3 +8,4 @@ pub mod Refusals
 pub mod inner
 pub use Rattle.op_kinds.specs.Operators
 pub use Rattle.op_kinds.specs.Codes
+pub use Rattle.op_kinds.specs.Views

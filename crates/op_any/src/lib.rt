@@ -27,3 +27,4 @@ pub use laws::{
     built_operators_are_closed, first_failed_check_refuses, first_misdivided_column_is_refused,
     first_missing_name_is_refused, first_repeated_column_is_refused,
 };
+pub use op_kinds::{BuiltOp, DecomposeFk, JoinFk};

@@ -2,8 +2,8 @@
 use Rattle.std.specs.Prelude.{◌≡◌, true, false, [], Option, Some, None, if◌then◌else◌}
 use Rattle.op_law.specs.Tables.{Tables}
 use Rattle.op_law.specs.Meaning.{PairState}
-use Rattle.op_kinds.specs.Operators.{Built}
-use Rattle.op_kinds.specs.Operators as «any»
+use Rattle.op_any.specs.Operators.{Built}
+use Rattle.op_any.specs.Operators as «any»
 use Rattle.fk_closing.specs.Keys.{AreFkKeys, KeyRows}
 use Rattle.op_seeks.specs.declared.place.FkPlace.{FkPlace}
 use Rattle.op_seeks.specs.declared.sought.Sought.{Sought}

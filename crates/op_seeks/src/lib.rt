@@ -13,5 +13,6 @@ mod place;
 mod seeks;
 mod sought;
 
+pub use fk_closing::{FkKeys, closed_beside};
 pub use place::FkPlace;
 pub use seeks::Seeks;

@@ -1,11 +1,11 @@
 //! Which operator on a foreign key was built.
 ghost use Rattle.std.specs.Prelude.{IfOk};
-ghost use Rattle.op_kinds.specs.Views.{built_view};
+ghost use Rattle.op_any.specs.Views.{built_view};
 ghost use Rattle.fk_closing.specs.Found.{AreAmong};
 ghost use Rattle.op_seeks.specs.Places.{IsSought};
 
 use fk_closing::{FkKeys, closed_ids};
-use op_kinds::{BuiltOp, DecomposeFk, JoinFk};
+use op_any::{BuiltOp, DecomposeFk, JoinFk};
 use par_base::{List, Memory};
 use std::alloc::Global;
 

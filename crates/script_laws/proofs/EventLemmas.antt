@@ -9,7 +9,7 @@ use Rattle.statements.specs.declared.statement.TableName.{TableName}
 use Rattle.version_graph.specs.Sets.{Each}
 use Rattle.session_tx.specs.Commits.{read_fault, results, runs_of, unless}
 use Rattle.session_tx.specs.declared.commit_fault.CommitFault.{CommitFault}
-use Rattle.engine_statements.specs.Found.{found}
+use Rattle.session_laws.specs.Found.{found}
 use Rattle.session_laws.specs.Beside.{next_state as next_beside}
 use Rattle.session_laws.specs.Kept.{IsKept, StatementsKeep as StatementsKeepBeside}
 use Rattle.session_laws.specs.Written.{IsWrite, WritesAreOrdinary, WritesInFullAreOrdinary}

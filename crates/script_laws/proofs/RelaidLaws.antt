@@ -11,12 +11,12 @@ use Rattle.session_tx.specs.Meaning.{Ran}
 use Rattle.session_tx.specs.Commits.{read_fault, results, running, runs_of, unless, with_runs}
 use Rattle.session_tx.specs.Serial.{end_of}
 use Rattle.session_tx.specs.declared.commit_fault.CommitFault.{CommitFault}
-use Rattle.engine_statements.specs.Found.{found}
+use Rattle.session_laws.specs.Found.{found}
 use Rattle.engine_transactions.specs.AnyDatabase.{AnyDatabase}
 use Rattle.engine_transactions.specs.Pending.{next_flip}
 use Rattle.engine_transactions.specs.Replies.{next_state}
 use Rattle.engine_transactions.specs.EngineCoreAct.{acted_data, is_built}
-use Rattle.engine_transactions.specs.Undo.{acted_write}
+use Rattle.engine_transactions.specs.EngineCoreUndo.{acted_write}
 use Rattle.engine_transactions.specs.Moving.{Moving}
 use Rattle.engine_transactions.specs.Reply.{Reply}
 use Rattle.engine_transactions.specs.Answer.{Answer}

@@ -11,7 +11,7 @@ use Rattle.session_tx.specs.Serial.{end_of}
 use Rattle.session_laws.specs.Kept.{IsKept}
 use Rattle.session_laws.specs.Written.{IsWriteInFull, WritesInFullAreOrdinary}
 use Rattle.engine_transactions.specs.AnyDatabase.{AnyDatabase}
-use Rattle.engine_transactions.specs.Undo.{acted_write}
+use Rattle.engine_transactions.specs.EngineCoreUndo.{acted_write}
 use Rattle.engine_transactions.specs.Reply.{Reply}
 use Rattle.engine_transactions.specs.Reply.TheVariants as reply
 use Rattle.engine_transactions.specs.EngineSessionsStanding.{Standing as SessionsStanding}

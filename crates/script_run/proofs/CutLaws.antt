@@ -13,7 +13,7 @@ use Rattle.bidel_script.proofs.ScriptLaws.{at_within}
 use Rattle.bidel_script.proofs.ComesLaws.{something_comes}
 use Rattle.bidel_script.proofs.CutLaws.{faults_stay, fronts_come_first}
 use Rattle.bidel_script.proofs.LongLaws.{long_stays}
-use Rattle.engine_transactions.specs.EngineCoreTexts.{line}
+use Rattle.engine_feeds.specs.EngineCoreTexts.{line}
 use Rattle.engine_feeds.specs.Standing.{Standing}
 use Rattle.engine_feeds.specs.Replies.{out}
 use Rattle.script_run.specs.Statuses.{limit, Taken, whole, early, failed, above, Stopped, Unread, Passed, StoppedOfAll, FirstReplies, fault_line}

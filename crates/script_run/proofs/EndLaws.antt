@@ -12,7 +12,7 @@ use Rattle.bidel_script.specs.Script.{IsScript, Comes, Outcome, Over, Fault, Lon
 use Rattle.bidel_script.proofs.ScriptLaws.{over_is_script}
 use Rattle.bidel_script.proofs.UniqueLaws.{one_comes}
 use Rattle.script_run.specs.Reading as reading
-use Rattle.engine_transactions.specs.EngineCoreTexts.{line}
+use Rattle.engine_feeds.specs.EngineCoreTexts.{line}
 use Rattle.engine_feeds.specs.Standing.{Standing}
 use Rattle.engine_feeds.specs.Replies.{out}
 use Rattle.script_run.specs.Statuses as statuses

@@ -16,8 +16,8 @@ use Rattle.version_graph.specs.Sets.{In}
 use Rattle.version_graph.specs.declared.parts.Placed.{Placed}
 use Rattle.version_graph.proofs.SetLaws.{in_append}
 use Rattle.dump_graph.specs.Operators.{AnyView}
-use Rattle.engine_transactions.specs.KeptTexts.{texts_of}
-use Rattle.engine_transactions.specs.Spoken.{operators_in, TextsCome}
+use Rattle.engine_feeds.specs.KeptTexts.{texts_of}
+use Rattle.engine_feeds.specs.Spoken.{operators_in, TextsCome}
 use Rattle.dump_graph.specs.Texts.{AreSpelled, IsSpelled}
 
 -- any token

@@ -10,8 +10,8 @@ use Rattle.script_stream.specs.Holding.{Holds, limit, place_in}
 use Rattle.script_stream.specs.Giving.{GivesStatement, Stands as StandsInput}
 use Rattle.engine_feeds.specs.Standing.{Standing}
 use Rattle.engine_feeds.specs.Calls.{standing_of}
-use Rattle.engine_transactions.specs.EngineCoreTexts.{line}
-use Rattle.engine_transactions.specs.Answer.{Answer}
+use Rattle.engine_feeds.specs.EngineCoreTexts.{line}
+use Rattle.engine_feeds.specs.Answer.{Answer}
 use Rattle.engine_feeds.specs.Replies.{text_of, out, state_after}
 use Rattle.script_run.specs.Statuses.{Done, Stopped, Unread, Passed, PutsFront, CutShort, fault_line}
 use Rattle.script_run.specs.Streams.{is_refused}

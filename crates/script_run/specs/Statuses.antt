@@ -6,7 +6,7 @@ use Rattle.statements.specs.Views.{StatementView}
 use Rattle.bidel_script.specs.Places.{Place, place_of}
 use Rattle.bidel_script.specs.Script.{IsScript, Comes, Outcome, Over, Fault, Long, Open}
 use Rattle.script_run.specs.Reading.{SeenSoon}
-use Rattle.engine_transactions.specs.EngineCoreTexts.{line}
+use Rattle.engine_feeds.specs.EngineCoreTexts.{line}
 use Rattle.engine_feeds.specs.Standing.{Standing}
 use Rattle.engine_feeds.specs.Replies.{out, state_after}
 

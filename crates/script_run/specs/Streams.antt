@@ -10,7 +10,7 @@ use Rattle.script_stream.specs.Holding.{Holds, limit, place_in}
 use Rattle.engine_feeds.specs.Standing.{Standing}
 use Rattle.engine_feeds.specs.Calls.{standing_of}
 use Rattle.engine_feeds.specs.Act.{act}
-use Rattle.engine_transactions.specs.Answer.{Answer}
+use Rattle.engine_feeds.specs.Answer.{Answer}
 use Rattle.engine_feeds.specs.Replies.{text_of, state_after}
 use Rattle.script_run.specs.declared.stream.Next.{Next}
 use Rattle.script_run.specs.declared.stream.Next.TheVariants as next

@@ -3,7 +3,7 @@ ghost use Rattle.std.specs.Prelude.{◌≡◌, IfOk, OnOk};
 ghost use Rattle.expr_lang.specs.Operations.{text_limit};
 ghost use Rattle.statements.specs.Views.{statement_view};
 ghost use Rattle.statements.specs.Texts.{TextsWithin};
-ghost use Rattle.engine_transactions.specs.Spoken.{TextsCome};
+ghost use Rattle.engine_feeds.specs.Spoken.{TextsCome};
 ghost use Rattle.engine_feeds.specs.Kept.{kept_in};
 ghost use Rattle.engine_feeds.specs.Calls.{standing_of};
 ghost use Rattle.engine_feeds.specs.Act.{act};
@@ -12,8 +12,7 @@ ghost use Rattle.script_run.specs.Calls.{IsReplyTo};
 
 use crate::stream::Next;
 use change_feed::Watcher;
-use engine_feeds::Watched;
-use engine_transactions::{answer_text, refusal_text};
+use engine_feeds::{Watched, answer_text, refusal_text};
 use expr_lang::Steps;
 use par_base::{Fault, Memory};
 use statements::Statement;

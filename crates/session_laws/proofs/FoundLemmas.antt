@@ -19,8 +19,8 @@ use Rattle.version_model.specs.States.{as_seen, headings}
 use Rattle.version_model.specs.Writes.{MayWrite}
 use Rattle.engine_state.specs.AnyDatabase.{AnyDatabase}
 use Rattle.engine_state.specs.SharedChecks.{known_version}
-use Rattle.engine_statements.specs.Found.{Found, found, known_table, set_of}
-use Rattle.engine_versions.proofs.ChainLaws.{both_give, ok_is}
+use Rattle.engine_sessions.specs.Found.{Found, found, known_table, set_of}
+use Rattle.engine_sessions.proofs.ChainLaws.{both_give, ok_is}
 use Rattle.session_laws.specs.Kept.{IsKept}
 
 pub version_is : (name : List ℕ) (o : Option ℕ) (set : ℕ) → known_version name o ≡ Ok set → o ≡ Some set

@@ -26,9 +26,9 @@ use Rattle.op_any.specs.Laws.{headings_taken}
 use Rattle.op_any.specs.Texts.{TextsFit}
 use Rattle.op_any.proofs.BuiltLaws.{built_suits}
 use Rattle.op_any.proofs.TableListsLaws.{headings_taken-of}
-use Rattle.engine_versions.specs.declared.edges.Counts.{Counts}
-use Rattle.engine_versions.specs.Evolve.{edges_on, room_for, target_count, with_one}
-use Rattle.engine_versions.proofs.ChainLaws.{both_give, ok_is}
+use Rattle.engine_sessions.specs.Counts.{Counts}
+use Rattle.engine_sessions.specs.Evolve.{edges_on, room_for, target_count, with_one}
+use Rattle.engine_sessions.proofs.ChainLaws.{both_give, ok_is}
 
 -- ---- headings
 

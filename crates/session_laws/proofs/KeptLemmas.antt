@@ -32,13 +32,13 @@ use Rattle.engine_state.specs.AnyDatabase.{AnyDatabase}
 use Rattle.engine_state.specs.SharedChecks.{enough_ids, known_version}
 use Rattle.engine_state.specs.declared.reply.Reply.{Reply}
 use Rattle.engine_state.specs.declared.reply.Reply.TheVariants.{Done, Layout, Moved}
-use Rattle.engine_statements.specs.Found.{condition_list, found, known_condition, known_references}
-use Rattle.engine_statements.specs.Statements.{Planned, columns_of, listed_places, planned_delete, planned_insert, planned_update, state_with, wrote}
-use Rattle.engine_versions.specs.Evolve.{counts_of, created, dropped_version, edges_on, start_at, state_after as version_after, unused}
-use Rattle.engine_versions.proofs.ChainLaws.{both_give, ok_is}
-use Rattle.engine_versions.proofs.KeptTextLaws.{dropped_is}
-use Rattle.engine_layouts.specs.Laid.{Laid, materialized, moved_count}
-use Rattle.engine_layouts.specs.Shown.{shown_operators, shown_tables}
+use Rattle.engine_sessions.specs.Found.{condition_list, found, known_condition, known_references}
+use Rattle.engine_sessions.specs.Statements.{Planned, columns_of, listed_places, planned_delete, planned_insert, planned_update, state_with, wrote}
+use Rattle.engine_sessions.specs.Evolve.{counts_of, created, dropped_version, edges_on, start_at, state_after as version_after, unused}
+use Rattle.engine_sessions.proofs.ChainLaws.{both_give, ok_is}
+use Rattle.engine_sessions.proofs.KeptTextLaws.{dropped_is}
+use Rattle.engine_sessions.specs.Laid.{Laid, materialized, moved_count}
+use Rattle.engine_sessions.specs.Shown.{shown_operators, shown_tables}
 use Rattle.engine_sessions.specs.EngineCoreAct.{act as act_at_once, acted, acted_data, is_built, with_data}
 use Rattle.engine_sessions.specs.EngineMovesAct.{act as act_in_full, at_once, is_materialize, pending_behind}
 use Rattle.engine_sessions.specs.Moving.{Moving}

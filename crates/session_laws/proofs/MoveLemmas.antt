@@ -23,7 +23,7 @@ use Rattle.migration.specs.Sides.{changing}
 use Rattle.migration.proofs.PendingLaws.{closing_up, start_leads}
 use Rattle.engine_state.specs.declared.reply.Reply.{Reply}
 use Rattle.engine_state.specs.declared.reply.Reply.TheVariants.{Moved, Pending}
-use Rattle.engine_versions.proofs.ChainLaws.{ok_is, then_is}
+use Rattle.engine_sessions.proofs.ChainLaws.{ok_is, then_is}
 use Rattle.engine_sessions.specs.Laid.{Laid, materialized, moved_count}
 use Rattle.engine_sessions.specs.EngineCoreLaws.{MovesStoreTargets}
 use Rattle.engine_sessions.specs.Act.{answer_of}

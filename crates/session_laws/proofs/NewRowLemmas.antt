@@ -12,8 +12,8 @@ use Rattle.op_checks.specs.NameChecks.{known_id}
 use Rattle.op_any.specs.Texts.{ValueFits}
 use Rattle.ordinary_table.specs.Laws.{IsNewRow}
 use Rattle.ordinary_table.proofs.KeptLaws.{all_behind}
-use Rattle.engine_statements.specs.Found.{first_of, unknown_in_row, unknown_in_rows, unknown_value}
-use Rattle.engine_statements.specs.Statements.{right_counts}
+use Rattle.engine_sessions.specs.Found.{first_of, unknown_in_row, unknown_in_rows, unknown_value}
+use Rattle.engine_sessions.specs.Statements.{right_counts}
 
 pub all_cons : {X : Type 0} (P : X → Type 0) (x : X) (xs : List X) → P x → All P xs → All P (x ∷ xs)
 all_cons P x xs here there zero d within = here

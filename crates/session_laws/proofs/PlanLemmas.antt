@@ -11,9 +11,9 @@ use Rattle.ordinary_table.specs.Written.{deleted, inserted, updated}
 use Rattle.ordinary_table.proofs.KeptLaws.{delete_keeps, insert_keeps, update_keeps}
 use Rattle.version_model.specs.Writes.{MayWrite}
 use Rattle.engine_state.specs.AnyDatabase.{AnyDatabase}
-use Rattle.engine_statements.specs.Found.{Found, condition_list, found, known_condition, known_references, unknown_in, unknown_in_rows}
-use Rattle.engine_statements.specs.Statements.{Planned, columns_of, known_sets, planned_delete, planned_insert, planned_update, right_counts, rows_of, set_columns, set_values}
-use Rattle.engine_versions.proofs.ChainLaws.{both_give, ok_is}
+use Rattle.engine_sessions.specs.Found.{Found, condition_list, found, known_condition, known_references, unknown_in, unknown_in_rows}
+use Rattle.engine_sessions.specs.Statements.{Planned, columns_of, known_sets, planned_delete, planned_insert, planned_update, right_counts, rows_of, set_columns, set_values}
+use Rattle.engine_sessions.proofs.ChainLaws.{both_give, ok_is}
 use Rattle.session_laws.specs.Kept.{IsKept}
 use Rattle.session_laws.proofs.FoundLemmas.{FoundIn, found_in, may_get, stands_at}
 use Rattle.session_laws.proofs.NewRowLemmas.{first_none, known_none, rows_new}

@@ -10,9 +10,9 @@ use Rattle.op_any.specs.Texts.{TermFits}
 use Rattle.op_any.proofs.SoundTextsLaws.{resolved_sound}
 use Rattle.ordinary_table.specs.Written.{SetTerm}
 use Rattle.ordinary_table.proofs.KeptLaws.{all_behind}
-use Rattle.engine_statements.specs.Found.{first_of, known_expression, shown_names, unknown_in}
-use Rattle.engine_statements.specs.Statements.{known_set, known_sets, set_values}
-use Rattle.engine_versions.proofs.ChainLaws.{both_give, ok_is}
+use Rattle.engine_sessions.specs.Found.{first_of, known_expression, shown_names, unknown_in}
+use Rattle.engine_sessions.specs.Statements.{known_set, known_sets, set_values}
+use Rattle.engine_sessions.proofs.ChainLaws.{both_give, ok_is}
 use Rattle.session_laws.proofs.NewRowLemmas.{all_cons, first_none}
 
 first_of-first : (a b c : Option ℕ) → first_of a (first_of b c) ≡ first_of (first_of a b) c

@@ -17,14 +17,14 @@ use Rattle.version_model.proofs.WriteLaws.{write_is_ordinary}
 use Rattle.engine_state.specs.AnyDatabase.{AnyDatabase}
 use Rattle.engine_state.specs.SharedChecks.{enough_ids}
 use Rattle.engine_state.specs.declared.reply.Reply.{Reply}
-use Rattle.engine_statements.specs.Laws.{DeletesByIdentifier, DeletesChosen, InsertsByIdentifier, InsertsRows, UpdatesByIdentifier, UpdatesChosen}
-use Rattle.engine_statements.specs.Statements.{Planned, state_with, wrote}
-use Rattle.engine_versions.proofs.ChainLaws.{both_give, ok_is}
-use Rattle.engine_layouts.specs.Laid.{Laid}
+use Rattle.engine_sessions.specs.EngineStatementsLaws.{DeletesByIdentifier, DeletesChosen, InsertsByIdentifier, InsertsRows, UpdatesByIdentifier, UpdatesChosen}
+use Rattle.engine_sessions.specs.Statements.{Planned, state_with, wrote}
+use Rattle.engine_sessions.proofs.ChainLaws.{both_give, ok_is}
+use Rattle.engine_sessions.specs.Laid.{Laid}
 use Rattle.engine_sessions.specs.EngineMovesAct.{act as act_in_full, at_once, is_materialize, pending_behind}
 use Rattle.engine_sessions.specs.Moving.{Moving}
 use Rattle.engine_sessions.specs.EngineCoreAct.{act as act_at_once, acted, acted_data, is_built, planned_write, with_data}
-use Rattle.engine_sessions.specs.Undo.{acted_write}
+use Rattle.engine_sessions.specs.EngineCoreUndo.{acted_write}
 use Rattle.engine_sessions.proofs.EngineCoreTextLaws.{assignments_fit, rows_fit}
 use Rattle.engine_sessions.specs.Act.{act, answer_of, counted}
 use Rattle.engine_sessions.specs.InFull.{name_in_full, version_of}

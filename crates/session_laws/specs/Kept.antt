@@ -11,7 +11,7 @@ use Rattle.version_model.specs.Sound.{IsSound}
 use Rattle.db_state.specs.Fields.{IsDatabase}
 use Rattle.db_state.specs.declared.parts.Parts.{Parts}
 use Rattle.engine_state.specs.AnyDatabase.{AnyDatabase}
-use Rattle.engine_sessions.specs.Kept.{state_of}
+use Rattle.engine_sessions.specs.EngineCoreKept.{state_of}
 use Rattle.engine_sessions.specs.Act.{act}
 use Rattle.engine_sessions.specs.Standing.{Standing, begun, empty_standing}
 use Rattle.session_laws.specs.Beside.{next_state}

@@ -4,3 +4,4 @@ pub mod Moves
 pub mod Said
 pub mod Kept
 pub mod Written
+pub use Rattle.engine_sessions.specs.Found

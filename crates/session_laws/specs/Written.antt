@@ -8,11 +8,11 @@ use Rattle.version_graph.specs.Sets.{In}
 use Rattle.version_graph.specs.Tables.{TableVersion}
 use Rattle.version_graph.specs.Edges.{set_named, working}
 use Rattle.csv_io.specs.Tables.{csv_rows}
-use Rattle.engine_statements.specs.Laws.{DeletesChosen, InsertsRows, UpdatesChosen}
-use Rattle.engine_statements.specs.Statements.{Planned}
+use Rattle.engine_sessions.specs.EngineStatementsLaws.{DeletesChosen, InsertsRows, UpdatesChosen}
+use Rattle.engine_sessions.specs.Statements.{Planned}
 use Rattle.engine_state.specs.AnyDatabase.{AnyDatabase}
 use Rattle.engine_state.specs.declared.reply.Reply.{Reply}
-use Rattle.engine_sessions.specs.Undo.{acted_write}
+use Rattle.engine_sessions.specs.EngineCoreUndo.{acted_write}
 use Rattle.engine_sessions.specs.Act.{act}
 use Rattle.engine_sessions.specs.Standing.{Standing, used_by}
 use Rattle.engine_sessions.specs.declared.answer.Answer.{Answer}

@@ -5,8 +5,9 @@ ghost use Rattle.session_laws.specs.Moves.{MovesStoreNamed, StartsLeadToNamed};
 ghost use Rattle.session_laws.specs.Said.{SaidNeedNoSession};
 ghost use Rattle.session_laws.specs.Written.{WritesAreOrdinary, WritesInFullAreOrdinary};
 
-use engine_sessions::{moves_store_targets, replies_are_lines, uses_are_each_sessions_own};
-use engine_statements::writes_are_by_identifier;
+use engine_sessions::{
+    moves_store_targets, replies_are_lines, uses_are_each_sessions_own, writes_are_by_identifier,
+};
 
 /// Each answer has one line at least, and its last line ends too, be it rows as CSV or advice.
 pub fn answers_are_lines()

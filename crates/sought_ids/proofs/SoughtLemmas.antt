@@ -27,7 +27,7 @@ use Rattle.table_keys.specs.Keys.{keys_by}
 use Rattle.table_keys.specs.States.{KeysState}
 use Rattle.table_keys.specs.declared.columns.KeyColumns.TheVariants.{All, One}
 use Rattle.kept_keys.specs.Kept.{AreKeysAt, AreKeysOf}
-use Rattle.fk_closing.specs.Keys.{AreFkKeys, KeyRows}
+use Rattle.op_seeks.specs.Keys.{AreFkKeys, KeyRows}
 use Rattle.op_seeks.specs.Places.{AreKeysIn}
 use Rattle.op_seeks.specs.declared.place.FkPlace.{FkPlace}
 use Rattle.operator_changes.proofs.DrawnLemmas.{append_assoc, append_none}

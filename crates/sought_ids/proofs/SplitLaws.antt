@@ -9,7 +9,7 @@ use Rattle.op_law.specs.Meaning.{Meaning}
 use Rattle.op_law.specs.Tables.{Tables}
 use Rattle.pair_parts.specs.Splits.{Splits}
 use Rattle.pair_parts.proofs.SplitLaws.{splits_anywhere}
-use Rattle.fk_parts.specs.Closed.{PassListed}
+use Rattle.op_seeks.specs.Closed.{PassListed}
 use Rattle.op_seeks.specs.Places.{side_at}
 use Rattle.op_seeks.specs.Seeking.{SeekLaws}
 use Rattle.op_seeks.specs.declared.place.FkPlace.{FkPlace}

@@ -17,9 +17,9 @@ use Rattle.table_keys.specs.States.{KeysState}
 use Rattle.kept_keys.specs.Kept.{AreKeysOf}
 use Rattle.changes_walk.specs.Changing.{latest_changes}
 use Rattle.changes_walk.specs.Reach.{reached}
-use Rattle.fk_closing.specs.Found.{AreAmong}
-use Rattle.fk_closing.specs.Keys.{KeyRows}
-use Rattle.fk_parts.specs.Laws.{AreClosing}
+use Rattle.op_seeks.specs.Found.{AreAmong}
+use Rattle.op_seeks.specs.Keys.{KeyRows}
+use Rattle.op_seeks.specs.FkPartsLaws.{AreClosing}
 use Rattle.op_seeks.specs.Places.{AreKeysIn}
 use Rattle.op_seeks.specs.Seeking.{ApartOver, FootprintOf}
 use Rattle.op_seeks.specs.declared.place.FkPlace.{FkPlace}

@@ -3,14 +3,14 @@ ghost use Rattle.std.specs.Prelude.{◌≡◌, ◌≤◌, true, [], ◌∷◌, I
 ghost use Rattle.version_graph.specs.Edges.{AreEdges};
 ghost use Rattle.op_law.specs.Identifiers.{IdsRise};
 ghost use Rattle.table_keys.specs.States.{behind};
-ghost use Rattle.fk_closing.specs.Found.{AreAmong};
+ghost use Rattle.op_seeks.specs.Found.{AreAmong};
 ghost use Rattle.version_model.specs.Calls.{crossing_of};
 ghost use Rattle.sought_ids.specs.Sought.{AreClosed, AreSomeKeys, ClosesAt, ClosesOver};
 
 use crate::keys::keys_over;
-use fk_closing::closed_ids;
-use op_seeks::Seeks;
+use op_seeks::{Seeks, closed_beside};
 use par_base::{List, Memory};
+use row_store::Change;
 use std::alloc::Global;
 use table_keys::TableKeys;
 use version_graph::{Graph, Step};
@@ -23,6 +23,7 @@ fn is_closed_over<O: Seeks>(
     alloc: Global,
     items: &[Numbered<TableKeys>],
     over: &Way<'_, O>,
+    changes: &[Change],
     ids: &[u64],
 ) -> Result<bool, Memory>
     requires { AreSomeKeys items.now }
@@ -34,7 +35,7 @@ fn is_closed_over<O: Seeks>(
     }
     match keys_over(items, over) {
         Some(keys) => {
-            let closed = closed_ids(alloc, &keys, ids)?;
+            let closed = closed_beside(alloc, &keys, changes, ids)?;
             Ok(closed.as_slice() == ids)
         }
         None => Ok(false),
@@ -46,6 +47,7 @@ fn is_closed_at<O: Seeks>(
     graph: &Graph<O>,
     items: &[Numbered<TableKeys>],
     number: u32,
+    changes: &[Change],
     ids: &[u64],
 ) -> Result<bool, Memory>
     requires edges { AreEdges graph.now.edges }
@@ -59,7 +61,7 @@ fn is_closed_at<O: Seeks>(
     };
     match way_of(graph, step) {
         Some(over) => {
-            let closed = is_closed_over(alloc, items, &over, ids)?;
+            let closed = is_closed_over(alloc, items, &over, changes, ids)?;
             Ok(closed)
         }
         None => Ok(false),
@@ -93,6 +95,7 @@ fn are_closed<O: Seeks>(
     graph: &Graph<O>,
     items: &[Numbered<TableKeys>],
     operators: &[u32],
+    changes: &[Change],
     ids: &[u64],
 ) -> Result<bool, Memory>
     requires edges { AreEdges graph.now.edges }
@@ -101,7 +104,7 @@ fn are_closed<O: Seeks>(
         → ClosesAt O.meaning O.seeks graph.now.edges items.now operators.now ids.now) }
 {
     for number in operators {
-        if !is_closed_at(alloc, graph, items, *number, ids)? {
+        if !is_closed_at(alloc, graph, items, *number, changes, ids)? {
             return Ok(false);
         }
     }
@@ -112,6 +115,7 @@ fn close_over<O: Seeks>(
     alloc: Global,
     items: &[Numbered<TableKeys>],
     over: &Way<'_, O>,
+    changes: &[Change],
     ids: List<u64>,
 ) -> Result<List<u64>, Memory>
     requires { AreSomeKeys items.now }
@@ -119,7 +123,7 @@ fn close_over<O: Seeks>(
 {
     match keys_over(items, over) {
         Some(keys) => {
-            let closed = closed_ids(alloc, &keys, ids.as_slice())?;
+            let closed = closed_beside(alloc, &keys, changes, ids.as_slice())?;
             Ok(closed)
         }
         None => Ok(ids),
@@ -131,6 +135,7 @@ fn close_at<O: Seeks>(
     graph: &Graph<O>,
     items: &[Numbered<TableKeys>],
     number: u32,
+    changes: &[Change],
     ids: List<u64>,
 ) -> Result<List<u64>, Memory>
     requires { AreSomeKeys items.now }
@@ -141,7 +146,7 @@ fn close_at<O: Seeks>(
         backward: false,
     };
     match way_of(graph, step) {
-        Some(over) => close_over(alloc, items, &over, ids),
+        Some(over) => close_over(alloc, items, &over, changes, ids),
         None => Ok(ids),
     }
 }
@@ -151,6 +156,7 @@ fn close_all<O: Seeks>(
     graph: &Graph<O>,
     items: &[Numbered<TableKeys>],
     operators: &[u32],
+    changes: &[Change],
     ids: List<u64>,
 ) -> Result<List<u64>, Memory>
     requires { AreSomeKeys items.now }
@@ -158,20 +164,23 @@ fn close_all<O: Seeks>(
 {
     let mut closed = ids;
     for number in operators {
-        closed = close_at(alloc, graph, items, *number, closed)?;
+        closed = close_at(alloc, graph, items, *number, changes, closed)?;
     }
     Ok(closed)
 }
 
 /// These identifiers and those with which they are closed over these operators, where that is found.
+/// Beside changes, which have their identifiers among these, it brings for a row to which others
+/// refer one that the changes don't name, where there is one.
 ///
 /// It looks twice for each identifier that is found and each operator, so often as the operators
-/// bring others in turn.
+/// bring others in turn, and ends where they bring none.
 pub fn closed_over<O: Seeks>(
     alloc: Global,
     graph: &Graph<O>,
     items: &[Numbered<TableKeys>],
     operators: &[u32],
+    changes: &[Change],
     ids: List<u64>,
 ) -> Result<Option<List<u64>>, Memory>
     requires edges { AreEdges graph.now.edges }
@@ -182,11 +191,15 @@ pub fn closed_over<O: Seeks>(
     let mut closed = ids;
     for _turn in 0..ROUNDS {
         if rises(closed.as_slice())
-            && are_closed(alloc, graph, items, operators, closed.as_slice())?
+            && are_closed(alloc, graph, items, operators, changes, closed.as_slice())?
         {
             return Ok(Some(closed));
         }
-        closed = close_all(alloc, graph, items, operators, closed)?;
+        let known = closed.len();
+        closed = close_all(alloc, graph, items, operators, changes, closed)?;
+        if closed.len() == known {
+            return Ok(None);
+        }
     }
     Ok(None)
 }

@@ -5,15 +5,14 @@ ghost use Rattle.version_graph.specs.Edges.{AreEdges, numbers};
 ghost use Rattle.version_model.specs.Calls.{crossing_of};
 ghost use Rattle.changes_walk.specs.Calls.{AtStep};
 ghost use Rattle.changes_walk.specs.Changing.{latest_changes};
-ghost use Rattle.fk_closing.specs.Found.{AreAmong};
+ghost use Rattle.op_seeks.specs.Found.{AreAmong};
 ghost use Rattle.op_seeks.specs.Seeking.{ApartOver, FootprintOf};
 ghost use Rattle.sought_ids.specs.Sought.{AreEnough, AreSomeKeys, SeesOver, SeesStep, key_tables};
 
 use crate::keys::{key_side, keys_over};
 use changes_walk::changes_now;
-use fk_closing::FkKeys;
 use layout_rules::holds;
-use op_seeks::Seeks;
+use op_seeks::{FkKeys, Seeks};
 use par_base::{List, Memory};
 use row_changes::SideChanges;
 use row_store::Changes;

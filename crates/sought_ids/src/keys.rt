@@ -2,13 +2,12 @@
 ghost use Rattle.std.specs.Prelude.{◌≡◌, IfSome, ℕ, map};
 ghost use Rattle.row_store.specs.Rows.{Rows};
 ghost use Rattle.kept_keys.specs.Kept.{AreKeysOf};
-ghost use Rattle.fk_closing.specs.Keys.{AreFkKeys};
+ghost use Rattle.op_seeks.specs.Keys.{AreFkKeys};
 ghost use Rattle.version_model.specs.Calls.{crossing_of};
 ghost use Rattle.sought_ids.specs.Sought.{AreKeysOver, AreSomeKeys, key_side as key_side_lem};
 
-use fk_closing::FkKeys;
 use kept_keys::keys_of;
-use op_seeks::Seeks;
+use op_seeks::{FkKeys, Seeks};
 use par_base::{List, Memory};
 use std::alloc::Global;
 use table_keys::{KeyColumns, TableKeys};

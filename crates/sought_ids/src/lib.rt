@@ -16,3 +16,4 @@ mod keys;
 pub use closed::closed_over;
 pub use enough::{Carried, is_enough, more_ids};
 pub use keys::{WantedKeys, seeks_all, wanted_keys};
+pub use op_seeks::Seeks;

@@ -14,24 +14,24 @@ use Rattle.engine_state.specs.AnyDatabase.{AnyDatabase}
 use Rattle.engine_state.specs.SharedChecks.{enough_ids, known_version}
 use Rattle.engine_state.specs.declared.reply.Reply.{Reply}
 use Rattle.engine_state.specs.declared.reply.Reply.TheVariants.{Done, Layout, Moved}
-use Rattle.engine_statements.specs.Found.{condition_list, found, known_condition, known_references}
-use Rattle.engine_statements.specs.Statements.{acted_select, columns_of, listed_places, wrote}
-use Rattle.engine_versions.specs.Evolve.{counts_of, created, dropped_version, edges_on, start_at, state_after, unused}
-use Rattle.engine_versions.proofs.ChainLaws.{both_give, ok_is}
-use Rattle.engine_versions.proofs.KeptTextLaws.{dropped_is}
+use Rattle.engine_transactions.specs.Found.{condition_list, found, known_condition, known_references}
+use Rattle.engine_transactions.specs.Statements.{acted_select, columns_of, listed_places, wrote}
+use Rattle.engine_transactions.specs.Evolve.{counts_of, created, dropped_version, edges_on, start_at, state_after, unused}
+use Rattle.engine_transactions.proofs.ChainLaws.{both_give, ok_is}
+use Rattle.engine_transactions.proofs.KeptTextLaws.{dropped_is}
 use Rattle.version_model.specs.Databases.{dropped_database}
-use Rattle.engine_core.specs.Act.{act as act_at_once, acted, acted_data, is_built, planned_write, with_data}
-use Rattle.engine_core.specs.Laid.{Laid, materialized}
-use Rattle.engine_layouts.specs.Shown.{shown_operators, shown_tables}
-use Rattle.engine_moves.specs.Act.{act as act_in_full, at_once, is_materialize, pending_behind}
-use Rattle.engine_moves.specs.Moving.{Moving}
-use Rattle.engine_moves.proofs.ActLaws.{started_stays, stepped_stays}
-use Rattle.engine_sessions.specs.Accesses.{accessed, is_move, kept_behind, raised_by}
-use Rattle.engine_sessions.specs.Act.{act as act_beside, advice_on, answer_of, behind, counted}
-use Rattle.engine_sessions.specs.InFull.{in_full}
-use Rattle.engine_sessions.specs.Standing.{Standing as SessionsStanding, moving_in, used_by, with_use}
-use Rattle.engine_sessions.specs.declared.answer.Answer.{Answer}
-use Rattle.engine_sessions.specs.declared.answer.Answer.TheVariants.{Plain}
+use Rattle.engine_transactions.specs.EngineCoreAct.{act as act_at_once, acted, acted_data, is_built, planned_write, with_data}
+use Rattle.engine_transactions.specs.Laid.{Laid, materialized}
+use Rattle.engine_transactions.specs.Shown.{shown_operators, shown_tables}
+use Rattle.engine_transactions.specs.EngineMovesAct.{act as act_in_full, at_once, is_materialize, pending_behind}
+use Rattle.engine_transactions.specs.Moving.{Moving}
+use Rattle.engine_transactions.proofs.ActLaws.{started_stays, stepped_stays}
+use Rattle.engine_transactions.specs.Accesses.{accessed, is_move, kept_behind, raised_by}
+use Rattle.engine_transactions.specs.EngineSessionsAct.{act as act_beside, advice_on, answer_of, behind, counted}
+use Rattle.engine_transactions.specs.InFull.{in_full}
+use Rattle.engine_transactions.specs.EngineSessionsStanding.{Standing as SessionsStanding, moving_in, used_by, with_use}
+use Rattle.engine_transactions.specs.Answer.{Answer}
+use Rattle.engine_transactions.specs.Answer.TheVariants.{Plain}
 use Rattle.engine_transactions.specs.Act.{history_behind}
 use Rattle.engine_transactions.specs.History.{History, has_changed, with_drop, with_version, with_writes}
 use Rattle.engine_transactions.specs.Standing.{Standing}

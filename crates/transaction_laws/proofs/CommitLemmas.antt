@@ -11,9 +11,9 @@ use Rattle.session_tx.specs.Commits.{commit, read_fault, results, runs_of}
 use Rattle.session_tx.specs.Serial.{end_of as runs_end}
 use Rattle.session_tx.proofs.FreshLaws.{accepted}
 use Rattle.engine_state.specs.AnyDatabase.{AnyDatabase}
-use Rattle.engine_versions.proofs.ChainLaws.{ok_is}
-use Rattle.engine_sessions.specs.Accesses.{accessed, raised}
-use Rattle.engine_sessions.specs.Standing.{Standing as SessionsStanding, moving_in}
+use Rattle.engine_transactions.proofs.ChainLaws.{ok_is}
+use Rattle.engine_transactions.specs.Accesses.{accessed, raised}
+use Rattle.engine_transactions.specs.EngineSessionsStanding.{Standing as SessionsStanding, moving_in}
 use Rattle.engine_transactions.specs.Act.{accesses_of, behind_commit, raised_all}
 use Rattle.engine_transactions.specs.Meaning.{any_changed, executing, means}
 use Rattle.engine_transactions.specs.Serial.{AreTold, Told, told_writes}

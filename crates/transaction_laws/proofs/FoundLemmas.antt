@@ -31,8 +31,8 @@ use Rattle.version_model.specs.States.{State}
 use Rattle.version_model.proofs.PutLaws.{put_other}
 use Rattle.engine_state.specs.AnyDatabase.{AnyDatabase}
 use Rattle.engine_state.specs.SharedChecks.{known_version}
-use Rattle.engine_statements.specs.Found.{Found, found, known_table, set_of}
-use Rattle.engine_versions.proofs.ChainLaws.{both_give, ok_is}
+use Rattle.engine_transactions.specs.Found.{Found, found, known_table, set_of}
+use Rattle.engine_transactions.proofs.ChainLaws.{both_give, ok_is}
 
 -- a table's name with its version
 abbrev pub full : List ℕ → List ℕ → TableName

@@ -12,9 +12,9 @@ use Rattle.session_tx.specs.declared.commit_fault.CommitFault.TheVariants.{Histo
 use Rattle.layout_planner.specs.declared.planning.TableCount.{TableCount}
 use Rattle.engine_state.specs.AnyDatabase.{AnyDatabase}
 use Rattle.engine_state.specs.declared.reply.Reply.{Reply}
-use Rattle.engine_sessions.specs.Accesses.{raised}
-use Rattle.engine_sessions.specs.Act.{answer_of}
-use Rattle.engine_sessions.specs.Standing.{Standing as SessionsStanding, moving_in}
+use Rattle.engine_transactions.specs.Accesses.{raised}
+use Rattle.engine_transactions.specs.EngineSessionsAct.{answer_of}
+use Rattle.engine_transactions.specs.EngineSessionsStanding.{Standing as SessionsStanding, moving_in}
 use Rattle.engine_transactions.specs.Act.{raised_all}
 use Rattle.engine_transactions.specs.History.{History, last_change}
 use Rattle.engine_transactions.specs.Serial.{AreTold, Told, Within}

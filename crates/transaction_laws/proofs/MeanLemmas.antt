@@ -6,11 +6,11 @@ use Rattle.statements.specs.Views.{StatementView}
 use Rattle.engine_state.specs.AnyDatabase.{AnyDatabase}
 use Rattle.engine_state.specs.declared.reply.Reply.{Reply}
 use Rattle.engine_state.specs.declared.reply.WriteReply.{WriteReply}
-use Rattle.engine_core.specs.Undo.{acted_write}
-use Rattle.engine_sessions.specs.Accesses.{accessed, raised}
-use Rattle.engine_sessions.specs.Act.{act as act_beside}
-use Rattle.engine_sessions.specs.Standing.{Standing as SessionsStanding}
-use Rattle.engine_sessions.specs.declared.answer.Answer.{Answer}
+use Rattle.engine_transactions.specs.EngineCoreUndo.{acted_write}
+use Rattle.engine_transactions.specs.Accesses.{accessed, raised}
+use Rattle.engine_transactions.specs.EngineSessionsAct.{act as act_beside}
+use Rattle.engine_transactions.specs.EngineSessionsStanding.{Standing as SessionsStanding}
+use Rattle.engine_transactions.specs.Answer.{Answer}
 use Rattle.engine_transactions.specs.History.{has_changed}
 use Rattle.engine_transactions.specs.Meaning.{means, write_reply}
 use Rattle.engine_transactions.specs.Serial.{answer_to}

@@ -28,10 +28,10 @@ use Rattle.migration.specs.Sides.{changing}
 use Rattle.op_any.specs.Operators.{AnyView}
 use Rattle.engine_state.specs.declared.reply.Reply.{Reply}
 use Rattle.engine_state.specs.declared.reply.Reply.TheVariants.{Pending}
-use Rattle.engine_versions.proofs.ChainLaws.{both_give, ok_is}
-use Rattle.engine_core.specs.Laid.{Laid, materialized, moved_count}
-use Rattle.engine_moves.specs.Act.{flipped_by, started, stepped, stepped_at}
-use Rattle.engine_moves.specs.Moving.{Moving}
+use Rattle.engine_transactions.proofs.ChainLaws.{both_give, ok_is}
+use Rattle.engine_transactions.specs.Laid.{Laid, materialized, moved_count}
+use Rattle.engine_transactions.specs.EngineMovesAct.{flipped_by, started, stepped, stepped_at}
+use Rattle.engine_transactions.specs.Moving.{Moving}
 
 -- ---- numbers
 

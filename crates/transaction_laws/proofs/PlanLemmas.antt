@@ -13,19 +13,19 @@ use Rattle.engine_state.specs.SharedChecks.{enough_ids}
 use Rattle.engine_state.specs.declared.reply.Reply.{Reply}
 use Rattle.engine_state.specs.declared.reply.WriteReply.{WriteReply}
 use Rattle.engine_state.specs.declared.reply.WriteReply.TheVariants as write
-use Rattle.engine_statements.specs.Found.{condition_list, found, known_condition, known_references, unknown_in_rows}
-use Rattle.engine_statements.specs.Statements.{Planned, columns_of, known_sets, planned_delete, planned_insert, planned_update, right_counts, set_columns, set_values, state_with, wrote}
-use Rattle.engine_versions.proofs.ChainLaws.{both_give, ok_is}
-use Rattle.engine_core.specs.Act.{planned_write, with_data}
-use Rattle.engine_core.specs.Laid.{Laid}
-use Rattle.engine_core.specs.Undo.{acted_write}
-use Rattle.engine_moves.specs.Act.{pending_behind}
-use Rattle.engine_moves.specs.Moving.{Moving}
-use Rattle.engine_sessions.specs.Accesses.{accessed, table_found}
-use Rattle.engine_sessions.specs.Act.{act as act_beside, answer_of, behind, counted}
-use Rattle.engine_sessions.specs.InFull.{name_in_full, version_of}
-use Rattle.engine_sessions.specs.Standing.{Standing as SessionsStanding, used_by}
-use Rattle.engine_sessions.specs.declared.answer.Answer.{Answer}
+use Rattle.engine_transactions.specs.Found.{condition_list, found, known_condition, known_references, unknown_in_rows}
+use Rattle.engine_transactions.specs.Statements.{Planned, columns_of, known_sets, planned_delete, planned_insert, planned_update, right_counts, set_columns, set_values, state_with, wrote}
+use Rattle.engine_transactions.proofs.ChainLaws.{both_give, ok_is}
+use Rattle.engine_transactions.specs.EngineCoreAct.{planned_write, with_data}
+use Rattle.engine_transactions.specs.Laid.{Laid}
+use Rattle.engine_transactions.specs.EngineCoreUndo.{acted_write}
+use Rattle.engine_transactions.specs.EngineMovesAct.{pending_behind}
+use Rattle.engine_transactions.specs.Moving.{Moving}
+use Rattle.engine_transactions.specs.Accesses.{accessed, table_found}
+use Rattle.engine_transactions.specs.EngineSessionsAct.{act as act_beside, answer_of, behind, counted}
+use Rattle.engine_transactions.specs.InFull.{name_in_full, version_of}
+use Rattle.engine_transactions.specs.EngineSessionsStanding.{Standing as SessionsStanding, used_by}
+use Rattle.engine_transactions.specs.Answer.{Answer}
 use Rattle.engine_transactions.specs.Meaning.{write_reply}
 use Rattle.transaction_laws.specs.Laws.{IsFullWrite}
 use Rattle.transaction_laws.proofs.FoundLemmas.{found_made, has_maker, named_by}

@@ -14,9 +14,9 @@ use Rattle.ordinary_table.specs.Selected.{selected}
 use Rattle.engine_state.specs.AnyDatabase.{AnyDatabase}
 use Rattle.engine_state.specs.declared.reply.Reply.{Reply}
 use Rattle.engine_state.specs.declared.reply.Reply.TheVariants.{Rows as Shown}
-use Rattle.engine_statements.specs.Found.{Found, condition_list, first_of, found, known_condition, known_references, unknown_in}
-use Rattle.engine_statements.specs.Statements.{acted_select, columns_of, listed_names, listed_places, rows_of}
-use Rattle.engine_versions.proofs.ChainLaws.{both_give, ok_is, then_is}
+use Rattle.engine_transactions.specs.Found.{Found, condition_list, first_of, found, known_condition, known_references, unknown_in}
+use Rattle.engine_transactions.specs.Statements.{acted_select, columns_of, listed_names, listed_places, rows_of}
+use Rattle.engine_transactions.proofs.ChainLaws.{both_give, ok_is, then_is}
 
 -- ---- identifiers that were known are known
 

@@ -11,17 +11,17 @@ use Rattle.session_tx.specs.Commits.{commit}
 use Rattle.session_tx.specs.declared.commit_fault.CommitFault.{CommitFault}
 use Rattle.engine_state.specs.AnyDatabase.{AnyDatabase}
 use Rattle.engine_state.specs.declared.reply.Reply.{Reply}
-use Rattle.engine_statements.specs.Found.{Found, condition_list, found, known_condition, known_references}
-use Rattle.engine_statements.specs.Statements.{acted_select, columns_of, listed_places}
-use Rattle.engine_versions.proofs.ChainLaws.{both_give, ok_is}
-use Rattle.engine_core.specs.Act.{act as act_at_once, with_data}
-use Rattle.engine_core.specs.Laid.{Laid}
-use Rattle.engine_moves.specs.Act.{act as act_in_full, at_once as moves_at_once, pending_behind}
-use Rattle.engine_moves.specs.Moving.{Moving}
-use Rattle.engine_sessions.specs.Act.{act as act_beside, answer_of}
-use Rattle.engine_sessions.specs.InFull.{in_full}
-use Rattle.engine_sessions.specs.Standing.{Standing as SessionsStanding, moving_in, used_by}
-use Rattle.engine_sessions.specs.declared.answer.Answer.{Answer}
+use Rattle.engine_transactions.specs.Found.{Found, condition_list, found, known_condition, known_references}
+use Rattle.engine_transactions.specs.Statements.{acted_select, columns_of, listed_places}
+use Rattle.engine_transactions.proofs.ChainLaws.{both_give, ok_is}
+use Rattle.engine_transactions.specs.EngineCoreAct.{act as act_at_once, with_data}
+use Rattle.engine_transactions.specs.Laid.{Laid}
+use Rattle.engine_transactions.specs.EngineMovesAct.{act as act_in_full, at_once as moves_at_once, pending_behind}
+use Rattle.engine_transactions.specs.Moving.{Moving}
+use Rattle.engine_transactions.specs.EngineSessionsAct.{act as act_beside, answer_of}
+use Rattle.engine_transactions.specs.InFull.{in_full}
+use Rattle.engine_transactions.specs.EngineSessionsStanding.{Standing as SessionsStanding, moving_in, used_by}
+use Rattle.engine_transactions.specs.Answer.{Answer}
 use Rattle.engine_transactions.specs.Act.{act, at_hand, begun_by, behind_commit, committed, committed_as, history_behind, kept_by, named_at, noted, read_of, rolled_back, selected_by, with_transaction, written_by}
 use Rattle.engine_transactions.specs.History.{History}
 use Rattle.engine_transactions.specs.Meaning.{executing, means}

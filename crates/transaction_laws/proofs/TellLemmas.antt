@@ -25,19 +25,19 @@ use Rattle.engine_state.specs.declared.reply.Reply.{Reply}
 use Rattle.engine_state.specs.declared.reply.Reply.TheVariants.{Committed, Deleted, Done, Flipped, Inserted, Kept, Layout, Moved, Pending, Rows, Unwatched, Updated, Watching}
 use Rattle.engine_state.specs.declared.reply.WriteReply.{WriteReply}
 use Rattle.engine_state.specs.declared.reply.WriteReply.TheVariants as write
-use Rattle.engine_statements.specs.Found.{Found, found}
-use Rattle.engine_statements.specs.Statements.{acted_select}
-use Rattle.engine_versions.proofs.ChainLaws.{both_give, ok_is}
-use Rattle.engine_core.specs.Act.{with_data}
-use Rattle.engine_core.specs.Laid.{Laid}
-use Rattle.engine_core.specs.Undo.{acted_write}
-use Rattle.engine_moves.specs.Act.{pending_behind}
-use Rattle.engine_moves.specs.Moving.{Moving}
-use Rattle.engine_sessions.specs.Accesses.{accessed, one_more, raised, raised_by, table_found}
-use Rattle.engine_sessions.specs.Act.{act as act_beside, answer_of, behind, written_in}
-use Rattle.engine_sessions.specs.Standing.{Standing as SessionsStanding, moving_in}
-use Rattle.engine_sessions.specs.declared.answer.Answer.{Answer}
-use Rattle.engine_sessions.specs.declared.answer.Answer.TheVariants.{Plain}
+use Rattle.engine_transactions.specs.Found.{Found, found}
+use Rattle.engine_transactions.specs.Statements.{acted_select}
+use Rattle.engine_transactions.proofs.ChainLaws.{both_give, ok_is}
+use Rattle.engine_transactions.specs.EngineCoreAct.{with_data}
+use Rattle.engine_transactions.specs.Laid.{Laid}
+use Rattle.engine_transactions.specs.EngineCoreUndo.{acted_write}
+use Rattle.engine_transactions.specs.EngineMovesAct.{pending_behind}
+use Rattle.engine_transactions.specs.Moving.{Moving}
+use Rattle.engine_transactions.specs.Accesses.{accessed, one_more, raised, raised_by, table_found}
+use Rattle.engine_transactions.specs.EngineSessionsAct.{act as act_beside, answer_of, behind, written_in}
+use Rattle.engine_transactions.specs.EngineSessionsStanding.{Standing as SessionsStanding, moving_in}
+use Rattle.engine_transactions.specs.Answer.{Answer}
+use Rattle.engine_transactions.specs.Answer.TheVariants.{Plain}
 use Rattle.engine_transactions.specs.Act.{raised_all}
 use Rattle.engine_transactions.specs.Meaning.{means, write_reply}
 use Rattle.engine_transactions.specs.Serial.{AreTold, Entry, Told, Within, answer_to, answered_in, given, left_by, told_writes}

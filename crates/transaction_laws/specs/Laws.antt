@@ -10,10 +10,10 @@ use Rattle.db_state.specs.Fields.{IsDatabase}
 use Rattle.db_state.specs.declared.parts.Parts.{Parts}
 use Rattle.session_tx.specs.Meaning.{Ran}
 use Rattle.engine_state.specs.declared.reply.WriteReply.{WriteReply}
-use Rattle.engine_core.specs.Kept.{state_of}
-use Rattle.engine_sessions.specs.Act.{act as act_beside}
-use Rattle.engine_sessions.specs.declared.answer.Answer.{Answer}
-use Rattle.engine_sessions.specs.Standing.{Standing as SessionsStanding, begun_with, empty_standing}
+use Rattle.engine_transactions.specs.EngineCoreKept.{state_of}
+use Rattle.engine_transactions.specs.EngineSessionsAct.{act as act_beside}
+use Rattle.engine_transactions.specs.Answer.{Answer}
+use Rattle.engine_transactions.specs.EngineSessionsStanding.{Standing as SessionsStanding, begun_with, empty_standing}
 use Rattle.engine_transactions.specs.Meaning.{means}
 use Rattle.engine_transactions.specs.Serial.{OneAfterTheOther, answer_to}
 use Rattle.engine_transactions.specs.Standing.{begun}

@@ -5,7 +5,7 @@ use Rattle.version_graph.specs.Tables.{table_numbers}
 use Rattle.version_graph.specs.Edges.{made, numbers, version_sets}
 use Rattle.layout_planner.specs.Counts.{is_living}
 use Rattle.layout_planner.specs.declared.planning.TableCount.{TableCount}
-use Rattle.engine_sessions.specs.Standing.{Standing}
+use Rattle.engine_transactions.specs.EngineSessionsStanding.{Standing}
 
 -- no number is above the last ones given; and what is in the layout, is pending or was counted is of operators and tables that live
 pub record IsOrderly (s : Standing) : Type 0 where

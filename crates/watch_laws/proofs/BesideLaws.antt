@@ -6,14 +6,14 @@ use Rattle.par_base.specs.declared.refusal.Refusal.TheVariants.{NoWatcherLeft}
 use Rattle.statements.specs.Views.{StatementView}
 use Rattle.version_graph.specs.Edges.{set_named}
 use Rattle.change_feed.specs.Watches.{WatchState, WatchesState, watch_of, watched}
-use Rattle.version_notes.specs.Notes.{first_note}
+use Rattle.engine_feeds.specs.VersionNotes.{first_note}
 use Rattle.engine_state.specs.declared.reply.Reply.TheVariants.{Watching}
-use Rattle.engine_transactions.specs.Act.{act as act_unwatched}
-use Rattle.engine_transactions.specs.Answer.{Answer}
-use Rattle.engine_transactions.specs.Answer.TheVariants.{Plain}
-use Rattle.engine_transactions.specs.Replies.{next_state as next_unwatched, replies as replies_unwatched, state_after as state_unwatched, text_of as text_unwatched}
-use Rattle.engine_transactions.specs.SharedChecks.{known_version}
-use Rattle.engine_transactions.specs.Standing.{Standing as TransactionsStanding}
+use Rattle.engine_feeds.specs.TransactionsAct.{act as act_unwatched}
+use Rattle.engine_feeds.specs.Answer.{Answer}
+use Rattle.engine_feeds.specs.TheVariants.{Plain}
+use Rattle.engine_feeds.specs.EngineTransactionsReplies.{next_state as next_unwatched, replies as replies_unwatched, state_after as state_unwatched, text_of as text_unwatched}
+use Rattle.engine_feeds.specs.SharedChecks.{known_version}
+use Rattle.engine_feeds.specs.TransactionsStanding.{Standing as TransactionsStanding}
 use Rattle.engine_feeds.specs.Act.{act, acted_by, can_watch, data_in, ended_at, taken_for, told_of}
 use Rattle.engine_feeds.specs.Replies.{next_state, replies, state_after, text_of}
 use Rattle.engine_feeds.specs.Standing.{Standing}

@@ -13,13 +13,13 @@ use Rattle.change_feed.specs.Feeds.{AllQuiet, event_told, events_told}
 use Rattle.change_feed.specs.Watchers.{IsFresh, WatcherState, with_prepared, with_told}
 use Rattle.change_feed.specs.Watches.{AllFresh, WatchState, WatchesState, note_for, taking, watch_of, watched, with_first, with_note, without_number, without_version}
 use Rattle.change_feed.proofs.FeedLaws.{feeds}
-use Rattle.engine_transactions.specs.Act.{act as act_unwatched}
-use Rattle.engine_transactions.specs.Answer.{Answer}
-use Rattle.engine_transactions.specs.Answer.TheVariants.{Plain}
-use Rattle.engine_transactions.specs.SharedChecks.{known_version}
-use Rattle.engine_transactions.specs.Standing.{Standing as TransactionsStanding}
+use Rattle.engine_feeds.specs.TransactionsAct.{act as act_unwatched}
+use Rattle.engine_feeds.specs.Answer.{Answer}
+use Rattle.engine_feeds.specs.TheVariants.{Plain}
+use Rattle.engine_feeds.specs.SharedChecks.{known_version}
+use Rattle.engine_feeds.specs.TransactionsStanding.{Standing as TransactionsStanding}
 use Rattle.engine_feeds.specs.Act.{act, can_watch, data_in, ended_at, taken_for, watches_behind}
-use Rattle.version_notes.specs.Notes.{first_note}
+use Rattle.engine_feeds.specs.VersionNotes.{first_note}
 use Rattle.engine_feeds.specs.Notes.{event_notes}
 use Rattle.engine_feeds.specs.Replies.{next_state}
 use Rattle.engine_feeds.specs.Standing.{Standing}

@@ -7,3 +7,4 @@ mod RelaidLemmas
 pub mod UnseenLaws
 mod ScriptLemmas
 mod LineLemmas
+pub use Rattle.script_laws.proofs.SaidLemmas

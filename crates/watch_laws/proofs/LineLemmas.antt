@@ -1,9 +1,9 @@
 -- Each statement is answered by lines.
 use Rattle.std.specs.Prelude.{Ok, Err}
 use Rattle.par_base.specs.Checked.{Checked}
-use Rattle.session_laws.specs.Lines.{AnswersAreLines}
-use Rattle.engine_transactions.specs.Answer.{Answer}
-use Rattle.engine_transactions.specs.EngineCoreLaws.{EndsLine, RefusalsAreLines}
+use Rattle.script_laws.specs.SessionLawsLines.{AnswersAreLines}
+use Rattle.engine_feeds.specs.Answer.{Answer}
+use Rattle.engine_feeds.specs.EngineCoreLaws.{EndsLine, RefusalsAreLines}
 use Rattle.engine_feeds.specs.Act.{act}
 use Rattle.engine_feeds.specs.Replies.{text_of}
 use Rattle.engine_feeds.specs.Standing.{Standing}

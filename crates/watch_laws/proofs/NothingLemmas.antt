@@ -10,14 +10,14 @@ use Rattle.row_store.specs.declared.change.Change.{Change}
 use Rattle.op_law.specs.Identifiers.{ids_over}
 use Rattle.row_changes.specs.Picked.{Lookup, change_between}
 use Rattle.version_graph.specs.Edges.{version_names}
-use Rattle.write_propagation.specs.Told.{is_change, same_cell}
+use Rattle.engine_feeds.specs.Told.{is_change, same_cell}
 use Rattle.change_feed.specs.declared.note.Note.{Note}
 use Rattle.change_feed.specs.declared.note.VersionNote.{VersionNote}
 use Rattle.change_feed.specs.Shown.{Named}
-use Rattle.version_notes.specs.Differences.{changes_between, note_between, note_of, table_with}
-use Rattle.version_notes.specs.Notes.{notes_between, notes_by}
-use Rattle.version_notes.specs.Versions.{tables_of}
-use Rattle.engine_transactions.specs.AnyDatabase.{AnyDatabase}
+use Rattle.engine_feeds.specs.Differences.{changes_between, note_between, note_of, table_with}
+use Rattle.engine_feeds.specs.VersionNotes.{notes_between, notes_by}
+use Rattle.engine_feeds.specs.Versions.{tables_of}
+use Rattle.engine_feeds.specs.AnyDatabase.{AnyDatabase}
 
 cell_same : (c : Option (List Value)) → same_cell c c ≡ true
 cell_same None = refl

@@ -8,15 +8,15 @@ use Rattle.engine_state.specs.declared.reply.Reply.TheVariants.{Watching}
 use Rattle.statements.specs.Views.{StatementView, Materialize, Step}
 use Rattle.version_graph.specs.Edges.{set_named}
 use Rattle.change_feed.specs.Watches.{WatchState, WatchesState, watch_of, watched}
-use Rattle.engine_transactions.specs.Act.{act as act_unwatched}
-use Rattle.engine_transactions.specs.Answer.{Answer}
-use Rattle.engine_transactions.specs.Answer.TheVariants.{Plain}
-use Rattle.engine_transactions.specs.SharedChecks.{known_version}
-use Rattle.engine_transactions.specs.Standing.{Standing as TransactionsStanding}
+use Rattle.engine_feeds.specs.TransactionsAct.{act as act_unwatched}
+use Rattle.engine_feeds.specs.Answer.{Answer}
+use Rattle.engine_feeds.specs.TheVariants.{Plain}
+use Rattle.engine_feeds.specs.SharedChecks.{known_version}
+use Rattle.engine_feeds.specs.TransactionsStanding.{Standing as TransactionsStanding}
 use Rattle.script_laws.specs.Moves.{tells_storage, with_layout as laid_out}
 use Rattle.script_laws.proofs.RelaidLaws.{Leaves as LeavesBeside, materialize_leaves, relaid as relaid_beside, same_act as same_beside, step_leaves}
 use Rattle.engine_feeds.specs.Act.{act, can_watch, data_in, ended_at, taken_for, told_of}
-use Rattle.version_notes.specs.Notes.{first_note, notes_along}
+use Rattle.engine_feeds.specs.VersionNotes.{first_note, notes_along}
 use Rattle.change_feed.specs.Feeds.{events_told}
 use Rattle.engine_feeds.specs.Replies.{next_state}
 use Rattle.engine_feeds.specs.Standing.{Standing}

@@ -2,10 +2,10 @@
 use Rattle.std.specs.Prelude.{Ok}
 use Rattle.std.proofs.Common.{◌≡◌, refl, sym, ◌∙◌, subst}
 use Rattle.statements.specs.Views.{StatementView, CreateVersion, DropVersion, Insert, Import, Update, Delete, Select, Materialize, Step, ShowLayout, Use, Session, Advise, Watch, Unwatch, Begin, Commit, Rollback}
-use Rattle.engine_transactions.specs.Act.{act as act_unwatched}
-use Rattle.engine_transactions.specs.Answer.{Answer}
-use Rattle.engine_transactions.specs.Begun.{DifferInSessions}
-use Rattle.engine_transactions.specs.Standing.{Standing as TransactionsStanding}
+use Rattle.engine_feeds.specs.TransactionsAct.{act as act_unwatched}
+use Rattle.engine_feeds.specs.Answer.{Answer}
+use Rattle.engine_feeds.specs.Begun.{DifferInSessions}
+use Rattle.engine_feeds.specs.TransactionsStanding.{Standing as TransactionsStanding}
 use Rattle.script_laws.specs.Kept.{IsKeptAt}
 use Rattle.script_laws.specs.Said.{SaidNeedNoSession as SaidNeedNone}
 use Rattle.script_laws.specs.Scripts.{ScriptsAreOrdinary as WritesAreOrdinary, ScriptsStayKept as StaysKept}

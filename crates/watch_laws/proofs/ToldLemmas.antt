@@ -7,18 +7,18 @@ use Rattle.session_tx.specs.Commits.{read_fault, runs_of, unless}
 use Rattle.session_tx.specs.declared.commit_fault.CommitFault.{CommitFault}
 use Rattle.change_feed.specs.Feeds.{AllQuiet, events_told}
 use Rattle.change_feed.specs.Watches.{WatchesState}
-use Rattle.engine_transactions.specs.Act.{at_hand}
-use Rattle.engine_transactions.specs.AnyDatabase.{AnyDatabase}
-use Rattle.engine_transactions.specs.Kinds.{kind_in}
-use Rattle.engine_transactions.specs.Leads.{committed_data, data_after, data_left, open_data, written_data}
-use Rattle.engine_transactions.specs.Meaning.{executing, means}
-use Rattle.engine_transactions.specs.Standing.{OpenView, Standing as TransactionsStanding}
-use Rattle.engine_transactions.specs.declared.statement_kind.StatementKind.{StatementKind}
-use Rattle.engine_transactions.specs.declared.statement_kind.StatementKind.TheVariants as kind
+use Rattle.engine_feeds.specs.TransactionsAct.{at_hand}
+use Rattle.engine_feeds.specs.AnyDatabase.{AnyDatabase}
+use Rattle.engine_feeds.specs.Kinds.{kind_in}
+use Rattle.engine_feeds.specs.Leads.{committed_data, data_after, data_left, open_data, written_data}
+use Rattle.engine_feeds.specs.Meaning.{executing, means}
+use Rattle.engine_feeds.specs.TransactionsStanding.{OpenView, Standing as TransactionsStanding}
+use Rattle.engine_feeds.specs.StatementKind.{StatementKind}
+use Rattle.engine_feeds.specs.StatementKind.TheVariants as kind
 use Rattle.script_laws.specs.Moves.{with_layout as laid_out}
 use Rattle.script_laws.proofs.RelaidLaws.{Runs, relaid_all, relaid_runs, same_runs}
 use Rattle.engine_feeds.specs.Act.{told_of, watches_behind}
-use Rattle.version_notes.specs.Notes.{notes_along}
+use Rattle.engine_feeds.specs.VersionNotes.{notes_along}
 use Rattle.watch_laws.proofs.IdleLemmas.{nothing_told}
 use Rattle.watch_laws.proofs.NothingLemmas.{nothing_noted}
 

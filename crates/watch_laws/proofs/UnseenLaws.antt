@@ -5,8 +5,8 @@ use Rattle.std.proofs.Common.{◌≡◌, ℕ, List, [], ◌∷◌, Bool, false, 
 use Rattle.par_base.specs.Checked.{Checked}
 use Rattle.statements.specs.Views.{StatementView, CreateVersion, DropVersion, Insert, Import, Update, Delete, Select, Materialize, Step, ShowLayout, Use, Session, Advise, Watch, Unwatch, Begin, Commit, Rollback}
 use Rattle.bidel_script.specs.Script.{IsScript}
-use Rattle.engine_transactions.specs.Answer.{Answer}
-use Rattle.engine_transactions.specs.EngineMovesAct.{pending_behind}
+use Rattle.engine_feeds.specs.Answer.{Answer}
+use Rattle.engine_feeds.specs.EngineMovesAct.{pending_behind}
 use Rattle.script_laws.specs.Moves.{heard, tells_storage, without_moves}
 use Rattle.engine_feeds.specs.Act.{act}
 use Rattle.engine_feeds.specs.Replies.{next_state, out, replies, state_after, text_of}

@@ -2,7 +2,7 @@
 use Rattle.std.specs.Prelude.{◌≡◌, ℕ, Bool, true, false, cond, List, [], ◌∷◌}
 use Rattle.statements.specs.Views.{StatementView, Watch, Unwatch}
 use Rattle.version_graph.specs.Sets.{Each}
-use Rattle.engine_transactions.specs.Replies.{replies as replies_unwatched, state_after as state_unwatched}
+use Rattle.engine_feeds.specs.EngineTransactionsReplies.{replies as replies_unwatched, state_after as state_unwatched}
 use Rattle.engine_feeds.specs.Replies.{replies, state_after}
 use Rattle.engine_feeds.specs.Standing.{Standing}
 

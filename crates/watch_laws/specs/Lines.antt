@@ -1,6 +1,6 @@
 -- Each statement is answered by lines, with watches.
 use Rattle.statements.specs.Views.{StatementView}
-use Rattle.engine_transactions.specs.EngineCoreLaws.{EndsLine}
+use Rattle.engine_feeds.specs.EngineCoreLaws.{EndsLine}
 use Rattle.engine_feeds.specs.Act.{act}
 use Rattle.engine_feeds.specs.Replies.{text_of}
 use Rattle.engine_feeds.specs.Standing.{Standing}

@@ -3,7 +3,7 @@ use Rattle.std.specs.Prelude.{◌≡◌, List, []}
 use Rattle.statements.specs.Views.{StatementView}
 use Rattle.version_graph.specs.Sets.{Each}
 use Rattle.change_feed.specs.Watches.{WatchesState}
-use Rattle.engine_transactions.specs.Begun.{DifferInSessions, begun_again}
+use Rattle.engine_feeds.specs.Begun.{DifferInSessions, begun_again}
 use Rattle.engine_feeds.specs.Replies.{replies, state_after}
 use Rattle.engine_feeds.specs.Standing.{Standing}
 use Rattle.script_laws.specs.SessionLawsSaid.{AreSaid, nothing_said}

@@ -2,7 +2,7 @@
 use Rattle.std.specs.Prelude.{◌≡◌, ◌++◌, ℕ, Bool, List, ◌∷◌, Ok}
 use Rattle.statements.specs.Views.{StatementView}
 use Rattle.bidel_script.specs.Script.{Comes, Outcome}
-use Rattle.engine_transactions.specs.Answer.{Answer}
+use Rattle.engine_feeds.specs.Answer.{Answer}
 use Rattle.engine_feeds.specs.Act.{act}
 use Rattle.engine_feeds.specs.Replies.{state_after}
 use Rattle.engine_feeds.specs.Standing.{Standing}

@@ -5,12 +5,11 @@ ghost use Rattle.watch_laws.specs.Moves.{MovesChangeNoReply, MovesTellNothing};
 ghost use Rattle.watch_laws.specs.Said.{SaidNeedNoSession};
 ghost use Rattle.watch_laws.specs.Scripts.{ScriptsAreOrdinary, ScriptsStayKept};
 
-use engine_transactions::replies_are_lines;
+use engine_feeds::replies_are_lines;
 use script_laws::{
-    said_scripts_need_no_session as said_scripts_need_none,
+    answers_are_lines, said_scripts_need_no_session as said_scripts_need_none,
     scripts_are_ordinary as writes_are_ordinary,
 };
-use session_laws::answers_are_lines;
 
 /// Whoever watches: all other statements are answered the same, and leave the same data, sessions and
 /// transactions, as where nobody does. Without watches WATCH and UNWATCH are refused and change nothing.

@@ -16,3 +16,6 @@ pub use laws::{
     moves_change_no_reply, said_scripts_need_no_session, scripts_are_ordinary,
     statements_are_answered, watches_are_beside,
 };
+pub use script_laws::{
+    moves_store_what_they_name, scripts_keep_counts, scripts_keep_states, statements_keep_states,
+};

@@ -34,11 +34,11 @@ use Rattle.operator_changes.specs.Footprint.{passes, with_drawn}
 use Rattle.pair_parts.specs.Apart.{KeepsApart, SameElsewhere}
 use Rattle.pair_parts.proofs.MemoryLaws.{memory_same}
 use Rattle.id_memory.specs.Pairs.{Pairs}
-use Rattle.fk_parts.specs.Closed.{PassListed}
-use Rattle.fk_closing.specs.Keys.{KeyRows}
-use Rattle.op_seeks.specs.Places.{AreKeysIn, side_at}
-use Rattle.op_seeks.specs.Seeking.{ApartOver, IsChangedPair, IsMemory, SeekLaws}
-use Rattle.op_seeks.specs.declared.place.FkPlace.{FkPlace}
+use Rattle.sought_ids.specs.Closed.{PassListed}
+use Rattle.sought_ids.specs.Keys.{KeyRows}
+use Rattle.sought_ids.specs.Places.{AreKeysIn, side_at}
+use Rattle.sought_ids.specs.Seeking.{ApartOver, IsChangedPair, IsMemory, SeekLaws}
+use Rattle.sought_ids.specs.FkPlace.{FkPlace}
 use Rattle.table_keys.specs.States.{KeysState}
 use Rattle.kept_keys.specs.Kept.{AreKeysOf}
 use Rattle.changes_walk.specs.Changing.{latest_changes}

@@ -25,11 +25,11 @@ use Rattle.row_changes.specs.Touched.{AllPass, EachPass}
 use Rattle.row_changes.proofs.ChangedLaws.{after_other, changed_at}
 use Rattle.operator_changes.specs.Calls.{MayChange, ahead}
 use Rattle.operator_changes.specs.Footprint.{IsFootprint, passes}
-use Rattle.fk_parts.specs.Closed.{PassListed}
-use Rattle.fk_closing.specs.Keys.{KeyRows}
-use Rattle.op_seeks.specs.Places.{AreKeysIn, side_at}
-use Rattle.op_seeks.specs.Seeking.{FootprintOf, IsMemory, SeekLaws}
-use Rattle.op_seeks.specs.declared.place.FkPlace.{FkPlace}
+use Rattle.sought_ids.specs.Closed.{PassListed}
+use Rattle.sought_ids.specs.Keys.{KeyRows}
+use Rattle.sought_ids.specs.Places.{AreKeysIn, side_at}
+use Rattle.sought_ids.specs.Seeking.{FootprintOf, IsMemory, SeekLaws}
+use Rattle.sought_ids.specs.FkPlace.{FkPlace}
 use Rattle.table_keys.specs.Keys.{keys_by}
 use Rattle.table_keys.specs.declared.columns.KeyColumns.TheVariants.{All as AllColumns, One}
 use Rattle.version_model.specs.States.{State}

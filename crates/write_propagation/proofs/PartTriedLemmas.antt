@@ -6,10 +6,10 @@ use Rattle.version_graph.specs.declared.parts.Placed.{Placed}
 use Rattle.op_law.specs.Identifiers.{has_id}
 use Rattle.op_law.specs.Laws.{Laws}
 use Rattle.op_law.specs.Meaning.{Meaning}
-use Rattle.op_seeks.specs.Seeking.{SeekLaws}
-use Rattle.op_seeks.specs.declared.place.FkPlace.{FkPlace}
+use Rattle.sought_ids.specs.Seeking.{SeekLaws}
+use Rattle.sought_ids.specs.FkPlace.{FkPlace}
 use Rattle.table_keys.specs.States.{KeysState}
-use Rattle.fk_closing.specs.Found.{AreAmong}
+use Rattle.sought_ids.specs.Found.{AreAmong}
 use Rattle.kept_keys.specs.Kept.{AreKeysOf}
 use Rattle.version_model.specs.States.{State}
 use Rattle.version_model.specs.declared.numbered.Numbered.{Numbered}

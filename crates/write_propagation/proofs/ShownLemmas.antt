@@ -17,7 +17,7 @@ use Rattle.op_law.specs.Meaning.{Meaning, PairState}
 use Rattle.op_law.specs.Premises.{IsPair}
 use Rattle.id_memory.specs.Pairs.{Pairs}
 use Rattle.pair_parts.specs.Parts.{memory_only}
-use Rattle.op_seeks.specs.Seeking.{IsMemory}
+use Rattle.sought_ids.specs.Seeking.{IsMemory}
 use Rattle.row_changes.specs.Touched.{AllPass}
 use Rattle.row_changes.proofs.ChangedLaws.{other_changed}
 use Rattle.version_model.specs.Sound.{IsSound}

@@ -9,8 +9,8 @@ use Rattle.changes_walk.specs.Changing.{latest_changes}
 use Rattle.version_model.specs.declared.numbered.Numbered.{Numbered}
 use Rattle.table_keys.specs.States.{KeysState}
 use Rattle.db_state.specs.declared.parts.Parts.{Parts}
-use Rattle.fk_closing.specs.Found.{AreAmong}
-use Rattle.op_seeks.specs.declared.place.FkPlace.{FkPlace}
+use Rattle.sought_ids.specs.Found.{AreAmong}
+use Rattle.sought_ids.specs.FkPlace.{FkPlace}
 use Rattle.sought_ids.specs.Sought.{AreClosed, AreEnough}
 use Rattle.write_propagation.specs.Making.{IsMaking}
 use Rattle.write_propagation.specs.declared.making.Making.{Making}

@@ -8,7 +8,7 @@ ghost use Rattle.changes_walk.specs.Changing.{latest_changes};
 ghost use Rattle.db_state.specs.Fields.{state_for};
 ghost use Rattle.db_state.specs.Parts.{SplitsAt};
 ghost use Rattle.kept_keys.specs.Kept.{AreKeysOf};
-ghost use Rattle.fk_closing.specs.Found.{AreAmong};
+ghost use Rattle.sought_ids.specs.Found.{AreAmong};
 ghost use Rattle.write_propagation.specs.Making.{IsMaking, MayPlan};
 ghost use Rattle.write_propagation.specs.PartMade.{named_in, ClosesTree, IsPartMade, IsTried, SeesTree};
 
@@ -20,12 +20,11 @@ use db_state::{Db, Sight};
 use expr_lang::Steps;
 use layout_rules::holds;
 use op_law::Operator;
-use op_seeks::Seeks;
 use operator_changes::add_drawn;
 use par_base::{Fault, List, Memory};
 use row_changes::copy_changes;
 use row_store::Changes;
-use sought_ids::{Carried, closed_over, is_enough, more_ids};
+use sought_ids::{Carried, Seeks, closed_over, is_enough, more_ids};
 use std::alloc::Global;
 use std::sync::ledger::Ledger;
 use table_keys::TableKeys;
@@ -245,7 +244,8 @@ fn try_part<O: Seeks, L: Ledger>(
         writing.entry.written.now) }
 {
     let operators = writing.tree.operators.as_slice();
-    let Some(closed) = closed_over(alloc, db.graph(), keys, operators, ids)? else {
+    let changes = writing.written.changes.as_slice();
+    let Some(closed) = closed_over(alloc, db.graph(), keys, operators, changes, ids)? else {
         return Ok(Tried::Never);
     };
     let Some(making) = make_seen(alloc, db, writing, closed.as_slice(), steps)? else {

@@ -2,8 +2,8 @@
 use Rattle.std.proofs.Common.{◌≡◌, [], None, sym, subst, arith}
 use Rattle.id_memory.specs.Pairs.{Pairs}
 use Rattle.op_law.specs.Meaning.{Meaning, exchanged, flip}
-use Rattle.op_kinds.specs.Operators.{Built, meaning_of}
-use Rattle.op_kinds.specs.Operators.{CreateTable, DropTable, Rename, AddColumn, AddTracked, DropColumn, Split, Merge, DecomposeSingle, DecomposePk, OuterJoinPk, JoinPk, DecomposeFk, OuterJoinFk, JoinFk, JoinOn, DecomposeOn, OuterJoinOn}
+use Rattle.op_any.specs.Operators.{Built, meaning_of}
+use Rattle.op_any.specs.Operators.{CreateTable, DropTable, Rename, AddColumn, AddTracked, DropColumn, Split, Merge, DecomposeSingle, DecomposePk, OuterJoinPk, JoinPk, DecomposeFk, OuterJoinFk, JoinFk, JoinOn, DecomposeOn, OuterJoinOn}
 use Rattle.op_fk_decompose.specs.Columns.{decompose_columns}
 use Rattle.pair_parts.proofs.SplitLaws.{splits_behind, turned}
 use Rattle.fk_parts.proofs.PartLaws.{decompose_splits, join_splits}

@@ -1,6 +1,6 @@
 -- The watcher is told all rows of its version.
 use Rattle.std.proofs.Common.{rules, ap, ◌∙◌}
-use Rattle.engine_sessions.specs.Standing.{kept_in as kept_beside}
+use Rattle.engine_transactions.specs.EngineSessionsStanding.{kept_in as kept_beside}
 use Rattle.engine_feeds.proofs.AskLemmas.{first_there, take_done, take_fits}
 use Rattle.engine_feeds.proofs.TellLemmas.{ordered_at}
 use Rattle.engine_feeds.proofs.asking.take.Goals as goal

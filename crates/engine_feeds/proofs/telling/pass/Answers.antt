@@ -1,7 +1,7 @@
 -- Nobody is told.
 use Rattle.std.proofs.Common.{ap, ◌∙◌}
 use Rattle.statements.specs.Views.{statement_view}
-use Rattle.engine_sessions.specs.Standing.{kept_in as kept_beside}
+use Rattle.engine_transactions.specs.EngineSessionsStanding.{kept_in as kept_beside}
 use Rattle.engine_feeds.proofs.TellLemmas.{graph_at, pass_carries}
 use Rattle.engine_feeds.proofs.telling.pass.Goals as goal
 

@@ -1,7 +1,7 @@
 -- The watches are made ready for the runs, and told them once they stay.
 use Rattle.std.proofs.Common.{ap, ◌∙◌}
 use Rattle.statements.specs.Views.{statement_view}
-use Rattle.engine_sessions.specs.Standing.{kept_in as kept_beside}
+use Rattle.engine_transactions.specs.EngineSessionsStanding.{kept_in as kept_beside}
 use Rattle.engine_transactions.specs.Act.{act}
 use Rattle.engine_transactions.specs.Calls.{standing_of}
 use Rattle.engine_transactions.specs.Leads.{data_behind}

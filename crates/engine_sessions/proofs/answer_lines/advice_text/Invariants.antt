@@ -1,5 +1,5 @@
 use Rattle.std.proofs.Common.{◌≡◌, string_bytes, flat_map, take}
-use Rattle.engine_core.specs.Texts.{line}
+use Rattle.engine_moves.specs.EngineCoreTexts.{line}
 use Rattle.engine_sessions.specs.Texts.{cost_text}
 use Rattle.engine_sessions.proofs.answer_lines.advice_text.Given as goal
 

@@ -6,7 +6,7 @@ use Rattle.db_state.specs.Fields.{IsDatabase, database_for}
 use Rattle.db_state.specs.declared.parts.Parts.{Parts}
 use Rattle.statements.specs.Views.{statement_view}
 use Rattle.statements.specs.declared.statement.Statement.{Statement}
-use Rattle.engine_moves.specs.Pending.{IsPending}
+use Rattle.engine_sessions.specs.Pending.{IsPending}
 use Rattle.version_graph.specs.Edges.{Drawn}
 use Rattle.layout_planner.specs.declared.planning.TableCount.{TableCount}
 use Rattle.engine_state.specs.declared.reply.Reply.{Reply}

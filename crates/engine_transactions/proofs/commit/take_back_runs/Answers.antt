@@ -1,6 +1,6 @@
 -- All runs are taken back.
 use Rattle.std.proofs.Common.{◌≤◌, ℕ, length, List, sym, ap, subst}
-use Rattle.write_propagation.specs.declared.undo.Undo.{Undo}
+use Rattle.engine_sessions.specs.WriteUndo.{Undo}
 use Rattle.session_tx.specs.Calls.{HasRuns}
 use Rattle.session_tx.specs.Commits.{taken_back_times}
 use Rattle.session_tx.specs.Meaning.{Standing as Executed}

@@ -5,7 +5,7 @@ use Rattle.version_graph.specs.Edges.{is_in}
 use Rattle.version_graph.specs.Sets.{In, Within}
 use Rattle.version_graph.proofs.SetLaws.{each_at}
 use Rattle.version_model.specs.Kept.{numbers_in}
-use Rattle.write_propagation.specs.declared.undo.Undo.{Undo}
+use Rattle.engine_sessions.specs.WriteUndo.{Undo}
 use Rattle.engine_transactions.specs.Executing.{is_changed_by}
 use Rattle.engine_transactions.specs.History.{number_in}
 use Rattle.engine_transactions.proofs.NumberLemmas.{in_item}

@@ -2,8 +2,8 @@ use Rattle.std.specs.Prelude.{Option, Some, IfSome, option_map, slice_get}
 use Rattle.std.proofs.Common.{◌≡◌, sym, ap, subst, ◌∙◌, refl, arith}
 use Rattle.statements.specs.Views.{statement_view}
 use Rattle.statements.specs.declared.statement.Statement.{Statement}
-use Rattle.engine_transactions.specs.Kept.{kept_in}
-use Rattle.engine_transactions.specs.Calls.{standing_of}
+use Rattle.script_run.specs.TransactionsKept.{kept_in}
+use Rattle.script_run.specs.TransactionsCalls.{standing_of}
 use Rattle.script_generator.specs.Generated.{generated_script}
 use Rattle.script_generator.specs.Laws.{IsLikeParsed}
 use Rattle.generated_run.proofs.RunLemmas.{keeps_more, so_far_all, so_far_more, so_far_none, tally_fits}

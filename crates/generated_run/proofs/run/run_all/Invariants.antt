@@ -1,6 +1,6 @@
 use Rattle.std.proofs.Common.{◌-◌, suc, length}
-use Rattle.engine_transactions.specs.Kept.{kept_in}
-use Rattle.engine_transactions.specs.Calls.{standing_of}
+use Rattle.script_run.specs.TransactionsKept.{kept_in}
+use Rattle.script_run.specs.TransactionsCalls.{standing_of}
 use Rattle.script_generator.specs.Generated.{generated_script}
 use Rattle.script_run.specs.Kept.{Keeps}
 use Rattle.generated_run.proofs.RunLemmas.{SoFar}

@@ -1,6 +1,6 @@
 use Rattle.std.proofs.Common.{ap}
 use Rattle.version_graph.specs.Edges.{Drawn}
-use Rattle.key_reads.proofs.AskedLemmas.{way_listed}
+use Rattle.db_state.proofs.WayLemmas.{way_listed}
 use Rattle.key_reads.proofs.asked.row_by_way.Goals as goal
 
 pub row_over-requires-clause-way : goal.row_over-requires-clause-way

@@ -1,4 +1,4 @@
-use Rattle.fk_closing.specs.Found.{AreAmong}
+use Rattle.op_seeks.specs.Found.{AreAmong}
 use Rattle.sought_ids.proofs.closed.close_all.Given as goal
 
 abbrev pub invariant-loop-number : goal.invariant-loop-number

@@ -1,4 +1,4 @@
-use Rattle.fk_closing.specs.Found.{AreAmong}
+use Rattle.op_seeks.specs.Found.{AreAmong}
 use Rattle.sought_ids.proofs.closed.closed_over.Given as goal
 
 abbrev pub invariant-loop-turn : goal.invariant-loop-turn

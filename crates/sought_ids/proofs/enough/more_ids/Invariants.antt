@@ -1,4 +1,4 @@
-use Rattle.fk_closing.specs.Found.{AreAmong}
+use Rattle.op_seeks.specs.Found.{AreAmong}
 use Rattle.sought_ids.proofs.enough.more_ids.Given as goal
 
 abbrev pub invariant-loop-step : goal.invariant-loop-step

@@ -1,4 +1,4 @@
-use Rattle.fk_closing.specs.Found.{AreAmong}
+use Rattle.sought_ids.specs.Found.{AreAmong}
 use Rattle.write_propagation.specs.PartMade.{named_in}
 use Rattle.write_propagation.proofs.parting.make_part.Given as goal
 

@@ -2,7 +2,7 @@
 use Rattle.std.proofs.Common.{subst, sym}
 use Rattle.par_base.specs.Checked.{Checked}
 use Rattle.statements.specs.Views.{statement_view}
-use Rattle.engine_sessions.specs.declared.answer.Answer.{Answer}
+use Rattle.engine_transactions.specs.Answer.{Answer}
 use Rattle.engine_feeds.specs.Act.{acted_by, Answers}
 use Rattle.engine_feeds.specs.Calls.{standing_of, standing_with, Carries}
 use Rattle.engine_feeds.specs.Kept.{WatchedView}

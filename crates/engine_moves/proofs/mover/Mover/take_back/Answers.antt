@@ -5,7 +5,7 @@ use Rattle.layout_rules.specs.declared.layout.Layout.{Layout}
 use Rattle.op_any.specs.Operators.{AnyView, any_meaning}
 use Rattle.db_state.specs.declared.parts.Parts.{Parts}
 use Rattle.migration.specs.Pending.{IsPending}
-use Rattle.write_propagation.specs.Undo.{IsRevertible}
+use Rattle.engine_core.specs.WritesUndone.{IsRevertible}
 use Rattle.engine_core.proofs.UndoLaws.{again_graph, again_layout}
 use Rattle.engine_moves.proofs.mover.Mover.take_back.Goals as goal
 

@@ -1,6 +1,6 @@
 -- What sessions keep stays beside it.
 use Rattle.std.proofs.Common.{ℕ, List, ap}
-use Rattle.engine_core.specs.Kept.{state_of}
+use Rattle.engine_moves.specs.EngineCoreKept.{state_of}
 use Rattle.engine_sessions.specs.Standing.{standing_of}
 use Rattle.engine_sessions.proofs.sessions.Sessions.take_back.Goals as goal
 

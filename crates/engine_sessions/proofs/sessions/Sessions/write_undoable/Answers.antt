@@ -2,10 +2,10 @@
 use Rattle.std.proofs.Common.{◌≡◌, ℕ, List, ap, sym, subst}
 use Rattle.layout_rules.specs.declared.layout.Layout.{Layout}
 use Rattle.statements.specs.Views.{statement_view}
-use Rattle.engine_core.specs.Kept.{state_of}
-use Rattle.engine_core.specs.Undo.{AnswersWrite}
-use Rattle.engine_core.specs.declared.written.Written.{Written}
-use Rattle.engine_core.proofs.UndoLaws.{written_layout}
+use Rattle.engine_moves.specs.EngineCoreKept.{state_of}
+use Rattle.engine_moves.specs.EngineCoreUndo.{AnswersWrite}
+use Rattle.engine_moves.specs.Written.{Written}
+use Rattle.engine_moves.proofs.UndoLaws.{written_layout}
 use Rattle.engine_moves.specs.Moving.{Moving}
 use Rattle.engine_sessions.specs.Act.{written_in}
 use Rattle.engine_sessions.specs.Standing.{Standing, standing_of}

@@ -6,9 +6,9 @@ use Rattle.statements.specs.declared.statement.Statement.{Statement}
 use Rattle.version_graph.specs.Sets.{Within}
 use Rattle.version_model.specs.Kept.{numbers_in}
 use Rattle.op_any.specs.Operators.{any_meaning}
-use Rattle.write_propagation.specs.Undo.{Restores}
-use Rattle.write_propagation.specs.declared.undo.Undo.{Undo}
-use Rattle.engine_core.specs.Undo.{AnswersWrite}
+use Rattle.engine_sessions.specs.WritesUndone.{Restores}
+use Rattle.engine_sessions.specs.WriteUndo.{Undo}
+use Rattle.engine_sessions.specs.EngineCoreUndo.{AnswersWrite}
 use Rattle.engine_sessions.specs.Act.{written_in}
 use Rattle.engine_sessions.specs.Standing.{Standing as SessionsStanding, kept_in, standing_of}
 use Rattle.session_tx.specs.Calls.{after_run}

@@ -1,7 +1,7 @@
 -- The runs are settled, and none is left.
 use Rattle.std.proofs.Common.{List, refl, sym, ap, subst, ◌∙◌}
 use Rattle.version_model.specs.Kept.{numbers_in}
-use Rattle.write_propagation.specs.declared.undo.Undo.{Undo}
+use Rattle.engine_sessions.specs.WriteUndo.{Undo}
 use Rattle.engine_transactions.specs.Executing.{HasSettled, HaveNumbers}
 use Rattle.engine_transactions.specs.declared.executing.Executing.{Executing}
 use Rattle.engine_transactions.proofs.SettleLemmas.{have_turned, is_settled, shows_settled}

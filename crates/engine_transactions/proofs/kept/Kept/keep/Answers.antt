@@ -3,7 +3,7 @@ use Rattle.std.specs.Prelude.{is_some}
 use Rattle.std.proofs.Common.{◌≡◌, ℕ, true, List, [], Ok, refl, sym, ap, subst, ◌∙◌}
 use Rattle.statements.specs.Views.{StatementView, statement_view}
 use Rattle.statements.specs.declared.statement.Statement.{Statement}
-use Rattle.write_propagation.specs.declared.undo.Undo.{Undo}
+use Rattle.engine_sessions.specs.WriteUndo.{Undo}
 use Rattle.engine_sessions.specs.declared.answer.Answer.TheVariants.{Plain}
 use Rattle.engine_state.specs.declared.reply.Reply.TheVariants.{Kept as KeptReply}
 use Rattle.engine_transactions.specs.Calls.{standing_of}

@@ -1,7 +1,7 @@
 use Rattle.std.specs.Prelude.{IfOk}
 use Rattle.std.proofs.Common.{sym, ap, ◌∙◌, subst}
-use Rattle.op_kinds.specs.Operators.{Built, meaning_of}
-use Rattle.op_kinds.specs.Views.{built_view}
+use Rattle.op_any.specs.Operators.{Built, meaning_of}
+use Rattle.op_any.specs.Views.{built_view}
 use Rattle.op_seeks.specs.Places.{IsSought, place_of}
 use Rattle.op_seeks.specs.Seeking.{ApartOver}
 use Rattle.op_seeks.specs.declared.sought.Sought.{Sought}

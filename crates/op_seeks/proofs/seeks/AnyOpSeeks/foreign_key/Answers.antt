@@ -1,5 +1,5 @@
 use Rattle.std.proofs.Common.{sym, ap, ◌∙◌, subst}
-use Rattle.op_kinds.specs.Views.{built_view}
+use Rattle.op_any.specs.Views.{built_view}
 use Rattle.op_seeks.specs.Places.{IsSought, place_of}
 use Rattle.op_seeks.specs.declared.sought.Sought.{Sought}
 use Rattle.op_seeks.proofs.seeks.AnyOpSeeks.foreign_key.Goals as goal
