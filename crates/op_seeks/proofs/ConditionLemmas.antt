@@ -1,9 +1,7 @@
 -- What changes through JOIN ON a condition have to see, both ways, and through its flip.
 use Rattle.std.proofs.Common.{◌≡◌, ℕ, List, Bool, true, false, Option, Some, None, sym, ◌∙◌, subst}
-use Rattle.row_store.specs.Rows.{Rows}
 use Rattle.op_law.specs.Tables.{Tables}
 use Rattle.op_law.specs.Meaning.{Meaning, PairState, exchanged, flip}
-use Rattle.op_law.specs.Premises.{pair_after}
 use Rattle.row_changes.specs.Changed.{TableChanges}
 use Rattle.operator_changes.specs.Calls.{ahead, toward}
 use Rattle.operator_changes.specs.Footprint.{passes}

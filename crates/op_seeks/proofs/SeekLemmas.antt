@@ -1,6 +1,6 @@
 -- Calls by what isn't known of an operator promise nothing.
 use Rattle.std.specs.Prelude.{IfOk, Result, Ok, Err}
-use Rattle.std.proofs.Common.{◌≡◌, ℕ, List, Bool, Option, Some, None, subst}
+use Rattle.std.proofs.Common.{◌≡◌, ℕ, List, Bool, Option, Some, None, sym, subst}
 use Rattle.op_law.specs.Meaning.{Meaning, PairState}
 use Rattle.row_changes.specs.Changed.{TableChanges}
 use Rattle.fk_closing.specs.Keys.{KeyRows}
@@ -32,3 +32,9 @@ never_foot (Err e) m place known never backward near = tt
 pub never_apart : {E : Type 0} (r : Result (List ℕ) E) (m : Meaning) (place : Option SeekPlace) (known : Known) → Never place known → (backward : Bool) (near changes : TableChanges) → IfOk r (ApartOver m place backward known near changes)
 never_apart (Ok ids) m place known never backward near changes = λ old new n are is mapped elsewhere. absurd (never old are)
 never_apart (Err e) m place known never backward near changes = tt
+
+-- whatever S and T change by
+pub at_changes : {E : Type 0} (r : Result (List ℕ) E) (m : Meaning) (place : Option SeekPlace) (way backward : Bool) (known : Known) (near changes : TableChanges) → backward ≡ way
+    → IfOk r (λ ids. (cs : TableChanges) → ApartOver m place way known near cs ids) → IfOk r (ApartOver m place backward known near changes)
+at_changes (Ok ids) m place way backward known near changes is apart = subst (λ (b : Bool). ApartOver m place b known near changes ids) (sym is) (apart changes)
+at_changes (Err e) m place way backward known near changes is apart = tt

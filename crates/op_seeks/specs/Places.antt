@@ -10,7 +10,7 @@ use Rattle.op_any.specs.Operators as «any»
 use Rattle.table_keys.specs.Keys.{keys_by}
 use Rattle.table_keys.specs.declared.columns.KeyColumns.TheVariants.{All, One}
 use Rattle.pair_rows.specs.Sides.{table_at}
-use Rattle.fk_closing.specs.Keys.{AreFkKeys, KeyRows}
+use Rattle.fk_closing.specs.Keys.{AreFkKeys}
 use Rattle.fk_parts.specs.Closed.{PassListed}
 use Rattle.fk_parts.specs.Laws.{AreClosing}
 use Rattle.cond_parts.specs.Closed.{IsClosedIn}

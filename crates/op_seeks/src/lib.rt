@@ -10,6 +10,7 @@
 #![tactic(auto)]
 
 mod by_known;
+mod closed;
 mod condition;
 mod decompose;
 mod join;
@@ -18,8 +19,8 @@ mod place;
 mod seeks;
 mod sought;
 
-pub use cond_closing::read_ids;
-pub use fk_closing::{FkKeys, closed_beside};
+pub use closed::closed_by;
+pub use fk_closing::FkKeys;
 pub use known::{CondKeys, Crossed, Known};
 pub use place::{CondPlace, FkPlace, SeekPlace};
 pub use seeks::Seeks;

@@ -1,5 +1,5 @@
 -- Identifiers that are closed by what is known split a pair.
-use Rattle.std.proofs.Common.{◌≡◌, ℕ, ◌==◌, List, [], ◌∷◌, Bool, true, Option, Some, None, sym, subst}
+use Rattle.std.proofs.Common.{◌≡◌, ℕ, ◌==◌, List, [], ◌∷◌, Bool, true, false, Option, Some, None, sym, subst}
 use Rattle.std.proofs.lemmas.Bool.{eqb-true, false≢true}
 use Rattle.id_memory.specs.Pairs.{Pairs, RiseFrom}
 use Rattle.op_law.specs.Identifiers.{has_id}
