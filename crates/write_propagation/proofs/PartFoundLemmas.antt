@@ -30,10 +30,8 @@ use Rattle.row_changes.specs.Touched.{AllPass}
 use Rattle.row_changes.specs.declared.change.SideChanges.{SideChanges}
 use Rattle.row_changes.proofs.ChangedLaws.{changed_rise}
 use Rattle.row_changes.proofs.DifferenceLaws.{part_makes, whole_old}
-use Rattle.operator_changes.specs.Calls.{ahead}
 use Rattle.operator_changes.specs.Footprint.{passes, with_drawn}
 use Rattle.pair_parts.specs.Apart.{KeepsApart, SameElsewhere}
-use Rattle.pair_parts.specs.Parts.{memory_only}
 use Rattle.pair_parts.proofs.MemoryLaws.{memory_same}
 use Rattle.id_memory.specs.Pairs.{Pairs}
 use Rattle.sought_ids.specs.Closed.{PassListed}
