@@ -52,7 +52,11 @@ abbrev pub key_tables : {O : Type 0} → Option SeekPlace → Crossing O → Lis
 key_tables None p = []
 key_tables (Some place) p = key_side (is_on_target place) p
 
--- in whatever state the kept keys and memories are, this is known of the operator
+-- in whatever state the kept keys and memories are, this is known of a pair, by this place
+abbrev pub IsKnownAt : {O : Type 0} → SeekPlace → KeptState → Crossing O → Known → Type 0
+IsKnownAt place kept p known = (s : State) → AreKeptOf s kept → AreKnown (Some place) (ahead p.backward (pair_in s p)) known
+
+-- by what the operator seeks
 abbrev pub AreKnownOver : {O : Type 0} → (O → Option SeekPlace) → KeptState → Crossing O → Known → Type 0
 AreKnownOver seeks kept p known = (s : State) → AreKeptOf s kept → AreKnown (seeks p.operator) (ahead p.backward (pair_in s p)) known
 
