@@ -26,7 +26,7 @@ use Rattle.version_model.proofs.CrossingLaws.{GoesOver, crossings_live, walk_goe
 use Rattle.version_model.proofs.ToldLaws.{told_is}
 use Rattle.table_keys.specs.Keys.{keys_by}
 use Rattle.table_keys.specs.States.{KeysState}
-use Rattle.table_keys.specs.declared.columns.KeyColumns.TheVariants.{All, One}
+use Rattle.table_keys.specs.declared.columns.KeyColumns.TheVariants.{One}
 use Rattle.kept_keys.specs.Kept.{AreKeysAt, AreKeysOf}
 use Rattle.op_seeks.specs.Keys.{AreFkKeys, KeyRows}
 use Rattle.op_seeks.specs.Places.{AreCondKeys, side_at}
