@@ -9,10 +9,10 @@ use Rattle.row_store.specs.Changes.{AreOld, ChangesRise}
 use Rattle.row_store.specs.declared.change.Change.{Change}
 use Rattle.version_graph.specs.Sets.{Each, In}
 use Rattle.version_graph.specs.Edges.{is_in}
-use Rattle.version_graph.specs.Forest.{Crossing, Link, crossing, forest}
+use Rattle.version_graph.specs.Forest.{Crossing, Link, crossing, forest, walk}
 use Rattle.version_graph.specs.declared.parts.Placed.{Placed}
 use Rattle.version_graph.proofs.SetLaws.{each_at, each_of, in_map}
-use Rattle.version_graph.proofs.WalkLaws.{is_forest}
+use Rattle.version_graph.proofs.WalkLaws.{is_forest, walk_in_order}
 use Rattle.layout_rules.proofs.LinkLaws.{same_link}
 use Rattle.op_law.specs.Tables.{Heading, Tables}
 use Rattle.op_law.specs.Sound.{PairsSound, RowsSound, TablesSound}
@@ -42,18 +42,19 @@ use Rattle.table_keys.specs.States.{KeysState}
 use Rattle.kept_keys.specs.Kept.{AreKeysOf}
 use Rattle.changes_walk.specs.Changing.{latest_changes}
 use Rattle.changes_walk.specs.Reach.{IsWhole}
-use Rattle.changes_walk.proofs.ReachLaws.{IsInside}
+use Rattle.changes_walk.proofs.ReachLaws.{IsInside, each_reached}
 use Rattle.storage_law.specs.Storage.{StandsOver, aux_of, stored_way}
 use Rattle.version_model.specs.Kept.{auxes_at, rows_at}
 use Rattle.version_model.specs.Sound.{IsSound}
 use Rattle.version_model.specs.States.{State, headings}
 use Rattle.version_model.specs.Steps.{IsRelated, directed, pair_in}
-use Rattle.version_model.specs.Writes.{write}
+use Rattle.version_model.specs.Writes.{write, written}
 use Rattle.version_model.specs.declared.numbered.Numbered.{Numbered}
 use Rattle.version_model.proofs.CrossingLaws.{GoesOver}
 use Rattle.version_model.proofs.ProgressLaws.{state_is}
 use Rattle.version_model.proofs.PutLaws.{map_same}
-use Rattle.version_model.proofs.RunLaws.{way_laws}
+use Rattle.version_model.proofs.RunLaws.{IsReady, way_laws}
+use Rattle.version_model.proofs.WriteLaws.{walk_is_ready, written_well}
 use Rattle.db_state.specs.Fields.{IsDatabase, state_for, storage_in}
 use Rattle.db_state.specs.Parts.{SplitsAt}
 use Rattle.db_state.specs.declared.parts.Parts.{Parts}
@@ -74,9 +75,9 @@ use Rattle.write_propagation.proofs.CrossedLemmas.{IsCrossedAt, mapped_by, run_c
 use Rattle.write_propagation.proofs.FootprintLemmas.{footprint_carries}
 use Rattle.write_propagation.proofs.PartLemmas.{IsPartOf, Rests}
 use Rattle.write_propagation.proofs.PartRowsLemmas.{all_listed, below_alike, foot_over, half_local, key_among, key_numbers, left_alone, memory_of, none_stand, pass_known, rows_alike, side_sound, tables_changed, tables_fit, tables_pass, tables_rise, tables_sound}
-use Rattle.write_propagation.proofs.PartShownLemmas.{CarriesAll, before_part, end_up, local_keeps, of_end, part_shown, rests, small_old, small_sound}
+use Rattle.write_propagation.proofs.PartShownLemmas.{CarriesAll, before_part, end_up, local_keeps, of_end, ordered_reached, part_shown, rests, small_old, small_sound}
 use Rattle.write_propagation.proofs.SeenLemmas.{named_pass, pass_wider}
-use Rattle.write_propagation.proofs.ShownLemmas.{Remembers, Shows, end_sound, small_is}
+use Rattle.write_propagation.proofs.ShownLemmas.{Remembers, Shows, end_is, end_sound, small_is}
 use Rattle.write_propagation.proofs.TreeLemmas.{part_table}
 use Rattle.write_propagation.proofs.WholeLemmas.{crossing_at, lives, number_of, path, path_inside, path_over}
 
@@ -349,10 +350,18 @@ module _ {O : Type 0} (meaning : O → Meaning) (seeks : O → Option SeekPlace)
               makes = key_numbers fk end e back ∙ tables_changed s.tables end.tables last ns (λ t k. end_tables t (inside t k)) ∙ ap (λ (ts : Tables). changed_tables ts (map last ns)) (sym (key_numbers fk s e back));
             }
 
+        near_inside : (back : Bool) (t : ℕ) → In t (crossing back e).near → In t tree.tables
+        near_inside true t k = in_targets t k
+        near_inside false t k = in_sources t k
+
         -- it is what its crossing mapped
         mapped_pair : (back : Bool) → IsCrossedAt meaning (headings es) s end (crossing back e) → IsMappedPair (meaning e.operator) back (map last (crossing back e).near) old new end.next seen
-        mapped_pair back crossed = mapped_by back (meaning e.operator) (map last (crossing back e).near) (map (headings es) (crossing back e).near) (map (headings es) (crossing back e).far) s end e seen crossed
-            (near_changed (crossing back e) (λ t k. near_inside back t k)) (tables_fit s.tables last (crossing back e).near (λ t k. table_fits t (near_inside back t k))) (same_test crossed.next crossed.up (subst (λ (n : ℕ). crossed.next ≤ n) is_part.next crossed.less) ∙ sym end_test)
+        mapped_pair back crossed =
+            let near = (crossing back e).near in
+            mapped_by meaning (headings es) s end e back (map last near) seen crossed
+            (tables_changed s.tables end.tables last near (λ t k. end_tables t (near_inside back t k)))
+            (tables_fit s.tables last near (λ t k. table_fits t (near_inside back t k)))
+            (same_test crossed.next crossed.up (subst (λ (n : ℕ). crossed.next ≤ n) is_part.next crossed.less) ∙ sym end_test)
 
         keeps_by : (back : Bool) (known : Known) → AreKnown (seeks e.operator) old known → IsCrossedAt meaning (headings es) s end (crossing back e)
             → ApartOver (meaning e.operator) (seeks e.operator) back known (map last (crossing back e).near) (map last (key_tables (seeks e.operator) (crossing back e))) seen → KeepsApart (meaning e.operator) old new test
@@ -366,6 +375,14 @@ module _ {O : Type 0} (meaning : O → Meaning) (seeks : O → Option SeekPlace)
         keeps_over true crossed (inr by) = keeps_by true by.known (by.are s kept_right) crossed by.apart
         keeps_over false crossed (inr by) = keeps_by false by.known (by.are s kept_right) crossed by.apart
 
+      -- each crossing is mapped
+      all_crossed : Each (IsCrossedAt meaning (headings es) s end) ps
+      all_crossed =
+          subst (λ (x : State). Each (IsCrossedAt meaning (headings es) s x) ps) (sym (end_is meaning laws d good tree w plans))
+          (run_crossed meaning laws (headings es) s good.sound.well ps (written s w.table rows w.ids.next) (written_well meaning es s good.sound w.set w.table rows w.ids.next plans.may) plans.may.more
+          (each_reached tree.operators (IsReady meaning (headings es) s) (walk (forest es) w.set) (walk_is_ready meaning es s good.sound w.set))
+          (ordered_reached tree.operators (walk (forest es) w.set) (walk_in_order es good.graph.edges w.set)))
+
       -- each operator keeps the change to what passes
       keeps : (e : Link O) → In e (forest es) → In e.number tree.operators → KeepsApart (meaning e.operator) (pair_in s (crossing false e)) (pair_in end (crossing false e)) test
       keeps e i own =
@@ -374,7 +391,8 @@ module _ {O : Type 0} (meaning : O → Meaning) (seeks : O → Option SeekPlace)
           let number : e.number ≡ over.over.number = o.2 ∙ ap (λ (p : Crossing O). p.number) over.is ∙ number_of over.over over.back in
           let same : e ≡ over.over = same_link (forest es) e over.over (is_forest es good.graph.edges) i over.among number in
           let sees = subst (λ (p : Crossing O). SeesOver meaning seeks (kept_with d items) making.made.tables seen p) over.is (each_at (SeesOver meaning seeks (kept_with d items) making.made.tables seen) ps o.0 o.1 enough) in
-          keeps_over e i own over.back (subst (λ (f : Link O). SeesOver meaning seeks (kept_with d items) making.made.tables seen (crossing over.back f)) (sym same) sees)
+          let crossed = subst (λ (p : Crossing O). IsCrossedAt meaning (headings es) s end p) over.is (each_at (IsCrossedAt meaning (headings es) s end) ps o.0 o.1 all_crossed) in
+          keeps_over e i own over.back (subst (λ (f : Link O). IsCrossedAt meaning (headings es) s end (crossing over.back f)) (sym same) crossed) (subst (λ (f : Link O). SeesOver meaning seeks (kept_with d items) making.made.tables seen (crossing over.back f)) (sym same) sees)
 
       -- each has a memory before and after
       module _ (e : Link O) (i : In e (forest es)) (own : In e.number tree.operators) where
