@@ -1,24 +1,25 @@
 -- Columns of joined rows, and what an equality of two says.
 use Rattle.std.proofs.Common.{◌≡◌, ℕ, ℤ, zero, suc, ◌+◌, ◌<◌, ◌==◌, ◌&&◌, List, [], ◌∷◌, Bool, true, false, length, Option, Some, None, refl, ap, sym, ◌∙◌, arith}
-use Rattle.std.specs.Prelude.{option_map, IfSome}
+use Rattle.std.specs.Prelude.{option_map, IfSome, nat_lt, ◌-◌, ◌||◌, if◌then◌else◌}
 use Rattle.std.specs.Ordering.{int_cmp, nat_cmp, is_eq, ordering_then}
 use Rattle.std.specs.declared.cmp.Ordering.{Ordering}
 use Rattle.std.specs.declared.cmp.Ordering.TheVariants as order
 use Rattle.std.proofs.lemmas.Cmp.{ranked, int_ranked}
 use Rattle.std.specs.Cmp.Lexicographic.{slice_cmp}
-use Rattle.std.proofs.lemmas.Bool.{and_parts, false≢true}
+use Rattle.std.proofs.lemmas.Bool.{and_parts, false≢true, ltb-true}
 use Rattle.par_base.specs.declared.value.Value.{Value}
 use Rattle.par_base.specs.declared.value.Value.TheVariants.{Null, Int, Text, Reference}
-use Rattle.expr_lang.specs.Terms.{Term, Column, Binary}
+use Rattle.expr_lang.specs.Terms.{Term, Literal, Column, Unary, Binary}
 use Rattle.expr_lang.specs.Val.{val}
 use Rattle.expr_lang.specs.Operations.{compared, is_true, truth}
+use Rattle.expr_lang.specs.declared.tree.BinaryOp.{BinaryOp}
 use Rattle.expr_lang.specs.declared.tree.BinaryOp.TheVariants as op
 use Rattle.op_law.proofs.OnlyLaws.{by_test}
 use Rattle.row_parts.specs.Places.{filled, row_of_both as joined_row, value_for, value_of_both}
 use Rattle.row_parts.specs.RowCells.{value_or}
 use Rattle.row_parts.specs.RowEdits.{value_at}
 use Rattle.pair_rows.specs.Shown.{Joining}
-use Rattle.cond_closing.specs.Columns.{AreColumns, IsColumn, MakesEqual, place_in}
+use Rattle.cond_closing.specs.Columns.{AreColumns, IsColumn, MakesEqual, both_of, column_at, column_if, columns_at, columns_by, equal_by, equal_in, or_else, place_in, place_named}
 
 -- the values that were filled in
 at_filled : (count from place : ℕ) (f : ℕ → Value) → place < count → value_at place (filled count from f) ≡ f (from + place)
@@ -157,7 +158,84 @@ module _ (j : Joining) (t u : Term ℕ) (x y : ℕ) where
       let r = joined_row j.first j.second row other in
       makes row other (and_parts (is_true (val t r)) (is_true (val u r)) (of_truth (is_true (val t r) && is_true (val u r)) h)).1
 
--- what follows of an answer, where there is one
-pub some_then : {X : Type 0} (P Q : X → Type 0) (o : Option X) → ((x : X) → P x → Q x) → IfSome o P → IfSome o Q
-some_then P Q None then h = tt
-some_then P Q (Some x) then h = then x h
+-- ---- the columns that are found
+
+module _ (own others : List ℕ) (place column : ℕ) where
+  in_row : (a b : Bool) → nat_lt place (length own) ≡ a → nat_lt (place - length own) (length others) ≡ b → (a || b) ≡ true → place < length own + length others
+  in_row true b one two row = let h = ltb-true place (length own) one in omega (arith, h)
+  in_row false true one two row = let h = ltb-true (place - length own) (length others) two in omega (arith, h)
+  in_row false false one two row = absurd (false≢true row)
+
+  inside : (b : Bool) → (nat_lt place (length own) || nat_lt (place - length own) (length others)) ≡ b → place_in others place ≡ None → (if b then place_in own place else None) ≡ Some column → IsColumn own others place column
+  inside true row none found =
+      record {
+        here = found;
+        not_there = none;
+        within = in_row (nat_lt place (length own)) (nat_lt (place - length own) (length others)) refl refl row;
+      }
+  inside false row none found = absurd (cc)
+
+  alone : (o : Option ℕ) → place_in others place ≡ o → column_if o (if nat_lt place (length own) || nat_lt (place - length own) (length others) then place_in own place else None) ≡ Some column → IsColumn own others place column
+  alone None is found = inside (nat_lt place (length own) || nat_lt (place - length own) (length others)) refl is found
+  alone (Some other) is found = absurd (cc)
+
+  column_is : column_at own others place ≡ Some column → IsColumn own others place column
+  column_is found = alone (place_in others place) refl found
+
+columns_are : (j : Joining) (p q : ℕ) → IfSome (columns_at j p q) (λ both. AreColumns j p q both.0 both.1)
+columns_are j p q = both_are (column_at j.first j.second p) (column_at j.second j.first q) refl refl
+  where
+    both_are : (x y : Option ℕ) → column_at j.first j.second p ≡ x → column_at j.second j.first q ≡ y → IfSome (both_of x y) (λ both. AreColumns j p q both.0 both.1)
+    both_are None y first second = tt
+    both_are (Some x) None first second = tt
+    both_are (Some x) (Some y) first second = record {
+      first = first_column j.first j.second p x (column_is j.first j.second p x first);
+      second = second_column j.first j.second q y (column_is j.second j.first q y second);
+    }
+
+-- of an equality
+sides_make : (j : Joining) (t u : Term ℕ) → IfSome (columns_by j (place_named t) (place_named u)) (λ both. MakesEqual j (Binary op.Equal t u) both.0 both.1)
+sides_make j (Literal v) u = tt
+sides_make j (Unary o t) u = tt
+sides_make j (Binary o s t) u = tt
+sides_make j (Column p) (Literal v) = tt
+sides_make j (Column p) (Unary o u) = tt
+sides_make j (Column p) (Binary o t u) = tt
+sides_make j (Column p) (Column q) = either (columns_at j p q) (columns_at j q p) (columns_are j p q) (columns_are j q p)
+  where
+    either : (one two : Option (ℕ × ℕ)) → IfSome one (λ both. AreColumns j p q both.0 both.1) → IfSome two (λ both. AreColumns j q p both.0 both.1)
+        → IfSome (or_else one two) (λ both. MakesEqual j (Binary op.Equal (Column p) (Column q)) both.0 both.1)
+    either None None are turned = tt
+    either None (Some both) are turned = columns_turned j p q both.0 both.1 turned
+    either (Some both) other are turned = columns_equal j p q both.0 both.1 are
+
+-- of AND
+parts_make : (j : Joining) (t u : Term ℕ) (left right : Option (ℕ × ℕ)) → IfSome left (λ both. MakesEqual j t both.0 both.1) → IfSome right (λ both. MakesEqual j u both.0 both.1)
+    → IfSome (or_else left right) (λ both. MakesEqual j (Binary op.And t u) both.0 both.1)
+parts_make j t u None None first second = tt
+parts_make j t u None (Some both) first second = and_right j t u both.0 both.1 second
+parts_make j t u (Some both) other first second = and_left j t u both.0 both.1 first
+
+-- THE COLUMNS THAT ARE FOUND ARE EQUAL wherever the condition holds
+pub equal_makes : (j : Joining) (t : Term ℕ) → IfSome (equal_in j t) (λ both. MakesEqual j t both.0 both.1)
+equal_makes j (Literal v) = tt
+equal_makes j (Column place) = tt
+equal_makes j (Unary o t) = tt
+equal_makes j (Binary o t u) = by_op o (equal_makes j t) (equal_makes j u)
+  where
+    by_op : (o : BinaryOp) → IfSome (equal_in j t) (λ both. MakesEqual j t both.0 both.1) → IfSome (equal_in j u) (λ both. MakesEqual j u both.0 both.1)
+        → IfSome (equal_by o (columns_by j (place_named t) (place_named u)) (or_else (equal_in j t) (equal_in j u))) (λ both. MakesEqual j (Binary o t u) both.0 both.1)
+    by_op op.Equal left right = sides_make j t u
+    by_op op.And left right = parts_make j t u (equal_in j t) (equal_in j u) left right
+    by_op op.Or left right = tt
+    by_op op.NotEqual left right = tt
+    by_op op.Less left right = tt
+    by_op op.LessOrEqual left right = tt
+    by_op op.Greater left right = tt
+    by_op op.GreaterOrEqual left right = tt
+    by_op op.Add left right = tt
+    by_op op.Subtract left right = tt
+    by_op op.Concat left right = tt
+    by_op op.Multiply left right = tt
+    by_op op.Divide left right = tt
+    by_op op.Remainder left right = tt

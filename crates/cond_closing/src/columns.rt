@@ -1,10 +1,10 @@
 //! Columns of two tables that are equal wherever the condition holds of their joined rows.
 ghost use Rattle.std.specs.Prelude.{◌≡◌, ◌<◌, length, IfSome, Some, None};
-ghost use Rattle.expr_lang.specs.Terms.{Column, expr_term};
-ghost use Rattle.expr_lang.specs.Terms.{Binary};
-ghost use Rattle.expr_lang.specs.declared.tree.BinaryOp.TheVariants.{Equal};
+ghost use Rattle.expr_lang.specs.Terms.{expr_term};
 ghost use Rattle.op_cond_join.specs.Joinings.{joining};
-ghost use Rattle.cond_closing.specs.Columns.{place_in as place_there, AreColumns, IsColumn, MakesEqual};
+ghost use Rattle.cond_closing.specs.Columns.{column_at as column_there, columns_at as columns_there};
+ghost use Rattle.cond_closing.specs.Columns.{columns_by, equal_in as equal_there, place_named};
+ghost use Rattle.cond_closing.specs.Columns.{place_in as place_there, MakesEqual};
 
 use expr_lang::{BinaryOp, Expr};
 use op_cond_join::JoinOn;
@@ -28,7 +28,7 @@ fn place_in(places: &[usize], place: usize) -> Option<usize>
 
 /// The column of the one table at this place of joined rows, where it is one of that table alone.
 fn column_at(own: &[usize], others: &[usize], place: usize) -> Option<usize>
-    ensures { IfSome result (λ column. IsColumn own.now others.now place column) }
+    ensures { result ≡ column_there own.now others.now place }
 {
     if place_in(others, place).is_some() {
         return None;
@@ -43,7 +43,7 @@ fn column_at(own: &[usize], others: &[usize], place: usize) -> Option<usize>
 
 /// The columns at two places of joined rows, where the first is one of S, and the second of T.
 fn columns_at(join: &JoinOn, p: usize, q: usize) -> Option<(usize, usize)>
-    ensures { IfSome result (λ both. AreColumns (joining join.now) p q both.0 both.1) }
+    ensures { result ≡ columns_there (joining join.now) p q }
 {
     let first = join.first.as_slice();
     let second = join.second.as_slice();
@@ -58,7 +58,7 @@ fn columns_at(join: &JoinOn, p: usize, q: usize) -> Option<(usize, usize)>
 
 /// The column that an expression names.
 fn column_of(expr: &Expr) -> Option<usize>
-    ensures { IfSome result (λ place. expr_term expr.now ≡ Column place) }
+    ensures { result ≡ place_named (expr_term expr.now) }
 {
     match expr {
         Expr::Column(place) => Some(*place),
@@ -68,8 +68,8 @@ fn column_of(expr: &Expr) -> Option<usize>
 
 /// The columns of an equality of two columns, one of each table.
 fn columns_of(join: &JoinOn, left: &Expr, right: &Expr) -> Option<(usize, usize)>
-    ensures { IfSome result (λ both. MakesEqual (joining join.now)
-        (Binary Equal (expr_term left.now) (expr_term right.now)) both.0 both.1) }
+    ensures { result ≡ columns_by (joining join.now) (place_named (expr_term left.now))
+        (place_named (expr_term right.now)) }
 {
     let Some(p) = column_of(left) else {
         return None;
@@ -85,8 +85,7 @@ fn columns_of(join: &JoinOn, left: &Expr, right: &Expr) -> Option<(usize, usize)
 
 /// Two columns, one of each table, that are equal wherever this condition holds of joined rows.
 fn equal_in(join: &JoinOn, condition: &Expr) -> Option<(usize, usize)>
-    ensures { IfSome result (λ both. MakesEqual (joining join.now) (expr_term condition.now)
-        both.0 both.1) }
+    ensures { result ≡ equal_there (joining join.now) (expr_term condition.now) }
 {
     match condition {
         Expr::Binary(op, left, right) => match op {
@@ -104,7 +103,8 @@ fn equal_in(join: &JoinOn, condition: &Expr) -> Option<(usize, usize)>
 /// The place in S and the place in T of two columns that are equal wherever the operator's condition
 /// holds: those of the first equality of two columns, one of each table, among what it joins by AND.
 pub fn equal_columns(join: &JoinOn) -> Option<(usize, usize)>
-    ensures { let j = joining join.now in
+    ensures value { let j = joining join.now in result ≡ equal_there j j.condition }
+    ensures equal { let j = joining join.now in
         IfSome result (λ both. MakesEqual j j.condition both.0 both.1) }
 {
     equal_in(join, &join.condition)

@@ -18,7 +18,7 @@ use layout_rules::way_to_storage;
 use op_law::{Operator, copy_of};
 use par_base::{List, Memory, Row};
 use row_store::Table;
-use sought_ids::{Seeks, closed_over};
+use sought_ids::{Kept, Seeks, closed_over};
 use std::alloc::Global;
 use std::sync::ledger::Ledger;
 use table_keys::TableKeys;
@@ -86,7 +86,11 @@ fn row_over<O: Seeks, L: Ledger>(
         ≡ row_of ((state_for O.meaning db.now).tables asked.table) asked.id) }
 {
     let begin = one_id(alloc, asked.id)?;
-    match closed_over(alloc, db.graph(), keys, operators, &[], begin)? {
+    let kept = Kept {
+        keys,
+        memories: db.memories(),
+    };
+    match closed_over(alloc, db.graph(), kept, operators, &[], begin)? {
         Some(ids) => row_in_part(alloc, db, operators, ids.as_slice(), asked, steps),
         None => row_at(alloc, db, asked.table, asked.id, steps),
     }
@@ -118,7 +122,7 @@ fn row_by_way<O: Seeks, L: Ledger>(
 /// The row of an identifier in a live table, where there is one, by keys that are kept of some
 /// tables. Where each operator on the way to storage treats each identifier by itself, it costs what
 /// `row_at` does. Else, where the keys of the tables of each other operator are kept, it looks twice
-/// for each identifier that hangs together with this one by foreign keys and each operator, so often
+/// for each identifier that hangs together with this one by foreign keys or by memories and each operator, so often
 /// as the operators bring others in turn, and in each near table on the way for each of them. Where
 /// they aren't, it costs what `read_table` does.
 pub fn row_by_keys<O: Seeks, L: Ledger>(

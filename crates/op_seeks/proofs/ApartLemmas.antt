@@ -1,6 +1,6 @@
 -- Footprints of changes of S and T keep these to themselves.
 use Rattle.std.specs.Prelude.{nat_lt, ◌||◌}
-use Rattle.std.proofs.Common.{◌≡◌, ℕ, List, [], ◌∷◌, Bool, true, false, not, Some, refl, subst}
+use Rattle.std.proofs.Common.{◌≡◌, ℕ, List, [], ◌∷◌, Bool, true, false, not, refl, subst}
 use Rattle.std.proofs.lemmas.Bool.{false≢true}
 use Rattle.row_store.specs.declared.change.Change.{Change}
 use Rattle.op_law.specs.Tables.{AreTablesOf, Heading, Tables}
@@ -15,11 +15,13 @@ use Rattle.operator_changes.specs.Footprint.{passes}
 use Rattle.op_fk_decompose.specs.Columns.{decompose_columns}
 use Rattle.op_fk_join.specs.Columns.{join_columns}
 use Rattle.fk_closing.specs.Calls.{CloseDecomposeBack, CloseJoin, JoinWitnesses}
-use Rattle.fk_closing.specs.Keys.{KeyRows}
+use Rattle.fk_closing.specs.Keys.{AreFkKeys, KeyRows}
+use Rattle.pair_parts.specs.Apart.{KeepsApart, SameElsewhere}
 use Rattle.pair_parts.proofs.SplitLaws.{splits_behind, turned}
 use Rattle.fk_parts.proofs.PartLaws.{decompose_keeps_apart, join_keeps_apart}
-use Rattle.op_seeks.specs.Seeking.{ApartOver}
-use Rattle.op_seeks.specs.declared.place.FkPlace.{FkPlace}
+use Rattle.op_seeks.specs.Seeking.{ApartOver, IsChangedPair}
+use Rattle.op_seeks.specs.Places.{key_place}
+use Rattle.op_seeks.specs.declared.known.Known.TheVariants.{Keys}
 
 -- what passes one test passes a wider one
 all_wider : (P Q : ℕ → Bool) → ((q : ℕ) → P q ≡ true → Q q ≡ true) → (cs : List Change) → AllPass P cs → AllPass Q cs
@@ -46,16 +48,9 @@ touches ids n near pass = each_wider (has_id ids) (passes ids n) (λ q h. passin
 sound_behind : (m : Meaning) (hs ht : List Heading) (p : PairState) (n : ℕ) → IsSoundPair m hs ht p n → IsSoundPair (flip m) ht hs (exchanged p) n
 sound_behind m hs ht p n h = record { pair = turned m hs ht p h.pair; source = h.target; target = h.source; memory = h.memory }
 
--- where S and T stand on the target side, and where they stand on the source side
-abbrev on_target : ℕ → FkPlace
-on_target place = record { on_target = true; place = place }
-
-abbrev on_source : ℕ → FkPlace
-on_source place = record { on_target = false; place = place }
-
-pub decompose_apart : (first second : List ℕ) (place : ℕ) (keys : KeyRows) (changes : TableChanges) (ids : List ℕ) → CloseDecomposeBack first second place keys changes ids
-    → ApartOver (decompose_columns first second place) (Some (on_target place)) keys changes ids
-decompose_apart first second place keys changes ids close old new n are is elsewhere =
+keeps_decompose : (first second : List ℕ) (place : ℕ) (keys : KeyRows) (changes : TableChanges) (ids : List ℕ) → CloseDecomposeBack first second place keys changes ids → (old new : PairState) (n : ℕ) → AreFkKeys place old.target keys
+    → IsChangedPair (decompose_columns first second place) (key_place true place) changes old new n → SameElsewhere (passes ids n) old new → KeepsApart (decompose_columns first second place) old new (passes ids n)
+keeps_decompose first second place keys changes ids close old new n are is elsewhere =
     let m = decompose_columns first second place in
     let may : MayChange (flip m) changes (exchanged old) n = record {
       hs = is.ht;
@@ -72,12 +67,16 @@ decompose_apart first second place keys changes ids close old new n are is elsew
     decompose_keeps_apart first second place changes (passes ids n) is.hs is.ht old new is.before.pair is.after.pair elsewhere is.makes
     (record { touches = touches ids n changes c.touches; old_goals = c.old_goals; new_goals = c.new_goals; others = c.others; witness = c.witness })
 
+pub decompose_apart : (first second : List ℕ) (place : ℕ) (keys : KeyRows) (changes : TableChanges) (ids : List ℕ) → CloseDecomposeBack first second place keys changes ids
+    → (back : Bool) (near : TableChanges) → ApartOver (decompose_columns first second place) (key_place true place) back (Keys keys) near changes ids
+decompose_apart first second place keys changes ids close back near old new n are is mapped elsewhere = keeps_decompose first second place keys changes ids close old new n are is elsewhere
+
 -- of the flip
 pub outer_apart : (first second : List ℕ) (place : ℕ) (keys : KeyRows) (changes : TableChanges) (ids : List ℕ) → CloseDecomposeBack first second place keys changes ids
-    → ApartOver (flip (decompose_columns first second place)) (Some (on_source place)) keys changes ids
-outer_apart first second place keys changes ids close old new n are is elsewhere =
+    → (back : Bool) (near : TableChanges) → ApartOver (flip (decompose_columns first second place)) (key_place false place) back (Keys keys) near changes ids
+outer_apart first second place keys changes ids close back near old new n are is mapped elsewhere =
     let m = decompose_columns first second place in
-    let apart = decompose_apart first second place keys changes ids close (exchanged old) (exchanged new) n are
+    let apart = keeps_decompose first second place keys changes ids close (exchanged old) (exchanged new) n are
     (record {
       hs = is.ht;
       ht = is.hs;
@@ -91,8 +90,8 @@ outer_apart first second place keys changes ids close old new n are is elsewhere
     record { splits = splits_behind m (passes ids n) (exchanged new) apart.splits; at_source = apart.at_target; at_target = apart.at_source }
 
 pub join_apart : (first second place : ℕ) (keys : KeyRows) (changes : TableChanges) (ids : List ℕ) → CloseJoin first second place keys changes ids → JoinWitnesses first second place keys changes ids
-    → ApartOver (join_columns first second place) (Some (on_source place)) keys changes ids
-join_apart first second place keys changes ids close witness old new n are is elsewhere =
+    → (back : Bool) (near : TableChanges) → ApartOver (join_columns first second place) (key_place false place) back (Keys keys) near changes ids
+join_apart first second place keys changes ids close witness back near old new n are is mapped elsewhere =
     let m = join_columns first second place in
     let may : MayChange m changes old n = record {
       hs = is.hs;

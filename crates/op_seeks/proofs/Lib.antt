@@ -1,2 +1,3 @@
 mod ApartLemmas
+mod ConditionLemmas
 mod SeekLemmas

@@ -1,17 +1,40 @@
--- Calls of an operator without a foreign key promise nothing.
+-- Calls by what isn't known of an operator promise nothing.
 use Rattle.std.specs.Prelude.{IfOk, Result, Ok, Err}
-use Rattle.std.proofs.Common.{◌≡◌, ℕ, List, Bool, Option, None, subst}
-use Rattle.op_law.specs.Meaning.{Meaning}
+use Rattle.std.proofs.Common.{◌≡◌, ℕ, List, Bool, Option, Some, None, sym, subst}
+use Rattle.op_law.specs.Meaning.{Meaning, PairState}
 use Rattle.row_changes.specs.Changed.{TableChanges}
 use Rattle.fk_closing.specs.Keys.{KeyRows}
-use Rattle.op_seeks.specs.Places.{AreKeysIn}
+use Rattle.op_seeks.specs.Places.{AreKnown, condition_place, key_place}
 use Rattle.op_seeks.specs.Seeking.{ApartOver, FootprintOf}
-use Rattle.op_seeks.specs.declared.place.FkPlace.{FkPlace}
+use Rattle.op_seeks.specs.declared.known.CondKeys.{CondKeys}
+use Rattle.op_seeks.specs.declared.known.Known.{Known}
+use Rattle.op_seeks.specs.declared.known.Known.TheVariants.{Keys, Entries}
+use Rattle.op_seeks.specs.declared.place.SeekPlace.{SeekPlace}
 
-pub nothing_foot : {E : Type 0} (r : Result (List ℕ) E) (m : Meaning) (fk : Option FkPlace) → fk ≡ None → (backward : Bool) (keys : KeyRows) (near : TableChanges) → IfOk r (FootprintOf m fk backward keys near)
-nothing_foot (Ok ids) m fk none backward keys near = λ p n are may. absurd (subst (λ (f : Option FkPlace). AreKeysIn f p keys) none are)
-nothing_foot (Err e) m fk none backward keys near = tt
+-- this is known of no pair
+abbrev pub Never : Option SeekPlace → Known → Type 0
+Never place known = (p : PairState) → AreKnown place p known → ⊥
 
-pub nothing_apart : {E : Type 0} (r : Result (List ℕ) E) (m : Meaning) (fk : Option FkPlace) → fk ≡ None → (keys : KeyRows) (changes : TableChanges) → IfOk r (ApartOver m fk keys changes)
-nothing_apart (Ok ids) m fk none keys changes = λ old new n are is elsewhere. absurd (subst (λ (f : Option FkPlace). AreKeysIn f old keys) none are)
-nothing_apart (Err e) m fk none keys changes = tt
+pub never_sought : (place : Option SeekPlace) (known : Known) → place ≡ None → Never place known
+never_sought place known none p are = subst (λ (o : Option SeekPlace). AreKnown o p known) none are
+
+pub no_keys : (t : Bool) (o : Option (ℕ × ℕ)) (keys : KeyRows) → Never (condition_place t o) (Keys keys)
+no_keys t None keys p are = are
+no_keys t (Some both) keys p are = are
+
+pub no_entries : (t : Bool) (place : ℕ) (it : CondKeys) → Never (key_place t place) (Entries it)
+no_entries t place it p are = are
+
+pub never_foot : {E : Type 0} (r : Result (List ℕ) E) (m : Meaning) (place : Option SeekPlace) (known : Known) → Never place known → (backward : Bool) (near : TableChanges) → IfOk r (FootprintOf m place backward known near)
+never_foot (Ok ids) m place known never backward near = λ p n are may. absurd (never p are)
+never_foot (Err e) m place known never backward near = tt
+
+pub never_apart : {E : Type 0} (r : Result (List ℕ) E) (m : Meaning) (place : Option SeekPlace) (known : Known) → Never place known → (backward : Bool) (near changes : TableChanges) → IfOk r (ApartOver m place backward known near changes)
+never_apart (Ok ids) m place known never backward near changes = λ old new n are is mapped elsewhere. absurd (never old are)
+never_apart (Err e) m place known never backward near changes = tt
+
+-- whatever S and T change by
+pub at_changes : {E : Type 0} (r : Result (List ℕ) E) (m : Meaning) (place : Option SeekPlace) (way backward : Bool) (known : Known) (near changes : TableChanges) → backward ≡ way
+    → IfOk r (λ ids. (cs : TableChanges) → ApartOver m place way known near cs ids) → IfOk r (ApartOver m place backward known near changes)
+at_changes (Ok ids) m place way backward known near changes is apart = subst (λ (b : Bool). ApartOver m place b known near changes ids) (sym is) (apart changes)
+at_changes (Err e) m place way backward known near changes is apart = tt

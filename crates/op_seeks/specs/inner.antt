@@ -1,1 +1,2 @@
+pub mod SplitsBy
 pub mod BuiltSeeks

@@ -1,10 +1,13 @@
 //! DECOMPOSE ON FK, and its flip.
-ghost use Rattle.std.specs.Prelude.{true, false, Some, IfOk};
+ghost use Rattle.std.specs.Prelude.{true, false, IfOk};
 ghost use Rattle.op_law.specs.Meaning.{flip};
 ghost use Rattle.op_fk_decompose.specs.Columns.{decompose_columns};
 ghost use Rattle.fk_closing.specs.Found.{AreAmong};
+ghost use Rattle.op_seeks.specs.Places.{key_place};
 ghost use Rattle.op_seeks.specs.Seeking.{ApartOver, FootprintOf};
+ghost use Rattle.op_seeks.specs.declared.known.Known.TheVariants.{Keys};
 
+use crate::Crossed;
 use fk_closing::{FkKeys, decompose_back_footprint, decompose_footprint};
 use op_fk_decompose::DecomposeFk;
 use par_base::{List, Memory};
@@ -21,7 +24,7 @@ fn decompose_on(
 ) -> Result<List<u64>, Memory>
     ensures foot { let it = operator.now in IfOk result
         (FootprintOf (decompose_columns it.first it.second it.place)
-        (Some (record { on_target = true; place = it.place })) false keys.now near.now.tables) }
+        (key_place true it.place) false (Keys keys.now) near.now.tables) }
     ensures holds { IfOk result (AreAmong wanted.now) }
 {
     let ids = decompose_footprint(alloc, operator, keys, near, wanted)?;
@@ -38,7 +41,7 @@ fn decompose_back(
 ) -> Result<List<u64>, Memory>
     ensures foot { let it = operator.now in IfOk result
         (FootprintOf (decompose_columns it.first it.second it.place)
-        (Some (record { on_target = true; place = it.place })) true keys.now near.now.tables) }
+        (key_place true it.place) true (Keys keys.now) near.now.tables) }
     ensures holds { IfOk result (AreAmong wanted.now) }
 {
     let ids = decompose_back_footprint(alloc, operator, keys, near, wanted)?;
@@ -56,7 +59,7 @@ pub(crate) fn footprint_of_decompose(
 ) -> Result<List<u64>, Memory>
     ensures foot { let it = operator.now in IfOk result
         (FootprintOf (decompose_columns it.first it.second it.place)
-        (Some (record { on_target = true; place = it.place })) backward keys.now near.now.tables) }
+        (key_place true it.place) backward (Keys keys.now) near.now.tables) }
     ensures holds { IfOk result (AreAmong wanted.now) }
 {
     if backward {
@@ -76,7 +79,7 @@ fn outer_on(
 ) -> Result<List<u64>, Memory>
     ensures foot { let it = operator.now in IfOk result
         (FootprintOf (flip (decompose_columns it.first it.second it.place))
-        (Some (record { on_target = false; place = it.place })) false keys.now near.now.tables) }
+        (key_place false it.place) false (Keys keys.now) near.now.tables) }
     ensures holds { IfOk result (AreAmong wanted.now) }
 {
     let ids = decompose_back_footprint(alloc, operator, keys, near, wanted)?;
@@ -93,7 +96,7 @@ fn outer_back(
 ) -> Result<List<u64>, Memory>
     ensures foot { let it = operator.now in IfOk result
         (FootprintOf (flip (decompose_columns it.first it.second it.place))
-        (Some (record { on_target = false; place = it.place })) true keys.now near.now.tables) }
+        (key_place false it.place) true (Keys keys.now) near.now.tables) }
     ensures holds { IfOk result (AreAmong wanted.now) }
 {
     let ids = decompose_footprint(alloc, operator, keys, near, wanted)?;
@@ -111,7 +114,7 @@ pub(crate) fn footprint_of_outer(
 ) -> Result<List<u64>, Memory>
     ensures foot { let it = operator.now in IfOk result
         (FootprintOf (flip (decompose_columns it.first it.second it.place))
-        (Some (record { on_target = false; place = it.place })) backward keys.now near.now.tables) }
+        (key_place false it.place) backward (Keys keys.now) near.now.tables) }
     ensures holds { IfOk result (AreAmong wanted.now) }
 {
     if backward {
@@ -127,15 +130,17 @@ pub(crate) fn apart_of_decompose(
     alloc: Global,
     operator: &DecomposeFk,
     keys: &FkKeys<'_>,
-    changes: &SideChanges,
+    crossed: Crossed<'_>,
     wanted: &[u64],
 ) -> Result<List<u64>, Memory>
     ensures apart { let it = operator.now in IfOk result (ApartOver (decompose_columns it.first it.second it.place)
-        (Some (record { on_target = true; place = it.place })) keys.now changes.now.tables) }
+        (key_place true it.place) crossed.entry.backward
+        (Keys keys.now) crossed.entry.near.now.tables crossed.entry.changes.now.tables) }
     ensures outer { let it = operator.now in IfOk result (ApartOver (flip (decompose_columns it.first it.second it.place))
-        (Some (record { on_target = false; place = it.place })) keys.now changes.now.tables) }
+        (key_place false it.place) crossed.entry.backward
+        (Keys keys.now) crossed.entry.near.now.tables crossed.entry.changes.now.tables) }
     ensures holds { IfOk result (AreAmong wanted.now) }
 {
-    let ids = decompose_back_footprint(alloc, operator, keys, changes, wanted)?;
+    let ids = decompose_back_footprint(alloc, operator, keys, crossed.changes, wanted)?;
     Ok(ids)
 }

@@ -1,9 +1,12 @@
 //! JOIN ON FK.
-ghost use Rattle.std.specs.Prelude.{true, false, Some, IfOk};
+ghost use Rattle.std.specs.Prelude.{true, false, IfOk};
 ghost use Rattle.op_fk_join.specs.Columns.{join_columns};
 ghost use Rattle.fk_closing.specs.Found.{AreAmong};
+ghost use Rattle.op_seeks.specs.Places.{key_place};
 ghost use Rattle.op_seeks.specs.Seeking.{ApartOver, FootprintOf};
+ghost use Rattle.op_seeks.specs.declared.known.Known.TheVariants.{Keys};
 
+use crate::Crossed;
 use fk_closing::{FkKeys, join_back_footprint, join_footprint};
 use op_fk_join::JoinFk;
 use par_base::{List, Memory};
@@ -20,7 +23,7 @@ fn join_on(
 ) -> Result<List<u64>, Memory>
     ensures foot { let it = operator.now in IfOk result
         (FootprintOf (join_columns it.first it.second it.place)
-        (Some (record { on_target = false; place = it.place })) false keys.now near.now.tables) }
+        (key_place false it.place) false (Keys keys.now) near.now.tables) }
     ensures holds { IfOk result (AreAmong wanted.now) }
 {
     let ids = join_footprint(alloc, operator, keys, near, wanted)?;
@@ -37,7 +40,7 @@ fn join_back(
 ) -> Result<List<u64>, Memory>
     ensures foot { let it = operator.now in IfOk result
         (FootprintOf (join_columns it.first it.second it.place)
-        (Some (record { on_target = false; place = it.place })) true keys.now near.now.tables) }
+        (key_place false it.place) true (Keys keys.now) near.now.tables) }
     ensures holds { IfOk result (AreAmong wanted.now) }
 {
     let ids = join_back_footprint(alloc, operator, keys, near, wanted)?;
@@ -55,7 +58,7 @@ pub(crate) fn footprint_of_join(
 ) -> Result<List<u64>, Memory>
     ensures foot { let it = operator.now in IfOk result
         (FootprintOf (join_columns it.first it.second it.place)
-        (Some (record { on_target = false; place = it.place })) backward keys.now near.now.tables) }
+        (key_place false it.place) backward (Keys keys.now) near.now.tables) }
     ensures holds { IfOk result (AreAmong wanted.now) }
 {
     if backward {
@@ -70,13 +73,14 @@ pub(crate) fn apart_of_join(
     alloc: Global,
     operator: &JoinFk,
     keys: &FkKeys<'_>,
-    changes: &SideChanges,
+    crossed: Crossed<'_>,
     wanted: &[u64],
 ) -> Result<List<u64>, Memory>
     ensures apart { let it = operator.now in IfOk result (ApartOver (join_columns it.first it.second it.place)
-        (Some (record { on_target = false; place = it.place })) keys.now changes.now.tables) }
+        (key_place false it.place) crossed.entry.backward
+        (Keys keys.now) crossed.entry.near.now.tables crossed.entry.changes.now.tables) }
     ensures holds { IfOk result (AreAmong wanted.now) }
 {
-    let ids = join_footprint(alloc, operator, keys, changes, wanted)?;
+    let ids = join_footprint(alloc, operator, keys, crossed.changes, wanted)?;
     Ok(ids)
 }

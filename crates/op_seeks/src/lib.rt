@@ -1,18 +1,26 @@
 //! Operators that look for the identifiers that a write through them has to see.
 //!
-//! `Seeks` says of an operator where its foreign key stands, if it has one. It promises the crates
-//! above that, by the keys of S and T alone, a footprint of changes is found forward and backward;
-//! that identifiers are found which keep changes of S and T to themselves; and that identifiers which
-//! are closed by these keys split a pair (`specs/Seeking.antt`). Of operators without a foreign key it
-//! promises nothing. It knows nothing of where keys are kept.
+//! `Seeks` says of an operator what it seeks by, if it does: where its foreign key stands, or two
+//! columns, one of S and one of T, that its condition makes equal. It promises the crates above that,
+//! by the keys of S and T, and by its memory where it is on a condition, a footprint of changes is
+//! found forward and backward; that identifiers are found which keep changes to themselves; and that
+//! identifiers which are closed by what is known split a pair (`specs/Seeking.antt`). Of operators that
+//! seek nothing it promises nothing: among these are OUTER JOIN ON a condition, and conditions without
+//! an equality of two columns. It knows nothing of where keys are kept.
 #![tactic(auto)]
 
+mod by_known;
+mod closed;
+mod condition;
 mod decompose;
 mod join;
+mod known;
 mod place;
 mod seeks;
 mod sought;
 
-pub use fk_closing::{FkKeys, closed_beside};
-pub use place::FkPlace;
+pub use closed::closed_by;
+pub use fk_closing::FkKeys;
+pub use known::{CondKeys, Crossed, Known};
+pub use place::{CondPlace, FkPlace, SeekPlace};
 pub use seeks::Seeks;

@@ -1,112 +1,134 @@
 //! The trait of operators that look for identifiers, and what any operator does.
-ghost use Rattle.std.specs.Prelude.{◌≡◌, Option, IfOk};
+ghost use Rattle.std.specs.Prelude.{◌≡◌, Bool, Option, IfOk};
+ghost use Rattle.cond_closing.specs.Columns.{equal_in};
+ghost use Rattle.op_cond_join.specs.Joinings.{joining};
 ghost use Rattle.fk_closing.specs.Found.{AreAmong};
-ghost use Rattle.op_seeks.specs.Places.{place_of};
+ghost use Rattle.op_seeks.specs.Places.{condition_place, place_of};
 ghost use Rattle.op_seeks.specs.Seeking.{ApartOver, FootprintOf, SeekLaws};
-ghost use Rattle.op_seeks.specs.declared.place.FkPlace.{FkPlace as FkPlaceView};
+ghost use Rattle.op_seeks.specs.declared.place.SeekPlace.{SeekPlace as SeekPlaceView};
 ghost use Rattle.op_seeks.specs.inner.BuiltSeeks.{built_seeks};
 
-use crate::FkPlace;
-use crate::decompose::{apart_of_decompose, footprint_of_decompose, footprint_of_outer};
-use crate::join::{apart_of_join, footprint_of_join};
-use crate::sought::{Sought, at_least, sought_in};
-use fk_closing::FkKeys;
+use crate::by_known::{apart_by_keys, foot_by_keys, ids_by_entries};
+use crate::sought::{Sought, sought_in};
+use crate::{CondPlace, Crossed, FkPlace, Known, SeekPlace};
+use cond_closing::equal_columns;
+use expr_lang::Steps;
 use op_any::AnyOp;
+use op_cond_join::JoinOn;
 use op_law::Operator;
 use par_base::{List, Memory};
-use row_changes::SideChanges;
 use std::alloc::Global;
+use std::sync::ledger::Ledger;
 
-/// An operator that looks for the identifiers that a write through it has to see, by the keys of its S
-/// and T.
+/// An operator that looks for the identifiers that a write through it has to see, by what is known of
+/// its S and T.
 pub trait Seeks: Operator {
-    ghost seeks: { Self → Option FkPlaceView };
+    ghost seeks: { Self → Option SeekPlaceView };
 
-    /// Where its foreign key stands, if it has one. It takes no memory.
-    fn foreign_key(&self) -> Option<FkPlace>
+    /// What it seeks by, if it seeks: where its foreign key stands, or columns that its condition makes
+    /// equal. It takes no memory.
+    fn place(&self) -> Option<SeekPlace>
         ensures { result ≡ seeks self.now };
 
-    /// A footprint of changes of its near side, which holds what is wanted. It takes two look-ups for
-    /// each identifier that is found, and one for each that changes name.
-    fn footprint(
+    /// A footprint of changes of its near side, which holds what is wanted. It takes up to three
+    /// look-ups for each identifier that is found, and for each that changes name.
+    fn footprint<L: Ledger>(
         &self,
         alloc: Global,
-        backward: bool,
-        keys: &FkKeys<'_>,
-        near: &SideChanges,
+        known: &Known<'_>,
+        crossed: Crossed<'_>,
         wanted: &[u64],
+        steps: &mut Steps<L>,
     ) -> Result<List<u64>, Memory>
-        ensures foot { IfOk result (FootprintOf (Self.meaning self.now) (seeks self.now) backward keys.now
-            near.now.tables) }
+        ensures foot { IfOk result (FootprintOf (Self.meaning self.now) (seeks self.now)
+            crossed.entry.backward known.now crossed.entry.near.now.tables) }
         ensures holds { IfOk result (AreAmong wanted.now) };
 
-    /// Identifiers that keep changes of S and T to themselves, which hold what is wanted. It costs what
+    /// Identifiers that keep changes to themselves, which hold what is wanted. It costs what
     /// `footprint` does.
-    fn apart(
+    fn apart<L: Ledger>(
         &self,
         alloc: Global,
-        keys: &FkKeys<'_>,
-        changes: &SideChanges,
+        known: &Known<'_>,
+        crossed: Crossed<'_>,
         wanted: &[u64],
+        steps: &mut Steps<L>,
     ) -> Result<List<u64>, Memory>
-        ensures apart { IfOk result (ApartOver (Self.meaning self.now) (seeks self.now) keys.now
-            changes.now.tables) }
+        ensures apart { IfOk result (ApartOver (Self.meaning self.now) (seeks self.now)
+            crossed.entry.backward known.now crossed.entry.near.now.tables
+            crossed.entry.changes.now.tables) }
         ensures holds { IfOk result (AreAmong wanted.now) };
 
     ghost seeking: { (operator : Self) → SeekLaws (Self.meaning operator) (seeks operator) };
 }
 
+/// The columns that a condition makes equal.
+fn columns_of(join: &JoinOn, on_target: bool) -> Option<SeekPlace>
+    ensures { let j = joining join.now in
+        result ≡ condition_place on_target (equal_in j j.condition) }
+{
+    match equal_columns(join) {
+        Some((first, second)) => Some(SeekPlace::Condition(CondPlace {
+            on_target,
+            first,
+            second,
+        })),
+        None => None,
+    }
+}
+
 impl Seeks for AnyOp {
     ghost seeks = { λ it. place_of it.operator };
 
-    fn foreign_key(&self) -> Option<FkPlace> {
+    fn place(&self) -> Option<SeekPlace> {
         match sought_in(self.operator()) {
-            Sought::Decompose(it) => Some(FkPlace {
+            Sought::Decompose(it) => Some(SeekPlace::ForeignKey(FkPlace {
                 on_target: true,
                 place: it.place,
-            }),
-            Sought::Outer(it) => Some(FkPlace {
+            })),
+            Sought::Outer(it) => Some(SeekPlace::ForeignKey(FkPlace {
                 on_target: false,
                 place: it.place,
-            }),
-            Sought::Join(it) => Some(FkPlace {
+            })),
+            Sought::Join(it) => Some(SeekPlace::ForeignKey(FkPlace {
                 on_target: false,
                 place: it.place,
-            }),
+            })),
+            Sought::JoinOn(it) => columns_of(it, false),
+            Sought::DecomposeOn(it) => columns_of(it, true),
             Sought::Nothing => None,
         }
     }
 
-    fn footprint(
+    fn footprint<L: Ledger>(
         &self,
         alloc: Global,
-        backward: bool,
-        keys: &FkKeys<'_>,
-        near: &SideChanges,
+        known: &Known<'_>,
+        crossed: Crossed<'_>,
         wanted: &[u64],
+        steps: &mut Steps<L>,
     ) -> Result<List<u64>, Memory> {
-        match sought_in(self.operator()) {
-            Sought::Decompose(it) => footprint_of_decompose(
-                alloc, it, backward, keys, near, wanted,
-            ),
-            Sought::Outer(it) => footprint_of_outer(alloc, it, backward, keys, near, wanted),
-            Sought::Join(it) => footprint_of_join(alloc, it, backward, keys, near, wanted),
-            Sought::Nothing => at_least(alloc, keys, wanted),
+        match known {
+            Known::Keys(keys) => foot_by_keys(alloc, self.operator(), keys, crossed, wanted),
+            Known::Entries(it) => {
+                ids_by_entries(alloc, self.operator(), it, crossed, wanted, steps)
+            }
         }
     }
 
-    fn apart(
+    fn apart<L: Ledger>(
         &self,
         alloc: Global,
-        keys: &FkKeys<'_>,
-        changes: &SideChanges,
+        known: &Known<'_>,
+        crossed: Crossed<'_>,
         wanted: &[u64],
+        steps: &mut Steps<L>,
     ) -> Result<List<u64>, Memory> {
-        match sought_in(self.operator()) {
-            Sought::Decompose(it) => apart_of_decompose(alloc, it, keys, changes, wanted),
-            Sought::Outer(it) => apart_of_decompose(alloc, it, keys, changes, wanted),
-            Sought::Join(it) => apart_of_join(alloc, it, keys, changes, wanted),
-            Sought::Nothing => at_least(alloc, keys, wanted),
+        match known {
+            Known::Keys(keys) => apart_by_keys(alloc, self.operator(), keys, crossed, wanted),
+            Known::Entries(it) => {
+                ids_by_entries(alloc, self.operator(), it, crossed, wanted, steps)
+            }
         }
     }
 

@@ -16,7 +16,8 @@ use Rattle.version_graph.proofs.SetLaws.{each_append, each_at, each_of, in_appen
 use Rattle.changes_walk.specs.Reach.{reached}
 use Rattle.op_law.specs.Identifiers.{IdsRise}
 use Rattle.op_law.specs.Tables.{RowsWide, Tables}
-use Rattle.op_law.specs.Meaning.{Meaning}
+use Rattle.op_law.specs.Meaning.{Meaning, PairState}
+use Rattle.version_model.specs.States.{State}
 use Rattle.operator_changes.specs.Calls.{ahead}
 use Rattle.version_model.specs.Calls.{IsCrossing, IsTold}
 use Rattle.version_model.specs.Steps.{pair_in}
@@ -25,13 +26,18 @@ use Rattle.version_model.proofs.CrossingLaws.{GoesOver, crossings_live, walk_goe
 use Rattle.version_model.proofs.ToldLaws.{told_is}
 use Rattle.table_keys.specs.Keys.{keys_by}
 use Rattle.table_keys.specs.States.{KeysState}
-use Rattle.table_keys.specs.declared.columns.KeyColumns.TheVariants.{All, One}
+use Rattle.table_keys.specs.declared.columns.KeyColumns.TheVariants.{One}
 use Rattle.kept_keys.specs.Kept.{AreKeysAt, AreKeysOf}
 use Rattle.op_seeks.specs.Keys.{AreFkKeys, KeyRows}
-use Rattle.op_seeks.specs.Places.{AreKeysIn}
+use Rattle.op_seeks.specs.Places.{AreCondKeys, side_at}
+use Rattle.op_seeks.specs.declared.known.CondKeys.{CondKeys}
+use Rattle.op_seeks.specs.declared.known.Known.TheVariants.{Keys, Entries}
+use Rattle.op_seeks.specs.declared.place.CondPlace.{CondPlace}
 use Rattle.op_seeks.specs.declared.place.FkPlace.{FkPlace}
+use Rattle.op_seeks.specs.declared.place.SeekPlace.{SeekPlace}
+use Rattle.op_seeks.specs.declared.place.SeekPlace.TheVariants.{ForeignKey, Condition}
 use Rattle.operator_changes.proofs.DrawnLemmas.{append_assoc, append_none}
-use Rattle.sought_ids.specs.Sought.{AreKeysOver, AreSomeKeys, ClosesAt, ClosesOver, SeesStep, key_side}
+use Rattle.sought_ids.specs.Sought.{AreKeptOf, AreSomeKeys, ClosesAt, ClosesOver, IsKnownAt, KeptState, SeesStep, key_side}
 
 -- ---- keys
 
@@ -43,12 +49,6 @@ one_wide place (r ∷ rs) = (refl, one_wide place rs)
 pub keys_wide : (items : List (Numbered KeysState)) (table place : ℕ) (rows : Rows) → AreSomeKeys items → AreKeysAt items table (One place) rows → RowsWide 1 rows
 keys_wide items table place rows some at = subst (λ (l : Rows). RowsWide 1 l) (sym (at some.0 some.1)) (one_wide place (some.0 table))
 
--- the keys of two tables are those of S and T
-pub fk_keys : (items : List (Numbered KeysState)) (tables : List ℕ) (first second place : ℕ) (keys rows : Rows) → tables ≡ first ∷ second ∷ [] → AreKeysAt items first (One place) keys → AreKeysAt items second All rows
-    → (s : ℕ → Rows) → AreKeysOf s items → AreFkKeys place (map s tables) (record { keys = keys; rows = rows })
-fk_keys items tables first second place keys rows is one two s right =
-    subst (λ (l : List ℕ). AreFkKeys place (map s l) (record { keys = keys; rows = rows })) (sym is) (record { keys = one s right; rows = two s right })
-
 -- the tables of S and T, on a crossing either way
 side_rows : (f : ℕ → Rows) (near far : List ℕ) (m : Pairs) (on back : Bool)
     → (if on then (ahead back (record { source = map f near; target = map f far; memory = m })).target else (ahead back (record { source = map f near; target = map f far; memory = m })).source)
@@ -58,11 +58,19 @@ side_rows f near far m true false = refl
 side_rows f near far m false true = refl
 side_rows f near far m false false = refl
 
-pub keys_over : {O : Type 0} (seeks : O → Option FkPlace) (items : List (Numbered KeysState)) (p : Crossing O) (fk : FkPlace) (keys : KeyRows) → Some fk ≡ seeks p.operator
-    → ((s : ℕ → Rows) → AreKeysOf s items → AreFkKeys fk.place (map s (key_side fk.on_target p)) keys) → AreKeysOver seeks items p keys
-keys_over seeks items p fk keys has are s right =
-    subst (λ (o : Option FkPlace). AreKeysIn o (ahead p.backward (pair_in s p)) keys) has
-    (subst (λ (ts : Tables). AreFkKeys fk.place ts keys) (sym (side_rows s.tables p.near p.far (s.memory p.number) fk.on_target p.backward)) (are s.tables right))
+-- what is known by keys, and by a memory
+pub known_keys : {O : Type 0} (kept : KeptState) (p : Crossing O) (fk : FkPlace) (keys : KeyRows) → ((s : ℕ → Rows) → AreKeysOf s kept.keys → AreFkKeys fk.place (map s (key_side fk.on_target p)) keys) → IsKnownAt (ForeignKey fk) kept p (Keys keys)
+known_keys kept p fk keys are s right =
+    subst (λ (ts : Tables). AreFkKeys fk.place ts keys) (sym (side_rows s.tables p.near p.far (s.memory p.number) fk.on_target p.backward)) (are s.tables right.keys)
+
+memory_ahead : (back : Bool) (p : PairState) → (ahead back p).memory ≡ p.memory
+memory_ahead false p = refl
+memory_ahead true p = refl
+
+pub known_entries : {O : Type 0} (kept : KeptState) (p : Crossing O) (c : CondPlace) (it : CondKeys) → ((s : State) → AreKeptOf s kept → AreCondKeys c (map s.tables (key_side c.on_target p)) (s.memory p.number) it) → IsKnownAt (Condition c) kept p (Entries it)
+known_entries kept p c it are s right =
+    subst (λ (m : Pairs). AreCondKeys c (side_at (Some (Condition c)) (ahead p.backward (pair_in s p))) m it) (sym (memory_ahead p.backward (pair_in s p)))
+    (subst (λ (ts : Tables). AreCondKeys c ts (s.memory p.number) it) (sym (side_rows s.tables p.near p.far (s.memory p.number) c.on_target p.backward)) (are s right))
 
 -- ---- identifiers
 
@@ -83,18 +91,18 @@ crosses {O} es edges e i back =
     let both = each_at (λ (f : Link O). IsCrossing es (crossing true f) × IsCrossing es (crossing false f)) (forest es) e i (crossings_live es edges) in
     elim back as (λ b. IsCrossing es (crossing b e)) [ true ↦ both.0 | false ↦ both.1 ]
 
-module _ {O : Type 0} (meaning : O → Meaning) (seeks : O → Option FkPlace) (es : List (Placed O)) (items : List (Numbered KeysState)) (ids : List ℕ) where
+module _ {O : Type 0} (meaning : O → Meaning) (seeks : O → Option SeekPlace) (es : List (Placed O)) (kept : KeptState) (ids : List ℕ) where
   -- what a step tells of is the operator of its number
-  pub closes_told : AreEdges es → (n : ℕ) (q : Crossing O) → IsTold es (record { operator = n; backward = false }) (Some q) → ClosesOver meaning seeks items ids q → ClosesAt meaning seeks es items (n ∷ []) ids
+  pub closes_told : AreEdges es → (n : ℕ) (q : Crossing O) → IsTold es (record { operator = n; backward = false }) (Some q) → ClosesOver meaning seeks kept ids q → ClosesAt meaning seeks es kept (n ∷ []) ids
   closes_told edges n q told closes e at (inl number) =
       let same = told_is es (record { operator = n; backward = false }) (crossing false e) q (crosses es edges e at false) (ap (λ (k : ℕ). record { operator = k; backward = false }) number) told in
-      subst (λ (p : Crossing O). ClosesOver meaning seeks items ids p) same closes
+      subst (λ (p : Crossing O). ClosesOver meaning seeks kept ids p) same closes
   closes_told edges n q told closes e at (inr none) = absurd none
 
   -- one operator more
-  pub closes_more : (ns : List ℕ) (i : ℕ) → i < length ns → ClosesAt meaning seeks es items (take i ns) ids → ClosesAt meaning seeks es items (get_or ns i 0 ∷ []) ids → ClosesAt meaning seeks es items (take (i + 1) ns) ids
+  pub closes_more : (ns : List ℕ) (i : ℕ) → i < length ns → ClosesAt meaning seeks es kept (take i ns) ids → ClosesAt meaning seeks es kept (get_or ns i 0 ∷ []) ids → ClosesAt meaning seeks es kept (take (i + 1) ns) ids
   closes_more ns i within so_far here e at mine =
-      elim (in_append e.number (take i ns) (get_or ns i 0 ∷ []) (subst (λ (l : List ℕ). In e.number l) (take_more ns i 0 within) mine)) as (λ _. ClosesOver meaning seeks items ids (crossing false e)) [
+      elim (in_append e.number (take i ns) (get_or ns i 0 ∷ []) (subst (λ (l : List ℕ). In e.number l) (take_more ns i 0 within) mine)) as (λ _. ClosesOver meaning seeks kept ids (crossing false e)) [
         | inl k ↦ so_far e at k
         | inr k ↦ here e at k
       ]

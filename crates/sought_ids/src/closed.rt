@@ -6,36 +6,37 @@ ghost use Rattle.table_keys.specs.States.{behind};
 ghost use Rattle.op_seeks.specs.Found.{AreAmong};
 ghost use Rattle.version_model.specs.Calls.{crossing_of};
 ghost use Rattle.sought_ids.specs.Sought.{AreClosed, AreSomeKeys, ClosesAt, ClosesOver};
+ghost use Rattle.sought_ids.specs.Sought.{kept_in};
 
-use crate::keys::keys_over;
-use op_seeks::{Seeks, closed_beside};
+use crate::Kept;
+use crate::keys::known_over;
+use op_seeks::{Seeks, closed_by};
 use par_base::{List, Memory};
 use row_store::Change;
 use std::alloc::Global;
-use table_keys::TableKeys;
 use version_graph::{Graph, Step};
-use version_model::{Numbered, Way, way_of};
+use version_model::{Way, way_of};
 
 /// How often identifiers are closed over all operators at most.
 const ROUNDS: u32 = 64;
 
 fn is_closed_over<O: Seeks>(
     alloc: Global,
-    items: &[Numbered<TableKeys>],
+    kept: Kept<'_>,
     over: &Way<'_, O>,
     changes: &[Change],
     ids: &[u64],
 ) -> Result<bool, Memory>
-    requires { AreSomeKeys items.now }
+    requires { AreSomeKeys kept.keys.now }
     ensures { IfOk result (λ closed. closed ≡ true
-        → ClosesOver O.meaning O.seeks items.now ids.now (crossing_of over.now)) }
+        → ClosesOver O.meaning O.seeks (kept_in kept.entry) ids.now (crossing_of over.now)) }
 {
     if over.operator.is_local() {
         return Ok(true);
     }
-    match keys_over(items, over) {
-        Some(keys) => {
-            let closed = closed_beside(alloc, &keys, changes, ids)?;
+    match known_over(kept, over) {
+        Some(known) => {
+            let closed = closed_by(alloc, &known, changes, ids)?;
             Ok(closed.as_slice() == ids)
         }
         None => Ok(false),
@@ -45,15 +46,15 @@ fn is_closed_over<O: Seeks>(
 fn is_closed_at<O: Seeks>(
     alloc: Global,
     graph: &Graph<O>,
-    items: &[Numbered<TableKeys>],
+    kept: Kept<'_>,
     number: u32,
     changes: &[Change],
     ids: &[u64],
 ) -> Result<bool, Memory>
     requires edges { AreEdges graph.now.edges }
-    requires some { AreSomeKeys items.now }
+    requires some { AreSomeKeys kept.keys.now }
     ensures { IfOk result (λ closed. closed ≡ true
-        → ClosesAt O.meaning O.seeks graph.now.edges items.now (number ∷ []) ids.now) }
+        → ClosesAt O.meaning O.seeks graph.now.edges (kept_in kept.entry) (number ∷ []) ids.now) }
 {
     let step = Step {
         operator: number,
@@ -61,7 +62,7 @@ fn is_closed_at<O: Seeks>(
     };
     match way_of(graph, step) {
         Some(over) => {
-            let closed = is_closed_over(alloc, items, &over, changes, ids)?;
+            let closed = is_closed_over(alloc, kept, &over, changes, ids)?;
             Ok(closed)
         }
         None => Ok(false),
@@ -93,18 +94,18 @@ fn rises(ids: &[u64]) -> bool
 fn are_closed<O: Seeks>(
     alloc: Global,
     graph: &Graph<O>,
-    items: &[Numbered<TableKeys>],
+    kept: Kept<'_>,
     operators: &[u32],
     changes: &[Change],
     ids: &[u64],
 ) -> Result<bool, Memory>
     requires edges { AreEdges graph.now.edges }
-    requires some { AreSomeKeys items.now }
+    requires some { AreSomeKeys kept.keys.now }
     ensures { IfOk result (λ closed. closed ≡ true
-        → ClosesAt O.meaning O.seeks graph.now.edges items.now operators.now ids.now) }
+        → ClosesAt O.meaning O.seeks graph.now.edges (kept_in kept.entry) operators.now ids.now) }
 {
     for number in operators {
-        if !is_closed_at(alloc, graph, items, *number, changes, ids)? {
+        if !is_closed_at(alloc, graph, kept, *number, changes, ids)? {
             return Ok(false);
         }
     }
@@ -113,17 +114,17 @@ fn are_closed<O: Seeks>(
 
 fn close_over<O: Seeks>(
     alloc: Global,
-    items: &[Numbered<TableKeys>],
+    kept: Kept<'_>,
     over: &Way<'_, O>,
     changes: &[Change],
     ids: List<u64>,
 ) -> Result<List<u64>, Memory>
-    requires { AreSomeKeys items.now }
+    requires { AreSomeKeys kept.keys.now }
     ensures { IfOk result (AreAmong ids) }
 {
-    match keys_over(items, over) {
-        Some(keys) => {
-            let closed = closed_beside(alloc, &keys, changes, ids.as_slice())?;
+    match known_over(kept, over) {
+        Some(known) => {
+            let closed = closed_by(alloc, &known, changes, ids.as_slice())?;
             Ok(closed)
         }
         None => Ok(ids),
@@ -133,12 +134,12 @@ fn close_over<O: Seeks>(
 fn close_at<O: Seeks>(
     alloc: Global,
     graph: &Graph<O>,
-    items: &[Numbered<TableKeys>],
+    kept: Kept<'_>,
     number: u32,
     changes: &[Change],
     ids: List<u64>,
 ) -> Result<List<u64>, Memory>
-    requires { AreSomeKeys items.now }
+    requires { AreSomeKeys kept.keys.now }
     ensures { IfOk result (AreAmong ids) }
 {
     let step = Step {
@@ -146,7 +147,7 @@ fn close_at<O: Seeks>(
         backward: false,
     };
     match way_of(graph, step) {
-        Some(over) => close_over(alloc, items, &over, changes, ids),
+        Some(over) => close_over(alloc, kept, &over, changes, ids),
         None => Ok(ids),
     }
 }
@@ -154,17 +155,17 @@ fn close_at<O: Seeks>(
 fn close_all<O: Seeks>(
     alloc: Global,
     graph: &Graph<O>,
-    items: &[Numbered<TableKeys>],
+    kept: Kept<'_>,
     operators: &[u32],
     changes: &[Change],
     ids: List<u64>,
 ) -> Result<List<u64>, Memory>
-    requires { AreSomeKeys items.now }
+    requires { AreSomeKeys kept.keys.now }
     ensures { IfOk result (AreAmong ids) }
 {
     let mut closed = ids;
     for number in operators {
-        closed = close_at(alloc, graph, items, *number, changes, closed)?;
+        closed = close_at(alloc, graph, kept, *number, changes, closed)?;
     }
     Ok(closed)
 }
@@ -178,25 +179,25 @@ fn close_all<O: Seeks>(
 pub fn closed_over<O: Seeks>(
     alloc: Global,
     graph: &Graph<O>,
-    items: &[Numbered<TableKeys>],
+    kept: Kept<'_>,
     operators: &[u32],
     changes: &[Change],
     ids: List<u64>,
 ) -> Result<Option<List<u64>>, Memory>
     requires edges { AreEdges graph.now.edges }
-    requires some { AreSomeKeys items.now }
+    requires some { AreSomeKeys kept.keys.now }
     ensures { IfOk result (λ found. IfSome found (AreClosed O.meaning O.seeks graph.now.edges
-        items.now operators.now ids)) }
+        (kept_in kept.entry) operators.now ids)) }
 {
     let mut closed = ids;
     for _turn in 0..ROUNDS {
         if rises(closed.as_slice())
-            && are_closed(alloc, graph, items, operators, changes, closed.as_slice())?
+            && are_closed(alloc, graph, kept, operators, changes, closed.as_slice())?
         {
             return Ok(Some(closed));
         }
         let known = closed.len();
-        closed = close_all(alloc, graph, items, operators, changes, closed)?;
+        closed = close_all(alloc, graph, kept, operators, changes, closed)?;
         if closed.len() == known {
             return Ok(None);
         }

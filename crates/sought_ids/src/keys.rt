@@ -1,18 +1,24 @@
-//! The kept keys of an operator's tables.
+//! What is kept of an operator's tables, and its memory.
 ghost use Rattle.std.specs.Prelude.{◌≡◌, IfSome, ℕ, map};
 ghost use Rattle.row_store.specs.Rows.{Rows};
-ghost use Rattle.kept_keys.specs.Kept.{AreKeysOf};
+ghost use Rattle.table_keys.specs.declared.columns.KeyColumns.TheVariants.{All, One};
+ghost use Rattle.kept_keys.specs.Kept.{AreKeysAt, AreKeysOf};
 ghost use Rattle.op_seeks.specs.Keys.{AreFkKeys};
+ghost use Rattle.op_seeks.specs.Places.{AreCondKeys, is_on_target as is_on_target_lem};
+ghost use Rattle.op_seeks.specs.declared.place.SeekPlace.TheVariants.{Condition, ForeignKey};
 ghost use Rattle.version_model.specs.Calls.{crossing_of};
-ghost use Rattle.sought_ids.specs.Sought.{AreKeysOver, AreSomeKeys, key_side as key_side_lem};
+ghost use Rattle.version_model.specs.States.{State};
+ghost use Rattle.sought_ids.specs.Sought.{key_side as key_side_lem};
+ghost use Rattle.sought_ids.specs.Sought.{AreKeptOf, AreKnownOver, AreSomeKeys, IsKnownAt, kept_in};
 
+use crate::Kept;
 use kept_keys::keys_of;
-use op_seeks::{FkKeys, Seeks};
+use op_seeks::{CondKeys, CondPlace, FkKeys, FkPlace, Known, SeekPlace, Seeks};
 use par_base::{List, Memory};
 use std::alloc::Global;
 use table_keys::{KeyColumns, TableKeys};
 use version_graph::{Graph, Step};
-use version_model::{Numbered, Way, way_of};
+use version_model::{Numbered, Way, value_of, way_of};
 
 /// The tables of the side on which S and T stand.
 pub(crate) fn key_side<'a, O>(over: &Way<'a, O>, on_target: bool) -> &'a [u32]
@@ -27,7 +33,7 @@ pub(crate) fn key_side<'a, O>(over: &Way<'a, O>, on_target: bool) -> &'a [u32]
     }
 }
 
-// The keys of these two tables.
+// The foreign keys of two tables.
 fn keys_beside<'a>(
     items: &'a [Numbered<TableKeys>],
     tables: &[u32],
@@ -49,16 +55,100 @@ fn keys_beside<'a>(
     Some(FkKeys::new(keys, rows))
 }
 
-/// The keys of S and T of an operator, where it has a foreign key and they are kept.
-pub(crate) fn keys_over<'a, O: Seeks>(
-    items: &'a [Numbered<TableKeys>],
-    over: &Way<'_, O>,
-) -> Option<FkKeys<'a>>
-    requires { AreSomeKeys items.now }
-    ensures { IfSome result (λ keys. AreKeysOver O.seeks items.now (crossing_of over.now) keys) }
+// The keys of a table in one column, and in all.
+fn both_keys(
+    items: &[Numbered<TableKeys>],
+    table: u32,
+    column: usize,
+) -> Option<(&TableKeys, &TableKeys)>
+    ensures { IfSome result (λ both. AreKeysAt items.now table (One column) both.0.now.rows
+        × AreKeysAt items.now table All both.1.now.rows) }
 {
-    match over.operator.foreign_key() {
-        Some(fk) => keys_beside(items, key_side(over, fk.on_target), fk.place),
+    let Some(keys) = keys_of(items, table, KeyColumns::One(column)) else {
+        return None;
+    };
+    let Some(rows) = keys_of(items, table, KeyColumns::All) else {
+        return None;
+    };
+    Some((keys, rows))
+}
+
+// The memory, and the keys of two tables in the columns that are equal.
+fn entries_beside<'a>(
+    kept: Kept<'a>,
+    tables: &[u32],
+    number: u32,
+    place: CondPlace,
+) -> Option<CondKeys<'a>>
+    ensures { IfSome result (λ it. (s : State) → AreKeptOf s (kept_in kept.entry)
+        → AreCondKeys place (map s.tables tables.now) (s.memory number) it) }
+{
+    let [first, second] = tables else {
+        return None;
+    };
+    let Some(memory) = value_of(kept.memories, number) else {
+        return None;
+    };
+    let Some((first, first_rows)) = both_keys(kept.keys, *first, place.first) else {
+        return None;
+    };
+    let Some((second, second_rows)) = both_keys(kept.keys, *second, place.second) else {
+        return None;
+    };
+    Some(CondKeys {
+        memory,
+        first,
+        second,
+        first_rows,
+        second_rows,
+    })
+}
+
+// What is known by a foreign key.
+fn known_by_key<'a, O>(kept: Kept<'a>, over: &Way<'_, O>, fk: FkPlace) -> Option<Known<'a>>
+    requires { AreSomeKeys kept.keys.now }
+    ensures { IfSome result (λ known. IsKnownAt (ForeignKey fk) (kept_in kept.entry)
+        (crossing_of over.now) known) }
+{
+    match keys_beside(kept.keys, key_side(over, fk.on_target), fk.place) {
+        Some(keys) => Some(Known::Keys(keys)),
+        None => None,
+    }
+}
+
+// What is known by a condition.
+fn known_by_condition<'a, O>(
+    kept: Kept<'a>,
+    over: &Way<'_, O>,
+    place: CondPlace,
+) -> Option<Known<'a>>
+    ensures { IfSome result (λ known. IsKnownAt (Condition place) (kept_in kept.entry)
+        (crossing_of over.now) known) }
+{
+    match entries_beside(kept, key_side(over, place.on_target), over.number, place) {
+        Some(it) => Some(Known::Entries(it)),
+        None => None,
+    }
+}
+
+fn known_at<'a, O>(kept: Kept<'a>, over: &Way<'_, O>, place: SeekPlace) -> Option<Known<'a>>
+    requires { AreSomeKeys kept.keys.now }
+    ensures { IfSome result (λ known. IsKnownAt place (kept_in kept.entry)
+        (crossing_of over.now) known) }
+{
+    match place {
+        SeekPlace::ForeignKey(fk) => known_by_key(kept, over, fk),
+        SeekPlace::Condition(columns) => known_by_condition(kept, over, columns),
+    }
+}
+
+/// What is known of an operator, where it seeks and its keys are kept.
+pub(crate) fn known_over<'a, O: Seeks>(kept: Kept<'a>, over: &Way<'_, O>) -> Option<Known<'a>>
+    requires { AreSomeKeys kept.keys.now }
+    ensures { IfSome result (AreKnownOver O.seeks (kept_in kept.entry) (crossing_of over.now)) }
+{
+    match over.operator.place() {
+        Some(place) => known_at(kept, over, place),
         None => None,
     }
 }
@@ -70,19 +160,55 @@ pub struct WantedKeys {
     pub columns: KeyColumns,
 }
 
+fn want(wanted: &mut List<WantedKeys>, table: u32, columns: KeyColumns) -> Result<(), Memory> {
+    wanted.push(WantedKeys { table, columns })
+}
+
+fn want_both(wanted: &mut List<WantedKeys>, table: u32, column: usize) -> Result<(), Memory> {
+    want(wanted, table, KeyColumns::One(column))?;
+    want(wanted, table, KeyColumns::All)
+}
+
+fn want_at(
+    wanted: &mut List<WantedKeys>,
+    first: u32,
+    second: u32,
+    place: SeekPlace,
+) -> Result<(), Memory> {
+    match place {
+        SeekPlace::ForeignKey(fk) => {
+            want(wanted, first, KeyColumns::One(fk.place))?;
+            want(wanted, second, KeyColumns::All)
+        }
+        SeekPlace::Condition(columns) => {
+            want_both(wanted, first, columns.first)?;
+            want_both(wanted, second, columns.second)
+        }
+    }
+}
+
+fn is_on_target(place: SeekPlace) -> bool
+    ensures { result ≡ is_on_target_lem place }
+{
+    match place {
+        SeekPlace::ForeignKey(fk) => fk.on_target,
+        SeekPlace::Condition(columns) => columns.on_target,
+    }
+}
+
+/// The tables of S and T.
+pub(crate) fn side_of_place<'a, O>(over: &Way<'a, O>, place: SeekPlace) -> &'a [u32]
+    ensures { result.now ≡ key_side_lem (is_on_target_lem place) (crossing_of over.now) }
+{
+    key_side(over, is_on_target(place))
+}
+
 fn want_over<O: Seeks>(over: &Way<'_, O>, wanted: &mut List<WantedKeys>) -> Result<(), Memory> {
-    let Some(fk) = over.operator.foreign_key() else {
+    let Some(place) = over.operator.place() else {
         return Ok(());
     };
-    if let [first, second] = key_side(over, fk.on_target) {
-        wanted.push(WantedKeys {
-            table: *first,
-            columns: KeyColumns::One(fk.place),
-        })?;
-        wanted.push(WantedKeys {
-            table: *second,
-            columns: KeyColumns::All,
-        })?;
+    if let [first, second] = side_of_place(over, place) {
+        want_at(wanted, *first, *second, place)?;
     }
     Ok(())
 }
@@ -113,12 +239,12 @@ fn seeks_at<O: Seeks>(graph: &Graph<O>, number: u32) -> bool {
         backward: false,
     };
     match way_of(graph, step) {
-        Some(over) => over.operator.is_local() || over.operator.foreign_key().is_some(),
+        Some(over) => over.operator.is_local() || over.operator.place().is_some(),
         None => false,
     }
 }
 
-/// Whether each of these operators treats each identifier by itself, or has a foreign key. It takes
+/// Whether each of these operators treats each identifier by itself, or seeks. It takes
 /// time in the number of live operators for each, and no memory.
 pub fn seeks_all<O: Seeks>(graph: &Graph<O>, operators: &[u32]) -> bool {
     operators.iter().all(|number| seeks_at(graph, *number))

@@ -4,6 +4,7 @@ mod SpreadLemmas
 mod MemoryLemmas
 mod PartLemmas
 mod ApartLemmas
+mod CrossedLemmas
 mod FootprintLemmas
 mod TreeLemmas
 mod CopyLemmas

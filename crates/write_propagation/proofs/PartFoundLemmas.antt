@@ -9,13 +9,13 @@ use Rattle.row_store.specs.Changes.{AreOld, ChangesRise}
 use Rattle.row_store.specs.declared.change.Change.{Change}
 use Rattle.version_graph.specs.Sets.{Each, In}
 use Rattle.version_graph.specs.Edges.{is_in}
-use Rattle.version_graph.specs.Forest.{Crossing, Link, crossing, forest}
+use Rattle.version_graph.specs.Forest.{Crossing, Link, crossing, forest, walk}
 use Rattle.version_graph.specs.declared.parts.Placed.{Placed}
 use Rattle.version_graph.proofs.SetLaws.{each_at, each_of, in_map}
-use Rattle.version_graph.proofs.WalkLaws.{is_forest}
+use Rattle.version_graph.proofs.WalkLaws.{is_forest, walk_in_order}
 use Rattle.layout_rules.proofs.LinkLaws.{same_link}
 use Rattle.op_law.specs.Tables.{Heading, Tables}
-use Rattle.op_law.specs.Sound.{RowsSound, TablesSound}
+use Rattle.op_law.specs.Sound.{PairsSound, RowsSound, TablesSound}
 use Rattle.op_law.specs.Identifiers.{has_id}
 use Rattle.op_law.specs.Laws.{Laws}
 use Rattle.op_law.specs.Calls.{first_refused}
@@ -34,36 +34,36 @@ use Rattle.operator_changes.specs.Footprint.{passes, with_drawn}
 use Rattle.pair_parts.specs.Apart.{KeepsApart, SameElsewhere}
 use Rattle.pair_parts.proofs.MemoryLaws.{memory_same}
 use Rattle.id_memory.specs.Pairs.{Pairs}
-use Rattle.sought_ids.specs.Closed.{PassListed}
-use Rattle.sought_ids.specs.Keys.{KeyRows}
-use Rattle.sought_ids.specs.Places.{AreKeysIn, side_at}
-use Rattle.sought_ids.specs.Seeking.{ApartOver, IsChangedPair, IsMemory, SeekLaws}
-use Rattle.sought_ids.specs.FkPlace.{FkPlace}
+use Rattle.sought_ids.specs.Known.{Known}
+use Rattle.sought_ids.specs.Places.{AreKnown, PassKnown, side_at}
+use Rattle.sought_ids.specs.Seeking.{ApartOver, IsChangedPair, IsMappedPair, IsMemory, SeekLaws}
+use Rattle.sought_ids.specs.SeekPlace.{SeekPlace}
 use Rattle.table_keys.specs.States.{KeysState}
 use Rattle.kept_keys.specs.Kept.{AreKeysOf}
 use Rattle.changes_walk.specs.Changing.{latest_changes}
 use Rattle.changes_walk.specs.Reach.{IsWhole}
-use Rattle.changes_walk.proofs.ReachLaws.{IsInside}
+use Rattle.changes_walk.proofs.ReachLaws.{IsInside, each_reached}
 use Rattle.storage_law.specs.Storage.{StandsOver, aux_of, stored_way}
 use Rattle.version_model.specs.Kept.{auxes_at, rows_at}
 use Rattle.version_model.specs.Sound.{IsSound}
 use Rattle.version_model.specs.States.{State, headings}
 use Rattle.version_model.specs.Steps.{IsRelated, directed, pair_in}
-use Rattle.version_model.specs.Writes.{write}
+use Rattle.version_model.specs.Writes.{write, written}
 use Rattle.version_model.specs.declared.numbered.Numbered.{Numbered}
 use Rattle.version_model.proofs.CrossingLaws.{GoesOver}
 use Rattle.version_model.proofs.ProgressLaws.{state_is}
 use Rattle.version_model.proofs.PutLaws.{map_same}
-use Rattle.version_model.proofs.RunLaws.{way_laws}
+use Rattle.version_model.proofs.RunLaws.{IsReady, way_laws}
+use Rattle.version_model.proofs.WriteLaws.{walk_is_ready, written_well}
 use Rattle.db_state.specs.Fields.{IsDatabase, state_for, storage_in}
 use Rattle.db_state.specs.Parts.{SplitsAt}
 use Rattle.db_state.specs.declared.parts.Parts.{Parts}
 use Rattle.db_state.proofs.PartLaws.{only_map}
-use Rattle.sought_ids.specs.Sought.{SeesOver, key_tables}
+use Rattle.sought_ids.specs.Sought.{AreKeptOf, SeesOver, key_tables}
 use Rattle.sought_ids.proofs.SplitLaws.{listed_self, split_by as splits_closed}
 use Rattle.operator_changes.proofs.DrawnLemmas.{over_passes, passes_with, under_passes}
 use Rattle.write_propagation.specs.Making.{IsMaking, IsPlanOf, MayPlan, auxes_over, made_over, seen_write}
-use Rattle.write_propagation.specs.PartMade.{ClosesTree, NamesPart, SeesTree, named_in}
+use Rattle.write_propagation.specs.PartMade.{ClosesTree, NamesPart, SeesTree, kept_with, named_in}
 use Rattle.write_propagation.specs.Plans.{rows_written}
 use Rattle.write_propagation.specs.Trees.{part}
 use Rattle.write_propagation.specs.declared.making.Making.{Making}
@@ -71,18 +71,19 @@ use Rattle.write_propagation.specs.declared.plans.Plan.{Plan}
 use Rattle.write_propagation.specs.declared.plans.RowWrite.{RowWrite}
 use Rattle.write_propagation.specs.declared.tree.Tree.{Tree}
 use Rattle.write_propagation.proofs.ApartLemmas.{CarriesAt, local_maps}
+use Rattle.write_propagation.proofs.CrossedLemmas.{IsCrossedAt, mapped_by, run_crossed}
 use Rattle.write_propagation.proofs.FootprintLemmas.{footprint_carries}
 use Rattle.write_propagation.proofs.PartLemmas.{IsPartOf, Rests}
-use Rattle.write_propagation.proofs.PartRowsLemmas.{all_listed, below_alike, foot_over, half_local, key_among, key_numbers, left_alone, memory_of, none_stand, pass_listed, rows_alike, side_sound, tables_changed, tables_fit, tables_pass, tables_rise, tables_sound}
-use Rattle.write_propagation.proofs.PartShownLemmas.{CarriesAll, before_part, end_up, local_keeps, of_end, part_shown, rests, small_old, small_sound}
+use Rattle.write_propagation.proofs.PartRowsLemmas.{all_listed, below_alike, foot_over, half_local, key_among, key_numbers, left_alone, memory_of, none_stand, pass_known, rows_alike, side_sound, tables_changed, tables_fit, tables_pass, tables_rise, tables_sound}
+use Rattle.write_propagation.proofs.PartShownLemmas.{CarriesAll, before_part, end_up, local_keeps, of_end, ordered_reached, part_shown, rests, small_old, small_sound}
 use Rattle.write_propagation.proofs.SeenLemmas.{named_pass, pass_wider}
-use Rattle.write_propagation.proofs.ShownLemmas.{Remembers, Shows, end_sound, small_is}
+use Rattle.write_propagation.proofs.ShownLemmas.{Remembers, Shows, end_is, end_sound, small_is}
 use Rattle.write_propagation.proofs.TreeLemmas.{part_table}
 use Rattle.write_propagation.proofs.WholeLemmas.{crossing_at, lives, number_of, path, path_inside, path_over}
 
 -- ---- the write of the part
 
-module _ {O : Type 0} (meaning : O → Meaning) (seeks : O → Option FkPlace) (laws : (o : O) → Laws (meaning o)) (seeking : (o : O) → SeekLaws (meaning o) (seeks o)) (d : Parts O) (good : IsDatabase meaning d) (tree : Tree) (w : RowWrite) (plans : MayPlan meaning d tree w)
+module _ {O : Type 0} (meaning : O → Meaning) (seeks : O → Option SeekPlace) (laws : (o : O) → Laws (meaning o)) (seeking : (o : O) → SeekLaws (meaning o) (seeks o)) (d : Parts O) (good : IsDatabase meaning d) (tree : Tree) (w : RowWrite) (plans : MayPlan meaning d tree w)
     (items : List (Numbered KeysState)) (right : AreKeysOf (state_for meaning d).tables items) (ids : List ℕ) (closed : ClosesTree meaning seeks d items tree w ids) where
   abbrev es : List (Placed O)
   es = d.graph.edges
@@ -103,20 +104,24 @@ module _ {O : Type 0} (meaning : O → Meaning) (seeks : O → Option FkPlace) (
   abbrev fails : ℕ → Bool
   fails = λ q. not (test q)
 
+  -- what is kept is that of the state before
+  kept_right : AreKeptOf s (kept_with d items)
+  kept_right = record { keys = right; memories = λ n. refl }
+
   -- they split the state before
-  split_by : (P : ℕ → Bool) → ((st : Tables) → TablesSound d.ids.next st → PassListed P ids st) → SplitsAt meaning es s tree.operators P
+  split_by : (P : ℕ → Bool) → ((place : Option SeekPlace) (p : PairState) → TablesSound d.ids.next (side_at place p) → PairsSound d.ids.next p.memory → PassKnown P ids place p) → SplitsAt meaning es s tree.operators P
   split_by P listed e i own related =
-      splits_closed meaning seeks laws seeking es s items right tree.operators ids closed.closed P
+      splits_closed meaning seeks laws seeking es s (kept_with d items) kept_right tree.operators ids closed.closed P
       (λ f.
       let p = pair_in s (crossing false f) in
-      listed (side_at (seeks f.operator) p) (side_sound (seeks f.operator) d.ids.next p (tables_sound s.tables d.ids.next f.sources good.sound.well.rows) (tables_sound s.tables d.ids.next f.targets good.sound.well.rows)))
+      listed (seeks f.operator) p (side_sound (seeks f.operator) d.ids.next p (tables_sound s.tables d.ids.next f.sources good.sound.well.rows) (tables_sound s.tables d.ids.next f.targets good.sound.well.rows)) (good.sound.well.memories f.number))
       e i own related
 
   pub split_ids : SplitsAt meaning es s tree.operators (has_id ids)
-  split_ids = split_by (has_id ids) (λ st sound. listed_self ids st)
+  split_ids = split_by (has_id ids) (λ place p sound entries. record { rows = listed_self ids (side_at place p); entries = record { own = λ id a b at h. h; first = λ id a b at h. h; second = λ id a b at h. h } })
 
   pub split_test : SplitsAt meaning es s tree.operators test
-  split_test = split_by test (λ st sound. pass_listed ids d.ids.next st sound)
+  split_test = split_by test (pass_known ids d.ids.next)
 
   -- either sees the same of the state before, and of the write
   same_part : part (has_id ids) tree s ≡ part test tree s
@@ -232,7 +237,7 @@ module _ {O : Type 0} (meaning : O → Meaning) (seeks : O → Option FkPlace) (
       abbrev Carries : State → Crossing O → Type 0
       Carries end p = CarriesAt meaning laws tree (headings es) s small good.sound.well whole_small.well test (small_old meaning laws d good tree w plans test split_test) end p
 
-      carries_at : (p : Crossing O) → IsInside tree.operators tree.tables p → SeesOver meaning seeks items making.made.tables seen p → Carries small_end p
+      carries_at : (p : Crossing O) → IsInside tree.operators tree.tables p → SeesOver meaning seeks (kept_with d items) making.made.tables seen p → Carries small_end p
       carries_at p inside (inl local) a may more less here there =
           local_maps (directed p.backward (meaning p.operator)) (way_laws p.backward (meaning p.operator) (laws p.operator)) (half_local p.backward (meaning p.operator) (laws p.operator) local) test
           (map (headings es) p.near) (map (headings es) p.far) (map a.tables p.near) (pair_in s p) a.next may there
@@ -243,14 +248,14 @@ module _ {O : Type 0} (meaning : O → Meaning) (seeks : O → Option FkPlace) (
           (tables_pass test last p.near (λ t i. names t))
           (tables_changed (λ t. rows_only test (s.tables t)) small_end.tables last p.near (λ t i. table_made t (inside.near t i)) ∙ ap (λ (ts : Tables). changed_tables ts (map last p.near)) (only_map test s.tables p.near))
           same_test
-          (foot_over (meaning p.operator) (seeks p.operator) by.keys (map last p.near) seen p.backward (pair_in s p) (by.are s right) by.foot)
+          (foot_over (meaning p.operator) (seeks p.operator) by.known (map last p.near) seen p.backward (pair_in s p) (by.are s kept_right) by.foot)
           a may more less here there
 
       carries : CarriesAll meaning laws d good tree w plans test split_test
       carries =
           subst (λ (x : State). Each (Carries x) ps) (small_is meaning laws d good tree w plans test whole_small)
           (each_of (Carries small_end) ps (λ p i.
-          carries_at p (each_at (IsInside tree.operators tree.tables) ps p i (path_inside es w.set w.table tree plans.walked)) (each_at (SeesOver meaning seeks items making.made.tables seen) ps p i enough)))
+          carries_at p (each_at (IsInside tree.operators tree.tables) ps p i (path_inside es w.set w.table tree plans.walked)) (each_at (SeesOver meaning seeks (kept_with d items) making.made.tables seen) ps p i enough)))
 
       -- ---- after the write
 
@@ -345,16 +350,38 @@ module _ {O : Type 0} (meaning : O → Meaning) (seeks : O → Option FkPlace) (
               makes = key_numbers fk end e back ∙ tables_changed s.tables end.tables last ns (λ t k. end_tables t (inside t k)) ∙ ap (λ (ts : Tables). changed_tables ts (map last ns)) (sym (key_numbers fk s e back));
             }
 
-        keeps_by : (back : Bool) (keys : KeyRows) → AreKeysIn (seeks e.operator) old keys → ApartOver (meaning e.operator) (seeks e.operator) keys (map last (key_tables (seeks e.operator) (crossing back e))) seen → KeepsApart (meaning e.operator) old new test
-        keeps_by back keys are apart =
-            subst (λ (P : ℕ → Bool). KeepsApart (meaning e.operator) old new P) end_test
-            (apart old new end.next are (changed_pair back) (subst (λ (P : ℕ → Bool). SameElsewhere P old new) (sym end_test) beside))
+        near_inside : (back : Bool) (t : ℕ) → In t (crossing back e).near → In t tree.tables
+        near_inside true t k = in_targets t k
+        near_inside false t k = in_sources t k
 
-        keeps_over : (back : Bool) → SeesOver meaning seeks items making.made.tables seen (crossing back e) → KeepsApart (meaning e.operator) old new test
-        keeps_over true (inl local) = keeps_local local
-        keeps_over false (inl local) = keeps_local local
-        keeps_over true (inr by) = keeps_by true by.keys (by.are s right) by.apart
-        keeps_over false (inr by) = keeps_by false by.keys (by.are s right) by.apart
+        -- it is what its crossing mapped
+        mapped_pair : (back : Bool) → IsCrossedAt meaning (headings es) s end (crossing back e) → IsMappedPair (meaning e.operator) back (map last (crossing back e).near) old new end.next seen
+        mapped_pair back crossed =
+            let near = (crossing back e).near in
+            mapped_by meaning (headings es) s end e back (map last near) seen crossed
+            (tables_changed s.tables end.tables last near (λ t k. end_tables t (near_inside back t k)))
+            (tables_fit s.tables last near (λ t k. table_fits t (near_inside back t k)))
+            (same_test crossed.next crossed.up (subst (λ (n : ℕ). crossed.next ≤ n) is_part.next crossed.less) ∙ sym end_test)
+
+        keeps_by : (back : Bool) (known : Known) → AreKnown (seeks e.operator) old known → IsCrossedAt meaning (headings es) s end (crossing back e)
+            → ApartOver (meaning e.operator) (seeks e.operator) back known (map last (crossing back e).near) (map last (key_tables (seeks e.operator) (crossing back e))) seen → KeepsApart (meaning e.operator) old new test
+        keeps_by back known are crossed apart =
+            subst (λ (P : ℕ → Bool). KeepsApart (meaning e.operator) old new P) end_test
+            (apart old new end.next are (changed_pair back) (mapped_pair back crossed) (subst (λ (P : ℕ → Bool). SameElsewhere P old new) (sym end_test) beside))
+
+        keeps_over : (back : Bool) → IsCrossedAt meaning (headings es) s end (crossing back e) → SeesOver meaning seeks (kept_with d items) making.made.tables seen (crossing back e) → KeepsApart (meaning e.operator) old new test
+        keeps_over true crossed (inl local) = keeps_local local
+        keeps_over false crossed (inl local) = keeps_local local
+        keeps_over true crossed (inr by) = keeps_by true by.known (by.are s kept_right) crossed by.apart
+        keeps_over false crossed (inr by) = keeps_by false by.known (by.are s kept_right) crossed by.apart
+
+      -- each crossing is mapped
+      all_crossed : Each (IsCrossedAt meaning (headings es) s end) ps
+      all_crossed =
+          subst (λ (x : State). Each (IsCrossedAt meaning (headings es) s x) ps) (sym (end_is meaning laws d good tree w plans))
+          (run_crossed meaning laws (headings es) s good.sound.well ps (written s w.table rows w.ids.next) (written_well meaning es s good.sound w.set w.table rows w.ids.next plans.may) plans.may.more
+          (each_reached tree.operators (IsReady meaning (headings es) s) (walk (forest es) w.set) (walk_is_ready meaning es s good.sound w.set))
+          (ordered_reached tree.operators (walk (forest es) w.set) (walk_in_order es good.graph.edges w.set)))
 
       -- each operator keeps the change to what passes
       keeps : (e : Link O) → In e (forest es) → In e.number tree.operators → KeepsApart (meaning e.operator) (pair_in s (crossing false e)) (pair_in end (crossing false e)) test
@@ -363,8 +390,9 @@ module _ {O : Type 0} (meaning : O → Meaning) (seeks : O → Option FkPlace) (
           let over = each_at (GoesOver (forest es)) ps o.0 o.1 (path_over es w.set w.table tree plans.walked) in
           let number : e.number ≡ over.over.number = o.2 ∙ ap (λ (p : Crossing O). p.number) over.is ∙ number_of over.over over.back in
           let same : e ≡ over.over = same_link (forest es) e over.over (is_forest es good.graph.edges) i over.among number in
-          let sees = subst (λ (p : Crossing O). SeesOver meaning seeks items making.made.tables seen p) over.is (each_at (SeesOver meaning seeks items making.made.tables seen) ps o.0 o.1 enough) in
-          keeps_over e i own over.back (subst (λ (f : Link O). SeesOver meaning seeks items making.made.tables seen (crossing over.back f)) (sym same) sees)
+          let sees = subst (λ (p : Crossing O). SeesOver meaning seeks (kept_with d items) making.made.tables seen p) over.is (each_at (SeesOver meaning seeks (kept_with d items) making.made.tables seen) ps o.0 o.1 enough) in
+          let crossed = subst (λ (p : Crossing O). IsCrossedAt meaning (headings es) s end p) over.is (each_at (IsCrossedAt meaning (headings es) s end) ps o.0 o.1 all_crossed) in
+          keeps_over e i own over.back (subst (λ (f : Link O). IsCrossedAt meaning (headings es) s end (crossing over.back f)) (sym same) crossed) (subst (λ (f : Link O). SeesOver meaning seeks (kept_with d items) making.made.tables seen (crossing over.back f)) (sym same) sees)
 
       -- each has a memory before and after
       module _ (e : Link O) (i : In e (forest es)) (own : In e.number tree.operators) where
@@ -382,7 +410,7 @@ module _ {O : Type 0} (meaning : O → Meaning) (seeks : O → Option FkPlace) (
               let ht = map (headings es) e.targets in
               (none_stand (s.memory e.number) (here.no_memory hs ht (pair_in s (crossing false e)) stood), none_stand (end.memory e.number) (here.no_memory hs ht (pair_in end (crossing false e)) stands_now))
           | inr by ↦
-              let of_pair = memory_of (meaning e.operator) (seeks e.operator) (seeking e.operator) by.keys (pair_in s (crossing false e)) (by.are s right) (map (headings es) e.sources) (map (headings es) e.targets) in
+              let of_pair = memory_of (meaning e.operator) (seeks e.operator) (seeking e.operator) by.known (pair_in s (crossing false e)) (by.are s kept_right) (map (headings es) e.sources) (map (headings es) e.targets) in
               (of_pair (pair_in s (crossing false e)) stood, of_pair (pair_in end (crossing false e)) stands_now)
         ]
 

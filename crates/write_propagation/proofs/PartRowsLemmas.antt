@@ -1,17 +1,17 @@
 -- Rows that pass two tests alike, changes of tables, and operators with a foreign key.
 use Rattle.std.specs.Prelude.{◌⊎◌, if◌then◌else◌}
-use Rattle.std.proofs.Common.{◌≡◌, ℕ, List, [], ◌∷◌, Bool, true, false, map, Option, Some, None, inl, inr, refl, sym, ◌∙◌, subst, arith}
-use Rattle.std.proofs.lemmas.Bool.{cases_lt}
+use Rattle.std.proofs.Common.{◌≡◌, ℕ, ◌==◌, ◌<◌, List, [], ◌∷◌, Bool, true, false, map, Option, Some, None, inl, inr, refl, sym, ◌∙◌, subst, arith}
+use Rattle.std.proofs.lemmas.Bool.{cases_lt, eqb-true}
 use Rattle.par_base.specs.declared.value.Value.{Value}
 use Rattle.row_store.specs.Rows.{Rows, RiseFrom, row_of}
 use Rattle.row_store.specs.Changes.{AreOld, ChangesRise}
-use Rattle.id_memory.specs.Pairs.{Pairs}
+use Rattle.id_memory.specs.Pairs.{Pairs, pair_of}
 use Rattle.row_store.specs.declared.change.Change.{Change}
 use Rattle.row_store.proofs.UndoLaws.{ext}
 use Rattle.version_graph.specs.Sets.{In}
 use Rattle.version_graph.specs.Forest.{Link, crossing}
 use Rattle.op_law.specs.Tables.{AllRise, Heading, Tables}
-use Rattle.op_law.specs.Sound.{RowsSound, TablesSound}
+use Rattle.op_law.specs.Sound.{PairsSound, RowsSound, TablesSound}
 use Rattle.op_law.specs.Identifiers.{has_id}
 use Rattle.op_law.specs.Laws.{Laws}
 use Rattle.op_law.specs.Local.{HalfLocal, rows_only}
@@ -26,12 +26,10 @@ use Rattle.row_changes.proofs.ChangedLaws.{after_other, changed_at}
 use Rattle.operator_changes.specs.Calls.{MayChange, ahead}
 use Rattle.operator_changes.specs.Footprint.{IsFootprint, passes}
 use Rattle.sought_ids.specs.Closed.{PassListed}
-use Rattle.sought_ids.specs.Keys.{KeyRows}
-use Rattle.sought_ids.specs.Places.{AreKeysIn, side_at}
+use Rattle.sought_ids.specs.Known.{Known}
+use Rattle.sought_ids.specs.Places.{AreKnown, PassEntries, PassKnown, is_on_target, side_at}
 use Rattle.sought_ids.specs.Seeking.{FootprintOf, IsMemory, SeekLaws}
-use Rattle.sought_ids.specs.FkPlace.{FkPlace}
-use Rattle.table_keys.specs.Keys.{keys_by}
-use Rattle.table_keys.specs.declared.columns.KeyColumns.TheVariants.{All as AllColumns, One}
+use Rattle.sought_ids.specs.SeekPlace.{SeekPlace}
 use Rattle.version_model.specs.States.{State}
 use Rattle.version_model.specs.Steps.{directed, pair_in}
 use Rattle.version_model.proofs.RunLaws.{way_laws}
@@ -111,43 +109,61 @@ pass_listed ids n st sound = record {
   second = λ q u at h. below_alike ids n (second_table st) (second_sound n st sound) q u at ∙ h;
 }
 
--- ---- an operator with a foreign key
+-- and of entries below it
+entry_below : (n : ℕ) (es : Pairs) (id a b : ℕ) → PairsSound n es → pair_of es id ≡ Some (a, b) → (id < n) × (a < n) × (b < n)
+entry_below n [] id a b sound at = absurd (cc)
+entry_below n (e ∷ es) id a b sound at =
+    by_test (e.0 == id)
+    (λ q.
+    let some : ◌≡◌ {A = Option (ℕ × ℕ)} (Some (e.1, e.2)) (Some (a, b)) = rw q at at in
+    let pair : ◌≡◌ {A = ℕ × ℕ} (e.1, e.2) (a, b) = cc in
+    let own = eqb-true e.0 id q in
+    (subst (λ (k : ℕ). k < n) own sound.0.0.1, subst (λ (k : ℕ × ℕ). k.0 < n) pair sound.0.1, subst (λ (k : ℕ × ℕ). k.1 < n) pair sound.0.2))
+    (λ q. let rest : pair_of es id ≡ Some (a, b) = rw q at at in entry_below n es id a b sound.1 rest)
 
--- the keys of S and T
-abbrev own_keys : ℕ → Tables → KeyRows
-own_keys place st = record { keys = keys_by (One place) (first_table st); rows = keys_by AllColumns (second_table st) }
+pass_entries : (ids : List ℕ) (n : ℕ) (es : Pairs) → PairsSound n es → PassEntries (passes ids n) ids es
+pass_entries ids n es sound = record {
+  own = λ id a b at h. under_passes ids n id (entry_below n es id a b sound at).0 ∙ h;
+  first = λ id a b at h. under_passes ids n a (entry_below n es id a b sound at).1 ∙ h;
+  second = λ id a b at h. under_passes ids n b (entry_below n es id a b sound at).2 ∙ h;
+}
 
--- its pairs have memories, whatever the pair of which these are the keys
-pub memory_of : (m : Meaning) (fk : Option FkPlace) → SeekLaws m fk → (keys : KeyRows) (own : PairState) → AreKeysIn fk own keys → (hs ht : List Heading) (q : PairState) → IsPair m hs ht q → IsMemory q.memory
-memory_of m None laws keys own are hs ht q pair = absurd are
-memory_of m (Some x) laws keys own are hs ht q pair = laws.memory (own_keys x.place (side_at (Some x) q)) hs ht q (record { keys = refl; rows = refl }) pair
+pub pass_known : (ids : List ℕ) (n : ℕ) (place : Option SeekPlace) (p : PairState) → TablesSound n (side_at place p) → PairsSound n p.memory → PassKnown (passes ids n) ids place p
+pass_known ids n place p sound entries = record { rows = pass_listed ids n (side_at place p) sound; entries = pass_entries ids n p.memory entries }
+
+-- ---- an operator that seeks
+
+-- the pairs of an operator that seeks have memories
+pub memory_of : (m : Meaning) (place : Option SeekPlace) → SeekLaws m place → (known : Known) (own : PairState) → AreKnown place own known → (hs ht : List Heading) (q : PairState) → IsPair m hs ht q → IsMemory q.memory
+memory_of m None laws known own are hs ht q pair = absurd are
+memory_of m (Some x) laws known own are hs ht q pair = laws.memory x refl hs ht q pair
 
 -- one without entries is a memory
 pub none_stand : (es : Pairs) → es ≡ [] → IsMemory es
 none_stand es none = subst (λ (x : Pairs). IsMemory x) (sym none) (record { rises = tt; one = λ s t. omega arith })
 
 -- a footprint of a crossing's near changes, as it is crossed
-pub foot_over : (m : Meaning) (fk : Option FkPlace) (keys : KeyRows) (near : TableChanges) (ids : List ℕ) (back : Bool) (p : PairState) → AreKeysIn fk (ahead back p) keys → FootprintOf m fk back keys near ids
+pub foot_over : (m : Meaning) (fk : Option SeekPlace) (known : Known) (near : TableChanges) (ids : List ℕ) (back : Bool) (p : PairState) → AreKnown fk (ahead back p) known → FootprintOf m fk back known near ids
     → (n : ℕ) → MayChange (directed back m) near p n → IsFootprint (directed back m) near p n ids
-foot_over m fk keys near ids false p are foot n may = foot p n are may
-foot_over m fk keys near ids true p are foot n may = foot (ahead true p) n are may
+foot_over m fk known near ids false p are foot n may = foot p n are may
+foot_over m fk known near ids true p are foot n may = foot (ahead true p) n are may
 
 -- S and T of an operator with a foreign key, on whichever way it is crossed
-pub side_sound : (fk : Option FkPlace) (n : ℕ) (p : PairState) → TablesSound n p.source → TablesSound n p.target → TablesSound n (side_at fk p)
+pub side_sound : (fk : Option SeekPlace) (n : ℕ) (p : PairState) → TablesSound n p.source → TablesSound n p.target → TablesSound n (side_at fk p)
 side_sound None n p source target = tt
-side_sound (Some fk) n p source target = elim fk.on_target as (λ (x : Bool). TablesSound n (if x then p.target else p.source)) [ true ↦ target | false ↦ source ]
+side_sound (Some fk) n p source target = elim (is_on_target fk) as (λ (x : Bool). TablesSound n (if x then p.target else p.source)) [ true ↦ target | false ↦ source ]
 
-pub key_numbers : {O : Type 0} (fk : Option FkPlace) (a : State) (e : Link O) (back : Bool) → side_at fk (pair_in a (crossing false e)) ≡ map a.tables (key_tables fk (crossing back e))
+pub key_numbers : {O : Type 0} (fk : Option SeekPlace) (a : State) (e : Link O) (back : Bool) → side_at fk (pair_in a (crossing false e)) ≡ map a.tables (key_tables fk (crossing back e))
 key_numbers None a e back = refl
 key_numbers {O} (Some fk) a e true =
-    elim fk.on_target as (λ (x : Bool). (if x then map a.tables e.targets else map a.tables e.sources) ≡ map a.tables (if x then e.targets else e.sources)) [ true ↦ refl | false ↦ refl ]
+    elim (is_on_target fk) as (λ (x : Bool). (if x then map a.tables e.targets else map a.tables e.sources) ≡ map a.tables (if x then e.targets else e.sources)) [ true ↦ refl | false ↦ refl ]
 key_numbers {O} (Some fk) a e false =
-    elim fk.on_target as (λ (x : Bool). (if x then map a.tables e.targets else map a.tables e.sources) ≡ map a.tables (if x then e.targets else e.sources)) [ true ↦ refl | false ↦ refl ]
+    elim (is_on_target fk) as (λ (x : Bool). (if x then map a.tables e.targets else map a.tables e.sources) ≡ map a.tables (if x then e.targets else e.sources)) [ true ↦ refl | false ↦ refl ]
 
-pub key_among : {O : Type 0} (fk : Option FkPlace) (e : Link O) (back : Bool) (t : ℕ) → In t (key_tables fk (crossing back e)) → In t e.sources ⊎ In t e.targets
+pub key_among : {O : Type 0} (fk : Option SeekPlace) (e : Link O) (back : Bool) (t : ℕ) → In t (key_tables fk (crossing back e)) → In t e.sources ⊎ In t e.targets
 key_among None e back t i = absurd i
-key_among {O} (Some fk) e true t i = elim fk.on_target as (λ (x : Bool). In t (if x then e.targets else e.sources) → In t e.sources ⊎ In t e.targets) [ true ↦ λ j. inr j | false ↦ λ j. inl j ] i
-key_among {O} (Some fk) e false t i = elim fk.on_target as (λ (x : Bool). In t (if x then e.targets else e.sources) → In t e.sources ⊎ In t e.targets) [ true ↦ λ j. inr j | false ↦ λ j. inl j ] i
+key_among {O} (Some fk) e true t i = elim (is_on_target fk) as (λ (x : Bool). In t (if x then e.targets else e.sources) → In t e.sources ⊎ In t e.targets) [ true ↦ λ j. inr j | false ↦ λ j. inl j ] i
+key_among {O} (Some fk) e false t i = elim (is_on_target fk) as (λ (x : Bool). In t (if x then e.targets else e.sources) → In t e.sources ⊎ In t e.targets) [ true ↦ λ j. inr j | false ↦ λ j. inl j ] i
 
 -- an operator that treats each identifier by itself does so either way
 pub half_local : (back : Bool) (m : Meaning) → Laws m → m.is_local ≡ true → HalfLocal (directed back m)

@@ -24,7 +24,7 @@ use operator_changes::add_drawn;
 use par_base::{Fault, List, Memory};
 use row_changes::copy_changes;
 use row_store::Changes;
-use sought_ids::{Carried, Seeks, closed_over, is_enough, more_ids};
+use sought_ids::{Carried, Kept, Seeks, closed_over, is_enough, more_ids};
 use std::alloc::Global;
 use std::sync::ledger::Ledger;
 use table_keys::TableKeys;
@@ -128,12 +128,13 @@ fn all_own(ids: &[u64], next: u64, made: &[Numbered<Changes>]) -> bool
 }
 
 // Whether the identifiers see all that was carried.
-fn sees_all<O: Seeks>(
+fn sees_all<O: Seeks, L: Ledger>(
     alloc: Global,
     db: &Db<O>,
     keys: &[Numbered<TableKeys>],
     writing: Writing<'_>,
     part: &PartMade,
+    steps: &mut Steps<L>,
 ) -> Result<bool, Memory>
     requires may { MayPlan O.meaning db.now writing.tree.now writing.written.now }
     requires right { AreKeysOf (state_for O.meaning db.now).tables keys.now }
@@ -143,44 +144,54 @@ fn sees_all<O: Seeks>(
 {
     let made = &part.making.made;
     let seen = add_drawn(alloc, part.ids.as_slice(), db.ids().next(), made.ids.next())?;
-    let carried = Carried {
+    let kept = Kept {
         keys,
+        memories: db.memories(),
+    };
+    let carried = Carried {
+        kept,
         made: made.tables.as_slice(),
         set: writing.written.set,
         operators: writing.tree.operators.as_slice(),
     };
-    is_enough(alloc, db.graph(), carried, seen.as_slice())
+    is_enough(alloc, db.graph(), carried, seen.as_slice(), steps)
 }
 
 // Those identifiers, and others that it has to see.
-fn grown<O: Seeks>(
+fn grown<O: Seeks, L: Ledger>(
     alloc: Global,
     db: &Db<O>,
     keys: &[Numbered<TableKeys>],
     writing: Writing<'_>,
     part: PartMade,
+    steps: &mut Steps<L>,
 ) -> Result<List<u64>, Memory>
     requires may { MayPlan O.meaning db.now writing.tree.now writing.written.now }
     requires right { AreKeysOf (state_for O.meaning db.now).tables keys.now }
     ensures { IfOk result (AreAmong part.ids) }
 {
     let PartMade { ids, making } = part;
-    let carried = Carried {
+    let kept = Kept {
         keys,
+        memories: db.memories(),
+    };
+    let carried = Carried {
+        kept,
         made: making.made.tables.as_slice(),
         set: writing.written.set,
         operators: writing.tree.operators.as_slice(),
     };
-    more_ids(alloc, db.graph(), carried, ids)
+    more_ids(alloc, db.graph(), carried, ids, steps)
 }
 
 // Whether what was made of the part is the part of the write.
-fn judge<O: Seeks>(
+fn judge<O: Seeks, L: Ledger>(
     alloc: Global,
     db: &Db<O>,
     keys: &[Numbered<TableKeys>],
     writing: Writing<'_>,
     part: PartMade,
+    steps: &mut Steps<L>,
 ) -> Result<Tried, Memory>
     requires may { MayPlan O.meaning db.now writing.tree.now writing.written.now }
     requires right { AreKeysOf (state_for O.meaning db.now).tables keys.now }
@@ -195,10 +206,10 @@ fn judge<O: Seeks>(
     if !all_own(part.ids.as_slice(), db.ids().next(), made) {
         return Ok(Tried::Never);
     }
-    if sees_all(alloc, db, keys, writing, &part)? {
+    if sees_all(alloc, db, keys, writing, &part, steps)? {
         return Ok(Tried::Made(part));
     }
-    let more = grown(alloc, db, keys, writing, part)?;
+    let more = grown(alloc, db, keys, writing, part, steps)?;
     Ok(Tried::More(more))
 }
 
@@ -245,7 +256,11 @@ fn try_part<O: Seeks, L: Ledger>(
 {
     let operators = writing.tree.operators.as_slice();
     let changes = writing.written.changes.as_slice();
-    let Some(closed) = closed_over(alloc, db.graph(), keys, operators, changes, ids)? else {
+    let kept = Kept {
+        keys,
+        memories: db.memories(),
+    };
+    let Some(closed) = closed_over(alloc, db.graph(), kept, operators, changes, ids)? else {
         return Ok(Tried::Never);
     };
     let Some(making) = make_seen(alloc, db, writing, closed.as_slice(), steps)? else {
@@ -260,12 +275,13 @@ fn try_part<O: Seeks, L: Ledger>(
             ids: closed,
             making,
         },
+        steps,
     )
 }
 
 /// A part of the tree of which the write is made, so that it is the part of the write, where one is
-/// found. It copies the rows of the part, so often as it grows, and looks twice for each of its
-/// identifiers and each operator on a foreign key.
+/// found. It copies the rows of the part, so often as it grows, and looks up to three times for
+/// each of its identifiers and each operator that seeks.
 pub(crate) fn make_part<O: Seeks, L: Ledger>(
     alloc: Global,
     db: &Db<O>,

@@ -171,7 +171,7 @@ fn plan_part<O: Seeks, L: Ledger>(
 }
 
 // A part of the tree of which the write is made, where its changes are few, each of the operators
-// treats each identifier by itself or is on a foreign key, and one is found.
+// treats each identifier by itself or seeks, and one is found.
 fn part_of<O: Seeks, L: Ledger>(
     alloc: Global,
     db: &Db<O>,

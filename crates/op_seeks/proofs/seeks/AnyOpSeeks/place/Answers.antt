@@ -2,7 +2,7 @@ use Rattle.std.proofs.Common.{sym, ap, ◌∙◌, subst}
 use Rattle.op_any.specs.Views.{built_view}
 use Rattle.op_seeks.specs.Places.{IsSought, place_of}
 use Rattle.op_seeks.specs.declared.sought.Sought.{Sought}
-use Rattle.op_seeks.proofs.seeks.AnyOpSeeks.foreign_key.Goals as goal
+use Rattle.op_seeks.proofs.seeks.AnyOpSeeks.place.Goals as goal
 
 pub returns-in-Decompose : goal.returns-in-Decompose
 returns-in-Decompose c =
