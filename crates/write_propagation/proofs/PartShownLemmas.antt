@@ -59,7 +59,7 @@ local_keeps m laws local hs ht old new P before after same =
     }
 
 -- what is reached of crossings in order is in order
-ordered_reached : {O : Type 0} (operators : List ℕ) (ps : List (Crossing O)) → Ordered ps → Ordered (reached operators ps)
+pub ordered_reached : {O : Type 0} (operators : List ℕ) (ps : List (Crossing O)) → Ordered ps → Ordered (reached operators ps)
 ordered_reached {O} operators [] order = tt
 ordered_reached {O} operators (p ∷ ps) order =
     let rest = ordered_reached operators ps order.3 in

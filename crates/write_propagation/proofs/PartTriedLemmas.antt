@@ -28,10 +28,10 @@ use Rattle.write_propagation.proofs.PartShownLemmas.{end_up}
 begun : {O : Type 0} (meaning : O → Meaning) (seeks : O → Option SeekPlace) (es : List (Placed O)) (items : KeptState) (ns first begin ids : List ℕ) → AreAmong first begin → AreClosed meaning seeks es items ns begin ids → AreClosed meaning seeks es items ns first ids
 begun meaning seeks es items ns first begin ids among closed = record { rise = closed.rise; begins = λ q h. closed.begins q (among q h); closed = closed.closed }
 
-pub closes_tree : {O : Type 0} (meaning : O → Meaning) (seeks : O → Option SeekPlace) (d : Parts O) (items : List (Numbered KeysState)) (tree : Tree) (w : RowWrite) (graph : Drawn O) (ns begin ids : List ℕ) (found : Option (List ℕ))
-    → graph ≡ d.graph → ns ≡ tree.operators → AreAmong (named_in w.changes) begin → found ≡ Some ids → IfSome found (AreClosed meaning seeks graph.edges (kept_with d items) ns begin) → ClosesTree meaning seeks d items tree w ids
-closes_tree {O} meaning seeks d items tree w graph ns begin ids found of_graph of_tree among is closed =
-    let here : AreClosed meaning seeks graph.edges (kept_with d items) ns begin ids = subst (λ (o : Option (List ℕ)). IfSome o (AreClosed meaning seeks graph.edges (kept_with d items) ns begin)) is closed in
+pub closes_tree : {O : Type 0} (meaning : O → Meaning) (seeks : O → Option SeekPlace) (d : Parts O) (items : List (Numbered KeysState)) (tree : Tree) (w : RowWrite) (kept : KeptState) (graph : Drawn O) (ns begin ids : List ℕ) (found : Option (List ℕ))
+    → kept ≡ kept_with d items → graph ≡ d.graph → ns ≡ tree.operators → AreAmong (named_in w.changes) begin → found ≡ Some ids → IfSome found (AreClosed meaning seeks graph.edges kept ns begin) → ClosesTree meaning seeks d items tree w ids
+closes_tree {O} meaning seeks d items tree w kept graph ns begin ids found of_kept of_graph of_tree among is closed =
+    let here : AreClosed meaning seeks graph.edges (kept_with d items) ns begin ids = subst (λ (o : Option (List ℕ)). IfSome o (AreClosed meaning seeks graph.edges (kept_with d items) ns begin)) is (subst (λ (k : KeptState). IfSome found (AreClosed meaning seeks graph.edges k ns begin)) of_kept closed) in
     let there : AreClosed meaning seeks d.graph.edges (kept_with d items) tree.operators begin ids =
     subst (λ (l : List ℕ). AreClosed meaning seeks d.graph.edges (kept_with d items) l begin ids) of_tree (subst (λ (x : Drawn O). AreClosed meaning seeks x.edges (kept_with d items) ns begin ids) of_graph here) in
     begun meaning seeks d.graph.edges (kept_with d items) tree.operators (named_in w.changes) begin ids among there
