@@ -10,9 +10,10 @@
 //! takes it back, list the table versions that get other rows, and hold their changes, stored or not
 //! (`specs/Told.antt`). A write is carried along its own tree by its changes, and what is put in
 //! are the changes of what is kept; where every operator of the tree treats each identifier by
-//! itself, it reads the rows of the identifiers that it names, and no others; where a table stands
-//! alone in its tree, it reads none. The crate knows operators by their laws alone, and nothing of
-//! names in statements or of replies.
+//! itself, it reads the rows of the identifiers that it names, and no others; where the others seek
+//! by keys or by pairs, and the changes are few, those that hang together with these; where a table
+//! stands alone in its tree, it reads none. The crate knows operators by their laws alone, and nothing
+//! of names in statements or of replies.
 //!
 //! Lemmas that crates above may use stand in proofs/: `HoldLaws`, `PlanLaws` and `UndoLaws`.
 #![tactic(auto)]
