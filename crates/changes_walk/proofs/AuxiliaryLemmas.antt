@@ -1,5 +1,5 @@
 -- The changes of the auxiliary tables of one operator, once a write was carried.
-use Rattle.std.proofs.Common.{◌≡◌, ℕ, ◌≤◌, Bool, true, List, [], ◌∷◌, ◌++◌, length, refl, ap, sym, ◌∙◌, subst, arith}
+use Rattle.std.proofs.Common.{◌≡◌, ℕ, ◌≤◌, Bool, true, List, [], ◌∷◌, ◌++◌, length, refl, ap, sym, ◌∙◌, subst, arith, tt}
 use Rattle.id_memory.specs.Pairs.{Pairs}
 use Rattle.op_law.specs.Tables.{Tables}
 use Rattle.op_law.specs.Identifiers.{IdsRise, has_id}
@@ -21,6 +21,11 @@ use Rattle.changes_walk.specs.declared.progress.Changing.{Changing}
 use Rattle.changes_walk.proofs.NamedLemmas.{few_touched, side_names}
 use Rattle.changes_walk.proofs.SideLemmas.{changed_map, fits_map}
 use Rattle.changes_walk.proofs.StepLemmas.{way_half}
+
+-- no tables
+no_tables : (ts : Tables) → length ts ≡ 0 → ts ≡ []
+no_tables [] many = refl
+no_tables (t ∷ ts) many = absurd (let none : ⊥ = cc in none)
 
 module _ {O : Type 0} (meaning : O → Meaning) (old : State) (made : Changing) (p : Crossing O) (may : MayChangeAux meaning old made p) where
   abbrev over : Meaning
@@ -76,6 +81,13 @@ module _ {O : Type 0} (meaning : O → Meaning) (old : State) (made : Changing) 
   -- as many are kept beside both
   pub as_many : Laws (meaning p.operator) → length (aux_beside meaning old p) ≡ length (aux_beside meaning (changing_state old made) p)
   as_many laws = (way_laws p.backward (meaning p.operator) laws).aux_many may.hs may.ht pair now may.before may.after
+
+  -- where none are kept beside the one none are beside the other, and nothing changes
+  pub none_change : Laws (meaning p.operator) → (aux : Tables) → aux ≡ aux_beside meaning old p → aux ≡ [] → AreAuxChanges meaning old made p aux []
+  none_change laws aux is none =
+      let many : length (aux_beside meaning (changing_state old made) p) ≡ 0 = sym (as_many laws) ∙ ap (λ (ts : Tables). length ts) (sym is ∙ none) in
+      subst (λ (ts : Tables). AreDifferences ts (aux_beside meaning (changing_state old made) p) []) (sym none)
+      (subst (λ (ts : Tables). AreDifferences [] ts []) (sym (no_tables (aux_beside meaning (changing_state old made) p) many)) tt)
 
   -- ---- over an operator that treats each identifier by itself
 

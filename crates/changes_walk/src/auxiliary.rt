@@ -1,5 +1,5 @@
 //! The changes of the auxiliary tables of one operator, once a write was carried.
-ghost use Rattle.std.specs.Prelude.{◌≡◌, true, map, length, IfOk};
+ghost use Rattle.std.specs.Prelude.{◌≡◌, true, map, length, [], IfOk};
 ghost use Rattle.op_law.specs.Calls.{seen, tables_of};
 ghost use Rattle.op_law.specs.Premises.{SomePair};
 ghost use Rattle.row_changes.specs.Changed.{changed_tables, AreChangesOf};
@@ -18,7 +18,7 @@ use expr_lang::Steps;
 use id_memory::PairMemory;
 use op_law::{Aux, Operator, Pair, Side};
 use operator_changes::aux_changes_over;
-use par_base::Memory;
+use par_base::{List, Memory};
 use row_changes::{SideChanges, changed_copies, differences};
 use row_store::Changes;
 use std::alloc::Global;
@@ -118,6 +118,13 @@ fn aux_over<O: Operator, L: Ledger>(
     }
 }
 
+/// Whether no auxiliary tables are kept.
+fn is_bare(aux: &Aux) -> bool
+    ensures { result ≡ true → tables_of aux.now ≡ [] }
+{
+    aux.tables.is_empty()
+}
+
 /// Over an operator that treats each identifier by itself, from the old rows of the identifiers
 /// that the changes of both sides name. Its memory is empty, and stays so.
 fn aux_local<O: Operator, D: StateRead, L: Ledger>(
@@ -173,9 +180,10 @@ fn aux_whole<O: Operator, D: StateRead, L: Ledger>(
 }
 
 /// Exactly the difference between the auxiliary tables of an operator in the old state and in the
-/// one that the changes make. The near side of the way is the stored one. Over an operator that
-/// treats each identifier by itself it reads of the old state the rows of the identifiers that the
-/// changes name, and no others; over any other it copies the tables on both sides.
+/// one that the changes make. The near side of the way is the stored one. Where no auxiliary tables
+/// are kept, none come, and it reads nothing. Over an operator that treats each identifier by itself it
+/// reads of the old state the rows of the identifiers that the changes name, and no others; over any
+/// other it copies the tables on both sides.
 pub fn aux_changes<O: Operator, D: StateRead, L: Ledger>(
     alloc: Global,
     over: &Way<'_, O>,
@@ -191,6 +199,11 @@ pub fn aux_changes<O: Operator, D: StateRead, L: Ledger>(
         (crossing_of over.now) (tables_of aux.now) changes.tables) }
     ensures steps { AuxTakes O.meaning (crossing_of over.now) made.now steps.old steps.new }
 {
+    if is_bare(aux) {
+        return Ok(SideChanges {
+            tables: List::new(alloc),
+        });
+    }
     if over.operator.is_local() {
         aux_local(alloc, over, rows, made, aux, steps)
     } else {

@@ -1,5 +1,11 @@
 -- Copies of a tree hold what is seen of it.
-use Rattle.std.proofs.Common.{◌≡◌, ℕ, List, [], cond, true, false, inl, inr, sym, ◌∙◌}
+use Rattle.std.proofs.Common.{◌≡◌, ℕ, ◌<◌, ◌≤◌, Bool, List, [], ◌∷◌, cond, true, false, inl, inr, refl, sym, ◌∙◌, arith}
+use Rattle.id_memory.specs.Pairs.{Pairs}
+use Rattle.row_store.specs.Rows.{Rows}
+use Rattle.op_law.specs.Identifiers.{IdsRise, has_id}
+use Rattle.op_law.specs.Local.{rows_only}
+use Rattle.op_law.specs.Sound.{PairsSound, RowsSound}
+use Rattle.pair_parts.specs.Parts.{memory_only}
 use Rattle.row_store.specs.States.{TableState}
 use Rattle.id_memory.specs.States.{MemoryState}
 use Rattle.version_graph.specs.Sets.{In}
@@ -7,15 +13,16 @@ use Rattle.version_graph.specs.Tables.{table_numbers}
 use Rattle.version_graph.specs.Edges.{is_in, made as made_tables}
 use Rattle.version_graph.specs.Forest.{Link, forest}
 use Rattle.op_law.specs.Meaning.{Meaning}
+use Rattle.op_law.proofs.IdentifierLaws.{none_before}
 use Rattle.layout_rules.specs.Ways.{ReadsOver}
 use Rattle.version_model.specs.Kept.{pairs_at, rows_at, rows_now}
 use Rattle.version_model.specs.declared.numbered.Numbered.{Numbered}
 use Rattle.version_model.proofs.HeadingLaws.{in_or_not}
 use Rattle.storage_law.specs.Storage.{stored_way}
 use Rattle.db_state.specs.Covered.{Covers, CoversItself}
-use Rattle.db_state.specs.Fields.{state_for}
+use Rattle.db_state.specs.Fields.{IsDatabase, state_for}
 use Rattle.db_state.specs.declared.parts.Parts.{Parts}
-use Rattle.write_propagation.specs.Calls.{CopiesTree, beside, told_pairs, told_rows}
+use Rattle.write_propagation.specs.Calls.{AreToCome, CopiesTree, beside, told_pairs, told_rows}
 use Rattle.db_state.specs.Parts.{entries_of, passes, seen_of}
 use Rattle.db_state.specs.declared.sight.Sight.{Sight}
 use Rattle.version_model.specs.States.{State}
@@ -63,3 +70,32 @@ module _ {O : Type 0} (meaning : O → Meaning) (d : Parts O) (tree : Tree) (who
 
     pub copies_tree : CopiesTree meaning d tree sight (record { tables = tables; memories = memories })
     copies_tree = record { tables = copied_table; memories = copied_memory }
+
+-- ---- identifiers to come
+
+-- what begins at an identifier or above has none before
+pub before_first : (first : ℕ) (rest : List ℕ) (n : ℕ) → IdsRise 0 (first ∷ rest) → n ≤ first → (id : ℕ) → id < n → has_id (first ∷ rest) id ≡ false
+before_first first rest n rise most id before = none_before first (first ∷ rest) id (omega arith, rise.1) (omega (arith, most, before))
+
+-- of rows below the next identifier none pass that are to come
+no_rows : (P : ℕ → Bool) (n : ℕ) (rows : Rows) → RowsSound n rows → ((id : ℕ) → id < n → P id ≡ false) → rows_only P rows ≡ []
+no_rows P n [] sound none = refl
+no_rows P n (r ∷ rs) sound none = rw (none r.0 sound.0.0.1) (no_rows P n rs sound.1 none)
+
+-- and none of the entries
+no_entries : (P : ℕ → Bool) (n : ℕ) (es : Pairs) → PairsSound n es → ((id : ℕ) → id < n → P id ≡ false) → memory_only P es ≡ []
+no_entries P n [] sound none = refl
+no_entries P n (e ∷ es) sound none = rw (none e.0 sound.0.0.1) (no_entries P n es sound.1 none)
+
+-- SO NOTHING IS SEEN OF A TREE
+pub copies_none : {O : Type 0} (meaning : O → Meaning) (d : Parts O) → IsDatabase meaning d → (tree : Tree) (sight : Sight) → AreToCome sight d.ids.next → CopiesTree meaning d tree sight (record { tables = []; memories = [] })
+copies_none meaning d good tree sight come =
+    let s = state_for meaning d in
+    record {
+      tables = λ t. in_or_not t tree.tables ([] ≡ (part (passes sight) tree s).tables t)
+        (λ i. sym (part_table (passes sight) tree s t i ∙ no_rows (passes sight) d.ids.next (s.tables t) (good.sound.well.rows t) come))
+        (λ none. sym (no_table (passes sight) tree s t none));
+      memories = λ n. in_or_not n tree.operators ([] ≡ (part (passes sight) tree s).memory n)
+        (λ i. sym (part_memory (passes sight) tree s n i ∙ no_entries (passes sight) d.ids.next (s.memory n) (good.sound.well.memories n) come))
+        (λ none. sym (no_memory (passes sight) tree s n none));
+    }

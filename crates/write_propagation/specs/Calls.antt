@@ -1,5 +1,5 @@
 -- What inner calls ensure.
-use Rattle.std.specs.Prelude.{◌≡◌, ℕ, List, filter, map}
+use Rattle.std.specs.Prelude.{◌≡◌, ℕ, ◌<◌, false, List, filter, map}
 use Rattle.row_store.specs.Rows.{Rows}
 use Rattle.row_store.specs.States.{TableState}
 use Rattle.id_memory.specs.Pairs.{Pairs}
@@ -39,6 +39,10 @@ beside f ns = map (λ n. (n, f n)) ns
 pub record CopiesTree {O : Type 0} (meaning : O → Meaning) (d : Parts O) (tree : Tree) (sight : Sight) (copies : Copies) : Type 0 where
   pub tables : (t : ℕ) → rows_at copies.tables t ≡ (part (passes sight) tree (state_for meaning d)).tables t
   pub memories : (n : ℕ) → pairs_at copies.memories n ≡ (part (passes sight) tree (state_for meaning d)).memory n
+
+-- only identifiers are seen that are drawn from n on
+abbrev pub AreToCome : Sight → ℕ → Type 0
+AreToCome sight n = (id : ℕ) → id < n → passes sight id ≡ false
 
 -- the stored tables of the tree
 abbrev pub stored_in : {O : Type 0} → Parts O → Tree → List ℕ

@@ -1,12 +1,13 @@
 //! Copies of the tables and memories of a tree.
-ghost use Rattle.std.specs.Prelude.{◌≡◌, filter, IfOk};
+ghost use Rattle.std.specs.Prelude.{◌≡◌, ℕ, ◌<◌, true, false, filter, IfOk};
+ghost use Rattle.op_law.specs.Identifiers.{has_id, IdsRise};
 ghost use Rattle.version_graph.specs.Edges.{is_in};
 ghost use Rattle.version_graph.specs.Forest.{forest};
 ghost use Rattle.version_model.specs.Kept.{rows_now, pairs_at, numbers_in};
-ghost use Rattle.db_state.specs.Fields.{state_for};
+ghost use Rattle.db_state.specs.Fields.{state_for, IsDatabase};
 ghost use Rattle.db_state.specs.Parts.{entries_of, listed_in, seen_of, Ascends, MaySee, SeenWithin};
 ghost use Rattle.changes_walk.specs.Reach.{IsWhole};
-ghost use Rattle.write_propagation.specs.Calls.{beside, told_pairs, told_rows, CopiesTree};
+ghost use Rattle.write_propagation.specs.Calls.{beside, told_pairs, told_rows, AreToCome, CopiesTree};
 
 use crate::tree::Tree;
 use db_state::{Db, Sight, memory_seen, now_seen, read_over};
@@ -105,7 +106,7 @@ pub fn kept_of(alloc: Global, kept: &[Numbered<Table>], tables: &[u32]) -> Resul
 }
 
 /// What is seen of the tables and the memories of a tree, read from what is stored.
-pub fn copy_tree<O: Operator, L: Ledger>(
+fn read_tree<O: Operator, L: Ledger>(
     alloc: Global,
     db: &Db<O>,
     tree: &Tree,
@@ -131,4 +132,54 @@ pub fn copy_tree<O: Operator, L: Ledger>(
     let operators = tree.operators.as_slice();
     let memories = copy_memories(alloc, db.memories(), operators, sight)?;
     Ok(Copies { tables, memories })
+}
+
+#[tactic(auto, using(crate::proofs::CopyLemmas::before_first))]
+fn begin_from(ids: &[u64], next: u64) -> bool
+    requires { IdsRise 0 ids.now }
+    ensures { result ≡ true → (id : ℕ) → id < next → has_id ids.now id ≡ false }
+{
+    match ids {
+        [] => true,
+        [first, ..] => *first >= next,
+    }
+}
+
+// Whether identifiers alone are seen that are drawn from here on.
+fn are_to_come(sight: Sight<'_>, next: u64) -> bool
+    requires { Ascends sight }
+    ensures { result ≡ true → AreToCome sight.entry next }
+{
+    match sight {
+        Sight::Of(ids) => begin_from(ids, next),
+        Sight::All => false,
+        Sight::Part(_) => false,
+    }
+}
+
+/// What is seen of the tables and the memories of a tree. It is read from what is stored, but where only
+/// identifiers are seen that weren't drawn: then nothing is there.
+pub fn copy_tree<O: Operator, L: Ledger>(
+    alloc: Global,
+    db: &Db<O>,
+    tree: &Tree,
+    sight: Sight<'_>,
+    steps: &mut Steps<L>,
+) -> Result<Copies, Memory>
+    requires kept { IsDatabase O.meaning db.now }
+    requires whole { IsWhole db.now.graph.edges tree.now.operators tree.now.tables }
+    requires may { MaySee O.meaning db.now.graph.edges (state_for O.meaning db.now)
+        tree.now.operators sight }
+    requires ascends { Ascends sight }
+    ensures copies { IfOk result (CopiesTree O.meaning db.now tree.now sight.entry) }
+    ensures steps { SeenWithin 2 sight.entry (listed_in tree.now.operators
+        (forest db.now.graph.edges)) steps.old steps.new }
+{
+    if are_to_come(sight, db.ids().next()) {
+        return Ok(Copies {
+            tables: List::new(alloc),
+            memories: List::new(alloc),
+        });
+    }
+    read_tree(alloc, db, tree, sight, steps)
 }

@@ -13,6 +13,9 @@ use Rattle.write_propagation.proofs.AuxLemmas.{sees_rise}
 use Rattle.write_propagation.proofs.SeenLemmas.{carry_within, making_is, making_refused, may_carry, of_tree}
 use Rattle.write_propagation.proofs.making.make_write.Goals as goal
 
+pub copy_tree-requires-clause-kept : goal.copy_tree-requires-clause-kept
+copy_tree-requires-clause-kept g c = c.requires.may.kept
+
 pub copy_tree-requires-clause-whole : goal.copy_tree-requires-clause-whole
 copy_tree-requires-clause-whole g c = of_tree g.O.Operator.meaning g.met.O.Operator.laws c.args.db.now c.requires.may.kept c.args.tree.now c.args.written c.requires.may
 
