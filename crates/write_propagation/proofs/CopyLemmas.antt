@@ -74,8 +74,8 @@ module _ {O : Type 0} (meaning : O → Meaning) (d : Parts O) (tree : Tree) (who
 -- ---- identifiers to come
 
 -- what begins at an identifier or above has none before
-pub before_first : (first : ℕ) (rest : List ℕ) (n : ℕ) → IdsRise 0 (first ∷ rest) → n ≤ first → (id : ℕ) → id < n → has_id (first ∷ rest) id ≡ false
-before_first first rest n rise most id before = none_before first (first ∷ rest) id (omega arith, rise.1) (omega (arith, most, before))
+pub none_before_first : (first : ℕ) (rest : List ℕ) (n : ℕ) → IdsRise 0 (first ∷ rest) → n ≤ first → (id : ℕ) → id < n → has_id (first ∷ rest) id ≡ false
+none_before_first first rest n rise most id before = none_before first (first ∷ rest) id (omega arith, rise.1) (omega (arith, most, before))
 
 -- of rows below the next identifier none pass that are to come
 no_rows : (P : ℕ → Bool) (n : ℕ) (rows : Rows) → RowsSound n rows → ((id : ℕ) → id < n → P id ≡ false) → rows_only P rows ≡ []

@@ -134,14 +134,14 @@ fn read_tree<O: Operator, L: Ledger>(
     Ok(Copies { tables, memories })
 }
 
-#[tactic(auto, using(crate::proofs::CopyLemmas::before_first))]
+#[tactic(auto, using(crate::proofs::CopyLemmas::none_before_first))]
 fn begin_from(ids: &[u64], next: u64) -> bool
     requires { IdsRise 0 ids.now }
     ensures { result ≡ true → (id : ℕ) → id < next → has_id ids.now id ≡ false }
 {
-    match ids {
-        [] => true,
-        [first, ..] => *first >= next,
+    match ids.split_first() {
+        Some((first, _rest)) => *first >= next,
+        None => true,
     }
 }
 

@@ -17,8 +17,8 @@ returns-then-are_to_come-clause-copies g c =
     let next = c.next.ensures.value ∙ ap (λ (x : CounterState). x.next) c.ids.ensures in
     let come = subst (λ (n : ℕ). AreToCome c.args.sight n) next (c.are_to_come.ensures c.if-are_to_come.true) in
     let none = copies_none m d c.requires.kept tree c.args.sight come in
-    subst (λ (ts : List (Numbered TableState)). CopiesTree m d tree c.args.sight (record { tables = ts; memories = c.new-2.result })) (sym c.new.ensures)
-    (subst (λ (ms : List (Numbered MemoryState)). CopiesTree m d tree c.args.sight (record { tables = []; memories = ms })) (sym c.new-2.ensures) none)
+    subst (λ (ts : List (Numbered TableState)). CopiesTree m d tree c.args.sight (record { tables = ts; memories = c.new-then-are_to_come.result })) (sym c.new.ensures)
+    (subst (λ (ms : List (Numbered MemoryState)). CopiesTree m d tree c.args.sight (record { tables = []; memories = ms })) (sym c.new-then-are_to_come.ensures) none)
 
 pub returns-then-are_to_come-clause-steps : goal.returns-then-are_to_come-clause-steps
 returns-then-are_to_come-clause-steps g c = seen_none 2 c.args.sight (listed_in c.args.tree.now.operators (forest c.args.db.now.graph.edges)) c.args.steps.now
