@@ -93,9 +93,9 @@ copies_none meaning d good tree sight come =
     let s = state_for meaning d in
     record {
       tables = λ t. in_or_not t tree.tables ([] ≡ (part (passes sight) tree s).tables t)
-        (λ i. sym (part_table (passes sight) tree s t i ∙ no_rows (passes sight) d.ids.next (s.tables t) (good.sound.well.rows t) come))
-        (λ none. sym (no_table (passes sight) tree s t none));
+          (λ i. sym (part_table (passes sight) tree s t i ∙ no_rows (passes sight) d.ids.next (s.tables t) (good.sound.well.rows t) come))
+          (λ none. sym (no_table (passes sight) tree s t none));
       memories = λ n. in_or_not n tree.operators ([] ≡ (part (passes sight) tree s).memory n)
-        (λ i. sym (part_memory (passes sight) tree s n i ∙ no_entries (passes sight) d.ids.next (s.memory n) (good.sound.well.memories n) come))
-        (λ none. sym (no_memory (passes sight) tree s n none));
+          (λ i. sym (part_memory (passes sight) tree s n i ∙ no_entries (passes sight) d.ids.next (s.memory n) (good.sound.well.memories n) come))
+          (λ none. sym (no_memory (passes sight) tree s n none));
     }

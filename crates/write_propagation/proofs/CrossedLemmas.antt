@@ -55,14 +55,16 @@ module _ {O : Type 0} (meaning : O → Meaning) (laws : (o : O) → Laws (meanin
       let more_behind : old.next ≤ behind.next = omega (arith, more, rise) in
       let rest = run_rises meaning laws heading old sound ps behind well_behind more_behind ready.1 in
       let leaves : pair_in end p ≡ pair_in behind p = run_leaves meaning old ps behind p order.2 in
-      let near : map end.tables p.near ≡ map a.tables p.near = ap (λ (x : PairState). x.source) leaves ∙ put_apart a.tables p.far (mapped meaning old a p).far p.near order.1 in
-      (record {
-        next = a.next;
-        up = more;
-        less = omega (arith, rise, rest);
-        may = subst (λ (ts : Tables). MayMap m (map heading p.near) (map heading p.far) ts (pair_in old p) a.next) (sym near) may;
-        is = leaves ∙ pair_is a p well more ready.0 order.0 order.1 ∙ ap (λ (ts : Tables). pair_after m ts (pair_in old p) a.next) (sym near);
-      }, run_crossed ps behind well_behind more_behind ready.1 order.3)
+      let near : map end.tables p.near ≡ map a.tables p.near = ap (λ (x : PairState). x.source) leaves ∙ put_apart a.tables p.far (mapped meaning old a p).far p.near order.1 in (
+        record {
+          next = a.next;
+          up = more;
+          less = omega (arith, rise, rest);
+          may = subst (λ (ts : Tables). MayMap m (map heading p.near) (map heading p.far) ts (pair_in old p) a.next) (sym near) may;
+          is = leaves ∙ pair_is a p well more ready.0 order.0 order.1 ∙ ap (λ (ts : Tables). pair_after m ts (pair_in old p) a.next) (sym near);
+        },
+        run_crossed ps behind well_behind more_behind ready.1 order.3,
+      )
 
 -- so the pair of an operator is mapped, by the changes of the near tables of its crossing
 pub mapped_by : {O : Type 0} (meaning : O → Meaning) (heading : ℕ → Heading) (s end : State) (e : Link O) (back : Bool) (changes : TableChanges) (seen : List ℕ) (crossed : IsCrossedAt meaning heading s end (crossing back e))
