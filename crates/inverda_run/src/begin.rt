@@ -84,9 +84,7 @@ fn load_engine<F: Files>(
     ensures later { F.faults files.old ≤ F.faults files.new }
 {
     match read_file(alloc, files, name, LIMIT) {
-        Ok(FileRead::Whole(bytes)) => {
-            load_from::<Brand>(alloc, bytes, limits, Blank::new(1))
-        }
+        Ok(FileRead::Whole(bytes)) => { load_from::<Brand>(alloc, bytes, limits, Blank::new(1)) }
         Ok(FileRead::TooLong) => Err(NotBegun::TooLong),
         Ok(FileRead::Fault) => Err(NotBegun::Fault),
         Err(_) => Err(NotBegun::Memory),
