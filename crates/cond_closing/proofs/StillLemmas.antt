@@ -1,5 +1,5 @@
 -- What an identifier brings, from what is found for it.
-use Rattle.std.proofs.Common.{◌≡◌, ℕ, ◌+◌, ◌<◌, List, [], ◌∷◌, ◌++◌, true, false, Option, Some, None, refl, ap, sym, ◌∙◌, subst}
+use Rattle.std.proofs.Common.{◌≡◌, ℕ, ◌+◌, ◌<◌, ◌≤◌, List, [], ◌∷◌, ◌++◌, true, false, Option, Some, None, refl, ap, sym, ◌∙◌, subst, arith}
 use Rattle.std.proofs.lemmas.Bool.{cases_lt, false≢true}
 use mathlib.Core.Logic.{inl, inr}
 use Rattle.id_memory.specs.Pairs.{Pairs, pair_of}
@@ -33,28 +33,33 @@ both_added m q a b ids at x y is =
     )
 
 -- the one that brought it
-pub by_is : (half : Half) (it : ChangingMemory) (q p : ℕ) (pair : ℕ × ℕ) → pair_of it.entries p ≡ Some pair → pick_of half (p, pair.0, pair.1) ≡ q → stays it (p, pair.0, pair.1) ≡ true → IsStill half it q p
-by_is half it q p pair at own still = record { entry = (p, pair.0, pair.1); own = refl; is = at; has = own; still = still }
+pub by_is : (half : Half) (it : ChangingMemory) (q p : ℕ) (pair : ℕ × ℕ) → pair_of it.entries p ≡ Some pair → pick_of half (p, pair.0, pair.1) ≡ q → stays it (p, pair.0, pair.1) ≡ true → IsStill half it q 0 p
+by_is half it q p pair at own still = record { entry = (p, pair.0, pair.1); own = refl; is = at; has = own; behind = omega arith; still = still }
 
 -- the next entry that isn't changed, where those before it are
-module _ (half : Half) (it : ChangingMemory) (q from : ℕ) (passed : (d : Triple) → IsEntry it.entries d → pick_of half d ≡ q → other_of half d < from → stays it d ≡ false) where
+module _ (half : Half) (it : ChangingMemory) (q start from : ℕ) (passed : (d : Triple) → IsEntry it.entries d → pick_of half d ≡ q → start ≤ other_of half d → other_of half d < from → stays it d ≡ false) where
   pub passed_more : (e : Triple) (found : Option Triple) → found ≡ Some e → IsNextWith half it.entries q from found → stays it e ≡ false
-      → (d : Triple) → IsEntry it.entries d → pick_of half d ≡ q → other_of half d < other_of half e + 1 → stays it d ≡ false
-  passed_more e found some next not_still d is own low =
+      → (d : Triple) → IsEntry it.entries d → pick_of half d ≡ q → start ≤ other_of half d → other_of half d < other_of half e + 1 → stays it d ≡ false
+  passed_more e found some next not_still d is own begins low =
       elim (up_to half it.entries q from e found some next d is own low) [
-        | inl before ↦ passed d is own before
+        | inl before ↦ passed d is own begins before
         | inr same ↦ ap (stays it) (entry_same it.entries d e is (it_is half it.entries q from e found some next).is same) ∙ not_still
       ]
 
-  pub still_found : (e : Triple) (found : Option Triple) → found ≡ Some e → IsNextWith half it.entries q from found → stays it e ≡ true → IsStill half it q e.0
-  still_found e found some next still =
+  pub still_found : (e : Triple) (found : Option Triple) → found ≡ Some e → IsNextWith half it.entries q from found → start ≤ from → stays it e ≡ true → IsStill half it q start e.0
+  still_found e found some next low still =
       let f = it_is half it.entries q from e found some next in
-      record { entry = e; own = refl; is = f.is; has = f.has; still = still }
+      let behind = f.behind in
+      record { entry = e; own = refl; is = f.is; has = f.has; behind = omega (arith, low, behind); still = still }
 
-  pub still_none : NoneWith half it.entries q from → (e : Triple) → IsEntry it.entries e → pick_of half e ≡ q → stays it e ≡ true → ⊥
-  still_none none e is own still =
+  -- the search goes on behind it
+  pub still_behind : (e : Triple) (found : Option Triple) → found ≡ Some e → IsNextWith half it.entries q from found → start ≤ from → start ≤ other_of half e + 1
+  still_behind e found some next low = let behind = (it_is half it.entries q from e found some next).behind in omega (arith, low, behind)
+
+  pub still_none : NoneWith half it.entries q from → (e : Triple) → IsEntry it.entries e → pick_of half e ≡ q → start ≤ other_of half e → stays it e ≡ true → ⊥
+  still_none none e is own begins still =
       elim (cases_lt (other_of half e) from) [
-        | inl h ↦ false≢true (sym (passed e is own h) ∙ still)
+        | inl h ↦ false≢true (sym (passed e is own begins h) ∙ still)
         | inr h ↦ none e is own h
       ]
 
@@ -64,12 +69,12 @@ none_of None other = refl
 none_of (Some x) other = absurd (other x refl)
 
 module _ (it : ChangingMemory) (q : ℕ) where
-  brings_found : (half : Half) (found : Option ℕ) (ids : List ℕ) → ((g : ℕ) → found ≡ Some g → has_id ids g ≡ true) → IsStillBy half it q found → BringsStill half it ids q
-  brings_found half None ids has none = λ e is own still. absurd (none e is own still)
+  brings_found : (half : Half) (found : Option ℕ) (ids : List ℕ) → ((g : ℕ) → found ≡ Some g → has_id ids g ≡ true) → IsStillBy half it q 0 found → BringsStill half it ids q
+  brings_found half None ids has none = λ e is own still. absurd (none e is own (omega arith) still)
   brings_found half (Some p) ids has one = λ e is own still. record { id = p; still = one; among = has p refl }
 
   -- WHAT IS FOUND IS WHAT IS BROUGHT
-  pub found_is_brought : (ids : List ℕ) (a c : Option ℕ) → BringsBoth it.entries q ids → IsStillBy First it q a → IsStillBy Second it q c → IsBrought it q (added (added ids a) c)
+  pub found_is_brought : (ids : List ℕ) (a c : Option ℕ) → BringsBoth it.entries q ids → IsStillBy First it q 0 a → IsStillBy Second it q 0 c → IsBrought it q (added (added ids a) c)
   found_is_brought ids a c both first second = record {
     rows = λ x y at.
         let f = both x y at in
