@@ -1,5 +1,5 @@
 -- What closed identifiers bring of a memory while rows of its entries change.
-use Rattle.std.proofs.Common.{◌≡◌, ℕ, ◌<◌, List, Bool, true, false, ◌&&◌, not, refl, ap, sym, ◌∙◌, subst}
+use Rattle.std.proofs.Common.{◌≡◌, ℕ, ◌<◌, List, Bool, true, false, ◌&&◌, not, Option, Some, None, refl, ap, sym, ◌∙◌, subst, arith}
 use Rattle.std.proofs.lemmas.Bool.{false≢true}
 use Rattle.id_memory.specs.Pairs.{Pairs, RiseFrom}
 use Rattle.op_law.specs.Identifiers.{has_id}
@@ -18,7 +18,7 @@ use Rattle.cond_parts.specs.Closed.{BringsRows}
 use Rattle.id_closing.specs.Found.{AreAmong}
 use Rattle.id_closing.specs.Closing.{IsClosing}
 use Rattle.cond_closing.specs.Entries.{IsEntry}
-use Rattle.cond_closing.specs.Steady.{BringsStill, IsBrought, changed_entries, stays}
+use Rattle.cond_closing.specs.Steady.{BringsStill, ChangingMemory, IsBrought, IsStillBy, changed_entries, stays}
 use Rattle.cond_closing.proofs.SearchLemmas.{Triple}
 use Rattle.cond_closing.proofs.StandLaws.{entry_under, listed_passes, listed_under, stands_by, stands_in}
 
@@ -26,6 +26,18 @@ use Rattle.cond_closing.proofs.StandLaws.{entry_under, listed_passes, listed_und
 not_true : (b : Bool) → not b ≡ true → b ≡ false
 not_true true h = absurd (false≢true h)
 not_true false h = refl
+
+-- an entry that isn't changed, where one was found
+pub brings_found : (it : ChangingMemory) (q : ℕ) (half : Half) (found : Option ℕ) (ids : List ℕ) → ((g : ℕ) → found ≡ Some g → has_id ids g ≡ true) → IsStillBy half it q 0 found → BringsStill half it ids q
+brings_found it q half None ids has none = λ e is own still. absurd (none e is own (omega arith) still)
+brings_found it q half (Some p) ids has one = λ e is own still. record { id = p; still = one; among = has p refl }
+
+-- the same while other lists name the same rows
+pub still_same : (half : Half) (m : Pairs) (some other ids : List ℕ) (q : ℕ) → ((x : ℕ) → has_id some x ≡ has_id other x) → BringsStill half (changed_entries m some) ids q → BringsStill half (changed_entries m other) ids q
+still_same half m some other ids q same brings e is own still =
+    let f = brings e is own (ap not (same e.0) ∙ still) in
+    let d = f.still in
+    record { id = f.id; still = record { entry = d.entry; own = d.own; is = d.is; has = d.has; behind = d.behind; still = ap not (sym (same d.entry.0)) ∙ d.still }; among = f.among }
 
 module _ (m : Pairs) (n : ℕ) (sound : PairsSound n m) (rise : RiseFrom 0 m) (near : TableChanges) (changed begin ids : List ℕ)
     (same : (q : ℕ) → has_id changed q ≡ has_id (touched near) q) (names : AreAmong (touched near) begin) (closing : IsClosing (IsBrought (changed_entries m changed)) begin ids) where

@@ -3,7 +3,7 @@ use Rattle.std.proofs.Common.{◌≡◌, ℕ, zero, suc, ◌==◌, List, [], ◌
 use Rattle.std.proofs.lemmas.Bool.{eqb-true, false≢true}
 use Rattle.row_store.specs.declared.change.Change.{Change}
 use Rattle.row_store.specs.Rows.{Rows, row_of}
-use Rattle.row_store.specs.Changes.{after, AreOld}
+use Rattle.row_store.specs.Changes.{after, AreOld, ChangesRise}
 use Rattle.op_law.specs.Identifiers.{has_id}
 use Rattle.op_law.specs.Tables.{Tables, AllRise}
 use Rattle.op_law.proofs.IdentifierLaws.{has_put}
@@ -66,3 +66,10 @@ old_rows ts near is fit = go near (subst (λ (us : Tables). AreChangesOf us near
     go : (changes : TableChanges) → AreChangesOf (table_at 0 ts ∷ []) changes → AreOld (table_at 0 ts) (changes_at changes 0)
     go [] h = absurd h
     go (c ∷ cs) h = h.0.1
+
+-- and they rise
+pub changes_rise : (ts : Tables) (near : TableChanges) → AreChangesOf ts near → ChangesRise 0 (changes_at near 0)
+changes_rise [] [] fit = tt
+changes_rise [] (c ∷ cs) fit = absurd fit
+changes_rise (t ∷ ts) [] fit = absurd fit
+changes_rise (t ∷ ts) (c ∷ cs) fit = fit.0.0

@@ -11,6 +11,7 @@ use Rattle.id_closing.specs.Found.{added}
 use Rattle.id_closing.proofs.FoundLaws.{added_has, added_stays, end_has, end_stays}
 use Rattle.cond_closing.specs.Entries.{IsEntry, IsNextWith, NoneWith, other_of}
 use Rattle.cond_closing.specs.Steady.{BringsBoth, BringsStill, ChangingMemory, IsBrought, IsStill, IsStillBy, stays}
+use Rattle.cond_closing.proofs.BroughtLaws.{brings_found}
 use Rattle.cond_closing.proofs.EntryLemmas.{first_in, it_is, second_in, up_to}
 use Rattle.cond_closing.proofs.SearchLemmas.{Triple}
 
@@ -69,16 +70,12 @@ none_of None other = refl
 none_of (Some x) other = absurd (other x refl)
 
 module _ (it : ChangingMemory) (q : ℕ) where
-  brings_found : (half : Half) (found : Option ℕ) (ids : List ℕ) → ((g : ℕ) → found ≡ Some g → has_id ids g ≡ true) → IsStillBy half it q 0 found → BringsStill half it ids q
-  brings_found half None ids has none = λ e is own still. absurd (none e is own (omega arith) still)
-  brings_found half (Some p) ids has one = λ e is own still. record { id = p; still = one; among = has p refl }
-
   -- WHAT IS FOUND IS WHAT IS BROUGHT
   pub found_is_brought : (ids : List ℕ) (a c : Option ℕ) → BringsBoth it.entries q ids → IsStillBy First it q 0 a → IsStillBy Second it q 0 c → IsBrought it q (added (added ids a) c)
   found_is_brought ids a c both first second = record {
     rows = λ x y at.
         let f = both x y at in
         (added_stays (added ids a) c x (added_stays ids a x f.0), added_stays (added ids a) c y (added_stays ids a y f.1));
-    first = brings_found First a (added (added ids a) c) (λ g e. added_stays (added ids a) c g (added_has ids a g e)) first;
-    second = brings_found Second c (added (added ids a) c) (λ g e. added_has (added ids a) c g e) second;
+    first = brings_found it q First a (added (added ids a) c) (λ g e. added_stays (added ids a) c g (added_has ids a g e)) first;
+    second = brings_found it q Second c (added (added ids a) c) (λ g e. added_has (added ids a) c g e) second;
   }
