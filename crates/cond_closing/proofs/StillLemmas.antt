@@ -14,14 +14,7 @@ use Rattle.cond_closing.specs.Steady.{BringsBoth, BringsStill, ChangingMemory, I
 use Rattle.cond_closing.proofs.BroughtLaws.{brings_found}
 use Rattle.cond_closing.proofs.EntryLemmas.{first_in, it_is, second_in, up_to}
 use Rattle.cond_closing.proofs.SearchLemmas.{Triple}
-
--- entries of one identifier are one
-pub entry_same : (m : Pairs) (d e : Triple) → IsEntry m d → IsEntry m e → d.0 ≡ e.0 → d ≡ e
-entry_same m d e is_d is_e same =
-    let some : Some (d.1, d.2) ≡ Some (e.1, e.2) = sym is_d ∙ ap (λ (k : ℕ). pair_of m k) same ∙ is_e in
-    let first : d.1 ≡ e.1 = ap first_in some in
-    let second : d.2 ≡ e.2 = ap second_in some in
-    ap (λ (k : ℕ). (k, d.1, d.2)) same ∙ ap (λ (k : ℕ). (e.0, k, d.2)) first ∙ ap (λ (k : ℕ). (e.0, e.1, k)) second
+use Rattle.cond_closing.proofs.StandLaws.{entry_same}
 
 -- both rows of an entry, added
 pub both_added : (m : Pairs) (q a b : ℕ) (ids : List ℕ) → pair_of m q ≡ Some (a, b) → BringsBoth m q ((ids ++ a ∷ []) ++ b ∷ [])

@@ -9,7 +9,12 @@ use Rattle.row_store.specs.Rows.{Rows, row_of}
 use Rattle.row_store.specs.Changes.{after, AreOld, ChangesRise}
 use Rattle.op_law.specs.Identifiers.{has_id, put_id}
 use Rattle.op_law.proofs.IdentifierLaws.{has_put}
+use Rattle.row_changes.specs.Changed.{TableChanges}
+use Rattle.row_changes.specs.Touched.{touched}
+use Rattle.row_changes.proofs.TouchedLaws.{each_pass}
 use Rattle.row_parts.specs.RowCells.{Cell, by_test}
+use Rattle.id_closing.specs.Told.{changes_at, is_changed}
+use Rattle.id_closing.proofs.ToldLaws.{named_passes, pass_at}
 use Rattle.outer_closing.specs.Shared.{is_replaced, or_replaced, same_cells}
 
 -- one that is there is there with more
@@ -81,3 +86,17 @@ left_row rows k (c ∷ cs) q old row rise are at new same =
     let there : after cs q (row_of rows q) ≡ Some row = rw other at new in
     let rest = left_row rows (c.id + 1) cs q old row rise.1 are.1 at there same in
     by_test (same_cells c.old c.new) (λ u. rw u rest) (λ u. rw u (rw other rest)))
+
+-- a replaced row is of an identifier that the changes name
+replaced_changed : (cs : List Change) (q : ℕ) → is_replaced cs q ≡ true → is_changed cs q ≡ true
+replaced_changed [] q e = e
+replaced_changed (c ∷ cs) q e =
+    by_test (c.id == q)
+    (λ own. rw own refl)
+    (λ other.
+    let rest : is_replaced cs q ≡ true = by_test (same_cells c.old c.new) (λ u. rw u at e) (λ u. rw other at (rw u at e)) in
+    rw other (replaced_changed cs q rest))
+
+pub replaced_named : (near : TableChanges) (q : ℕ) → is_replaced (changes_at near 0) q ≡ true → has_id (touched near) q ≡ true
+replaced_named near q e =
+    named_passes (has_id (touched near)) (changes_at near 0) q (pass_at (has_id (touched near)) near 0 (each_pass near [] (has_id (touched near)) (λ x h. h))) (replaced_changed (changes_at near 0) q e)

@@ -35,7 +35,7 @@ abbrev pub may_share : List ℕ → Triple → Bool
 may_share replaced e = not (has_id replaced e.0) && both_there e
 
 -- two tests, one after the other
-filter_both : (f g : Triple → Bool) (es : Pairs) → filter f (filter g es) ≡ filter (λ e. g e && f e) es
+pub filter_both : (f g : Triple → Bool) (es : Pairs) → filter f (filter g es) ≡ filter (λ e. g e && f e) es
 filter_both f g [] = refl
 filter_both f g (e ∷ es) =
     let rest = filter_both f g es in
@@ -65,7 +65,7 @@ pub there_by : (half : Half) (e : Triple) → 1 ≤ pick_of half e → 1 ≤ oth
 there_by First e own other = numbers_there e.1 e.2 own other
 there_by Second e own other = numbers_there e.1 e.2 other own
 
-from_one : (a : ℕ) → not (a == 0) ≡ true → 1 ≤ a
+pub from_one : (a : ℕ) → not (a == 0) ≡ true → 1 ≤ a
 from_one zero h = absurd (false≢true h)
 from_one (suc a) h = omega arith
 
