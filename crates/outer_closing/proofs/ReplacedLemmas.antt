@@ -1,5 +1,5 @@
 -- Changes that leave their rows, and those that don't.
-use Rattle.std.proofs.Common.{◌≡◌, ℕ, ◌+◌, ◌<◌, ◌≤◌, ◌==◌, List, [], ◌∷◌, ◌++◌, Bool, true, false, cond, Some, None, refl, ap, sym, ◌∙◌, subst, arith}
+use Rattle.std.proofs.Common.{◌≡◌, ℕ, ◌+◌, ◌<◌, ◌≤◌, ◌==◌, List, [], ◌∷◌, ◌++◌, Bool, true, false, cond, not, Some, None, refl, ap, sym, ◌∙◌, subst, arith}
 use Rattle.std.proofs.lemmas.Bool.{eqb-true, false≢true, ne_eqb}
 use Rattle.par_base.specs.declared.value.Value.{Value}
 use Rattle.par_base.specs.SameRows.{same_row}
@@ -30,11 +30,12 @@ replaced_more (d ∷ cs) c q =
     (λ e. rw e rest)
     (λ e. rw e (by_test (d.id == q) (λ f. rw f (sym (or_true c q))) (λ f. rw f rest)))
 
--- a change that leaves its row brings no identifier
-pub leaves_all : (c : Change) (q : ℕ) (others : Bool) → same_cells c.old c.new ≡ true → others ≡ or_replaced c q others
-leaves_all c q others e = rw e refl
+-- a test that fails
+pub not_true : (b : Bool) → not b ≡ true → b ≡ false
+not_true true h = absurd (false≢true h)
+not_true false h = refl
 
--- any other brings its own
+-- a change that doesn't leave its row brings its identifier
 pub puts_own : (c : Change) (q : ℕ) (ids : List ℕ) → same_cells c.old c.new ≡ false → has_id (put_id c.id ids) q ≡ or_replaced c q (has_id ids q)
 puts_own c q ids e = rw e (has_put c.id ids q)
 

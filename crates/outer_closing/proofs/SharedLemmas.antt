@@ -104,6 +104,11 @@ module _ (half : Half) (m : Pairs) (replaced : List ℕ) where
       absurd (none s.entry s.is s.has (there_halves half s.entry parts.1).1 parts.0))
       (λ no. no)
 
+-- what is none of those that are there is none
+pub none_of : {A : Type 0} (o : Option A) → ((x : A) → o ≡ Some x → ⊥) → o ≡ None
+none_of None other = refl
+none_of (Some x) other = absurd (other x refl)
+
 -- the search for the least row with some values that stands in one
 module _ (half : Half) (m : Pairs) (replaced : List ℕ) (keys : Rows) (values : List Value) (from : ℕ)
     (passed : (id : ℕ) → row_of keys id ≡ Some values → id < from → stands (pick_of half) (shared_in m replaced) id ≡ false) where

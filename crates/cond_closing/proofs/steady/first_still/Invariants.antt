@@ -8,8 +8,8 @@ use Rattle.cond_closing.proofs.steady.first_still.Given as goal
 
 abbrev pub invariant-loop-entry : goal.invariant-loop-entry
 invariant-loop-entry l = record {
-  low : behind l.after ≤ behind l.last;
-  passed : (d : Triple) → IsEntry l.it.entries d → pick_of l.half d ≡ l.id → behind l.after ≤ other_of l.half d → other_of l.half d < behind l.last → stays l.it d ≡ false;
+  low : behind l.fn.after ≤ behind l.last;
+  passed : (d : Triple) → IsEntry l.it.entries d → pick_of l.half d ≡ l.id → behind l.fn.after ≤ other_of l.half d → other_of l.half d < behind l.last → stays l.it d ≡ false;
 }
 
 abbrev pub decreases-loop-entry : goal.decreases-loop-entry
