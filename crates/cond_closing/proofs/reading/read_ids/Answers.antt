@@ -3,8 +3,8 @@ use Rattle.id_memory.specs.Pairs.{Pairs}
 use Rattle.op_law.specs.Identifiers.{has_id}
 use Rattle.cond_parts.specs.Closed.{IsClosedIn}
 use Rattle.id_closing.specs.Closing.{IsClosing}
-use Rattle.cond_closing.specs.Steady.{IsBrought}
-use Rattle.cond_closing.proofs.ReadLemmas.{closed_in, changed_entries}
+use Rattle.cond_closing.specs.Steady.{IsBrought, changed_entries}
+use Rattle.cond_closing.proofs.ReadLemmas.{closed_in}
 use Rattle.cond_closing.proofs.reading.read_ids.Goals as goal
 
 pub returns-clause-closed : goal.returns-clause-closed
