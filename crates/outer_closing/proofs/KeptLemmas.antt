@@ -81,7 +81,7 @@ module _ (r : Rows) (m : Pairs) (new : Rows) (replaced : List ℕ) (rise : Pairs
       (λ pair some.
       let has : IsSome (row_of r q) = there q (subst (λ (o : Option (ℕ × ℕ)). IsSome o) (sym some) refl) in
       by_option (row_of r q)
-      (λ none. let bad : IsSome {A = List Value} None = subst (λ (c : Cell). IsSome c) none has in absurd (false≢true bad))
+      (λ none. absurd (false≢true (subst (λ (c : Cell). IsSome c) none has)))
       (λ old was.
       let f = left q old free was in
       ap (λ (c : Cell). kept_of r m q c) f.is ∙ ap (λ (c : Cell). unchanged c (pair_of m q) f.row) was ∙ unchanged_yes old f.row (pair_of m q) f.same))

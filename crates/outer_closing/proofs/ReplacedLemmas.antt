@@ -1,5 +1,5 @@
 -- Changes that leave their rows, and those that don't.
-use Rattle.std.proofs.Common.{◌≡◌, ℕ, ◌+◌, ◌<◌, ◌≤◌, ◌==◌, List, [], ◌∷◌, ◌++◌, Bool, true, false, cond, not, Some, None, refl, ap, sym, ◌∙◌, subst, arith}
+use Rattle.std.proofs.Common.{◌≡◌, ℕ, ◌+◌, ◌<◌, ◌≤◌, ◌==◌, List, [], ◌∷◌, ◌++◌, Bool, true, false, cond, Some, None, refl, ap, sym, ◌∙◌, subst, arith}
 use Rattle.std.proofs.lemmas.Bool.{eqb-true, false≢true, ne_eqb}
 use Rattle.par_base.specs.declared.value.Value.{Value}
 use Rattle.par_base.specs.SameRows.{same_row}
@@ -29,11 +29,6 @@ replaced_more (d ∷ cs) c q =
     by_test (same_cells d.old d.new)
     (λ e. rw e rest)
     (λ e. rw e (by_test (d.id == q) (λ f. rw f (sym (or_true c q))) (λ f. rw f rest)))
-
--- a test that fails
-pub not_true : (b : Bool) → not b ≡ true → b ≡ false
-not_true true h = absurd (false≢true h)
-not_true false h = refl
 
 -- a change that doesn't leave its row brings its identifier
 pub puts_own : (c : Change) (q : ℕ) (ids : List ℕ) → same_cells c.old c.new ≡ false → has_id (put_id c.id ids) q ≡ or_replaced c q (has_id ids q)

@@ -69,6 +69,11 @@ pub from_one : (a : ℕ) → not (a == 0) ≡ true → 1 ≤ a
 from_one zero h = absurd (false≢true h)
 from_one (suc a) h = omega arith
 
+-- a number that isn't 0
+pub one_up : (a : ℕ) → (a ≡ 0 → ⊥) → 1 ≤ a
+one_up zero h = absurd (h refl)
+one_up (suc a) h = omega arith
+
 pub there_halves : (half : Half) (e : Triple) → both_there e ≡ true → (1 ≤ pick_of half e) × (1 ≤ other_of half e)
 there_halves First e h = let parts = and_parts (not (e.1 == 0)) (not (e.2 == 0)) h in (from_one e.1 parts.0, from_one e.2 parts.1)
 there_halves Second e h = let parts = and_parts (not (e.1 == 0)) (not (e.2 == 0)) h in (from_one e.2 parts.1, from_one e.1 parts.0)

@@ -175,7 +175,8 @@ fn add_placed(
     add_some(ids, first.found)?;
     add_some(ids, second.found)?;
     add_some(ids, entry_of(memory, first.found, second.found))?;
-    add_others(alloc, memory, change.id, first.kept, second.kept, ids)
+    add_others(alloc, memory, change.id, first.kept, second.kept, ids)?;
+    Ok(())
 }
 
 /// Adds what is found for a change.

@@ -15,8 +15,8 @@ returns-clause-kept c =
     let old = c.args.change.now.old in
     let row = c.args.row.now in
     c.in_ok-kept.ensures row c.in_ok-values.ensures
-    ∙ ap (λ (places : List ℕ). own places old c.half_in.result row) c.places_of.ensures
-    ∙ ap (λ (o : Option ℕ). own (places_at half j) old o row) (c.half_in.ensures ∙ ap (λ (pair : Option (ℕ × ℕ)). half_there (half_at half pair)) c.get.ensures)
+    ∙ ap (λ (places : List ℕ). own places old c.half_in-old.result row) c.places_of-places.ensures
+    ∙ ap (λ (o : Option ℕ). own (places_at half j) old o row) (c.half_in-old.ensures ∙ ap (λ (pair : Option (ℕ × ℕ)). half_there (half_at half pair)) c.get.ensures)
 
 pub returns-clause-found : goal.returns-clause-found
 returns-clause-found c s t a known found =
@@ -27,8 +27,8 @@ returns-clause-found c s t a known found =
     let rows = own_of half s t in
     let row = c.args.row.now in
     let mine : c.in_ok-kept.kept ≡ kept_half half j m c.args.change.now row = returns-clause-kept c in
-    let values : c.in_ok-values.values ≡ part (places_at half j) row = c.in_ok-values.ensures ∙ ap (λ (places : List ℕ). part places row) c.places_of.ensures in
-    c.or_shared.ensures s t a known
+    let values : c.in_ok-values.values ≡ part (places_at half j) row = c.in_ok-values.ensures ∙ ap (λ (places : List ℕ). part places row) c.places_of-places.ensures in
+    c.or_shared-found.ensures s t a known
     (ap (λ (o : Option ℕ). found_row half m replaced rows o c.in_ok-values.values) mine
     ∙ ap (λ (v : List Value). found_row half m replaced rows (kept_half half j m c.args.change.now row) v) values
     ∙ found)

@@ -17,4 +17,4 @@ returns-in-None c s t a known found =
     let rows = own_of c.args.half s t in
     let least_is : least (shared_rows c.args.half m replaced rows) c.args.values.now ≡ Some a =
     subst (λ (o : Option ℕ). found_row c.args.half m replaced rows o c.args.values.now ≡ Some a) c.in-None.is found in
-    c.least_shared.ensures rows a (c.keys_of.ensures s t known) (subst (λ (key : List Value). least (shared_rows c.args.half m replaced rows) key ≡ Some a) (sym c.as_slice.ensures) least_is)
+    c.least_shared.ensures rows a (c.keys_of-keys.ensures s t known) (subst (λ (key : List Value). least (shared_rows c.args.half m replaced rows) key ≡ Some a) (sym c.as_slice.ensures) least_is)
