@@ -1,12 +1,12 @@
 -- Identifiers that are closed under the rule, and begin with what changes of R bring, are closed for these.
-use Rattle.std.proofs.Common.{◌≡◌, ℕ, ◌≤◌, ◌==◌, List, [], ◌∷◌, filter, Bool, true, false, ◌&&◌, not, Option, Some, IsSome, refl, ap, sym, ◌∙◌, subst}
+use Rattle.std.proofs.Common.{◌≡◌, ℕ, ◌==◌, List, [], ◌∷◌, filter, Bool, true, false, ◌&&◌, not, Option, Some, IsSome, refl, ap, sym, ◌∙◌, subst}
 use Rattle.std.proofs.lemmas.Bool.{and_from, and_parts, false≢true}
 use Rattle.par_base.specs.declared.value.Value.{Value}
 use Rattle.par_base.specs.SameRows.{same_row}
 use Rattle.row_store.specs.declared.change.Change.{Change}
 use Rattle.row_store.specs.Rows.{Rows, row_of}
 use Rattle.row_store.specs.Changes.{AreOld}
-use Rattle.id_memory.specs.Pairs.{Pairs, RiseFrom as PairsRise, pair_of}
+use Rattle.id_memory.specs.Pairs.{Pairs, pair_of}
 use Rattle.id_memory.specs.Laws.{OneMemoryHasThem}
 use Rattle.op_law.specs.Identifiers.{has_id}
 use Rattle.op_law.specs.Meaning.{PairState, flip}
@@ -46,7 +46,7 @@ use Rattle.cond_closing.proofs.BroughtLaws.{begun as is_begun, brought_rows, sti
 use Rattle.cond_closing.proofs.ChangedLaws.{changes_rise, named_by, new_at, old_rows, one_named}
 use Rattle.cond_closing.proofs.StandLaws.{listed_passes, stands_by}
 use Rattle.outer_closing.specs.Assigned.{BeginsPlaced, FindsChanged, FindsPlaced, found_half, found_row, half_at, kept_half, places_at}
-use Rattle.outer_closing.specs.Shared.{is_replaced, shared_in}
+use Rattle.outer_closing.specs.Shared.{is_replaced}
 use Rattle.outer_closing.proofs.KeptLemmas.{kept_are}
 use Rattle.outer_closing.proofs.LoneLemmas.{both_too, lone, own_entry}
 use Rattle.outer_closing.proofs.ReplacedLemmas.{LeavesRow, left_row, replaced_named, row_left}

@@ -1,10 +1,9 @@
 -- What is found for changes is among more identifiers.
-use Rattle.std.proofs.Common.{◌≡◌, ℕ, List, [], ◌∷◌, true, Option, Some, subst, sym, ◌∙◌, ap}
+use Rattle.std.proofs.Common.{ℕ, List, [], ◌∷◌}
 use Rattle.par_base.specs.declared.value.Value.{Value}
 use Rattle.row_store.specs.declared.change.Change.{Change}
 use Rattle.row_store.specs.Rows.{Rows}
 use Rattle.id_memory.specs.Pairs.{Pairs}
-use Rattle.op_law.specs.Identifiers.{has_id}
 use Rattle.row_changes.specs.Changed.{TableChanges}
 use Rattle.pair_rows.specs.declared.half.Half.{Half}
 use Rattle.pair_rows.specs.declared.half.Half.TheVariants.{First, Second}
@@ -16,7 +15,7 @@ use Rattle.id_closing.proofs.ToldLaws.{all_then}
 use Rattle.cond_closing.specs.Steady.{changed_entries}
 use Rattle.cond_closing.specs.declared.assigned.ByValues.{ByValues}
 use Rattle.cond_closing.specs.inner.SteadyLaws.{still_more}
-use Rattle.outer_closing.specs.Assigned.{BeginsPlaced, FindsChanged, FindsHalf, FindsPlaced}
+use Rattle.outer_closing.specs.Assigned.{BeginsPlaced, FindsChanged, FindsHalf}
 
 module _ (some all : List ℕ) (among : AreAmong some all) where
   half_among : (half : Half) (j : Joining) (m : Pairs) (replaced : List ℕ) (rows : Rows) (c : Change) (row : List Value) → FindsHalf half j m replaced rows some c row → FindsHalf half j m replaced rows all c row

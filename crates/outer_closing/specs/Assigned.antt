@@ -14,7 +14,7 @@ use Rattle.pair_rows.specs.declared.half.Half.TheVariants.{First, Second}
 use Rattle.pair_rows.specs.Given.{least, or_id}
 use Rattle.pair_rows.specs.Shown.{Joining}
 use Rattle.op_cond_join.specs.Joinings.{joining}
-use Rattle.outer_law.specs.Placed.{half_there, own_half}
+use Rattle.outer_law.specs.Placed.{own_half}
 use Rattle.id_closing.specs.Found.{AreAmong}
 use Rattle.id_closing.specs.Told.{AllOf, changes_at}
 use Rattle.cond_closing.specs.Assigned.{AreRowKeys}

@@ -17,7 +17,9 @@ ghost use Rattle.outer_closing.specs.Assigned.{found_half, found_row, half_at, k
 ghost use Rattle.outer_closing.specs.Assigned.{FindsChanged, FindsPlaced};
 
 use crate::shared::least_shared;
-use cond_closing::{ByValues, Changing, Steady, entry_of, first_in, first_still, own, second_in, set_of};
+use cond_closing::{
+    ByValues, Changing, Steady, entry_of, first_in, first_still, own, second_in, set_of,
+};
 use id_closing::add_some;
 use id_memory::PairMemory;
 use pair_rows::Half;

@@ -1,4 +1,4 @@
-use Rattle.std.proofs.Common.{[], ◌∷◌, ℕ}
+use Rattle.std.proofs.Common.{[], ◌∷◌}
 use Rattle.pair_rows.specs.declared.half.Half.TheVariants.{First, Second}
 use Rattle.id_closing.specs.Found.{added}
 use Rattle.id_closing.proofs.FoundLaws.{added_has, added_stays}

@@ -1,4 +1,4 @@
-use Rattle.std.proofs.Common.{◌≡◌, List, Option, ℕ, Some, sym, ap, ◌∙◌}
+use Rattle.std.proofs.Common.{◌≡◌, List, Option, ℕ, ap, ◌∙◌}
 use Rattle.par_base.specs.declared.value.Value.{Value}
 use Rattle.row_parts.specs.Places.{pick as part}
 use Rattle.pair_rows.specs.Given.{own}

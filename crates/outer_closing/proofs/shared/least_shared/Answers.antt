@@ -1,4 +1,4 @@
-use Rattle.std.proofs.Common.{Option, sym, ◌∙◌, subst}
+use Rattle.std.proofs.Common.{sym, ◌∙◌}
 use Rattle.table_keys.specs.States.{behind}
 use Rattle.outer_closing.proofs.SharedLemmas.{none_of, passed_on, shared_found, shared_lost}
 use Rattle.outer_closing.proofs.shared.least_shared.Goals as goal
