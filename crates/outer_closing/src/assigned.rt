@@ -36,13 +36,13 @@ fn begin_at_rows(
 }
 
 /// A footprint of changes of R, which holds what is wanted and 0, splits the old pair and keeps the
-/// changes to itself: what they name, the old rows that are found for new rows, the entries that have
-/// both, a further entry of each half that a new row keeps, the rows of all entries that are found, and
-/// of each row an entry that isn't changed, where it has one.
+/// changes to itself: what they name, the old rows that are found for new rows, the entries that
+/// have both, a further entry of each half that a new row keeps, the rows of all entries that are
+/// found, and of each row an entry that isn't changed, where it has one.
 ///
-/// It takes what `assigned_ids` does for JOIN, two searches more for each change, and a look-up and a
-/// search for each row that has the values of a new one and stands in no entry with both halves whose
-/// row stays.
+/// It takes what `assigned_ids` does for JOIN, two searches more for each change, and a look-up and
+/// a search for each row that has the values of a new one and stands in no entry with both halves
+/// whose row stays.
 pub fn outer_assigned_ids(
     alloc: Global,
     it: &ByValues<'_>,

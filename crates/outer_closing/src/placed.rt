@@ -1,5 +1,5 @@
-//! What is found for the new rows of changes of R: the halves that they keep, the rows that they may
-//! share, and further entries of the halves that they keep.
+//! What is found for the new rows of changes of R: the halves that they keep, the rows that they
+//! may share, and further entries of the halves that they keep.
 ghost use Rattle.std.specs.Prelude.{◌≡◌, ℕ, [], ◌∷◌, Some, IfOk, OnOk};
 ghost use Rattle.row_store.specs.Rows.{Rows};
 ghost use Rattle.row_parts.specs.Places.{pick as part};

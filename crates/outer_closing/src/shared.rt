@@ -35,8 +35,8 @@ fn is_shared(memory: &PairMemory, replaced: &IdSet, half: Half, id: u64) -> bool
     }
 }
 
-/// The least row with these values that stands in such an entry. It takes a look-up for each row that
-/// has these values, up to that one, and a search for each, and no memory.
+/// The least row with these values that stands in such an entry. It takes a look-up for each row
+/// that has these values, up to that one, and a search for each, and no memory.
 pub(crate) fn least_shared(
     memory: &PairMemory,
     replaced: &IdSet,
