@@ -1,5 +1,4 @@
 -- What changes through OUTER JOIN ON a condition have to see, both ways.
-use Rattle.std.specs.Prelude.{IfOk, Result}
 use Rattle.std.proofs.Common.{◌≡◌, ℕ, List, Bool, true, false, Option, Some, None, sym, ◌∙◌, subst}
 use Rattle.op_law.specs.Meaning.{exchanged}
 use Rattle.row_changes.specs.Changed.{TableChanges}
@@ -41,10 +40,10 @@ module _ (v : ByValues) (it : CondKeys) (memory : v.memory.now.entries ≡ it.me
       keeps_mapped (outer_on j) true near old new n ids mapped (apart (exchanged old) mapped.next (record { tables = valued v it memory first second near ids false both.0 both.1 old.source old are; memory = sym are.memory ∙ sym memory }) mapped.may)
 
 -- of one join as of another that is the same
-pub foot_as : {E : Type 0} (r : Result (List ℕ) E) (j k : Joining) → j ≡ k → (backward : Bool) (it : CondKeys) (near : TableChanges)
-    → IfOk r (FootprintOf (outer_on j) (condition_place false (equal_in j j.condition)) backward (Entries it) near) → IfOk r (FootprintOf (outer_on k) (condition_place false (equal_in k k.condition)) backward (Entries it) near)
-foot_as r j k same backward it near foot = subst (λ (x : Joining). IfOk r (FootprintOf (outer_on x) (condition_place false (equal_in x x.condition)) backward (Entries it) near)) same foot
+pub foot_as : (ids : List ℕ) (j k : Joining) → j ≡ k → (backward : Bool) (it : CondKeys) (near : TableChanges)
+    → FootprintOf (outer_on j) (condition_place false (equal_in j j.condition)) backward (Entries it) near ids → FootprintOf (outer_on k) (condition_place false (equal_in k k.condition)) backward (Entries it) near ids
+foot_as ids j k same backward it near foot = subst (λ (x : Joining). FootprintOf (outer_on x) (condition_place false (equal_in x x.condition)) backward (Entries it) near ids) same foot
 
-pub apart_as : {E : Type 0} (r : Result (List ℕ) E) (j k : Joining) → j ≡ k → (backward : Bool) (it : CondKeys) (near changes : TableChanges)
-    → IfOk r (ApartOver (outer_on j) (condition_place false (equal_in j j.condition)) backward (Entries it) near changes) → IfOk r (ApartOver (outer_on k) (condition_place false (equal_in k k.condition)) backward (Entries it) near changes)
-apart_as r j k same backward it near changes apart = subst (λ (x : Joining). IfOk r (ApartOver (outer_on x) (condition_place false (equal_in x x.condition)) backward (Entries it) near changes)) same apart
+pub apart_as : (ids : List ℕ) (j k : Joining) → j ≡ k → (backward : Bool) (it : CondKeys) (near changes : TableChanges)
+    → ApartOver (outer_on j) (condition_place false (equal_in j j.condition)) backward (Entries it) near changes ids → ApartOver (outer_on k) (condition_place false (equal_in k k.condition)) backward (Entries it) near changes ids
+apart_as ids j k same backward it near changes apart = subst (λ (x : Joining). ApartOver (outer_on x) (condition_place false (equal_in x x.condition)) backward (Entries it) near changes ids) same apart
