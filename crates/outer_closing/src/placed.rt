@@ -76,7 +76,8 @@ fn places_of<'a>(it: &ByValues<'a>, half: Half) -> &'a [usize]
 
 /// The rows of the half's table by value.
 fn keys_of<'a>(it: &ByValues<'a>, half: Half) -> &'a TableKeys
-    ensures { (s t : Rows) → AreRowKeys it.now s t → result.now.rows ≡ keys_by All (own_of half s t) }
+    ensures { (s t : Rows) → AreRowKeys it.now s t
+        → result.now.rows ≡ keys_by All (own_of half s t) }
 {
     match half {
         Half::First => it.first,
@@ -107,7 +108,8 @@ fn find_half(
     change: &Change,
     row: &Row,
 ) -> Result<FoundHalf, Memory>
-    ensures kept { IfOk result (λ both. both.kept ≡ kept_half half (joining it.now.values.now.join.now)
+    ensures kept { IfOk result (λ both. both.kept
+        ≡ kept_half half (joining it.now.values.now.join.now)
         it.now.values.now.memory.now.entries change.now row.now) }
     ensures found { IfOk result (λ both. (s t : Rows) (a : ℕ) → AreRowKeys it.now.values.now s t
         → found_half half (joining it.now.values.now.join.now) it.now.values.now.memory.now.entries
