@@ -1,18 +1,26 @@
 -- Rows that stand in entries that pass a test, and what closed identifiers bring of them.
 use Rattle.std.specs.Prelude.{nat_lt, ◌||◌}
-use Rattle.std.proofs.Common.{◌≡◌, ◌⊎◌, ℕ, ◌+◌, ◌<◌, ◌==◌, List, [], ◌∷◌, filter, Bool, true, false, not, refl, ap, ◌∙◌, subst, arith}
+use Rattle.std.proofs.Common.{◌≡◌, ◌⊎◌, ℕ, ◌+◌, ◌<◌, ◌==◌, List, [], ◌∷◌, filter, Bool, true, false, not, Some, refl, ap, sym, ◌∙◌, subst, arith}
 use Rattle.std.proofs.lemmas.Bool.{eqb-true, eq-eqb, false≢true}
 use Rattle.std.proofs.lemmas.Bool.Decides.{nat_tests}
 use mathlib.Core.Logic.{inl, inr}
-use Rattle.id_memory.specs.Pairs.{Pairs, RiseFrom}
+use Rattle.id_memory.specs.Pairs.{Pairs, RiseFrom, pair_of}
 use Rattle.op_law.specs.Identifiers.{has_id}
 use Rattle.op_law.specs.Sound.{PairsSound}
 use Rattle.op_law.proofs.OnlyLaws.{by_test}
 use Rattle.operator_changes.specs.Footprint.{passes}
 use Rattle.pair_rows.specs.Stays.{stands}
 use Rattle.cond_closing.specs.Entries.{IsEntry}
-use Rattle.cond_closing.proofs.EntryLemmas.{later_entry, own_entry, same_entry}
+use Rattle.cond_closing.proofs.EntryLemmas.{first_in, later_entry, own_entry, same_entry, second_in}
 use Rattle.cond_closing.proofs.SearchLemmas.{Triple}
+
+-- entries of one identifier are one
+pub entry_same : (m : Pairs) (d e : Triple) → IsEntry m d → IsEntry m e → d.0 ≡ e.0 → d ≡ e
+entry_same m d e is_d is_e same =
+    let some : Some (d.1, d.2) ≡ Some (e.1, e.2) = sym is_d ∙ ap (λ (k : ℕ). pair_of m k) same ∙ is_e in
+    let first : d.1 ≡ e.1 = ap first_in some in
+    let second : d.2 ≡ e.2 = ap second_in some in
+    ap (λ (k : ℕ). (k, d.1, d.2)) same ∙ ap (λ (k : ℕ). (e.0, k, d.2)) first ∙ ap (λ (k : ℕ). (e.0, e.1, k)) second
 
 -- an entry in which q stands, that passes the test
 pub record StandsIn (pick : Triple → ℕ) (test : Triple → Bool) (m : Pairs) (q : ℕ) : Type 0 where
