@@ -15,9 +15,11 @@ mod laws;
 mod lines;
 mod lists;
 mod members;
+mod numbers;
 mod pairs;
 mod rows;
 mod tables;
+mod trees;
 mod values;
 
 pub use dumps::{DumpLines, GraphLines, KeptLines, WrittenLines, read_dump, write_dump};
@@ -29,4 +31,5 @@ pub use members::write_numbers;
 pub use pairs::write_pairs;
 pub use rows::write_row;
 pub use tables::{write_table, write_tables};
+pub use trees::{is_read, to_json};
 pub use values::write_value;
