@@ -1,12 +1,13 @@
 -- Trees over borrowed text beside the JSON that they spell.
-use Rattle.std.specs.Prelude.{◌&&◌, is_some, option_map, option_and_then, if◌then◌else◌, ⊤}
+use Rattle.std.specs.Prelude.{◌&&◌, ◌==◌, is_some, MatchOption, option_map, option_and_then, if◌then◌else◌, ⊤}
 use Rattle.std.specs.Borrow.{Bor}
 use Rattle.std.specs.List.{remove}
 use Rattle.std.specs.Cmp.Lexicographic.{slice_cmp}
 use Rattle.std.specs.Ordering.{match_ordering, ordering_reverse}
 use Rattle.std.specs.Str.{bytes_eq}
-use Rattle.std.proofs.Common.{◌≡◌, ℕ, zero, suc, ◌+◌, ◌<◌, ◌≤◌, List, [], ◌∷◌, ◌++◌, length, map, get_or, Bool, true, false, cond, Option, Some, None, Ordering, Less, Equal, Greater, nat_cmp, refl, sym, ap, ◌∙◌, subst, arith}
+use Rattle.std.proofs.Common.{◌≡◌, ℕ, zero, suc, ◌+◌, ◌<◌, ◌≤◌, List, [], ◌∷◌, ◌++◌, length, map, take, drop, get_or, ne_eqb, Bool, true, false, cond, Option, Some, None, Ordering, Less, Equal, Greater, nat_cmp, refl, sym, ap, ◌∙◌, subst, arith}
 use Rattle.std.proofs.lemmas.Cmp.{nat_list_cmp_total}
+use Rattle.std.proofs.lemmas.List.{take_more}
 use Rattle.std.proofs.lemmas.Slice.Eq.{bytes_eq-Decides}
 use Rattle.json.specs.Json as json
 use Rattle.json.specs.Find as found
@@ -19,6 +20,7 @@ use Rattle.serde_json.specs.View.{items_of}
 use Rattle.serde_json.specs.Read.{number_of, of_json, of_items, of_members}
 use Rattle.serde_json.proofs.Views.{get_member-put, get_member-put_other}
 use Rattle.dump_values.specs.Members.{member_count}
+use Rattle.dump_values.specs.inner.Calls.{IsPlaceOf}
 use Rattle.dump_values.specs.Trees.{number_or_0, json_data, items_data, members_data, is_read, are_read, members_read, tree_view, trees_view, entries_view}
 
 -- ---- what is read
@@ -124,27 +126,25 @@ above_less k l (member m e ms) less above = (nat_list_cmp_total.trans k l m less
 abbrev put_at : Ordering → List ℕ → Data → List ℕ → Data → Members → Members
 put_at o k d l e ms = match_ordering o (member k d (member l e ms)) (member l d ms) (member l e (put k d ms))
 
-mutual
-  above_put : (l k : List ℕ) (d : Data) (ms : Members) → compare l k ≡ Less → Above l ms → Above l (put k d ms)
-  above_put l k d no_members less above = (less, tt)
-  above_put l k d (member m e ms) less above = above_put_at (compare k m) l k d m e ms less above
+above_put_at : (o : Ordering) (l k : List ℕ) (d : Data) (m : List ℕ) (e : Data) (ms : Members) → compare l k ≡ Less → Above l (member m e ms) → Above l (put k d ms) → Above l (put_at o k d m e ms)
+above_put_at Less l k d m e ms less above later = (less, above)
+above_put_at Equal l k d m e ms less above later = above
+above_put_at Greater l k d m e ms less above later = (above.0, later)
 
-  above_put_at : (o : Ordering) (l k : List ℕ) (d : Data) (m : List ℕ) (e : Data) (ms : Members) → compare l k ≡ Less → Above l (member m e ms) → Above l (put_at o k d m e ms)
-  above_put_at Less l k d m e ms less above = (less, above)
-  above_put_at Equal l k d m e ms less above = above
-  above_put_at Greater l k d m e ms less above = (above.0, above_put l k d ms less above.1)
+above_put : (l k : List ℕ) (d : Data) (ms : Members) → compare l k ≡ Less → Above l ms → Above l (put k d ms)
+above_put l k d no_members less above = (less, tt)
+above_put l k d (member m e ms) less above = above_put_at (compare k m) l k d m e ms less above (above_put l k d ms less above.1)
 
-mutual
-  sorted_put : (k : List ℕ) (d : Data) (ms : Members) → Sorted ms → Sorted (put k d ms)
-  sorted_put k d no_members sorted = (tt, tt)
-  sorted_put k d (member l e ms) sorted = sorted_put_at (compare k l) k d l e ms refl sorted
+sorted_put_at : (o : Ordering) (k : List ℕ) (d : Data) (l : List ℕ) (e : Data) (ms : Members) → compare k l ≡ o → Sorted (member l e ms) → Sorted (put k d ms) → Sorted (put_at o k d l e ms)
+sorted_put_at Less k d l e ms is sorted later = ((is, above_less k l ms is sorted.0), sorted)
+sorted_put_at Equal k d l e ms is sorted later = sorted
+sorted_put_at Greater k d l e ms is sorted later =
+    let less : compare l k ≡ Less = nat_list_cmp_total.antisymm l k ∙ ap ordering_reverse is in
+    (above_put l k d ms less sorted.0, later)
 
-  sorted_put_at : (o : Ordering) (k : List ℕ) (d : Data) (l : List ℕ) (e : Data) (ms : Members) → compare k l ≡ o → Sorted (member l e ms) → Sorted (put_at o k d l e ms)
-  sorted_put_at Less k d l e ms is sorted = ((is, above_less k l ms is sorted.0), sorted)
-  sorted_put_at Equal k d l e ms is sorted = sorted
-  sorted_put_at Greater k d l e ms is sorted =
-      let less : compare l k ≡ Less = nat_list_cmp_total.antisymm l k ∙ ap ordering_reverse is in
-      (above_put l k d ms less sorted.0, sorted_put k d ms sorted.1)
+sorted_put : (k : List ℕ) (d : Data) (ms : Members) → Sorted ms → Sorted (put k d ms)
+sorted_put k d no_members sorted = (tt, tt)
+sorted_put k d (member l e ms) sorted = sorted_put_at (compare k l) k d l e ms refl sorted (sorted_put k d ms sorted.1)
 
 sorted_data : (ms : json.Members) (before : Members) → Sorted before → Sorted (members_data ms before)
 sorted_data json.no_members before sorted = sorted
@@ -163,26 +163,24 @@ counted_suc : (o : Option Data) (n : ℕ) → suc (counted o n) ≡ counted o (s
 counted_suc None n = refl
 counted_suc (Some d) n = refl
 
-mutual
-  count_put : (k : List ℕ) (d : Data) (ms : Members) → Sorted ms → member_count (put k d ms) ≡ counted (get_member k ms) (member_count ms)
-  count_put k d no_members sorted = refl
-  count_put k d (member l e ms) sorted = count_put_at (compare k l) k d l e ms refl sorted
+count_put_at : (o : Ordering) (k : List ℕ) (d : Data) (l : List ℕ) (e : Data) (ms : Members) → compare k l ≡ o → Sorted (member l e ms) → member_count (put k d ms) ≡ counted (get_member k ms) (member_count ms)
+    → member_count (put_at o k d l e ms) ≡ counted (match_ordering o (get_member k ms) (Some e) (get_member k ms)) (suc (member_count ms))
+count_put_at Less k d l e ms is sorted later = ap (λ (o : Option Data). counted o (suc (member_count ms))) (sym (none_above k ms (above_less k l ms is sorted.0)))
+count_put_at Equal k d l e ms is sorted later = refl
+count_put_at Greater k d l e ms is sorted later = ap (λ (n : ℕ). suc n) later ∙ counted_suc (get_member k ms) (member_count ms)
 
-  count_put_at : (o : Ordering) (k : List ℕ) (d : Data) (l : List ℕ) (e : Data) (ms : Members) → compare k l ≡ o → Sorted (member l e ms)
-      → member_count (put_at o k d l e ms) ≡ counted (match_ordering o (get_member k ms) (Some e) (get_member k ms)) (suc (member_count ms))
-  count_put_at Less k d l e ms is sorted = ap (λ (o : Option Data). counted o (suc (member_count ms))) (sym (none_above k ms (above_less k l ms is sorted.0)))
-  count_put_at Equal k d l e ms is sorted = refl
-  count_put_at Greater k d l e ms is sorted = ap (λ (n : ℕ). suc n) (count_put k d ms sorted.1) ∙ counted_suc (get_member k ms) (member_count ms)
+count_put : (k : List ℕ) (d : Data) (ms : Members) → Sorted ms → member_count (put k d ms) ≡ counted (get_member k ms) (member_count ms)
+count_put k d no_members sorted = refl
+count_put k d (member l e ms) sorted = count_put_at (compare k l) k d l e ms refl sorted (count_put k d ms sorted.1)
 
-mutual
-  put_grows : (k : List ℕ) (d : Data) (ms : Members) → member_count ms ≤ member_count (put k d ms)
-  put_grows k d no_members = omega arith
-  put_grows k d (member l e ms) = put_grows_at (compare k l) k d l e ms
+put_grows_at : (o : Ordering) (k : List ℕ) (d : Data) (l : List ℕ) (e : Data) (ms : Members) → member_count ms ≤ member_count (put k d ms) → suc (member_count ms) ≤ member_count (put_at o k d l e ms)
+put_grows_at Less k d l e ms later = omega arith
+put_grows_at Equal k d l e ms later = omega arith
+put_grows_at Greater k d l e ms later = omega (arith, later)
 
-  put_grows_at : (o : Ordering) (k : List ℕ) (d : Data) (l : List ℕ) (e : Data) (ms : Members) → suc (member_count ms) ≤ member_count (put_at o k d l e ms)
-  put_grows_at Less k d l e ms = omega arith
-  put_grows_at Equal k d l e ms = omega arith
-  put_grows_at Greater k d l e ms = let more = put_grows k d ms in omega (arith, more)
+put_grows : (k : List ℕ) (d : Data) (ms : Members) → member_count ms ≤ member_count (put k d ms)
+put_grows k d no_members = omega arith
+put_grows k d (member l e ms) = put_grows_at (compare k l) k d l e ms (put_grows k d ms)
 
 data_grows : (ms : json.Members) (before : Members) → member_count before ≤ member_count (members_data ms before)
 data_grows json.no_members before = omega arith
@@ -220,6 +218,34 @@ count_grows xs ys =
     let is = ap member_count (behind_others xs ys no_members) in
     omega (arith, more, is)
 
+-- the first members don't count more than all
+pub some_counted : {A : Type 0} → (xs : List (Entry A)) (i : ℕ) → member_count (entries_view (take i xs)) ≤ member_count (entries_view xs)
+some_counted xs i =
+    let more = count_grows (take i xs) (drop i xs) in
+    let all = ap (λ (ys : List (Entry A)). member_count (entries_view ys)) (take_drop i xs) in
+    omega (arith, more, all)
+
+module _ {A : Type 0} (xs : List (Entry A)) (i : ℕ) (x : Entry A) (within : i < length xs) (at : x ≡ get_or xs i x) where
+  next_counted : (b : Bool) → is_some (found.get_member x.0.now (members_view (take i xs))) ≡ b
+      → member_count (entries_view (take (i + 1) xs)) ≡ (if b then member_count (entries_view (take i xs)) else suc (member_count (entries_view (take i xs))))
+  next_counted b is =
+      ap (λ (ys : List (Entry A)). member_count (entries_view ys)) (take_more xs i x within ∙ ap (λ (y : Entry A). take i xs ++ y ∷ []) (sym at))
+      ∙ count_one_more (take i xs) x
+      ∙ ap (λ (c : Bool). if c then member_count (entries_view (take i xs)) else suc (member_count (entries_view (take i xs)))) is
+
+  pub key_again : is_some (found.get_member x.0.now (members_view (take i xs))) ≡ true → member_count (entries_view (take (i + 1) xs)) ≡ member_count (entries_view (take i xs))
+  key_again is = next_counted true is
+
+  pub key_new : is_some (found.get_member x.0.now (members_view (take i xs))) ≡ false → member_count (entries_view (take (i + 1) xs)) ≡ suc (member_count (entries_view (take i xs)))
+  key_new is = next_counted false is
+
+  -- one more than may be
+  pub too_many : is_some (found.get_member x.0.now (members_view (take i xs))) ≡ false → (n : ℕ) → n ≤ member_count (entries_view (take i xs)) → false ≡ (member_count (entries_view xs) == n)
+  too_many is n low =
+      let one = key_new is in
+      let all = some_counted xs (i + 1) in
+      sym (ne_eqb (member_count (entries_view xs)) n (λ same. omega (arith, one, all, low, same)))
+
 -- ---- a member that is taken out
 
 later_none : (o : Option json.Json) → later_or o None ≡ o
@@ -243,6 +269,29 @@ pub others_left : {A : Type 0} → (q : List ℕ) (xs : List (Entry A)) (i : ℕ
     → get_member q (entries_view (remove xs i)) ≡ get_member q (entries_view xs)
 others_left q xs i d within other =
     found_in q (members_view (remove xs i)) ∙ ap (option_map json_data) (found_still q xs i d within other) ∙ sym (found_in q (members_view xs))
+
+module _ {A : Type 0} (key : List ℕ) (place : ℕ) (xs : List (Entry A)) (is : IsPlaceOf key place xs) where
+  -- what is taken out of the place was found
+  pub taken_out : (x : Entry A) → x ≡ get_or xs place x → Some (tree_view x.1) ≡ get_member key (entries_view xs)
+  taken_out x at =
+      ap (λ (e : Entry A). Some (tree_view e.1)) (at ∙ is.here x) ∙ sym (found_in key (members_view xs) ∙ ap (option_map json_data) is.value)
+
+  pub leaves_others : (other : List ℕ) → (other ≡ key → ⊥) → get_member other (entries_view (remove xs place)) ≡ get_member other (entries_view xs)
+  leaves_others other differs = others_left other xs place is.entry is.within (λ same. differs (same ∙ ap (λ (e : Entry A). e.0.now) (is.here is.entry) ∙ is.named))
+
+pub none_there : {A : Type 0} → (key : List ℕ) (xs : List (Entry A)) → found.get_member key (members_view xs) ≡ None → None ≡ get_member key (entries_view xs)
+none_there key xs is = sym (found_in key (members_view xs) ∙ ap (option_map json_data) is)
+
+pub any_default : {X : Type 0} → (xs : List X) (i : ℕ) (d e : X) → i < length xs → get_or xs i d ≡ get_or xs i e
+any_default [] i d e within = absurd (omega arith)
+any_default (x ∷ xs) zero d e within = refl
+any_default (x ∷ xs) (suc i) d e within = any_default xs i d e (omega arith)
+
+-- a key has a place where it is found
+pub has_place : {A : Type 0} → (key : List ℕ) (xs : List (Entry A)) (o : Option ℕ) → MatchOption o (found.get_member key (members_view xs) ≡ None) (λ (place : ℕ). IsPlaceOf key place xs)
+    → is_some o ≡ is_some (found.get_member key (members_view xs))
+has_place key xs None is = sym (ap is_some is)
+has_place key xs (Some place) is = sym (ap is_some is.value)
 
 -- ---- loops
 

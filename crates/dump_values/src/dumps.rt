@@ -173,9 +173,9 @@ fn operator_lists(
 // it was read.
 fn take_lists(tree: Tree<'_>) -> Option<(Vec<Tree<'_>>, Vec<Tree<'_>>, Vec<Tree<'_>>)>
     ensures { option_map (λ l. (trees_view l.0.items, (trees_view l.1.items, trees_view l.2.items)))
-        result ≡ both (member_of as_array (codes "stored") (tree_view tree))
-        (both (member_of as_array (codes "aux") (tree_view tree))
-        (member_of as_array (codes "memories") (tree_view tree))) }
+        result ≡ both (member_of as_array (codes "stored") (tree_view tree.entry))
+        (both (member_of as_array (codes "aux") (tree_view tree.entry))
+        (member_of as_array (codes "memories") (tree_view tree.entry))) }
 {
     let Tree::Object(mut members) = tree else {
         return None;
@@ -193,7 +193,7 @@ fn take_lists(tree: Tree<'_>) -> Option<(Vec<Tree<'_>>, Vec<Tree<'_>>, Vec<Tree<
 }
 
 fn read_kept(alloc: Global, tree: Tree<'_>) -> Result<Option<KeptLines>, Memory>
-    ensures value { IfOk result (λ kept. option_map kept_seen kept ≡ kept_of (tree_view tree)) }
+    ensures value { IfOk result (λ kept. option_map kept_seen kept ≡ kept_of (tree_view tree.entry)) }
     ensures within { IfOk result (λ kept. IfSome kept (λ k. (1 ≤ k.next) × (k.next ≤ 2 ^ 63))) }
 {
     let Some((layout, next)) = layout_and_next(alloc, &tree)? else {
@@ -220,7 +220,7 @@ fn read_kept(alloc: Global, tree: Tree<'_>) -> Result<Option<KeptLines>, Memory>
 /// What the JSON tells, where it spells a dump. The next identifier is from 1 to 2^63. The JSON of a
 /// row is let go once the row was read, so that both are never in memory at once.
 pub fn read_dump(alloc: Global, tree: Tree<'_>) -> Result<Option<DumpLines>, Memory>
-    ensures value { IfOk result (λ dump. option_map dump_seen dump ≡ dump_of (tree_view tree)) }
+    ensures value { IfOk result (λ dump. option_map dump_seen dump ≡ dump_of (tree_view tree.entry)) }
     ensures within { IfOk result
         (λ dump. IfSome dump (λ d. (1 ≤ d.kept.next) × (d.kept.next ≤ 2 ^ 63))) }
 {

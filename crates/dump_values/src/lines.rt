@@ -40,7 +40,7 @@ pub struct OperatorLine {
 /// The number and the table of a stored table.
 pub(crate) fn read_stored(alloc: Global, tree: Tree<'_>) -> Result<Option<(u32, Table)>, Memory>
     ensures { IfOk result (λ line. option_map (λ l. (l.0, l.1.rows)) line
-        ≡ stored_of (tree_view tree)) }
+        ≡ stored_of (tree_view tree.entry)) }
 {
     if !has_members(&tree, 2) {
         return Ok(None);
@@ -57,7 +57,7 @@ pub(crate) fn read_stored(alloc: Global, tree: Tree<'_>) -> Result<Option<(u32, 
 /// The number and the auxiliary tables of an operator.
 pub(crate) fn read_aux(alloc: Global, tree: Tree<'_>) -> Result<Option<(u32, List<Table>)>, Memory>
     ensures { IfOk result (λ line. option_map (λ l. (l.0, map (λ t. t.rows) l.1)) line
-        ≡ aux_of (tree_view tree)) }
+        ≡ aux_of (tree_view tree.entry)) }
 {
     if !has_members(&tree, 2) {
         return Ok(None);
@@ -74,7 +74,7 @@ pub(crate) fn read_aux(alloc: Global, tree: Tree<'_>) -> Result<Option<(u32, Lis
 /// The number and the memory of an operator.
 pub(crate) fn read_memory(alloc: Global, tree: Tree<'_>) -> Result<Option<(u32, PairMemory)>, Memory>
     ensures { IfOk result (λ line. option_map (λ l. (l.0, l.1.entries)) line
-        ≡ memory_of (tree_view tree)) }
+        ≡ memory_of (tree_view tree.entry)) }
 {
     if !has_members(&tree, 2) {
         return Ok(None);

@@ -45,12 +45,13 @@ fn has_keys(members: &[(&str, Tree<'_>)], number: usize) -> bool
     let mut count = 0;
     for place in 0..members.len() {
         let entry = &members[place];
-        if !has_key(&members[..place], entry.0) {
-            if count == number {
-                return false;
-            }
-            count += 1;
+        if has_key(&members[..place], entry.0) {
+            continue;
         }
+        if count == number {
+            return false;
+        }
+        count += 1;
     }
     count == number
 }
@@ -200,7 +201,7 @@ pub(crate) fn items_at<'v, 'a>(tree: &'v Tree<'a>, key: &str) -> Option<&'v [Tre
 
 /// The items of an array.
 pub(crate) fn into_items<'a>(tree: Tree<'a>) -> Option<Vec<Tree<'a>>>
-    ensures { option_map (λ items. trees_view items.items) result ≡ as_array (tree_view tree) }
+    ensures { option_map (λ items. trees_view items.items) result ≡ as_array (tree_view tree.entry) }
 {
     match tree {
         Tree::Array(items) => Some(items),
@@ -241,7 +242,7 @@ pub(crate) fn take_items<'a>(
 
 /// What stands under this key of an object.
 pub(crate) fn into_member<'a>(tree: Tree<'a>, key: &str) -> Option<Tree<'a>>
-    ensures { option_map tree_view result ≡ get key.now (tree_view tree) }
+    ensures { option_map tree_view result ≡ get key.now (tree_view tree.entry) }
 {
     match tree {
         Tree::Object(mut members) => take_member(&mut members, key),

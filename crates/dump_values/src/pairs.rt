@@ -65,7 +65,7 @@ fn read_triple(tree: &Tree<'_>) -> Option<(u64, u64, u64)>
 
 // The same, where the tree is let go.
 fn take_triple(tree: Tree<'_>) -> Option<(u64, u64, u64)>
-    ensures value { result ≡ triple_of (tree_view tree) }
+    ensures value { result ≡ triple_of (tree_view tree.entry) }
     ensures within { IfSome result (λ entry. entry.0 < 2 ^ 63) }
 {
     read_triple(&tree)
@@ -114,7 +114,7 @@ fn read_triples(alloc: Global, items: Vec<Tree<'_>>) -> Result<Option<PairMemory
 /// The memory that the tree spells, where it spells one.
 fn read_pairs(alloc: Global, tree: Tree<'_>) -> Result<Option<PairMemory>, Memory>
     ensures { IfOk result (λ memory. option_map (λ m. m.entries) memory
-        ≡ pairs_of (tree_view tree)) }
+        ≡ pairs_of (tree_view tree.entry)) }
 {
     match into_items(tree) {
         Some(items) => read_triples(alloc, items),
@@ -125,7 +125,7 @@ fn read_pairs(alloc: Global, tree: Tree<'_>) -> Result<Option<PairMemory>, Memor
 /// The memory under this key.
 pub(crate) fn pairs_at(alloc: Global, tree: Tree<'_>, key: &str) -> Result<Option<PairMemory>, Memory>
     ensures { IfOk result (λ memory. option_map (λ m. m.entries) memory
-        ≡ member_of pairs_of key.now (tree_view tree)) }
+        ≡ member_of pairs_of key.now (tree_view tree.entry)) }
 {
     match into_member(tree, key) {
         Some(found) => read_pairs(alloc, found),

@@ -47,7 +47,7 @@ fn read_row(alloc: Global, tree: &Tree<'_>) -> Result<Option<(u64, Row)>, Memory
 
 /// The same, where the tree is let go.
 pub(crate) fn take_row(alloc: Global, tree: Tree<'_>) -> Result<Option<(u64, Row)>, Memory>
-    ensures value { IfOk result (λ row. row ≡ row_of (tree_view tree)) }
+    ensures value { IfOk result (λ row. row ≡ row_of (tree_view tree.entry)) }
     ensures within { IfOk result (λ row. IfSome row (λ r. r.0 < 2 ^ 63)) }
 {
     read_row(alloc, &tree)

@@ -35,7 +35,7 @@ fn read_rows(alloc: Global, items: Vec<Tree<'_>>) -> Result<Option<Table>, Memor
 
 /// The table that the tree spells, where it spells one.
 fn read_table(alloc: Global, tree: Tree<'_>) -> Result<Option<Table>, Memory>
-    ensures { IfOk result (λ table. option_map (λ t. t.rows) table ≡ table_of (tree_view tree)) }
+    ensures { IfOk result (λ table. option_map (λ t. t.rows) table ≡ table_of (tree_view tree.entry)) }
 {
     match into_items(tree) {
         Some(items) => read_rows(alloc, items),
@@ -46,7 +46,7 @@ fn read_table(alloc: Global, tree: Tree<'_>) -> Result<Option<Table>, Memory>
 /// The table under this key.
 pub(crate) fn table_at(alloc: Global, tree: Tree<'_>, key: &str) -> Result<Option<Table>, Memory>
     ensures { IfOk result (λ table. option_map (λ t. t.rows) table
-        ≡ member_of table_of key.now (tree_view tree)) }
+        ≡ member_of table_of key.now (tree_view tree.entry)) }
 {
     match into_member(tree, key) {
         Some(found) => read_table(alloc, found),
@@ -70,7 +70,7 @@ fn read_each_table(alloc: Global, items: Vec<Tree<'_>>) -> Result<Option<List<Ta
 
 fn read_tables(alloc: Global, tree: Tree<'_>) -> Result<Option<List<Table>>, Memory>
     ensures { IfOk result (λ tables. option_map (λ ts. map (λ t. t.rows) ts) tables
-        ≡ tables_of (tree_view tree)) }
+        ≡ tables_of (tree_view tree.entry)) }
 {
     match into_items(tree) {
         Some(items) => read_each_table(alloc, items),
@@ -81,7 +81,7 @@ fn read_tables(alloc: Global, tree: Tree<'_>) -> Result<Option<List<Table>>, Mem
 /// The list of tables under this key.
 pub(crate) fn tables_at(alloc: Global, tree: Tree<'_>, key: &str) -> Result<Option<List<Table>>, Memory>
     ensures { IfOk result (λ tables. option_map (λ ts. map (λ t. t.rows) ts) tables
-        ≡ member_of tables_of key.now (tree_view tree)) }
+        ≡ member_of tables_of key.now (tree_view tree.entry)) }
 {
     match into_member(tree, key) {
         Some(found) => read_tables(alloc, found),

@@ -20,9 +20,11 @@ LeavesOthers key before after = (other : List ℕ) → (other ≡ key → ⊥) �
 
 -- the last member of the key stands at the place
 pub record IsPlaceOf {A : Type 0} (key : List ℕ) (place : ℕ) (members : List (Bor (List ℕ) × Value A)) : Type 0 where
+  pub entry : Bor (List ℕ) × Value A
   pub within : place < length members
-  pub named : (d : Bor (List ℕ) × Value A) → (slice_index_or members place d).0.now ≡ key
-  pub value : (d : Bor (List ℕ) × Value A) → find_member key (tree_members members) ≡ Some (value_view (slice_index_or members place d).1)
+  pub here : (d : Bor (List ℕ) × Value A) → slice_index_or members place d ≡ entry
+  pub named : entry.0.now ≡ key
+  pub value : find_member key (tree_members members) ≡ Some (value_view entry.1)
 
 -- members with those of the graph
 abbrev pub with_graph : Data → Data → ℕ → ℕ → Members → Members
