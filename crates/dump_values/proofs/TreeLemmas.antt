@@ -7,9 +7,11 @@ use Rattle.std.specs.Ordering.{match_ordering, ordering_reverse}
 use Rattle.std.specs.Str.{bytes_eq}
 use Rattle.std.proofs.Common.{◌≡◌, ℕ, zero, suc, ◌+◌, ◌<◌, ◌≤◌, List, [], ◌∷◌, ◌++◌, length, map, take, drop, get_or, ne_eqb, Bool, true, false, cond, Option, Some, None, Ordering, Less, Equal, Greater, nat_cmp, refl, sym, ap, ◌∙◌, subst, arith}
 use Rattle.std.proofs.lemmas.Cmp.{nat_list_cmp_total}
-use Rattle.std.proofs.lemmas.List.{take_more}
+use Rattle.std.proofs.lemmas.List.{take-append-drop, take_more}
 use Rattle.std.proofs.lemmas.Slice.Eq.{bytes_eq-Decides}
 use Rattle.json.specs.Json as json
+use Rattle.json.specs.Lex.{tokens}
+use Rattle.json.specs.Token.{Token}
 use Rattle.json.specs.Find as found
 use Rattle.json.specs.Find.{later_or}
 use Rattle.json.specs.Value.{value_view, members_view}
@@ -17,10 +19,10 @@ use Rattle.json.specs.declared.value.Value.{Value}
 use Rattle.serde_json.specs.Data.{Num, Data, number, array, object, Items, item, Members, no_members, member, put}
 use Rattle.serde_json.specs.Find.{get, get_member}
 use Rattle.serde_json.specs.View.{items_of}
-use Rattle.serde_json.specs.Read.{number_of, of_json, of_items, of_members}
+use Rattle.serde_json.specs.Read.{number_of, of_json, of_items, of_members, read}
 use Rattle.serde_json.proofs.Views.{get_member-put, get_member-put_other}
 use Rattle.dump_values.specs.Members.{member_count}
-use Rattle.dump_values.specs.inner.Calls.{IsPlaceOf}
+use Rattle.dump_values.specs.inner.Calls.{IsPlaceOf, is_end}
 use Rattle.dump_values.specs.Trees.{number_or_0, json_data, items_data, members_data, is_read, are_read, members_read, tree_view, trees_view, entries_view}
 
 -- ---- what is read
@@ -63,6 +65,36 @@ mutual
       ap (λ (o : Option Data). option_and_then (λ d. of_members ms (put k d before)) o) (json_is_read j)
       ∙ then_next (λ d. of_members ms (put k d before)) (is_read j) (members_read ms) (json_data j) (members_data ms (put k (json_data j) before))
       (members_are_read ms (put k (json_data j) before))
+
+-- ---- a whole text
+
+abbrev whole : Option (json.Json × List Token) → Option Data
+whole o = option_and_then of_json (option_and_then (λ p. json.if_last p.0 p.1) o)
+
+module _ (text : List ℕ) where
+  pub no_value : json.value 127 (tokens text) ≡ None → None ≡ read text
+  no_value is = sym (ap whole is)
+
+  module _ (j : json.Json) (ts : List Token) (is : json.value 127 (tokens text) ≡ Some (j, ts)) where
+    pub more_behind : is_end ts ≡ false → None ≡ read text
+    more_behind more = sym (ap whole is ∙ go ts more)
+      where
+        go : (us : List Token) → is_end us ≡ false → whole (Some (j, us)) ≡ None
+        go [] no = absurd (let never : ⊥ = cc in never)
+        go (u ∷ us) no = refl
+
+    alone : is_end ts ≡ true → read text ≡ kept (is_read j) (json_data j)
+    alone ended = ap whole is ∙ go ts ended ∙ json_is_read j
+      where
+        go : (us : List Token) → is_end us ≡ true → whole (Some (j, us)) ≡ of_json j
+        go [] yes = refl
+        go (u ∷ us) yes = absurd (let never : ⊥ = cc in never)
+
+    pub one_value : is_end ts ≡ true → is_read j ≡ true → Some (json_data j) ≡ read text
+    one_value ended reads = sym (alone ended ∙ ap (λ (b : Bool). kept b (json_data j)) reads)
+
+    pub no_number : is_end ts ≡ true → is_read j ≡ false → None ≡ read text
+    no_number ended reads = sym (alone ended ∙ ap (λ (b : Bool). kept b (json_data j)) reads)
 
 -- ---- look-ups
 
@@ -220,9 +252,9 @@ count_grows xs ys =
 
 -- the first members don't count more than all
 pub some_counted : {A : Type 0} → (xs : List (Entry A)) (i : ℕ) → member_count (entries_view (take i xs)) ≤ member_count (entries_view xs)
-some_counted xs i =
+some_counted {A} xs i =
     let more = count_grows (take i xs) (drop i xs) in
-    let all = ap (λ (ys : List (Entry A)). member_count (entries_view ys)) (take_drop i xs) in
+    let all = ap (λ (ys : List (Entry A)). member_count (entries_view ys)) (take-append-drop i xs) in
     omega (arith, more, all)
 
 module _ {A : Type 0} (xs : List (Entry A)) (i : ℕ) (x : Entry A) (within : i < length xs) (at : x ≡ get_or xs i x) where

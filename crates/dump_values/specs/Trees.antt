@@ -1,11 +1,11 @@
 -- The JSON that a tree over borrowed text spells.
-use Rattle.std.specs.Prelude.{ℕ, ◌&&◌, Bool, true, List, Option, Some, None, is_some}
+use Rattle.std.specs.Prelude.{◌≡◌, ℕ, ◌&&◌, Bool, true, List, Option, Some, None, is_some, IsUtf8}
 use Rattle.std.specs.Borrow.{Bor}
 use Rattle.json.specs.Json as json
 use Rattle.json.specs.Value as tree
 use Rattle.json.specs.declared.value.Value.{Value}
 use Rattle.serde_json.specs.Data.{Num, unsigned, Data, null, boolean, number, string, array, object, Items, no_items, item, Members, no_members, put}
-use Rattle.serde_json.specs.Read.{number_of as number_in}
+use Rattle.serde_json.specs.Read.{number_of as number_in, read}
 
 -- the number, and 0 where there is none
 abbrev pub number_or_0 : Option Num → Num
@@ -56,3 +56,8 @@ trees_view ts = items_data (tree.items_view ts)
 
 abbrev pub entries_view : {A : Type 0} → List (Bor (List ℕ) × Value A) → Members
 entries_view ms = members_data (tree.members_view ms) no_members
+
+-- the JSON that the bytes spell, or none where they spell none
+abbrev pub FindsTree : List ℕ → Option Data → Type 0
+FindsTree bytes (Some d) = IsUtf8 bytes × (read bytes ≡ Some d)
+FindsTree bytes None = IsUtf8 bytes → read bytes ≡ None

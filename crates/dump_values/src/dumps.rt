@@ -150,8 +150,8 @@ fn operator_lists(
     memories: Vec<Tree<'_>>,
 ) -> Result<Option<(List<(u32, List<Table>)>, List<(u32, PairMemory)>)>, Memory>
     ensures { IfOk result (λ lists. option_map (λ l. (auxes_seen l.0, memories_seen l.1)) lists
-        ≡ both (list_of aux_of (trees_view auxes.items))
-        (list_of memory_of (trees_view memories.items))) }
+        ≡ both (list_of aux_of (trees_view auxes.entry.items))
+        (list_of memory_of (trees_view memories.entry.items))) }
 {
     let Some(auxes) = each_aux(alloc, auxes)? else {
         return Ok(None);

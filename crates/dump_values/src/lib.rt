@@ -31,5 +31,5 @@ pub use members::write_numbers;
 pub use pairs::write_pairs;
 pub use rows::write_row;
 pub use tables::{write_table, write_tables};
-pub use trees::{is_read, to_json};
+pub use trees::{read_tree, to_json};
 pub use values::write_value;

@@ -75,7 +75,7 @@ pub(crate) fn each_stored(
     items: Vec<Tree<'_>>,
 ) -> Result<Option<List<(u32, Table)>>, Memory>
     ensures { IfOk result (λ lines. option_map stored_seen lines
-        ≡ list_of stored_of (trees_view items.items)) }
+        ≡ list_of stored_of (trees_view items.entry.items)) }
 {
     let mut lines = List::new(alloc);
     for item in items {
@@ -93,7 +93,7 @@ pub(crate) fn each_aux(
     items: Vec<Tree<'_>>,
 ) -> Result<Option<List<(u32, List<Table>)>>, Memory>
     ensures { IfOk result (λ lines. option_map auxes_seen lines
-        ≡ list_of aux_of (trees_view items.items)) }
+        ≡ list_of aux_of (trees_view items.entry.items)) }
 {
     let mut lines = List::new(alloc);
     for item in items {
@@ -111,7 +111,7 @@ pub(crate) fn each_memory(
     items: Vec<Tree<'_>>,
 ) -> Result<Option<List<(u32, PairMemory)>>, Memory>
     ensures { IfOk result (λ lines. option_map memories_seen lines
-        ≡ list_of memory_of (trees_view items.items)) }
+        ≡ list_of memory_of (trees_view items.entry.items)) }
 {
     let mut lines = List::new(alloc);
     for item in items {

@@ -94,7 +94,7 @@ fn put_behind(memory: &mut PairMemory, entry: (u64, u64, u64)) -> Result<(), Mem
 
 fn read_triples(alloc: Global, items: Vec<Tree<'_>>) -> Result<Option<PairMemory>, Memory>
     ensures { IfOk result (λ memory. option_map (λ m. m.entries) memory
-        ≡ pairs_behind [] 1 (trees_view items.items)) }
+        ≡ pairs_behind [] 1 (trees_view items.entry.items)) }
 {
     let mut memory = PairMemory::new(alloc);
     let mut least = 1;

@@ -16,7 +16,7 @@ use std::alloc::Global;
 #[tactic(auto, using(row_store::specs::inner::FoundRows::below_more, row_store::specs::inner::FoundRows::below_push))]
 fn read_rows(alloc: Global, items: Vec<Tree<'_>>) -> Result<Option<Table>, Memory>
     ensures { IfOk result (λ table. option_map (λ t. t.rows) table
-        ≡ rows_from 1 (trees_view items.items)) }
+        ≡ rows_from 1 (trees_view items.entry.items)) }
 {
     let mut table = Table::new(alloc);
     let mut least = 1;
@@ -56,7 +56,7 @@ pub(crate) fn table_at(alloc: Global, tree: Tree<'_>, key: &str) -> Result<Optio
 
 fn read_each_table(alloc: Global, items: Vec<Tree<'_>>) -> Result<Option<List<Table>>, Memory>
     ensures { IfOk result (λ tables. option_map (λ ts. map (λ t. t.rows) ts) tables
-        ≡ list_of table_of (trees_view items.items)) }
+        ≡ list_of table_of (trees_view items.entry.items)) }
 {
     let mut tables = List::new(alloc);
     for item in items {
