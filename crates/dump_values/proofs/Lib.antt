@@ -4,4 +4,4 @@ mod KeptLemmas
 mod ListLemmas
 mod PairLemmas
 mod RiseLemmas
-mod TreeLemmas
+pub mod TreeLemmas

@@ -140,22 +140,22 @@ get_data q (json.object ms) = found_in q ms
 
 -- ---- how many members there are
 
-abbrev compare : List ℕ → List ℕ → Ordering
+abbrev pub compare : List ℕ → List ℕ → Ordering
 compare = slice_cmp nat_cmp
 
-abbrev Above : List ℕ → Members → Type 0
+abbrev pub Above : List ℕ → Members → Type 0
 Above k no_members = ⊤
 Above k (member l e ms) = (compare k l ≡ Less) × Above k ms
 
-abbrev Sorted : Members → Type 0
+abbrev pub Sorted : Members → Type 0
 Sorted no_members = ⊤
 Sorted (member k d ms) = Above k ms × Sorted ms
 
-above_less : (k l : List ℕ) (ms : Members) → compare k l ≡ Less → Above l ms → Above k ms
+pub above_less : (k l : List ℕ) (ms : Members) → compare k l ≡ Less → Above l ms → Above k ms
 above_less k l no_members less above = tt
 above_less k l (member m e ms) less above = (nat_list_cmp_total.trans k l m less above.0, above_less k l ms less above.1)
 
-abbrev put_at : Ordering → List ℕ → Data → List ℕ → Data → Members → Members
+abbrev pub put_at : Ordering → List ℕ → Data → List ℕ → Data → Members → Members
 put_at o k d l e ms = match_ordering o (member k d (member l e ms)) (member l d ms) (member l e (put k d ms))
 
 above_put_at : (o : Ordering) (l k : List ℕ) (d : Data) (m : List ℕ) (e : Data) (ms : Members) → compare l k ≡ Less → Above l (member m e ms) → Above l (put k d ms) → Above l (put_at o k d m e ms)
@@ -174,11 +174,11 @@ sorted_put_at Greater k d l e ms is sorted later =
     let less : compare l k ≡ Less = nat_list_cmp_total.antisymm l k ∙ ap ordering_reverse is in
     (above_put l k d ms less sorted.0, later)
 
-sorted_put : (k : List ℕ) (d : Data) (ms : Members) → Sorted ms → Sorted (put k d ms)
+pub sorted_put : (k : List ℕ) (d : Data) (ms : Members) → Sorted ms → Sorted (put k d ms)
 sorted_put k d no_members sorted = (tt, tt)
 sorted_put k d (member l e ms) sorted = sorted_put_at (compare k l) k d l e ms refl sorted (sorted_put k d ms sorted.1)
 
-sorted_data : (ms : json.Members) (before : Members) → Sorted before → Sorted (members_data ms before)
+pub sorted_data : (ms : json.Members) (before : Members) → Sorted before → Sorted (members_data ms before)
 sorted_data json.no_members before sorted = sorted
 sorted_data (json.member k j ms) before sorted = sorted_data ms (put k (json_data j) before) (sorted_put k (json_data j) before sorted)
 
@@ -223,7 +223,7 @@ data_grows (json.member k j ms) before =
 
 -- ---- members one behind the other
 
-abbrev Entry : Type 0 → Type 0
+abbrev pub Entry : Type 0 → Type 0
 Entry A = Bor (List ℕ) × Value A
 
 behind_others : {A : Type 0} → (xs ys : List (Entry A)) (before : Members) → members_data (members_view (xs ++ ys)) before ≡ members_data (members_view ys) (members_data (members_view xs) before)

@@ -69,7 +69,7 @@ pub(crate) fn has_members(tree: &Tree<'_>, number: usize) -> bool
 
 /// What stands under this key: the last that does.
 #[tactic(auto, using(crate::proofs::TreeLemmas::get_data))]
-pub(crate) fn member<'v, 'a>(tree: &'v Tree<'a>, key: &str) -> Option<&'v Tree<'a>>
+pub fn member<'v, 'a>(tree: &'v Tree<'a>, key: &str) -> Option<&'v Tree<'a>>
     ensures { option_map (λ found. tree_view found.now) result ≡ get key.now (tree_view tree.now) }
 {
     tree.get(key)
@@ -86,7 +86,7 @@ pub(crate) fn items_of<'v, 'a>(tree: &'v Tree<'a>) -> Option<&'v [Tree<'a>]>
 }
 
 /// A whole number below 2^64.
-pub(crate) fn read_whole(tree: &Tree<'_>) -> Option<u64>
+pub fn read_whole(tree: &Tree<'_>) -> Option<u64>
     ensures { result ≡ number_of (tree_view tree.now) }
 {
     match tree {
