@@ -5,7 +5,7 @@ use Rattle.std.specs.List.{remove}
 use Rattle.std.specs.Cmp.Lexicographic.{slice_cmp}
 use Rattle.std.specs.Ordering.{match_ordering, ordering_reverse}
 use Rattle.std.specs.Str.{bytes_eq}
-use Rattle.std.proofs.Common.{◌≡◌, ℕ, zero, suc, ◌+◌, ◌<◌, ◌≤◌, List, [], ◌∷◌, ◌++◌, length, map, take, drop, get_or, ne_eqb, Bool, true, false, cond, Option, Some, None, Ordering, Less, Equal, Greater, nat_cmp, refl, sym, ap, ◌∙◌, subst, arith}
+use Rattle.std.proofs.Common.{◌≡◌, ℕ, zero, suc, ◌+◌, ◌<◌, ◌≤◌, List, [], ◌∷◌, ◌++◌, length, map, take, drop, get_or, ne_eqb, Bool, true, false, cond, Option, Some, None, Ordering, Less, Equal, Greater, nat_cmp, refl, sym, ap, ◌∙◌, arith}
 use Rattle.std.proofs.lemmas.Cmp.{nat_list_cmp_total}
 use Rattle.std.proofs.lemmas.List.{take-append-drop, take_more}
 use Rattle.std.proofs.lemmas.Slice.Eq.{bytes_eq-Decides}
@@ -16,7 +16,7 @@ use Rattle.json.specs.Find as found
 use Rattle.json.specs.Find.{later_or}
 use Rattle.json.specs.Value.{value_view, members_view}
 use Rattle.json.specs.declared.value.Value.{Value}
-use Rattle.serde_json.specs.Data.{Num, Data, number, array, object, Items, item, Members, no_members, member, put}
+use Rattle.serde_json.specs.Data.{Num, Data, number, array, object, item, Members, no_members, member, put}
 use Rattle.serde_json.specs.Find.{get, get_member}
 use Rattle.serde_json.specs.View.{items_of}
 use Rattle.serde_json.specs.Read.{number_of, of_json, of_items, of_members, read}
@@ -80,15 +80,15 @@ module _ (text : List ℕ) where
     more_behind more = sym (ap whole is ∙ go ts more)
       where
         go : (us : List Token) → is_end us ≡ false → whole (Some (j, us)) ≡ None
-        go [] no = absurd (let never : ⊥ = cc in never)
-        go (u ∷ us) no = refl
+        go [] clash = absurd (let never : ⊥ = cc in never)
+        go (u ∷ us) clash = refl
 
     alone : is_end ts ≡ true → read text ≡ kept (is_read j) (json_data j)
     alone ended = ap whole is ∙ go ts ended ∙ json_is_read j
       where
         go : (us : List Token) → is_end us ≡ true → whole (Some (j, us)) ≡ of_json j
-        go [] yes = refl
-        go (u ∷ us) yes = absurd (let never : ⊥ = cc in never)
+        go [] ended = refl
+        go (u ∷ us) clash = absurd (let never : ⊥ = cc in never)
 
     pub one_value : is_end ts ≡ true → is_read j ≡ true → Some (json_data j) ≡ read text
     one_value ended reads = sym (alone ended ∙ ap (λ (b : Bool). kept b (json_data j)) reads)

@@ -72,7 +72,10 @@ pub(crate) fn read_aux(alloc: Global, tree: Tree<'_>) -> Result<Option<(u32, Lis
 }
 
 /// The number and the memory of an operator.
-pub(crate) fn read_memory(alloc: Global, tree: Tree<'_>) -> Result<Option<(u32, PairMemory)>, Memory>
+pub(crate) fn read_memory(
+    alloc: Global,
+    tree: Tree<'_>,
+) -> Result<Option<(u32, PairMemory)>, Memory>
     ensures { IfOk result (λ line. option_map (λ l. (l.0, l.1.entries)) line
         ≡ memory_of (tree_view tree.entry)) }
 {

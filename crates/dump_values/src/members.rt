@@ -251,7 +251,11 @@ pub(crate) fn into_member<'a>(tree: Tree<'a>, key: &str) -> Option<Tree<'a>>
 }
 
 /// The list of numbers under this key.
-pub(crate) fn numbers_at(alloc: Global, tree: &Tree<'_>, key: &str) -> Result<Option<List<u32>>, Memory>
+pub(crate) fn numbers_at(
+    alloc: Global,
+    tree: &Tree<'_>,
+    key: &str,
+) -> Result<Option<List<u32>>, Memory>
     ensures { IfOk result (λ numbers. numbers ≡ member_of numbers_of key.now (tree_view tree.now)) }
 {
     match member(tree, key) {

@@ -26,7 +26,11 @@ fn read_last(items: &[Tree<'_>]) -> Option<u64>
     let Some((last, others)) = items.split_first() else {
         return None;
     };
-    if is_end(others) { read_whole(last) } else { None }
+    if is_end(others) {
+        read_whole(last)
+    } else {
+        None
+    }
 }
 
 fn read_two(items: &[Tree<'_>]) -> Option<(u64, u64)>
@@ -123,7 +127,11 @@ fn read_pairs(alloc: Global, tree: Tree<'_>) -> Result<Option<PairMemory>, Memor
 }
 
 /// The memory under this key.
-pub(crate) fn pairs_at(alloc: Global, tree: Tree<'_>, key: &str) -> Result<Option<PairMemory>, Memory>
+pub(crate) fn pairs_at(
+    alloc: Global,
+    tree: Tree<'_>,
+    key: &str,
+) -> Result<Option<PairMemory>, Memory>
     ensures { IfOk result (λ memory. option_map (λ m. m.entries) memory
         ≡ member_of pairs_of key.now (tree_view tree.entry)) }
 {

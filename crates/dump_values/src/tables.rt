@@ -79,7 +79,11 @@ fn read_tables(alloc: Global, tree: Tree<'_>) -> Result<Option<List<Table>>, Mem
 }
 
 /// The list of tables under this key.
-pub(crate) fn tables_at(alloc: Global, tree: Tree<'_>, key: &str) -> Result<Option<List<Table>>, Memory>
+pub(crate) fn tables_at(
+    alloc: Global,
+    tree: Tree<'_>,
+    key: &str,
+) -> Result<Option<List<Table>>, Memory>
     ensures { IfOk result (λ tables. option_map (λ ts. map (λ t. t.rows) ts) tables
         ≡ member_of tables_of key.now (tree_view tree.entry)) }
 {

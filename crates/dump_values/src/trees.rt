@@ -46,7 +46,11 @@ fn read_text<'a>(
     if !has_ended(&mut reader) {
         return Ok(None);
     }
-    if is_read(&tree) { Ok(Some(tree)) } else { Ok(None) }
+    if is_read(&tree) {
+        Ok(Some(tree))
+    } else {
+        Ok(None)
+    }
 }
 
 /// The tree of the JSON that the bytes spell, or none where they spell none, as `serde_json` reads
