@@ -1,6 +1,6 @@
 -- Identifiers that are closed under the rule, and begin with what changes of S and T bring, are closed for these.
 use Rattle.std.specs.Prelude.{◌||◌}
-use Rattle.std.proofs.Common.{◌≡◌, ℕ, zero, suc, List, [], ◌∷◌, Bool, true, false, not, ◌&&◌, filter, ◌<◌, Some, refl, ap, sym, ◌∙◌, subst}
+use Rattle.std.proofs.Common.{◌≡◌, ℕ, List, [], Bool, true, false, not, ◌&&◌, filter, ◌<◌, Some, refl, ap, sym, ◌∙◌, subst}
 use Rattle.std.proofs.lemmas.Bool.{false≢true}
 use mathlib.Core.Logic.{inl, inr}
 use Rattle.expr_lang.specs.Val.{holds_at}
@@ -10,12 +10,11 @@ use Rattle.row_store.specs.Changes.{after}
 use Rattle.id_memory.specs.Pairs.{Pairs, RiseFrom as PairsRise, pair_of}
 use Rattle.op_law.specs.Identifiers.{has_id}
 use Rattle.op_law.specs.Meaning.{PairState}
-use Rattle.op_law.specs.Tables.{Tables, AllRise}
+use Rattle.op_law.specs.Tables.{AllRise}
 use Rattle.op_law.proofs.OnlyLaws.{by_test}
 use Rattle.op_rows.specs.inner.Tabulated.{all_rise}
-use Rattle.row_changes.specs.Changed.{TableChanges, changed_tables, AreChangesOf}
+use Rattle.row_changes.specs.Changed.{TableChanges, changed_tables}
 use Rattle.row_changes.specs.Touched.{touched}
-use Rattle.row_changes.proofs.ChangedLaws.{changed_at}
 use Rattle.row_changes.proofs.TouchedLaws.{each_pass}
 use Rattle.operator_changes.specs.Calls.{MayChange}
 use Rattle.operator_changes.specs.Footprint.{passes}
@@ -40,16 +39,9 @@ use Rattle.cond_closing.specs.Matching.{FindsMatches}
 use Rattle.cond_closing.specs.Shown.{BeginsShown}
 use Rattle.cond_closing.specs.Steady.{BringsStill, ChangingMemory, IsBrought, stays}
 use Rattle.cond_closing.specs.declared.steady.Changing.TheVariants.{Halves}
+use Rattle.cond_closing.proofs.ChangedLaws.{new_at}
 use Rattle.cond_closing.proofs.SearchLemmas.{Triple}
-use Rattle.cond_closing.proofs.StandLemmas.{either_of, entry_under, listed_passes, listed_under, stands_by, stands_in}
-
--- what the tables of a side have after changes, by their number
-pub new_at : (which : ℕ) (ts : Tables) (near : TableChanges) (q : ℕ) → AllRise ts → AreChangesOf ts near → row_of (table_at which (changed_tables ts near)) q ≡ after (changes_at near which) q (row_of (table_at which ts) q)
-new_at which [] [] q rise fit = refl
-new_at which [] (c ∷ cs) q rise fit = absurd fit
-new_at which (t ∷ ts) [] q rise fit = absurd fit
-new_at zero (t ∷ ts) (c ∷ cs) q rise fit = changed_at t c q rise.0
-new_at (suc which) (t ∷ ts) (c ∷ cs) q rise fit = new_at which ts cs q rise.1 fit.1
+use Rattle.cond_closing.proofs.StandLaws.{either_of, entry_under, listed_passes, listed_under, stands_by, stands_in}
 
 -- two rows that match
 pub record Matched (j : Joining) (s t : Rows) (a b : ℕ) : Type 0 where

@@ -3,7 +3,10 @@ mod EntryLemmas
 mod StillLemmas
 mod ColumnLemmas
 mod RowLemmas
-mod StandLemmas
+pub mod StandLaws
+pub mod KeyedLaws
+pub mod ChangedLaws
+pub mod BroughtLaws
 mod ReadLemmas
 mod ShownLemmas
 mod ForwardLemmas

@@ -9,17 +9,12 @@ use Rattle.pair_rows.specs.Stays.{stands}
 use Rattle.pair_parts.specs.Parts.{memory_only}
 use Rattle.cond_parts.specs.Closed.{BringsEntry, IsClosedIn}
 use Rattle.id_closing.specs.Closing.{IsClosing}
-use Rattle.cond_closing.specs.Steady.{BringsStill, ChangingMemory, IsBrought}
-use Rattle.cond_closing.specs.declared.steady.Changing.TheVariants.{Entries}
+use Rattle.cond_closing.specs.Steady.{BringsStill, IsBrought, changed_entries}
 use Rattle.cond_closing.proofs.SearchLemmas.{Triple}
-use Rattle.cond_closing.proofs.StandLemmas.{all_stand, stands_by, stands_in}
-
--- no row is changed
-abbrev pub unchanging : Pairs → List ℕ → ChangingMemory
-unchanging m changed = record { entries = m; changed = changed; what = Entries }
+use Rattle.cond_closing.proofs.StandLaws.{all_stand, stands_by, stands_in}
 
 module _ (m : Pairs) (rise : RiseFrom 0 m) (ids : List ℕ) where
-  brings_entry : (pick : Triple → ℕ) (half : Half) → ((e : Triple) → pick_of half e ≡ pick e) → ((q : ℕ) → has_id ids q ≡ true → BringsStill half (unchanging m []) ids q) → BringsEntry (has_id ids) pick m
+  brings_entry : (pick : Triple → ℕ) (half : Half) → ((e : Triple) → pick_of half e ≡ pick e) → ((q : ℕ) → has_id ids q ≡ true → BringsStill half (changed_entries m []) ids q) → BringsEntry (has_id ids) pick m
   brings_entry pick half is brings q pass stand =
       let s = stands_in pick (λ e. true) 0 m q rise (all_stand pick m q stand) in
       let f = brings q pass s.entry s.is (is s.entry ∙ s.has) refl in
@@ -27,7 +22,7 @@ module _ (m : Pairs) (rise : RiseFrom 0 m) (ids : List ℕ) where
       subst (λ (x : ℕ). stands pick (memory_only (has_id ids) m) x ≡ true) (sym (is f.still.entry) ∙ f.still.has) (stands_by pick (λ e. has_id ids e.0) m f.still.entry f.still.is listed)
 
   -- CLOSED IN THE MEMORY
-  pub closed_in : (begin : List ℕ) → IsClosing (IsBrought (unchanging m [])) begin ids → IsClosedIn (has_id ids) m
+  pub closed_in : (begin : List ℕ) → IsClosing (IsBrought (changed_entries m [])) begin ids → IsClosedIn (has_id ids) m
   closed_in begin closing = record {
     rows = λ id a b at pass. (closing.closed id pass).rows a b at;
     first = brings_entry first_of First (λ e. refl) (λ q pass. (closing.closed q pass).first);

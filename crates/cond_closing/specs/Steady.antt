@@ -1,5 +1,5 @@
 -- What an identifier brings with it in a memory of which some entries change.
-use Rattle.std.specs.Prelude.{◌≡◌, ℕ, Bool, true, not, ◌||◌, List, Option, Some, MatchOption}
+use Rattle.std.specs.Prelude.{◌≡◌, ℕ, ◌≤◌, Bool, true, not, ◌||◌, List, Option, Some, MatchOption}
 use Rattle.id_memory.specs.Pairs.{Pairs, pair_of}
 use Rattle.op_law.specs.Identifiers.{has_id}
 use Rattle.pair_rows.specs.declared.half.Half.{Half}
@@ -7,13 +7,17 @@ use Rattle.pair_rows.specs.declared.half.Half.TheVariants.{First, Second}
 use Rattle.pair_rows.specs.Halves.{pick_of}
 use Rattle.cond_closing.specs.declared.steady.Changing.{Changing}
 use Rattle.cond_closing.specs.declared.steady.Changing.TheVariants.{Halves, Entries}
-use Rattle.cond_closing.specs.Entries.{IsEntry}
+use Rattle.cond_closing.specs.Entries.{IsEntry, other_of}
 
 -- a memory, and what changes: rows that are halves of entries, or the rows of entries themselves
 pub record ChangingMemory : Type 0 where
   pub entries : Pairs
   pub changed : List ℕ
   pub what : Changing
+
+-- the memory while these identifiers' own rows change
+abbrev pub changed_entries : Pairs → List ℕ → ChangingMemory
+changed_entries m changed = record { entries = m; changed = changed; what = Entries }
 
 -- whether the entry isn't changed
 abbrev pub is_still : Changing → List ℕ → ℕ × ℕ × ℕ → Bool
@@ -23,25 +27,26 @@ is_still Entries changed e = not (has_id changed e.0)
 abbrev pub stays : ChangingMemory → ℕ × ℕ × ℕ → Bool
 stays it e = is_still it.what it.changed e
 
--- p has an entry with q as this half that isn't changed
-pub record IsStill (half : Half) (it : ChangingMemory) (q p : ℕ) : Type 0 where
+-- p has an entry with q as this half, and another half from this one on, that isn't changed
+pub record IsStill (half : Half) (it : ChangingMemory) (q from p : ℕ) : Type 0 where
   pub entry : ℕ × ℕ × ℕ
   pub own : entry.0 ≡ p
   pub is : IsEntry it.entries entry
   pub has : pick_of half entry ≡ q
+  pub behind : from ≤ other_of half entry
   pub still : stays it entry ≡ true
 
 -- such an identifier; none, where there is none
-abbrev pub IsStillBy : Half → ChangingMemory → ℕ → Option ℕ → Type 0
-IsStillBy half it q found =
+abbrev pub IsStillBy : Half → ChangingMemory → ℕ → ℕ → Option ℕ → Type 0
+IsStillBy half it q from found =
     MatchOption found
-    ((e : ℕ × ℕ × ℕ) → IsEntry it.entries e → pick_of half e ≡ q → stays it e ≡ true → ⊥)
-    (λ p. IsStill half it q p)
+    ((e : ℕ × ℕ × ℕ) → IsEntry it.entries e → pick_of half e ≡ q → from ≤ other_of half e → stays it e ≡ true → ⊥)
+    (λ p. IsStill half it q from p)
 
 -- one of these has such an entry
 pub record HasStill (half : Half) (it : ChangingMemory) (ids : List ℕ) (q : ℕ) : Type 0 where
   pub id : ℕ
-  pub still : IsStill half it q id
+  pub still : IsStill half it q 0 id
   pub among : has_id ids id ≡ true
 
 -- one does, where q has such an entry at all

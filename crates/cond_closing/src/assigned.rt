@@ -38,7 +38,7 @@ pub struct ByValues<'a> {
 }
 
 /// The old half, where the old row has this part.
-fn own(
+pub fn own(
     alloc: Global,
     places: &[usize],
     old: &Option<Row>,
@@ -84,7 +84,7 @@ fn found_of(
 }
 
 /// The first identifier of a pair.
-fn first_in(pair: Option<(u64, u64)>) -> Option<u64>
+pub fn first_in(pair: Option<(u64, u64)>) -> Option<u64>
     ensures { result ≡ option_map (λ it. it.0) pair }
 {
     match pair {
@@ -94,7 +94,7 @@ fn first_in(pair: Option<(u64, u64)>) -> Option<u64>
 }
 
 /// The second identifier of a pair.
-fn second_in(pair: Option<(u64, u64)>) -> Option<u64>
+pub fn second_in(pair: Option<(u64, u64)>) -> Option<u64>
     ensures { result ≡ option_map (λ it. it.1) pair }
 {
     match pair {
@@ -104,7 +104,7 @@ fn second_in(pair: Option<(u64, u64)>) -> Option<u64>
 }
 
 /// The entry that has both rows, where both were found and it is there.
-fn entry_of(memory: &PairMemory, first: Option<u64>, second: Option<u64>) -> Option<u64>
+pub fn entry_of(memory: &PairMemory, first: Option<u64>, second: Option<u64>) -> Option<u64>
     ensures { (a b entry : ℕ) → first ≡ Some a → second ≡ Some b
         → pair_of memory.now.entries entry ≡ Some (a, b) → result ≡ Some entry }
 {

@@ -2,6 +2,7 @@
 ghost use Rattle.std.specs.Prelude.{◌≡◌, ◌<◌, length, IfSome, Some, None};
 ghost use Rattle.expr_lang.specs.Terms.{expr_term};
 ghost use Rattle.op_cond_join.specs.Joinings.{joining};
+ghost use Rattle.pair_rows.specs.Shown.{Joining};
 ghost use Rattle.cond_closing.specs.Columns.{column_at as column_there, columns_at as columns_there};
 ghost use Rattle.cond_closing.specs.Columns.{columns_by, equal_in as equal_there, place_named};
 ghost use Rattle.cond_closing.specs.Columns.{place_in as place_there, MakesEqual};
@@ -41,16 +42,39 @@ fn column_at(own: &[usize], others: &[usize], place: usize) -> Option<usize>
     }
 }
 
+/// Two tables whose columns stand at places of joined rows.
+pub trait Columned {
+    ghost joins: { Self → Joining };
+
+    /// The column of S at this place, where it is one of S alone. It takes no memory.
+    fn first_at(&self, place: usize) -> Option<usize>
+        ensures { result ≡ column_there (joins self.now).first (joins self.now).second place };
+
+    /// The column of T at this place, where it is one of T alone. It takes no memory.
+    fn second_at(&self, place: usize) -> Option<usize>
+        ensures { result ≡ column_there (joins self.now).second (joins self.now).first place };
+}
+
+impl Columned for JoinOn {
+    ghost joins = { λ it. joining it };
+
+    fn first_at(&self, place: usize) -> Option<usize> {
+        column_at(self.first.as_slice(), self.second.as_slice(), place)
+    }
+
+    fn second_at(&self, place: usize) -> Option<usize> {
+        column_at(self.second.as_slice(), self.first.as_slice(), place)
+    }
+}
+
 /// The columns at two places of joined rows, where the first is one of S, and the second of T.
-fn columns_at(join: &JoinOn, p: usize, q: usize) -> Option<(usize, usize)>
-    ensures { result ≡ columns_there (joining join.now) p q }
+fn columns_at<C: Columned>(join: &C, p: usize, q: usize) -> Option<(usize, usize)>
+    ensures { result ≡ columns_there (C.joins join.now) p q }
 {
-    let first = join.first.as_slice();
-    let second = join.second.as_slice();
-    let Some(x) = column_at(first, second, p) else {
+    let Some(x) = join.first_at(p) else {
         return None;
     };
-    let Some(y) = column_at(second, first, q) else {
+    let Some(y) = join.second_at(q) else {
         return None;
     };
     Some((x, y))
@@ -67,8 +91,8 @@ fn column_of(expr: &Expr) -> Option<usize>
 }
 
 /// The columns of an equality of two columns, one of each table.
-fn columns_of(join: &JoinOn, left: &Expr, right: &Expr) -> Option<(usize, usize)>
-    ensures { result ≡ columns_by (joining join.now) (place_named (expr_term left.now))
+fn columns_of<C: Columned>(join: &C, left: &Expr, right: &Expr) -> Option<(usize, usize)>
+    ensures { result ≡ columns_by (C.joins join.now) (place_named (expr_term left.now))
         (place_named (expr_term right.now)) }
 {
     let Some(p) = column_of(left) else {
@@ -84,8 +108,8 @@ fn columns_of(join: &JoinOn, left: &Expr, right: &Expr) -> Option<(usize, usize)
 }
 
 /// Two columns, one of each table, that are equal wherever this condition holds of joined rows.
-fn equal_in(join: &JoinOn, condition: &Expr) -> Option<(usize, usize)>
-    ensures { result ≡ equal_there (joining join.now) (expr_term condition.now) }
+fn equal_in<C: Columned>(join: &C, condition: &Expr) -> Option<(usize, usize)>
+    ensures { result ≡ equal_there (C.joins join.now) (expr_term condition.now) }
 {
     match condition {
         Expr::Binary(op, left, right) => match op {
@@ -100,12 +124,13 @@ fn equal_in(join: &JoinOn, condition: &Expr) -> Option<(usize, usize)>
     }
 }
 
-/// The place in S and the place in T of two columns that are equal wherever the operator's condition
-/// holds: those of the first equality of two columns, one of each table, among what it joins by AND.
-pub fn equal_columns(join: &JoinOn) -> Option<(usize, usize)>
-    ensures value { let j = joining join.now in result ≡ equal_there j j.condition }
-    ensures equal { let j = joining join.now in
-        IfSome result (λ both. MakesEqual j j.condition both.0 both.1) }
+/// The place in S and the place in T of two columns that are equal wherever the condition holds of
+/// joined rows: those of the first equality of two columns, one of each table, among what it joins by
+/// AND. It takes no memory.
+pub fn equal_columns<C: Columned>(join: &C, condition: &Expr) -> Option<(usize, usize)>
+    ensures value { result ≡ equal_there (C.joins join.now) (expr_term condition.now) }
+    ensures equal { IfSome result (λ both. MakesEqual (C.joins join.now) (expr_term condition.now)
+        both.0 both.1) }
 {
-    equal_in(join, &join.condition)
+    equal_in(join, condition)
 }

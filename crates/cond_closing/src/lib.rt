@@ -21,10 +21,11 @@ mod reading;
 mod shown;
 mod steady;
 
-pub use assigned::{ByValues, assigned_ids};
+pub use assigned::{ByValues, assigned_ids, entry_of, first_in, own, second_in};
 pub use by_keys::ByKeys;
 pub use by_rows::ByRows;
-pub use columns::equal_columns;
+pub use columns::{Columned, equal_columns};
 pub use matching::Matching;
 pub use reading::read_ids;
-pub use shown::shown_ids;
+pub use shown::{set_of, shown_ids};
+pub use steady::{Changing, Steady, first_still};

@@ -25,7 +25,7 @@ use std::alloc::Global;
 use std::sync::ledger::Ledger;
 
 /// The identifiers of a list, as a set.
-pub(crate) fn set_of(alloc: Global, ids: &[u64]) -> Result<IdSet, Memory>
+pub fn set_of(alloc: Global, ids: &[u64]) -> Result<IdSet, Memory>
     ensures { IfOk result (λ made. (q : ℕ) → has_id made q ≡ has_id ids.now q) }
 {
     let mut made = IdSet::new(alloc);

@@ -20,17 +20,18 @@ use std::marker::Model;
 
 /// What changes: rows that are halves of entries, or the rows of the entries themselves.
 #[derive(Clone, Copy)]
-pub(crate) enum Changing {
+pub enum Changing {
     Halves,
     Entries,
 }
 
-/// A memory, and which of its rows change.
+/// A memory, and which of its rows change. As a rule, an identifier brings both rows of its entry, and
+/// as either half an entry that isn't changed, where it has one.
 #[derive(Drop)]
-pub(crate) struct Steady<'a> {
-    pub(crate) memory: &'a PairMemory,
-    pub(crate) changed: &'a IdSet,
-    pub(crate) what: Changing,
+pub struct Steady<'a> {
+    pub memory: &'a PairMemory,
+    pub changed: &'a IdSet,
+    pub what: Changing,
 }
 
 impl<'a> Model for Steady<'a> {
@@ -107,7 +108,7 @@ impl<'a> Steady<'a> {
 
 /// The identifier that brought another, where its entry has it as this half and isn't changed.
 fn still_by(it: &Steady<'_>, half: Half, id: u64, by: Option<u64>) -> Option<u64>
-    ensures { IfSome result (λ p. IsStill half it.now id p) }
+    ensures { IfSome result (λ p. IsStill half it.now id 0 p) }
 {
     let Some(p) = by else {
         return None;
@@ -123,28 +124,29 @@ fn still_by(it: &Steady<'_>, half: Half, id: u64, by: Option<u64>) -> Option<u64
     }
 }
 
-/// An entry that has the identifier as this half and isn't changed, where there is one. It passes
-/// over those that are, each with a search.
-fn first_still(it: &Steady<'_>, half: Half, id: u64) -> Option<u64>
-    ensures { IsStillBy half it.now id result }
+/// An entry that has the identifier as this half and isn't changed, where there is one; of those with
+/// another half behind this one, where it is given. It passes over those that are changed, each with
+/// a binary search, and takes no memory.
+pub fn first_still(it: &Steady<'_>, half: Half, id: u64, after: Option<u64>) -> Option<u64>
+    ensures { IsStillBy half it.now id (behind after) result }
 {
-    let mut after = None;
-    while let Some(entry) = it.next(half, id, after) {
+    let mut last = after;
+    while let Some(entry) = it.next(half, id, last) {
         if it.stays(&entry) {
             return Some(entry.0);
         }
-        after = Some(other_in(half, &entry));
+        last = Some(other_in(half, &entry));
     }
     None
 }
 
 /// The same, where the one that brought it isn't one already.
 fn still_of(it: &Steady<'_>, half: Half, id: u64, by: Option<u64>) -> Option<u64>
-    ensures { IsStillBy half it.now id result }
+    ensures { IsStillBy half it.now id 0 result }
 {
     match still_by(it, half, id, by) {
         Some(p) => Some(p),
-        None => first_still(it, half, id),
+        None => first_still(it, half, id, None),
     }
 }
 

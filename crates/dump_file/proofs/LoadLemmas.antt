@@ -4,6 +4,7 @@ use Rattle.std.proofs.Common.{◌≡◌, ℕ, List, [], true, map, refl, sym, ap
 use mathlib.Core.List.{reverse}
 use Rattle.par_base.specs.declared.fault.Fault.{Fault}
 use Rattle.par_base.specs.declared.fault.Fault.TheVariants.{Refused, Memory}
+use Rattle.par_base.specs.declared.fault.Memory.{Memory as NoMemory}
 use Rattle.serde_json.specs.Data.{Data}
 use Rattle.version_graph.specs.Edges.{Drawn, IsGraph, numbers}
 use Rattle.version_graph.specs.Finished.{IsFinished}
@@ -22,9 +23,9 @@ use Rattle.dump_graph.specs.Laws.{ToldGraphsAreOne}
 use Rattle.dump_graph.specs.Texts.{AreFromTexts}
 use Rattle.dump_graph.specs.Told.{graph_told}
 use Rattle.dump_graph.specs.declared.refused.DumpRefused.{DumpRefused}
-use Rattle.dump_file.specs.Stands.{HasNoOther, Loads, Stands}
+use Rattle.dump_file.specs.Stands.{HasNoOther, Loads, LoadsDump, Stands}
 use Rattle.dump_file.specs.Told.{aux_line, dump_told, has_tables, kept_told, memory_line}
-use Rattle.dump_file.specs.inner.Loading.{AreFields, AreKept, AreMemories, AreOnly, Keeps, MakesFields, ReadsLines, is_told}
+use Rattle.dump_file.specs.inner.Loading.{AreFields, AreKept, AreMemories, AreOnly, Keeps, MakesFields, is_told}
 use Rattle.dump_file.proofs.BuiltLemmas.{IsBuiltFor, all_built}
 use Rattle.dump_file.proofs.FillLemmas.{one_filling}
 use Rattle.dump_file.proofs.KeptLemmas.{aux_entries, memory_entries}
@@ -196,7 +197,20 @@ pub none_made : (d : Data) (dump : Dump) (limit : ℕ) (fault : Fault DumpRefuse
 none_made d dump limit (Refused r) tells none = λ q stands. none q (stood_fields d dump q tells stands)
 none_made d dump limit (Memory memory) tells none = tt
 
--- nor for what tells nothing
-pub none_read : (d : Data) (limit : ℕ) (fault : Fault DumpRefused) → ReadsLines d (Err fault) → Loads d limit (Err fault)
-none_read d limit (Refused r) none = λ q stands. none (dump_told q) stands.told
-none_read d limit (Memory memory) none = tt
+-- ---- whatever JSON told it
+
+pub dump_loaded : (dump : Dump) (limit : ℕ) (p db : Parts AnyView) → MakesFields dump limit (Ok p) → IsDatabase any_meaning p × (db ≡ p) → LoadsDump dump limit (Ok db)
+unfolding LoadsDump
+dump_loaded dump limit p db makes checks = λ d tells. is_loaded d dump limit p db tells makes checks
+
+pub dump_unmade : (dump : Dump) (limit : ℕ) (fault : Fault DumpRefused) → MakesFields dump limit (Err fault) → LoadsDump dump limit (Err fault)
+unfolding LoadsDump
+dump_unmade dump limit fault none = λ d tells. none_made d dump limit fault tells none
+
+pub dump_alone : (dump : Dump) (limit : ℕ) (p : Parts AnyView) (r : DumpRefused) → MakesFields dump limit (Ok p) → (IsDatabase any_meaning p → ⊥) → LoadsDump dump limit (Err (Refused r))
+unfolding LoadsDump
+dump_alone dump limit p r makes none = λ d tells. not_loaded d dump limit p tells makes none
+
+pub dump_waits : (dump : Dump) (limit : ℕ) (memory : NoMemory) → LoadsDump dump limit (Err (Memory memory))
+unfolding LoadsDump
+dump_waits dump limit memory = λ d tells. tt

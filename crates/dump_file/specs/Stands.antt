@@ -10,7 +10,7 @@ use Rattle.op_any.specs.Operators.{AnyView, any_meaning}
 use Rattle.version_model.specs.declared.numbered.Numbered.{Numbered}
 use Rattle.db_state.specs.Fields.{IsDatabase}
 use Rattle.db_state.specs.declared.parts.Parts.{Parts}
-use Rattle.dump_values.specs.Dumps.{dump_of}
+use Rattle.dump_values.specs.Dumps.{Dump, dump_of}
 use Rattle.dump_graph.specs.Texts.{AreFromTexts}
 use Rattle.dump_graph.specs.Graphs.{AreNames}
 use Rattle.dump_graph.specs.declared.refused.DumpRefused.{DumpRefused}
@@ -33,3 +33,7 @@ abbrev pub Loads : Data → ℕ → Result (Parts AnyView) (Fault DumpRefused) �
 Loads d limit (Ok db) = Stands d db × (db.ids.limit ≡ limit)
 Loads d limit (Err (Refused r)) = (p : Parts AnyView) → Stands d p → ⊥
 Loads d limit (Err (Memory memory)) = ⊤
+
+-- what loading answers of what was read of a dump: that of any JSON of which this was read
+unfoldable pub LoadsDump : Dump → ℕ → Result (Parts AnyView) (Fault DumpRefused) → Type 0
+LoadsDump dump limit loaded = (d : Data) → dump_of d ≡ Some dump → Loads d limit loaded

@@ -1,39 +1,25 @@
 //! Loading a database.
 ghost use Rattle.std.specs.Prelude.{◌≡◌, ◌≤◌, ◌<◌, ◌^◌, map, IfOk};
-ghost use Rattle.serde_json.specs.View.{view};
 ghost use Rattle.dump_values.specs.Dumps.{dump_seen, kept_seen, stored_seen};
-ghost use Rattle.dump_file.specs.Stands.{Loads};
+ghost use Rattle.dump_file.specs.Stands.{LoadsDump};
 ghost use Rattle.dump_file.specs.Told.{stored_line};
-ghost use Rattle.dump_file.specs.inner.Loading.{Keeps, MakesFields, ReadsLines};
+ghost use Rattle.dump_file.specs.inner.Loading.{Keeps, MakesFields};
 
 use crate::filling::{fill_auxes, fill_memories, live_numbers};
 use db_check::check;
 use db_state::{Db, Parts};
 use dump_graph::{DumpRefused, build_graph, told_graphs_are_one};
-use dump_values::{DumpLines, KeptLines, read_dump};
+use dump_values::{DumpLines, KeptLines};
 use expr_lang::Steps;
 use id_memory::IdCounter;
 use layout_rules::Layout;
 use op_any::AnyOp;
 use par_base::{Fault, Limits, List, Memory};
 use row_store::Table;
-use serde_json::Value as Json;
 use std::alloc::Global;
 use std::sync::ledger::Ledger;
 use version_graph::Graph;
 use version_model::Numbered;
-
-/// What the JSON tells, where it spells a database.
-fn read_lines(alloc: Global, json: Json) -> Result<DumpLines, Fault<DumpRefused>>
-    ensures told { ReadsLines (view json) result }
-    ensures within { IfOk result
-        (λ lines. (1 ≤ lines.kept.next) × (lines.kept.next ≤ 2 ^ 63)) }
-{
-    match read_dump(alloc, json)? {
-        Some(lines) => Ok(lines),
-        None => Err(Fault::Refused(DumpRefused)),
-    }
-}
 
 fn number_tables(alloc: Global, lines: List<(u32, Table)>) -> Result<List<Numbered<Table>>, Memory>
     ensures { IfOk result (λ made. map stored_line made ≡ stored_seen lines) }
@@ -98,19 +84,20 @@ fn make_fields(
     keep(alloc, built, kept, limit)
 }
 
-/// The database for which the JSON stands, with this limit of identifiers. It is refused exactly where
-/// it stands for none. It takes time in the size of the JSON, that of building the graph, and that of
-/// `check`, which asks each operator once. Of the JSON nothing is left when the check begins.
-#[tactic(auto, using(crate::proofs::LoadLemmas::is_loaded, crate::proofs::LoadLemmas::none_made))]
+/// The database for which stands what was read of a dump, with this limit of identifiers. It is refused
+/// exactly where that stands for none. It takes time in the size of what was read, that of building the
+/// graph, and that of `check`, which asks each operator once.
+#[tactic(auto, using(crate::proofs::LoadLemmas::dump_loaded, crate::proofs::LoadLemmas::dump_unmade, crate::proofs::LoadLemmas::dump_waits))]
 pub fn load_database<L: Ledger>(
     alloc: Global,
-    json: Json,
+    lines: DumpLines,
     limits: Limits,
     steps: &mut Steps<L>,
 ) -> Result<Db<AnyOp>, Fault<DumpRefused>>
-    ensures { Loads (view json) limits.max_id result }
+    requires from_one { 1 ≤ lines.kept.next }
+    requires at_most { lines.kept.next ≤ 2 ^ 63 }
+    ensures { LoadsDump (dump_seen lines) limits.max_id result }
 {
-    let lines = read_lines(alloc, json)?;
     let fields = make_fields(alloc, lines, limits.max_id)?;
     match check(alloc, fields, steps) {
         Ok(db) => Ok(db),

@@ -1,23 +1,21 @@
 -- Members that are put to an object or taken out of it.
-use Rattle.std.specs.Prelude.{◌≤◌, codes, length, Option, Some, option_map}
-use Rattle.std.specs.BTreeMap.{is_at}
+use Rattle.std.specs.Prelude.{◌≤◌, codes, filter, not, Some}
 use Rattle.std.specs.Cmp.Lexicographic.{slice_cmp}
-use Rattle.std.specs.Map.{lookup, remove_entry}
 use Rattle.std.specs.Ordering.{match_ordering}
-use Rattle.std.proofs.Common.{◌≡◌, ℕ, List, [], ◌∷◌, String, BTreeMap, Global, Bool, true, false, cond, Ordering, Less, Equal, Greater, nat_cmp, is_eq, bytes_eq, string_bytes, refl, sym, ap, ◌∙◌, arith, rules}
+use Rattle.std.proofs.Common.{◌≡◌, ℕ, List, [], ◌∷◌, Bool, true, false, cond, Ordering, Less, Equal, Greater, nat_cmp, is_eq, bytes_eq, refl, sym, ap, ◌∙◌, arith}
 use Rattle.std.proofs.Math.Nat.{le-max_left, le-max_right, max-le}
 use Rattle.std.proofs.lemmas.Bool.{or_from, or_parts}
+use Rattle.std.proofs.lemmas.Cmp.{nat_list_cmp_total, tied_itself}
 use Rattle.std.proofs.lemmas.Map.Text.{is_eq-slice_cmp}
 use Rattle.std.proofs.lemmas.Slice.Eq.{bytes_eq-Decides}
-use Rattle.serde_json.specs.Data.{Data, number, unsigned, object, Members, no_members, member, put, depth, members_depth}
-use Rattle.serde_json.specs.Find.{get, get_member}
-use Rattle.serde_json.specs.View.{members_view, number_view, view}
+use Rattle.json.specs.Value.{members_view}
+use Rattle.serde_json.specs.Data.{Data, unsigned, Members, no_members, member, put, depth, members_depth}
+use Rattle.serde_json.specs.Read.{number_of}
 use Rattle.serde_json.specs.Written.{has_float, members_have_float}
-use Rattle.serde_json.specs.declared.number.Number.{Number}
-use Rattle.serde_json.specs.declared.value.Value.{Value as Json, Object, Number as AsNumber, the_lemmas}
-use Rattle.serde_json.proofs.Views.{Entry, view-Object, view-lookup}
-use Rattle.dump_values.specs.Members.{number_json}
-use Rattle.dump_formats.specs.Formats.{first_of, without}
+use Rattle.serde_json.proofs.OnLiterals.{serde_json_on_literals}
+use Rattle.dump_values.specs.Trees.{entries_view, members_data, tree_view}
+use Rattle.dump_values.proofs.TreeLemmas.{Above, Entry, Sorted, above_less, compare, put_at, sorted_put}
+use Rattle.dump_formats.specs.Formats.{without}
 
 -- ---- members without floats, which nest no deeper
 
@@ -46,19 +44,9 @@ depth_put m k d (member l e ms) hd hm =
     let rest : members_depth ms ≤ m = omega (arith, hm, le-max_right (depth e) (members_depth ms)) in
     depth_at m (slice_cmp nat_cmp k l) k l d e ms (put k d ms) hd first rest (depth_put m k d ms hd rest)
 
--- ---- a member that is taken out
+-- ---- members that are let go
 
-removed_at : (o : Ordering) (e : Entry) (es rest : List Entry) (gone : Members) → members_view rest ≡ gone
-    → members_view (cond (is_eq o) es (e ∷ rest)) ≡ match_ordering o (member (string_bytes e.0) (view e.1) gone) (members_view es) (member (string_bytes e.0) (view e.1) gone)
-removed_at Less e es rest gone is = ap (member (string_bytes e.0) (view e.1)) is
-removed_at Equal e es rest gone is = refl
-removed_at Greater e es rest gone is = ap (member (string_bytes e.0) (view e.1)) is
-
-pub removed : (k : List ℕ) (es : List Entry) → members_view (remove_entry (is_at (λ l. slice_cmp nat_cmp k (string_bytes l))) es) ≡ without k (members_view es)
-removed k [] = refl
-removed k (e ∷ es) = removed_at (slice_cmp nat_cmp k (string_bytes e.0)) e es (remove_entry (is_at (λ l. slice_cmp nat_cmp k (string_bytes l))) es) (without k (members_view es)) (removed k es)
-
-either : (o : Ordering) (a b : Option Data) → is_eq o ≡ false → match_ordering o a b a ≡ a
+either : {A : Type 0} → (o : Ordering) (a b : A) → is_eq o ≡ false → match_ordering o a b a ≡ a
 either Less a b e = refl
 either Equal a b e = absurd (let no : ⊥ = cc in no)
 either Greater a b e = refl
@@ -67,51 +55,94 @@ differ : (xs ys : List ℕ) (b : Bool) → bytes_eq xs ys ≡ b → (xs ≡ ys �
 differ xs ys true e other = absurd (other ((bytes_eq-Decides xs ys).0 e))
 differ xs ys false e other = refl
 
-passed : (q k : List ℕ) (d : Data) (ms : Members) → (q ≡ k → ⊥) → get_member q (member k d ms) ≡ get_member q ms
-passed q k d ms other = either (slice_cmp nat_cmp q k) _ _ (is_eq-slice_cmp q k ∙ differ q k _ refl other)
+unlike : {k m : List ℕ} → (p : Ordering) → compare k m ≡ p → k ≡ m → (p ≡ Equal → ⊥) → ⊥
+unlike {k} {m} p is same never = never (sym is ∙ ap (λ (l : List ℕ). compare k l) (sym same) ∙ tied_itself nat_list_cmp_total k)
 
-kept_at : (o : Ordering) (q k l : List ℕ) (e : Data) (ms gone : Members) → slice_cmp nat_cmp k l ≡ o → (q ≡ k → ⊥) → get_member q gone ≡ get_member q ms
-    → get_member q (match_ordering o (member l e gone) ms (member l e gone)) ≡ get_member q (member l e ms)
-kept_at Less q k l e ms gone is other same = ap (λ (r : Option Data). match_ordering (slice_cmp nat_cmp q l) r (Some e) r) same
-kept_at Equal q k l e ms gone is other same =
-    let here : k ≡ l = (bytes_eq-Decides k l).0 (sym (is_eq-slice_cmp k l) ∙ ap is_eq is) in
-    sym (passed q l e ms (λ j. other (j ∙ sym here)))
-kept_at Greater q k l e ms gone is other same = ap (λ (r : Option Data). match_ordering (slice_cmp nat_cmp q l) r (Some e) r) same
+-- a member of another key stays
+stays : (k l : List ℕ) (d : Data) (ms : Members) → (k ≡ l → ⊥) → without k (member l d ms) ≡ member l d (without k ms)
+stays k l d ms other = either (compare k l) (member l d (without k ms)) ms (is_eq-slice_cmp k l ∙ differ k l _ refl other)
 
--- the others stay
-pub other_stays : (q k : List ℕ) (ms : Members) → (q ≡ k → ⊥) → get_member q (without k ms) ≡ get_member q ms
-other_stays q k no_members other = refl
-other_stays q k (member l e ms) other = kept_at (slice_cmp nat_cmp k l) q k l e ms (without k ms) refl other (other_stays q k ms other)
+-- no member goes where all keys are above
+none_goes : (k : List ℕ) (ms : Members) → Above k ms → without k ms ≡ ms
+none_goes k no_members above = refl
+none_goes k (member l e ms) above = ap (λ (o : Ordering). match_ordering o (member l e (without k ms)) ms (member l e (without k ms))) above.0 ∙ ap (member l e) (none_goes k ms above.1)
 
--- ---- of an object
+-- what is put below all stands first
+put_first : (l : List ℕ) (d : Data) (ms : Members) → Above l ms → put l d ms ≡ member l d ms
+put_first l d no_members above = refl
+put_first l d (member m e ms) above = ap (λ (o : Ordering). put_at o l d m e ms) above.0
 
-view-Number : (x : Number) → view (AsNumber x) ≡ number (number_view x)
-view-Number x = search (rules, the_lemmas)
+same_at : (o : Ordering) (k : List ℕ) (d : Data) (m : List ℕ) (e : Data) (ms : Members) → compare k m ≡ o → Sorted (member m e ms) → without k (put k d ms) ≡ without k ms
+    → without k (put_at o k d m e ms) ≡ match_ordering o (member m e (without k ms)) ms (member m e (without k ms))
+same_at Less k d m e ms is sorted later =
+    ap (λ (o : Ordering). match_ordering o (member k d (without k (member m e ms))) (member m e ms) (member k d (without k (member m e ms)))) (tied_itself nat_list_cmp_total k)
+    ∙ ap (member m e) (sym (none_goes k ms (above_less k m ms is sorted.0)))
+same_at Equal k d m e ms is sorted later = ap (λ (o : Ordering). match_ordering o (member m d (without k ms)) ms (member m d (without k ms))) is
+same_at Greater k d m e ms is sorted later =
+    ap (λ (o : Ordering). match_ordering o (member m e (without k (put k d ms))) (put k d ms) (member m e (without k (put k d ms)))) is ∙ ap (member m e) later
 
-abbrev at_key : List ℕ → String Global → Bool
-at_key k l = is_at (λ t. slice_cmp nat_cmp k (string_bytes t)) l
+-- what was put goes
+same_goes : (k : List ℕ) (d : Data) (ms : Members) → Sorted ms → without k (put k d ms) ≡ without k ms
+same_goes k d no_members sorted = ap (λ (o : Ordering). match_ordering o (member k d no_members) no_members (member k d no_members)) (tied_itself nat_list_cmp_total k)
+same_goes k d (member m e ms) sorted = same_at (compare k m) k d m e ms refl sorted (same_goes k d ms sorted.1)
 
--- what was taken out stood there
-pub taken : (k : List ℕ) (m : BTreeMap (String Global) Json) (o : Option Json) → o ≡ lookup (at_key k) m.entries → get k (view (Object m)) ≡ option_map view o
-taken k m o is = ap (get k) (view-Object m) ∙ sym (view-lookup k m.entries) ∙ ap (option_map view) (sym is)
+module _ (k l : List ℕ) (d : Data) (other : k ≡ l → ⊥) (m : List ℕ) (e : Data) (ms : Members) (later : without k (put l d ms) ≡ put l d (without k ms)) where
+  -- behind a member that stays
+  behind_other : (o : Ordering) → compare l m ≡ o → (k ≡ m → ⊥) → without k (put_at o l d m e ms) ≡ put l d (member m e (without k ms))
+  behind_other Less is apart = stays k l d (member m e ms) other ∙ ap (member l d) (stays k m e ms apart) ∙ sym (ap (λ (o : Ordering). put_at o l d m e (without k ms)) is)
+  behind_other Equal is apart = stays k m d ms apart ∙ sym (ap (λ (o : Ordering). put_at o l d m e (without k ms)) is)
+  behind_other Greater is apart = stays k m e (put l d ms) apart ∙ ap (member m e) later ∙ sym (ap (λ (o : Ordering). put_at o l d m e (without k ms)) is)
 
-module _ (m n : BTreeMap (String Global) Json) (out : n.entries ≡ remove_entry (at_key (codes "counts")) m.entries) where
-  without_counts : members_view n.entries ≡ without (codes "counts") (members_view m.entries)
-  without_counts = ap members_view out ∙ removed (codes "counts") m.entries
+  -- behind one that goes
+  behind_same : (o : Ordering) → compare l m ≡ o → compare k m ≡ Equal → Sorted (member m e ms) → without k (put_at o l d m e ms) ≡ put l d ms
+  behind_same Less is here sorted =
+      stays k l d (member m e ms) other
+      ∙ ap (λ (p : Ordering). member l d (match_ordering p (member m e (without k ms)) ms (member m e (without k ms)))) here
+      ∙ sym (put_first l d ms (above_less l m ms is sorted.0))
+  behind_same Equal is here sorted =
+      let first : k ≡ m = (bytes_eq-Decides k m).0 (sym (is_eq-slice_cmp k m) ∙ ap is_eq here) in
+      let second : l ≡ m = (bytes_eq-Decides l m).0 (sym (is_eq-slice_cmp l m) ∙ ap is_eq is) in
+      absurd (other (first ∙ sym second))
+  behind_same Greater is here sorted = ap (λ (p : Ordering). match_ordering p (member m e (without k (put l d ms))) (put l d ms) (member m e (without k (put l d ms)))) here
 
-  -- likewise behind another one
-  pub taken_next : (o : Option Json) → o ≡ lookup (at_key (codes "goal")) n.entries → get (codes "goal") (view (Object m)) ≡ option_map view o
-  taken_next o is =
-      ap (get (codes "goal")) (view-Object m)
-      ∙ sym (other_stays (codes "goal") (codes "counts") (members_view m.entries) (λ e. omega (arith, ap length e)))
-      ∙ ap (get_member (codes "goal")) (sym without_counts)
-      ∙ sym (view-lookup (codes "goal") n.entries) ∙ ap (option_map view) (sym is)
+  -- it goes or stays
+  other_at : (p : Ordering) → compare k m ≡ p → Sorted (member m e ms)
+      → without k (put_at (compare l m) l d m e ms) ≡ put l d (match_ordering p (member m e (without k ms)) ms (member m e (without k ms)))
+  other_at Less is sorted = behind_other (compare l m) refl (λ same. unlike Less is same (λ q. let no : ⊥ = cc in no))
+  other_at Equal is sorted = behind_same (compare l m) refl is sorted
+  other_at Greater is sorted = behind_other (compare l m) refl (λ same. unlike Greater is same (λ q. let no : ⊥ = cc in no))
 
-  -- what is left is the dump of the first format
-  pub first_left : (o p : BTreeMap (String Global) Json) (x : Number) → o.entries ≡ remove_entry (at_key (codes "goal")) n.entries → number_view x ≡ unsigned 1
-      → members_view p.entries ≡ put (codes "format") (view (AsNumber x)) (members_view o.entries) → view (Object p) ≡ first_of (view (Object m))
-  first_left o p x gone one made =
-      view-Object p
-      ∙ ap object (made ∙ ap (λ (d : Data). put (codes "format") d (members_view o.entries)) (view-Number x ∙ ap number one)
-      ∙ ap (put (codes "format") (number_json 1)) (ap members_view gone ∙ removed (codes "goal") n.entries ∙ ap (without (codes "goal")) without_counts))
-      ∙ sym (ap first_of (view-Object m))
+-- a put member of another key stays
+other_goes : (k l : List ℕ) (d : Data) (ms : Members) → (k ≡ l → ⊥) → Sorted ms → without k (put l d ms) ≡ put l d (without k ms)
+other_goes k l d no_members other sorted = stays k l d no_members other
+other_goes k l d (member m e ms) other sorted = other_at k l d other m e ms (other_goes k l d ms other sorted.1) (compare k m) refl sorted
+
+module _ {A : Type 0} (k : List ℕ) where
+  abbrev pub is_other : Entry A → Bool
+  is_other x = not (bytes_eq x.0.now k)
+
+  left_behind : (xs : List (Entry A)) (before : Members) → Sorted before → without k (members_data (members_view xs) before) ≡ members_data (members_view (filter is_other xs)) (without k before)
+  left_behind [] before sorted = refl
+  left_behind (x ∷ xs) before sorted =
+      left_behind xs (put x.0.now (tree_view x.1) before) (sorted_put x.0.now (tree_view x.1) before sorted)
+      ∙ go (bytes_eq x.0.now k) refl
+    where
+      left : Bool → Members
+      left b = members_data (members_view (cond (not b) (x ∷ filter is_other xs) (filter is_other xs))) (without k before)
+
+      go : (b : Bool) → bytes_eq x.0.now k ≡ b → members_data (members_view (filter is_other xs)) (without k (put x.0.now (tree_view x.1) before)) ≡ left b
+      go true is =
+          let same : x.0.now ≡ k = (bytes_eq-Decides x.0.now k).0 is in
+          ap (members_data (members_view (filter is_other xs))) (ap (λ (l : List ℕ). without k (put l (tree_view x.1) before)) same ∙ same_goes k (tree_view x.1) before sorted)
+      go false is =
+          let apart : k ≡ x.0.now → ⊥ = λ same. (let yes = (bytes_eq-Decides x.0.now k).1 (sym same) in let no : ⊥ = cc in no) in
+          ap (members_data (members_view (filter is_other xs))) (other_goes k x.0.now (tree_view x.1) before apart sorted)
+
+  -- those of other keys are left
+  pub others_kept : (xs : List (Entry A)) → entries_view (filter is_other xs) ≡ without k (entries_view xs)
+  others_kept xs = sym (left_behind xs no_members tt)
+
+-- the text of the format is read
+pub one_read : number_of (codes "1") ≡ Some (unsigned 1)
+unfolding serde_json_on_literals
+one_read = refl

@@ -5,6 +5,7 @@ use Rattle.std.proofs.Common.{◌≡◌, ℕ, List, [], true, false, inl, inr, r
 use Rattle.std.proofs.lemmas.Bool.{cond-false, eqb-true, false≢true}
 use Rattle.par_base.specs.declared.fault.Fault.{Fault}
 use Rattle.par_base.specs.declared.fault.Fault.TheVariants.{Refused, Memory}
+use Rattle.par_base.specs.declared.fault.Memory.{Memory as NoMemory}
 use Rattle.serde_json.specs.Data.{Data}
 use Rattle.serde_json.specs.Find.{get}
 use Rattle.serde_json.specs.View.{view}
@@ -15,18 +16,22 @@ use Rattle.migration.specs.Pending.{IsPending}
 use Rattle.op_any.specs.Operators.{AnyView, any_meaning}
 use Rattle.db_state.specs.Fields.{database_for}
 use Rattle.db_state.specs.declared.parts.Parts.{Parts}
-use Rattle.dump_values.specs.Dumps.{dump_of, has_format}
+use Rattle.dump_values.specs.Dumps.{dump_of, dump_seen, has_format}
 use Rattle.dump_values.specs.Members.{number_of, within}
+use Rattle.dump_values.specs.Trees.{FindsTree}
+use Rattle.dump_values.specs.declared.dumps.DumpLines.{DumpLines}
 use Rattle.dump_graph.specs.declared.refused.DumpRefused.{DumpRefused}
 use Rattle.dump_file.specs.Laws.{DumpsAreOfOneDatabase, DumpsAreOfOneGraph}
-use Rattle.dump_file.specs.Stands.{Stands, Loads as LoadsDatabase}
+use Rattle.dump_file.specs.Stands.{LoadsDump, Stands, Loads as LoadsDatabase}
 use Rattle.dump_file.specs.Told.{dump_told}
 use Rattle.dump_file.specs.States.{state_json, state_told}
 use Rattle.dump_formats.specs.Formats.{counts_json, first_of, goal_json, goal_told, is_second, run_json}
 use Rattle.dump_formats.specs.Laws.{DumpsAreOfOneRun}
-use Rattle.dump_formats.specs.Stands.{Loads, Spells, StandsFor}
-use Rattle.dump_formats.specs.inner.Read.{AreBeside, AreParts, FindsBeside, FindsCounts, FindsPending, LoadsJson, ReadsJson}
+use Rattle.dump_formats.specs.Stands.{IsDumpOf, Loads, Spells, StandsFor}
+use Rattle.dump_formats.specs.inner.Read.{AreBeside, AreParts, FindsBeside, FindsCounts, FindsDump, FindsParts, FindsPending, LoadsJson, LoadsRead, ReadsDump}
 use Rattle.dump_formats.specs.declared.loaded.Loaded.{Loaded}
+use Rattle.dump_formats.specs.declared.loading.ReadDump.{ReadDump}
+use Rattle.dump_formats.specs.declared.loading.ReadDump.TheVariants.{First, Second}
 use Rattle.dump_formats.specs.declared.parts.Members.{Members}
 use Rattle.dump_formats.proofs.CountLemmas.{same_counts}
 use Rattle.dump_formats.proofs.GoalLemmas.{same_pending}
@@ -67,26 +72,27 @@ module _ (d : Data) (limit : ℕ) where
 
   module _ (second : is_second d ≡ true) where
     -- a member is missing
-    pub no_parts : (get (codes "counts") d ≡ None) ⊎ (get (codes "goal") d ≡ None) → (l : Loaded) → StandsFor d l → ⊥
+    pub no_parts : FindsParts d None → (l : Loaded) → StandsFor d l → ⊥
     no_parts missing l (inl first) = not_first d l.database second first.database
     no_parts (inl none) l (inr is) = let counts = is.counts in let clash : None ≡ Some _ = sym none ∙ counts in cc
-    no_parts (inr none) l (inr is) = let goal = is.goal in let clash : None ≡ Some _ = sym none ∙ goal in cc
+    no_parts (inr (inl none)) l (inr is) = let goal = is.goal in let clash : None ≡ Some _ = sym none ∙ goal in cc
+    no_parts (inr (inr none)) l (inr is) = let told = is.database.told in let clash : None ≡ Some _ = sym none ∙ told in cc
 
     module _ (s : Members) (parts : AreParts d s) where
       -- what is left is no dump of the first format
-      pub second_refused : (fault : Fault DumpRefused) → LoadsDatabase (view s.first) limit (Err fault) → LoadsJson d limit (Err fault)
+      pub second_refused : (fault : Fault DumpRefused) → LoadsDatabase (first_of d) limit (Err fault) → LoadsJson d limit (Err fault)
       second_refused (Refused r) none = λ l stands. elim stands as (λ _. ⊥) [
         | inl first ↦ not_first d l.database second first.database
-        | inr is ↦ none l.database (subst (λ (e : Data). Stands e l.database) (sym parts.first) is.database)
+        | inr is ↦ none l.database is.database
       ]
       second_refused (Memory memory) none = tt
 
-      module _ (p : Parts AnyView) (loads : LoadsDatabase (view s.first) limit (Ok p)) where
+      module _ (p : Parts AnyView) (loads : LoadsDatabase (first_of d) limit (Ok p)) where
         pub second_loaded : (counts : List TableCount) (pending : List ℕ) → AreBeside p (view s.counts) (view s.goal) counts pending → LoadsJson d limit (Ok (record { database = p; counts = counts; pending = pending }))
         second_loaded counts pending are = (
           inr (record {
             format = second;
-            database = subst (λ (e : Data). Stands e p) parts.first loads.0;
+            database = loads.0;
             counts = parts.counts ∙ ap (λ (e : Data). Some e) are.counts_are;
             goal = parts.goal ∙ ap (λ (e : Data). Some e) are.goal_is;
             counted = are.counted;
@@ -99,13 +105,49 @@ module _ (d : Data) (limit : ℕ) where
         pub second_alone : DumpsAreOfOneGraph → FindsBeside p (view s.counts) (view s.goal) None → (l : Loaded) → StandsFor d l → ⊥
         second_alone one none l (inl first) = not_first d l.database second first.database
         second_alone one none l (inr is) =
-            let same = one (first_of d) l.database p is.database (subst (λ (e : Data). Stands e p) parts.first loads.0) in
+            let same = one (first_of d) l.database p is.database loads.0 in
             let counts : view s.counts ≡ counts_json (counts_told l.database.graph.edges l.counts) = some_is _ _ (sym parts.counts ∙ is.counts) in
             let goal : view s.goal ≡ goal_json (goal_told l.database.graph.edges l.database.layout.operators l.pending) = some_is _ _ (sym parts.goal ∙ is.goal) in
             let P : Drawn AnyView × List ℕ → Type 0 = λ (k : Drawn AnyView × List ℕ).
             AreCounts k.0.edges l.counts × (view s.counts ≡ counts_json (counts_told k.0.edges l.counts)) × IsPending k.0.edges k.1 l.pending × (view s.goal ≡ goal_json (goal_told k.0.edges k.1 l.pending)) in
             let there : P (p.graph, p.layout.operators) = subst P (λ i. (same.graph i, same.layout i)) (is.counted, counts, is.leads, goal) in
             none l.counts l.pending (record { counted = there.0; counts_are = there.1; leads = there.2; goal_is = there.3 })
+
+-- nothing was read, so nothing stands for it
+pub first_unread : (d : Data) → is_second d ≡ false → dump_of d ≡ None → (l : Loaded) → StandsFor d l → ⊥
+first_unread d off none l (inl first) = let told = first.database.told in let clash : None ≡ Some _ = sym none ∙ told in cc
+first_unread d off none l (inr second) = false≢true (sym off ∙ second.format)
+
+-- ---- loading what was read
+
+module _ (limit : ℕ) where
+  pub first_read : (lines : DumpLines) (p : Parts AnyView) (counts : List TableCount) (pending : List ℕ) → LoadsDump (dump_seen lines) limit (Ok p) → counts ≡ [] → pending ≡ []
+      → LoadsRead (First lines) limit (Ok (record { database = p; counts = counts; pending = pending }))
+  unfolding LoadsDump LoadsRead
+  first_read lines p counts pending loads c e = λ d is. first_loaded d limit p (loads d is.1) counts pending c e
+
+  pub first_none : (lines : DumpLines) (fault : Fault DumpRefused) → LoadsDump (dump_seen lines) limit (Err fault) → LoadsRead (First lines) limit (Err fault)
+  unfolding LoadsDump LoadsRead
+  first_none lines fault loads = λ d is. first_refused d limit fault is.0 (loads d is.1)
+
+  module _ (s : Members) where
+    pub second_none : (fault : Fault DumpRefused) → LoadsDump (dump_seen s.first) limit (Err fault) → LoadsRead (Second s) limit (Err fault)
+    unfolding LoadsDump LoadsRead
+    second_none fault loads = λ d is. second_refused d limit is.0 s is.1 fault (loads (first_of d) is.1.first)
+
+    module _ (p : Parts AnyView) (loads : LoadsDump (dump_seen s.first) limit (Ok p)) where
+      pub second_read : (counts : List TableCount) (pending : List ℕ) → AreBeside p (view s.counts) (view s.goal) counts pending
+          → LoadsRead (Second s) limit (Ok (record { database = p; counts = counts; pending = pending }))
+      unfolding LoadsDump LoadsRead
+      second_read counts pending are = λ d is. second_loaded d limit is.0 s is.1 p (loads (first_of d) is.1.first) counts pending are
+
+      pub second_lonely : DumpsAreOfOneGraph → FindsBeside p (view s.counts) (view s.goal) None → (r : DumpRefused) → LoadsRead (Second s) limit (Err (Refused r))
+      unfolding LoadsDump LoadsRead
+      second_lonely one none r = λ d is. second_alone d limit is.0 s is.1 p (loads (first_of d) is.1.first) one none
+
+  pub waits : (r : ReadDump) (memory : NoMemory) → LoadsRead r limit (Err (Memory memory))
+  unfolding LoadsRead
+  waits r memory = λ d is. tt
 
 -- what one of the members doesn't spell
 pub beside_none : (p : Parts AnyView) (c g : Data) → FindsCounts p.graph.edges c None ⊎ FindsPending p.graph.edges p.layout.operators g None → FindsBeside p c g None
@@ -142,9 +184,21 @@ bytes_load bytes d limit (Ok l) spells loads = ((d, spells, loads.0), loads.1)
 bytes_load bytes d limit (Err (Refused r)) spells none = λ l is. none l (subst (λ (e : Data). StandsFor e l) (some_is is.0 d (sym is.1.1 ∙ spells.1)) is.2)
 bytes_load bytes d limit (Err (Memory memory)) spells none = tt
 
-pub bytes_unread : (bytes : List ℕ) (limit : ℕ) (fault : Fault DumpRefused) → ReadsJson bytes (Err fault) → Loads bytes limit (Err fault)
-bytes_unread bytes limit (Refused r) none = λ l is. none is.0 is.1
+-- what the bytes tell is loaded
+pub bytes_read : (bytes : List ℕ) (r : ReadDump) (limit : ℕ) (loaded : Result Loaded (Fault DumpRefused)) → ReadsDump bytes (Ok r) → LoadsRead r limit loaded → Loads bytes limit loaded
+unfolding LoadsRead
+bytes_read bytes r limit loaded reads loads = bytes_load bytes reads.0 limit loaded reads.1 (loads reads.0 reads.2)
+
+pub bytes_unread : (bytes : List ℕ) (limit : ℕ) (fault : Fault DumpRefused) → ReadsDump bytes (Err fault) → Loads bytes limit (Err fault)
+bytes_unread bytes limit (Refused r) none = none
 bytes_unread bytes limit (Memory memory) none = tt
+
+-- bytes that spell nothing, or nothing that stands for anything, are no dump
+pub none_spelled : (bytes : List ℕ) → FindsTree bytes None → (l : Loaded) → IsDumpOf bytes l → ⊥
+none_spelled bytes none l is = let spells = is.1 in let clash : None ≡ Some _ = sym (none spells.0) ∙ spells.1 in cc
+
+pub none_stands : (bytes : List ℕ) (d : Data) → FindsTree bytes (Some d) → FindsDump d None → (l : Loaded) → IsDumpOf bytes l → ⊥
+none_stands bytes d spells none l is = none l (subst (λ (e : Data). StandsFor e l) (some_is is.0 d (sym is.1.1 ∙ spells.1)) is.2)
 
 -- ---- a dump is of one run
 

@@ -1,9 +1,10 @@
 //! Loading a database, and what a run kept beside it.
 ghost use Rattle.std.specs.Prelude.{◌≡◌, true, false, IfOk};
 ghost use Rattle.serde_json.specs.View.{view};
-ghost use Rattle.dump_formats.specs.Formats.{is_second as is_second_lem};
+ghost use Rattle.dump_values.specs.Trees.{tree_view};
 ghost use Rattle.dump_formats.specs.Stands.{Loads};
-ghost use Rattle.dump_formats.specs.inner.Read.{FindsBeside, LoadsJson, ReadsJson};
+ghost use Rattle.dump_formats.specs.inner.Read.{FindsBeside, FindsDump, IsInRange, LoadsRead, ReadsDump};
+ghost use Rattle.dump_formats.specs.declared.loading.ReadDump.TheVariants.{First, Second};
 
 use crate::Loaded;
 use crate::accesses::read_counts;
@@ -12,7 +13,9 @@ use crate::parts::{Members, is_second, split};
 use db_state::Db;
 use dump_file::{dumps_are_of_one_database, load_database};
 use dump_graph::DumpRefused;
+use dump_values::{DumpLines, read_dump, read_tree};
 use expr_lang::Steps;
+use json::{Scratch, Value as Tree};
 use layout_planner::TableCount;
 use op_any::AnyOp;
 use par_base::{Fault, Limits, List, Memory};
@@ -20,19 +23,41 @@ use serde_json::Value as Json;
 use std::alloc::Global;
 use std::sync::ledger::Ledger;
 
-/// The JSON that the bytes spell. They are let go.
-fn read_json(alloc: Global, bytes: Vec<u8>) -> Result<Json, Fault<DumpRefused>>
-    ensures { ReadsJson bytes.items result }
+/// What was read of a dump of either format. It borrows nothing.
+#[derive(Drop)]
+pub(crate) enum ReadDump {
+    First(DumpLines),
+    Second(Members),
+}
+
+// What the tree tells, where it spells a dump.
+fn read_format(alloc: Global, tree: Tree<'_>) -> Result<Option<ReadDump>, Memory>
+    ensures { IfOk result (FindsDump (tree_view tree.entry)) }
 {
-    match Json::from_slice(alloc, &bytes) {
-        Ok(json) => Ok(json),
-        Err(error) => {
-            if error.is_memory() {
-                Err(Fault::Memory(Memory::meant_by(error)))
-            } else {
-                Err(Fault::Refused(DumpRefused))
-            }
+    if is_second(&tree) {
+        match split(alloc, tree)? {
+            Some(second) => Ok(Some(ReadDump::Second(second))),
+            None => Ok(None),
         }
+    } else {
+        match read_dump(alloc, tree)? {
+            Some(first) => Ok(Some(ReadDump::First(first))),
+            None => Ok(None),
+        }
+    }
+}
+
+/// What the bytes tell. They are let go, and so is the tree that borrows from them.
+fn read_bytes(alloc: Global, bytes: Vec<u8>) -> Result<ReadDump, Fault<DumpRefused>>
+    ensures { ReadsDump bytes.items result }
+{
+    let mut scratch = Scratch::new(alloc);
+    let Some(tree) = read_tree(alloc, &bytes, &mut scratch)? else {
+        return Err(Fault::Refused(DumpRefused));
+    };
+    match read_format(alloc, tree)? {
+        Some(read) => Ok(read),
+        None => Err(Fault::Refused(DumpRefused)),
     }
 }
 
@@ -58,14 +83,14 @@ fn read_beside(
 // A dump of the first format.
 fn load_first<L: Ledger>(
     alloc: Global,
-    json: Json,
+    first: DumpLines,
     limits: Limits,
     steps: &mut Steps<L>,
 ) -> Result<Loaded, Fault<DumpRefused>>
-    requires { is_second_lem (view json) ≡ false }
-    ensures { LoadsJson (view json) limits.max_id result }
+    requires { IsInRange first }
+    ensures { LoadsRead (First first) limits.max_id result }
 {
-    let database = load_database(alloc, json, limits, steps)?;
+    let database = load_database(alloc, first, limits, steps)?;
     Ok(Loaded {
         database,
         counts: List::new(alloc),
@@ -76,25 +101,20 @@ fn load_first<L: Ledger>(
 // A dump of the second format.
 fn load_second<L: Ledger>(
     alloc: Global,
-    json: Json,
+    second: Members,
     limits: Limits,
     steps: &mut Steps<L>,
 ) -> Result<Loaded, Fault<DumpRefused>>
-    requires { is_second_lem (view json) ≡ true }
-    ensures { LoadsJson (view json) limits.max_id result }
+    requires { IsInRange second.first }
+    ensures { LoadsRead (Second second) limits.max_id result }
 {
     // That nothing else stands for it rests on this law.
     dumps_are_of_one_database();
-    let Some(
-        Members {
-            first,
-            counts,
-            goal,
-        },
-    ) = split(alloc, json)?
-    else {
-        return Err(Fault::Refused(DumpRefused));
-    };
+    let Members {
+        first,
+        counts,
+        goal,
+    } = second;
     let database = load_database(alloc, first, limits, steps)?;
     match read_beside(alloc, &database, &counts, &goal)? {
         Some((counts, pending)) => Ok(Loaded {
@@ -109,7 +129,7 @@ fn load_second<L: Ledger>(
 /// The database of which the bytes are a dump, with this limit of identifiers, and what was kept
 /// beside it. It is refused exactly where they are a dump of none. It takes time in the number of
 /// bytes, that of building the graph, and that of `check`, which asks each operator once. The bytes are
-/// let go as soon as they are read.
+/// let go as soon as they are read, before the check.
 pub fn load<L: Ledger>(
     alloc: Global,
     bytes: Vec<u8>,
@@ -118,10 +138,8 @@ pub fn load<L: Ledger>(
 ) -> Result<Loaded, Fault<DumpRefused>>
     ensures { Loads bytes.items limits.max_id result }
 {
-    let json = read_json(alloc, bytes)?;
-    if is_second(&json) {
-        load_second(alloc, json, limits, steps)
-    } else {
-        load_first(alloc, json, limits, steps)
+    match read_bytes(alloc, bytes)? {
+        ReadDump::First(first) => load_first(alloc, first, limits, steps),
+        ReadDump::Second(second) => load_second(alloc, second, limits, steps),
     }
 }

@@ -2,6 +2,6 @@ pub mod BackLaws
 mod DumpBack
 mod KeptLemmas
 mod ListLemmas
-mod MemberLemmas
 mod PairLemmas
 mod RiseLemmas
+pub mod TreeLemmas

@@ -4,5 +4,6 @@ pub mod Lines
 pub mod Members
 pub mod Pairs
 pub mod Tables
+pub mod Trees
 pub mod Values
 pub mod inner

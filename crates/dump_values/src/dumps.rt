@@ -1,18 +1,20 @@
 //! Whole dumps.
 ghost use Rattle.std.specs.Prelude.{◌≡◌, ◌≤◌, ◌^◌, codes, IfOk, IfSome, OnOk, option_map};
 ghost use Rattle.serde_json.specs.Find.{as_array};
-ghost use Rattle.serde_json.specs.View.{items_view, members_view, view};
+ghost use Rattle.serde_json.specs.View.{members_view, view};
 ghost use Rattle.dump_values.specs.Dumps.{auxes_seen, dump_of, dump_seen, graph_of, has_format as is_of_format, kept_of, kept_seen, memories_seen, written};
 ghost use Rattle.dump_values.specs.Lines.{aux_of, memory_of, operator_of, version_of};
 ghost use Rattle.dump_values.specs.Members.{both, list_at, list_of, member_of, next_of, numbers_of, small_of};
+ghost use Rattle.dump_values.specs.Trees.{entries_view, tree_view, trees_view};
 ghost use Rattle.dump_values.specs.inner.Calls.{with_graph, with_layout, with_tables};
 
 use crate::lines::{OperatorLine, VersionLine};
 use crate::lists::{each_aux, each_memory, each_stored, operators_at, versions_at};
 use crate::members::{
-    count_members, next_at, numbers_at, put_number, read_within, small_at, take_items,
+    has_members, member, next_at, numbers_at, put_number, read_within, small_at, take_items,
 };
 use id_memory::PairMemory;
+use json::Value as Tree;
 use par_base::{List, Memory};
 use row_store::Table;
 use serde_json::{Map, Value as Json, put};
@@ -60,10 +62,10 @@ pub struct WrittenLines {
     pub versions: Json,
 }
 
-fn has_format(json: &Json) -> bool
-    ensures { result ≡ is_of_format (view json.now) }
+fn has_format(tree: &Tree<'_>) -> bool
+    ensures { result ≡ is_of_format (tree_view tree.now) }
 {
-    match json.get("format") {
+    match member(tree, "format") {
         Some(found) => read_within(found, 1, 1).is_some(),
         None => false,
     }
@@ -72,16 +74,16 @@ fn has_format(json: &Json) -> bool
 // The operators and the versions.
 fn graph_lists(
     alloc: Global,
-    json: &Json,
+    tree: &Tree<'_>,
 ) -> Result<Option<(List<OperatorLine>, List<VersionLine>)>, Memory>
     ensures { IfOk result (λ lists. lists
-        ≡ both (list_at operator_of (codes "operators") (view json.now))
-        (list_at version_of (codes "versions") (view json.now))) }
+        ≡ both (list_at operator_of (codes "operators") (tree_view tree.now))
+        (list_at version_of (codes "versions") (tree_view tree.now))) }
 {
-    let Some(operators) = operators_at(alloc, json, "operators")? else {
+    let Some(operators) = operators_at(alloc, tree, "operators")? else {
         return Ok(None);
     };
-    match versions_at(alloc, json, "versions") {
+    match versions_at(alloc, tree, "versions") {
         Ok(Some(versions)) => Ok(Some((operators, versions))),
         Ok(None) => {
             mem::drop(operators);
@@ -95,26 +97,26 @@ fn graph_lists(
 }
 
 // The last numbers given.
-fn last_numbers(json: &Json) -> Option<(u32, u32)>
-    ensures { result ≡ both (member_of small_of (codes "last_operator") (view json.now))
-        (member_of small_of (codes "last_table") (view json.now)) }
+fn last_numbers(tree: &Tree<'_>) -> Option<(u32, u32)>
+    ensures { result ≡ both (member_of small_of (codes "last_operator") (tree_view tree.now))
+        (member_of small_of (codes "last_table") (tree_view tree.now)) }
 {
-    let Some(operator) = small_at(json, "last_operator") else {
+    let Some(operator) = small_at(tree, "last_operator") else {
         return None;
     };
-    match small_at(json, "last_table") {
+    match small_at(tree, "last_table") {
         Some(table) => Some((operator, table)),
         None => None,
     }
 }
 
-fn read_graph(alloc: Global, json: &Json) -> Result<Option<GraphLines>, Memory>
-    ensures { IfOk result (λ graph. graph ≡ graph_of (view json.now)) }
+fn read_graph(alloc: Global, tree: &Tree<'_>) -> Result<Option<GraphLines>, Memory>
+    ensures { IfOk result (λ graph. graph ≡ graph_of (tree_view tree.now)) }
 {
-    let Some((operators, versions)) = graph_lists(alloc, json)? else {
+    let Some((operators, versions)) = graph_lists(alloc, tree)? else {
         return Ok(None);
     };
-    match last_numbers(json) {
+    match last_numbers(tree) {
         Some((last_operator, last_table)) => Ok(Some(GraphLines {
             operators,
             versions,
@@ -126,16 +128,16 @@ fn read_graph(alloc: Global, json: &Json) -> Result<Option<GraphLines>, Memory>
 }
 
 // The layout and the next identifier.
-fn layout_and_next(alloc: Global, json: &Json) -> Result<Option<(List<u32>, u64)>, Memory>
+fn layout_and_next(alloc: Global, tree: &Tree<'_>) -> Result<Option<(List<u32>, u64)>, Memory>
     ensures value { IfOk result (λ found. found
-        ≡ both (member_of numbers_of (codes "layout") (view json.now))
-        (member_of next_of (codes "next") (view json.now))) }
+        ≡ both (member_of numbers_of (codes "layout") (tree_view tree.now))
+        (member_of next_of (codes "next") (tree_view tree.now))) }
     ensures within { IfOk result (λ found. IfSome found (λ f. (1 ≤ f.1) × (f.1 ≤ 2 ^ 63))) }
 {
-    let Some(layout) = numbers_at(alloc, json, "layout")? else {
+    let Some(layout) = numbers_at(alloc, tree, "layout")? else {
         return Ok(None);
     };
-    match next_at(json, "next") {
+    match next_at(tree, "next") {
         Some(next) => Ok(Some((layout, next))),
         None => Ok(None),
     }
@@ -144,12 +146,12 @@ fn layout_and_next(alloc: Global, json: &Json) -> Result<Option<(List<u32>, u64)
 // The auxiliary tables and the memories.
 fn operator_lists(
     alloc: Global,
-    auxes: Vec<Json>,
-    memories: Vec<Json>,
+    auxes: Vec<Tree<'_>>,
+    memories: Vec<Tree<'_>>,
 ) -> Result<Option<(List<(u32, List<Table>)>, List<(u32, PairMemory)>)>, Memory>
     ensures { IfOk result (λ lists. option_map (λ l. (auxes_seen l.0, memories_seen l.1)) lists
-        ≡ both (list_of aux_of (items_view auxes.items))
-        (list_of memory_of (items_view memories.items))) }
+        ≡ both (list_of aux_of (trees_view auxes.entry.items))
+        (list_of memory_of (trees_view memories.entry.items))) }
 {
     let Some(auxes) = each_aux(alloc, auxes)? else {
         return Ok(None);
@@ -169,13 +171,13 @@ fn operator_lists(
 
 // The items of the three lists that may be long. They are taken out, so that each can be let go once
 // it was read.
-fn take_lists(json: Json) -> Option<(Vec<Json>, Vec<Json>, Vec<Json>)>
-    ensures { option_map (λ l. (items_view l.0.items, (items_view l.1.items, items_view l.2.items)))
-        result ≡ both (member_of as_array (codes "stored") (view json))
-        (both (member_of as_array (codes "aux") (view json))
-        (member_of as_array (codes "memories") (view json))) }
+fn take_lists(tree: Tree<'_>) -> Option<(Vec<Tree<'_>>, Vec<Tree<'_>>, Vec<Tree<'_>>)>
+    ensures { option_map (λ l. (trees_view l.0.items, (trees_view l.1.items, trees_view l.2.items)))
+        result ≡ both (member_of as_array (codes "stored") (tree_view tree.entry))
+        (both (member_of as_array (codes "aux") (tree_view tree.entry))
+        (member_of as_array (codes "memories") (tree_view tree.entry))) }
 {
-    let Json::Object(mut members) = json else {
+    let Tree::Object(mut members) = tree else {
         return None;
     };
     let Some(stored) = take_items(&mut members, "stored") else {
@@ -190,14 +192,14 @@ fn take_lists(json: Json) -> Option<(Vec<Json>, Vec<Json>, Vec<Json>)>
     }
 }
 
-fn read_kept(alloc: Global, json: Json) -> Result<Option<KeptLines>, Memory>
-    ensures value { IfOk result (λ kept. option_map kept_seen kept ≡ kept_of (view json)) }
+fn read_kept(alloc: Global, tree: Tree<'_>) -> Result<Option<KeptLines>, Memory>
+    ensures value { IfOk result (λ kept. option_map kept_seen kept ≡ kept_of (tree_view tree.entry)) }
     ensures within { IfOk result (λ kept. IfSome kept (λ k. (1 ≤ k.next) × (k.next ≤ 2 ^ 63))) }
 {
-    let Some((layout, next)) = layout_and_next(alloc, &json)? else {
+    let Some((layout, next)) = layout_and_next(alloc, &tree)? else {
         return Ok(None);
     };
-    let Some((stored, auxes, memories)) = take_lists(json) else {
+    let Some((stored, auxes, memories)) = take_lists(tree) else {
         return Ok(None);
     };
     let Some(stored) = each_stored(alloc, stored)? else {
@@ -217,21 +219,21 @@ fn read_kept(alloc: Global, json: Json) -> Result<Option<KeptLines>, Memory>
 
 /// What the JSON tells, where it spells a dump. The next identifier is from 1 to 2^63. The JSON of a
 /// row is let go once the row was read, so that both are never in memory at once.
-pub fn read_dump(alloc: Global, json: Json) -> Result<Option<DumpLines>, Memory>
-    ensures value { IfOk result (λ dump. option_map dump_seen dump ≡ dump_of (view json)) }
+pub fn read_dump(alloc: Global, tree: Tree<'_>) -> Result<Option<DumpLines>, Memory>
+    ensures value { IfOk result (λ dump. option_map dump_seen dump ≡ dump_of (tree_view tree.entry)) }
     ensures within { IfOk result
         (λ dump. IfSome dump (λ d. (1 ≤ d.kept.next) × (d.kept.next ≤ 2 ^ 63))) }
 {
-    if !has_format(&json) {
+    if !has_format(&tree) {
         return Ok(None);
     }
-    if count_members(&json) != 10 {
+    if !has_members(&tree, 10) {
         return Ok(None);
     }
-    let Some(graph) = read_graph(alloc, &json)? else {
+    let Some(graph) = read_graph(alloc, &tree)? else {
         return Ok(None);
     };
-    match read_kept(alloc, json)? {
+    match read_kept(alloc, tree)? {
         Some(kept) => Ok(Some(DumpLines { graph, kept })),
         None => Ok(None),
     }

@@ -7,7 +7,7 @@
 //! database is for the crates above. It knows nothing of operators, versions or layouts but that
 //! they have numbers, names and texts.
 //!
-//! Lemmas that crates above may use stand in proofs/: `BackLaws`.
+//! Lemmas that crates above may use stand in proofs/: `BackLaws`, and `TreeLemmas` on trees.
 #![tactic(auto)]
 
 mod dumps;
@@ -15,9 +15,11 @@ mod laws;
 mod lines;
 mod lists;
 mod members;
+mod numbers;
 mod pairs;
 mod rows;
 mod tables;
+mod trees;
 mod values;
 
 pub use dumps::{DumpLines, GraphLines, KeptLines, WrittenLines, read_dump, write_dump};
@@ -25,8 +27,9 @@ pub use laws::{dumps_are_read_back, lines_are_read_back, values_are_read_back};
 pub use lines::{
     OperatorLine, VersionLine, write_aux, write_memory, write_operator, write_stored, write_version,
 };
-pub use members::write_numbers;
+pub use members::{member, read_whole, write_numbers};
 pub use pairs::write_pairs;
 pub use rows::write_row;
 pub use tables::{write_table, write_tables};
+pub use trees::{read_tree, to_json};
 pub use values::write_value;

@@ -5,13 +5,15 @@ ghost use Rattle.serde_json.specs.Find.{as_str};
 ghost use Rattle.serde_json.specs.View.{view};
 ghost use Rattle.dump_values.specs.Lines.{aux_json, aux_of, memory_json, memory_of, operator_json, operator_of, stored_json, stored_of, version_json, version_of};
 ghost use Rattle.dump_values.specs.Members.{both, member_of, numbers_of, small_of};
+ghost use Rattle.dump_values.specs.Trees.{tree_view};
 
 use crate::members::{
-    count_members, numbers_at, put_number, put_text, small_at, text_at, write_numbers,
+    has_members, numbers_at, put_number, put_text, small_at, text_at, write_numbers,
 };
 use crate::pairs::{pairs_at, write_pairs};
 use crate::tables::{table_at, tables_at, write_table, write_tables};
 use id_memory::PairMemory;
+use json::Value as Tree;
 use par_base::{List, Memory, Text};
 use row_store::Table;
 use serde_json::{Map, Value as Json, put};
@@ -36,95 +38,98 @@ pub struct OperatorLine {
 }
 
 /// The number and the table of a stored table.
-pub(crate) fn read_stored(alloc: Global, json: Json) -> Result<Option<(u32, Table)>, Memory>
+pub(crate) fn read_stored(alloc: Global, tree: Tree<'_>) -> Result<Option<(u32, Table)>, Memory>
     ensures { IfOk result (λ line. option_map (λ l. (l.0, l.1.rows)) line
-        ≡ stored_of (view json)) }
+        ≡ stored_of (tree_view tree.entry)) }
 {
-    if count_members(&json) != 2 {
+    if !has_members(&tree, 2) {
         return Ok(None);
     }
-    let Some(number) = small_at(&json, "table") else {
+    let Some(number) = small_at(&tree, "table") else {
         return Ok(None);
     };
-    match table_at(alloc, json, "rows")? {
+    match table_at(alloc, tree, "rows")? {
         Some(table) => Ok(Some((number, table))),
         None => Ok(None),
     }
 }
 
 /// The number and the auxiliary tables of an operator.
-pub(crate) fn read_aux(alloc: Global, json: Json) -> Result<Option<(u32, List<Table>)>, Memory>
+pub(crate) fn read_aux(alloc: Global, tree: Tree<'_>) -> Result<Option<(u32, List<Table>)>, Memory>
     ensures { IfOk result (λ line. option_map (λ l. (l.0, map (λ t. t.rows) l.1)) line
-        ≡ aux_of (view json)) }
+        ≡ aux_of (tree_view tree.entry)) }
 {
-    if count_members(&json) != 2 {
+    if !has_members(&tree, 2) {
         return Ok(None);
     }
-    let Some(number) = small_at(&json, "operator") else {
+    let Some(number) = small_at(&tree, "operator") else {
         return Ok(None);
     };
-    match tables_at(alloc, json, "tables")? {
+    match tables_at(alloc, tree, "tables")? {
         Some(tables) => Ok(Some((number, tables))),
         None => Ok(None),
     }
 }
 
 /// The number and the memory of an operator.
-pub(crate) fn read_memory(alloc: Global, json: Json) -> Result<Option<(u32, PairMemory)>, Memory>
+pub(crate) fn read_memory(
+    alloc: Global,
+    tree: Tree<'_>,
+) -> Result<Option<(u32, PairMemory)>, Memory>
     ensures { IfOk result (λ line. option_map (λ l. (l.0, l.1.entries)) line
-        ≡ memory_of (view json)) }
+        ≡ memory_of (tree_view tree.entry)) }
 {
-    if count_members(&json) != 2 {
+    if !has_members(&tree, 2) {
         return Ok(None);
     }
-    let Some(number) = small_at(&json, "operator") else {
+    let Some(number) = small_at(&tree, "operator") else {
         return Ok(None);
     };
-    match pairs_at(alloc, json, "pairs")? {
+    match pairs_at(alloc, tree, "pairs")? {
         Some(memory) => Ok(Some((number, memory))),
         None => Ok(None),
     }
 }
 
-pub(crate) fn read_version(alloc: Global, json: &Json) -> Result<Option<VersionLine>, Memory>
-    ensures { IfOk result (λ line. line ≡ version_of (view json.now)) }
+pub(crate) fn read_version(alloc: Global, tree: &Tree<'_>) -> Result<Option<VersionLine>, Memory>
+    ensures { IfOk result (λ line. line ≡ version_of (tree_view tree.now)) }
 {
-    if count_members(json) != 2 {
+    if !has_members(tree, 2) {
         return Ok(None);
     }
-    let Some(name) = text_at(alloc, json, "name")? else {
+    let Some(name) = text_at(alloc, tree, "name")? else {
         return Ok(None);
     };
-    match small_at(json, "set") {
+    match small_at(tree, "set") {
         Some(set) => Ok(Some(VersionLine { name, set })),
         None => Ok(None),
     }
 }
 
 // The number of an operator, and the working set that it starts from.
-fn place_of(json: &Json) -> Option<(u32, u32)>
-    ensures { result ≡ both (member_of small_of (codes "number") (view json.now))
-        (member_of small_of (codes "parent") (view json.now)) }
+fn place_of(tree: &Tree<'_>) -> Option<(u32, u32)>
+    ensures { result ≡ both (member_of small_of (codes "number") (tree_view tree.now))
+        (member_of small_of (codes "parent") (tree_view tree.now)) }
 {
-    let Some(number) = small_at(json, "number") else {
+    let Some(number) = small_at(tree, "number") else {
         return None;
     };
-    match small_at(json, "parent") {
+    match small_at(tree, "parent") {
         Some(parent) => Some((number, parent)),
         None => None,
     }
 }
 
 // The numbers of an operator's targets, and its text.
-fn rest_of(alloc: Global, json: &Json) -> Result<Option<(List<u32>, Text)>, Memory>
+fn rest_of(alloc: Global, tree: &Tree<'_>) -> Result<Option<(List<u32>, Text)>, Memory>
     ensures { IfOk result (λ rest. rest
-        ≡ both (member_of numbers_of (codes "targets") (view json.now))
-        (member_of as_str (codes "text") (view json.now))) }
+        ≡ both (member_of numbers_of (codes "targets") (tree_view tree.now))
+        (member_of as_str (codes "text") (tree_view tree.now))) }
 {
-    let Some(targets) = numbers_at(alloc, json, "targets")? else {
+    let Some(targets) = numbers_at(alloc, tree, "targets")? else {
         return Ok(None);
     };
-    match text_at(alloc, json, "text") {
+    match text_at(alloc, tree, "text") {
         Ok(Some(text)) => Ok(Some((targets, text))),
         Ok(None) => {
             mem::drop(targets);
@@ -137,16 +142,16 @@ fn rest_of(alloc: Global, json: &Json) -> Result<Option<(List<u32>, Text)>, Memo
     }
 }
 
-pub(crate) fn read_operator(alloc: Global, json: &Json) -> Result<Option<OperatorLine>, Memory>
-    ensures { IfOk result (λ line. line ≡ operator_of (view json.now)) }
+pub(crate) fn read_operator(alloc: Global, tree: &Tree<'_>) -> Result<Option<OperatorLine>, Memory>
+    ensures { IfOk result (λ line. line ≡ operator_of (tree_view tree.now)) }
 {
-    if count_members(json) != 4 {
+    if !has_members(tree, 4) {
         return Ok(None);
     }
-    let Some((number, parent)) = place_of(json) else {
+    let Some((number, parent)) = place_of(tree) else {
         return Ok(None);
     };
-    match rest_of(alloc, json)? {
+    match rest_of(alloc, tree)? {
         Some((targets, text)) => Ok(Some(OperatorLine {
             number,
             parent,

@@ -1,22 +1,22 @@
 //! Lists of entries.
 ghost use Rattle.std.specs.Prelude.{◌≡◌, IfOk, option_map};
-ghost use Rattle.serde_json.specs.View.{items_view, view};
 ghost use Rattle.dump_values.specs.Dumps.{auxes_seen, memories_seen, stored_seen};
 ghost use Rattle.dump_values.specs.Lines.{aux_of, memory_of, operator_of, stored_of, version_of};
 ghost use Rattle.dump_values.specs.Members.{list_at, list_of};
+ghost use Rattle.dump_values.specs.Trees.{tree_view, trees_view};
 
 use crate::lines::{
     OperatorLine, VersionLine, read_aux, read_memory, read_operator, read_stored, read_version,
 };
 use crate::members::items_at;
 use id_memory::PairMemory;
+use json::Value as Tree;
 use par_base::{List, Memory};
 use row_store::Table;
-use serde_json::Value as Json;
 use std::alloc::Global;
 
-fn each_operator(alloc: Global, items: &[Json]) -> Result<Option<List<OperatorLine>>, Memory>
-    ensures { IfOk result (λ lines. lines ≡ list_of operator_of (items_view items.now)) }
+fn each_operator(alloc: Global, items: &[Tree<'_>]) -> Result<Option<List<OperatorLine>>, Memory>
+    ensures { IfOk result (λ lines. lines ≡ list_of operator_of (trees_view items.now)) }
 {
     let mut lines = List::new(alloc);
     for item in items {
@@ -31,19 +31,19 @@ fn each_operator(alloc: Global, items: &[Json]) -> Result<Option<List<OperatorLi
 /// The operators under this key.
 pub(crate) fn operators_at(
     alloc: Global,
-    json: &Json,
+    tree: &Tree<'_>,
     key: &str,
 ) -> Result<Option<List<OperatorLine>>, Memory>
-    ensures { IfOk result (λ lines. lines ≡ list_at operator_of key.now (view json.now)) }
+    ensures { IfOk result (λ lines. lines ≡ list_at operator_of key.now (tree_view tree.now)) }
 {
-    match items_at(json, key) {
+    match items_at(tree, key) {
         Some(items) => each_operator(alloc, items),
         None => Ok(None),
     }
 }
 
-fn each_version(alloc: Global, items: &[Json]) -> Result<Option<List<VersionLine>>, Memory>
-    ensures { IfOk result (λ lines. lines ≡ list_of version_of (items_view items.now)) }
+fn each_version(alloc: Global, items: &[Tree<'_>]) -> Result<Option<List<VersionLine>>, Memory>
+    ensures { IfOk result (λ lines. lines ≡ list_of version_of (trees_view items.now)) }
 {
     let mut lines = List::new(alloc);
     for item in items {
@@ -58,12 +58,12 @@ fn each_version(alloc: Global, items: &[Json]) -> Result<Option<List<VersionLine
 /// The versions under this key.
 pub(crate) fn versions_at(
     alloc: Global,
-    json: &Json,
+    tree: &Tree<'_>,
     key: &str,
 ) -> Result<Option<List<VersionLine>>, Memory>
-    ensures { IfOk result (λ lines. lines ≡ list_at version_of key.now (view json.now)) }
+    ensures { IfOk result (λ lines. lines ≡ list_at version_of key.now (tree_view tree.now)) }
 {
-    match items_at(json, key) {
+    match items_at(tree, key) {
         Some(items) => each_version(alloc, items),
         None => Ok(None),
     }
@@ -72,10 +72,10 @@ pub(crate) fn versions_at(
 /// The stored tables that the items spell.
 pub(crate) fn each_stored(
     alloc: Global,
-    items: Vec<Json>,
+    items: Vec<Tree<'_>>,
 ) -> Result<Option<List<(u32, Table)>>, Memory>
     ensures { IfOk result (λ lines. option_map stored_seen lines
-        ≡ list_of stored_of (items_view items.items)) }
+        ≡ list_of stored_of (trees_view items.entry.items)) }
 {
     let mut lines = List::new(alloc);
     for item in items {
@@ -90,10 +90,10 @@ pub(crate) fn each_stored(
 /// The auxiliary tables that the items spell.
 pub(crate) fn each_aux(
     alloc: Global,
-    items: Vec<Json>,
+    items: Vec<Tree<'_>>,
 ) -> Result<Option<List<(u32, List<Table>)>>, Memory>
     ensures { IfOk result (λ lines. option_map auxes_seen lines
-        ≡ list_of aux_of (items_view items.items)) }
+        ≡ list_of aux_of (trees_view items.entry.items)) }
 {
     let mut lines = List::new(alloc);
     for item in items {
@@ -108,10 +108,10 @@ pub(crate) fn each_aux(
 /// The memories that the items spell.
 pub(crate) fn each_memory(
     alloc: Global,
-    items: Vec<Json>,
+    items: Vec<Tree<'_>>,
 ) -> Result<Option<List<(u32, PairMemory)>>, Memory>
     ensures { IfOk result (λ lines. option_map memories_seen lines
-        ≡ list_of memory_of (items_view items.items)) }
+        ≡ list_of memory_of (trees_view items.entry.items)) }
 {
     let mut lines = List::new(alloc);
     for item in items {

@@ -1,39 +1,45 @@
 //! Memories of pairs.
 ghost use Rattle.std.specs.Prelude.{◌≡◌, ◌∷◌, [], ◌++◌, ◌^◌, ◌<◌, IfOk, IfSome, OnOk, option_map, None};
 ghost use Rattle.id_memory.specs.Pairs.{RiseFrom, id_of as id_in};
-ghost use Rattle.serde_json.specs.View.{items_view, view};
+ghost use Rattle.serde_json.specs.View.{view};
 ghost use Rattle.dump_values.specs.Members.{member_of};
 ghost use Rattle.dump_values.specs.Pairs.{is_end as nothing, last_of, may_follow, pairs_behind, pairs_json, pairs_of, triple_json, triple_of, two_of};
+ghost use Rattle.dump_values.specs.Trees.{tree_view, trees_view};
 ghost use Rattle.dump_values.specs.inner.Calls.{EndBefore};
 
-use crate::members::{into_items, into_member, read_id};
+use crate::members::{into_items, into_member, items_of, read_id, read_whole};
 use id_memory::{PairMemory, pairs_are_the_memory};
+use json::Value as Tree;
 use par_base::Memory;
 use serde_json::{Number, Value as Json};
 use std::alloc::Global;
 
-fn is_end(items: &[Json]) -> bool
-    ensures { result ≡ nothing (items_view items.now) }
+fn is_end(items: &[Tree<'_>]) -> bool
+    ensures { result ≡ nothing (trees_view items.now) }
 {
     items.split_first().is_none()
 }
 
-fn read_last(items: &[Json]) -> Option<u64>
-    ensures { result ≡ last_of (items_view items.now) }
+fn read_last(items: &[Tree<'_>]) -> Option<u64>
+    ensures { result ≡ last_of (trees_view items.now) }
 {
     let Some((last, others)) = items.split_first() else {
         return None;
     };
-    if is_end(others) { last.as_u64() } else { None }
+    if is_end(others) {
+        read_whole(last)
+    } else {
+        None
+    }
 }
 
-fn read_two(items: &[Json]) -> Option<(u64, u64)>
-    ensures { result ≡ two_of (items_view items.now) }
+fn read_two(items: &[Tree<'_>]) -> Option<(u64, u64)>
+    ensures { result ≡ two_of (trees_view items.now) }
 {
     let Some((first, others)) = items.split_first() else {
         return None;
     };
-    let Some(first) = first.as_u64() else {
+    let Some(first) = read_whole(first) else {
         return None;
     };
     match read_last(others) {
@@ -42,14 +48,14 @@ fn read_two(items: &[Json]) -> Option<(u64, u64)>
     }
 }
 
-fn read_triple(json: &Json) -> Option<(u64, u64, u64)>
-    ensures value { result ≡ triple_of (view json.now) }
+fn read_triple(tree: &Tree<'_>) -> Option<(u64, u64, u64)>
+    ensures value { result ≡ triple_of (tree_view tree.now) }
     ensures within { IfSome result (λ entry. entry.0 < 2 ^ 63) }
 {
-    let Some(items) = json.as_array() else {
+    let Some(items) = items_of(tree) else {
         return None;
     };
-    let Some((first, others)) = items.as_slice().split_first() else {
+    let Some((first, others)) = items.split_first() else {
         return None;
     };
     let Some(id) = read_id(first) else {
@@ -61,12 +67,12 @@ fn read_triple(json: &Json) -> Option<(u64, u64, u64)>
     }
 }
 
-// The same, where the JSON is let go.
-fn take_triple(json: Json) -> Option<(u64, u64, u64)>
-    ensures value { result ≡ triple_of (view json) }
+// The same, where the tree is let go.
+fn take_triple(tree: Tree<'_>) -> Option<(u64, u64, u64)>
+    ensures value { result ≡ triple_of (tree_view tree.entry) }
     ensures within { IfSome result (λ entry. entry.0 < 2 ^ 63) }
 {
-    read_triple(&json)
+    read_triple(&tree)
 }
 
 /// Whether an entry may come behind those that were read.
@@ -90,9 +96,9 @@ fn put_behind(memory: &mut PairMemory, entry: (u64, u64, u64)) -> Result<(), Mem
     Ok(())
 }
 
-fn read_triples(alloc: Global, items: Vec<Json>) -> Result<Option<PairMemory>, Memory>
+fn read_triples(alloc: Global, items: Vec<Tree<'_>>) -> Result<Option<PairMemory>, Memory>
     ensures { IfOk result (λ memory. option_map (λ m. m.entries) memory
-        ≡ pairs_behind [] 1 (items_view items.items)) }
+        ≡ pairs_behind [] 1 (trees_view items.entry.items)) }
 {
     let mut memory = PairMemory::new(alloc);
     let mut least = 1;
@@ -109,23 +115,27 @@ fn read_triples(alloc: Global, items: Vec<Json>) -> Result<Option<PairMemory>, M
     Ok(Some(memory))
 }
 
-/// The memory that the JSON spells, where it spells one.
-fn read_pairs(alloc: Global, json: Json) -> Result<Option<PairMemory>, Memory>
+/// The memory that the tree spells, where it spells one.
+fn read_pairs(alloc: Global, tree: Tree<'_>) -> Result<Option<PairMemory>, Memory>
     ensures { IfOk result (λ memory. option_map (λ m. m.entries) memory
-        ≡ pairs_of (view json)) }
+        ≡ pairs_of (tree_view tree.entry)) }
 {
-    match into_items(json) {
+    match into_items(tree) {
         Some(items) => read_triples(alloc, items),
         None => Ok(None),
     }
 }
 
 /// The memory under this key.
-pub(crate) fn pairs_at(alloc: Global, json: Json, key: &str) -> Result<Option<PairMemory>, Memory>
+pub(crate) fn pairs_at(
+    alloc: Global,
+    tree: Tree<'_>,
+    key: &str,
+) -> Result<Option<PairMemory>, Memory>
     ensures { IfOk result (λ memory. option_map (λ m. m.entries) memory
-        ≡ member_of pairs_of key.now (view json)) }
+        ≡ member_of pairs_of key.now (tree_view tree.entry)) }
 {
-    match into_member(json, key) {
+    match into_member(tree, key) {
         Some(found) => read_pairs(alloc, found),
         None => Ok(None),
     }

@@ -1,17 +1,19 @@
 //! Rows.
 ghost use Rattle.std.specs.Prelude.{◌≡◌, ◌<◌, ◌^◌, IfOk, IfSome};
-ghost use Rattle.serde_json.specs.View.{items_view, view};
+ghost use Rattle.serde_json.specs.View.{view};
 ghost use Rattle.dump_values.specs.Members.{list_of};
+ghost use Rattle.dump_values.specs.Trees.{tree_view, trees_view};
 ghost use Rattle.dump_values.specs.Values.{row_json, row_of, value_of};
 
-use crate::members::read_id;
+use crate::members::{items_of, read_id};
 use crate::values::{read_value, write_value};
+use json::Value as Tree;
 use par_base::{List, Memory, Row};
 use serde_json::{Number, Value as Json};
 use std::alloc::Global;
 
-fn read_values(alloc: Global, items: &[Json]) -> Result<Option<Row>, Memory>
-    ensures { IfOk result (λ row. row ≡ list_of value_of (items_view items.now)) }
+fn read_values(alloc: Global, items: &[Tree<'_>]) -> Result<Option<Row>, Memory>
+    ensures { IfOk result (λ row. row ≡ list_of value_of (trees_view items.now)) }
 {
     let mut row = Vec::with_capacity(alloc, items.len())?;
     for item in items {
@@ -23,15 +25,15 @@ fn read_values(alloc: Global, items: &[Json]) -> Result<Option<Row>, Memory>
     Ok(Some(Row::from_list(alloc, List::from_vec(row))?))
 }
 
-/// The identifier and the row that the JSON spells, where it spells one.
-fn read_row(alloc: Global, json: &Json) -> Result<Option<(u64, Row)>, Memory>
-    ensures value { IfOk result (λ row. row ≡ row_of (view json.now)) }
+/// The identifier and the row that the tree spells, where it spells one.
+fn read_row(alloc: Global, tree: &Tree<'_>) -> Result<Option<(u64, Row)>, Memory>
+    ensures value { IfOk result (λ row. row ≡ row_of (tree_view tree.now)) }
     ensures within { IfOk result (λ row. IfSome row (λ r. r.0 < 2 ^ 63)) }
 {
-    let Some(items) = json.as_array() else {
+    let Some(items) = items_of(tree) else {
         return Ok(None);
     };
-    let Some((first, others)) = items.as_slice().split_first() else {
+    let Some((first, others)) = items.split_first() else {
         return Ok(None);
     };
     let Some(id) = read_id(first) else {
@@ -43,12 +45,12 @@ fn read_row(alloc: Global, json: &Json) -> Result<Option<(u64, Row)>, Memory>
     }
 }
 
-/// The same, where the JSON is let go.
-pub(crate) fn take_row(alloc: Global, json: Json) -> Result<Option<(u64, Row)>, Memory>
-    ensures value { IfOk result (λ row. row ≡ row_of (view json)) }
+/// The same, where the tree is let go.
+pub(crate) fn take_row(alloc: Global, tree: Tree<'_>) -> Result<Option<(u64, Row)>, Memory>
+    ensures value { IfOk result (λ row. row ≡ row_of (tree_view tree.entry)) }
     ensures within { IfOk result (λ row. IfSome row (λ r. r.0 < 2 ^ 63)) }
 {
-    read_row(alloc, &json)
+    read_row(alloc, &tree)
 }
 
 /// A row as JSON.

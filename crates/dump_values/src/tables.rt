@@ -1,20 +1,22 @@
 //! Tables.
 ghost use Rattle.std.specs.Prelude.{◌≡◌, map, IfOk, option_map};
-ghost use Rattle.serde_json.specs.View.{items_view, view};
+ghost use Rattle.serde_json.specs.View.{view};
 ghost use Rattle.dump_values.specs.Members.{list_of, member_of};
 ghost use Rattle.dump_values.specs.Tables.{rows_from, table_json, table_of, tables_json, tables_of};
+ghost use Rattle.dump_values.specs.Trees.{tree_view, trees_view};
 
 use crate::members::{into_items, into_member};
 use crate::rows::{take_row, write_row};
+use json::Value as Tree;
 use par_base::{List, Memory};
 use row_store::Table;
 use serde_json::Value as Json;
 use std::alloc::Global;
 
 #[tactic(auto, using(row_store::specs::inner::FoundRows::below_more, row_store::specs::inner::FoundRows::below_push))]
-fn read_rows(alloc: Global, items: Vec<Json>) -> Result<Option<Table>, Memory>
+fn read_rows(alloc: Global, items: Vec<Tree<'_>>) -> Result<Option<Table>, Memory>
     ensures { IfOk result (λ table. option_map (λ t. t.rows) table
-        ≡ rows_from 1 (items_view items.items)) }
+        ≡ rows_from 1 (trees_view items.entry.items)) }
 {
     let mut table = Table::new(alloc);
     let mut least = 1;
@@ -31,30 +33,30 @@ fn read_rows(alloc: Global, items: Vec<Json>) -> Result<Option<Table>, Memory>
     Ok(Some(table))
 }
 
-/// The table that the JSON spells, where it spells one.
-fn read_table(alloc: Global, json: Json) -> Result<Option<Table>, Memory>
-    ensures { IfOk result (λ table. option_map (λ t. t.rows) table ≡ table_of (view json)) }
+/// The table that the tree spells, where it spells one.
+fn read_table(alloc: Global, tree: Tree<'_>) -> Result<Option<Table>, Memory>
+    ensures { IfOk result (λ table. option_map (λ t. t.rows) table ≡ table_of (tree_view tree.entry)) }
 {
-    match into_items(json) {
+    match into_items(tree) {
         Some(items) => read_rows(alloc, items),
         None => Ok(None),
     }
 }
 
 /// The table under this key.
-pub(crate) fn table_at(alloc: Global, json: Json, key: &str) -> Result<Option<Table>, Memory>
+pub(crate) fn table_at(alloc: Global, tree: Tree<'_>, key: &str) -> Result<Option<Table>, Memory>
     ensures { IfOk result (λ table. option_map (λ t. t.rows) table
-        ≡ member_of table_of key.now (view json)) }
+        ≡ member_of table_of key.now (tree_view tree.entry)) }
 {
-    match into_member(json, key) {
+    match into_member(tree, key) {
         Some(found) => read_table(alloc, found),
         None => Ok(None),
     }
 }
 
-fn read_each_table(alloc: Global, items: Vec<Json>) -> Result<Option<List<Table>>, Memory>
+fn read_each_table(alloc: Global, items: Vec<Tree<'_>>) -> Result<Option<List<Table>>, Memory>
     ensures { IfOk result (λ tables. option_map (λ ts. map (λ t. t.rows) ts) tables
-        ≡ list_of table_of (items_view items.items)) }
+        ≡ list_of table_of (trees_view items.entry.items)) }
 {
     let mut tables = List::new(alloc);
     for item in items {
@@ -66,22 +68,26 @@ fn read_each_table(alloc: Global, items: Vec<Json>) -> Result<Option<List<Table>
     Ok(Some(tables))
 }
 
-fn read_tables(alloc: Global, json: Json) -> Result<Option<List<Table>>, Memory>
+fn read_tables(alloc: Global, tree: Tree<'_>) -> Result<Option<List<Table>>, Memory>
     ensures { IfOk result (λ tables. option_map (λ ts. map (λ t. t.rows) ts) tables
-        ≡ tables_of (view json)) }
+        ≡ tables_of (tree_view tree.entry)) }
 {
-    match into_items(json) {
+    match into_items(tree) {
         Some(items) => read_each_table(alloc, items),
         None => Ok(None),
     }
 }
 
 /// The list of tables under this key.
-pub(crate) fn tables_at(alloc: Global, json: Json, key: &str) -> Result<Option<List<Table>>, Memory>
+pub(crate) fn tables_at(
+    alloc: Global,
+    tree: Tree<'_>,
+    key: &str,
+) -> Result<Option<List<Table>>, Memory>
     ensures { IfOk result (λ tables. option_map (λ ts. map (λ t. t.rows) ts) tables
-        ≡ member_of tables_of key.now (view json)) }
+        ≡ member_of tables_of key.now (tree_view tree.entry)) }
 {
-    match into_member(json, key) {
+    match into_member(tree, key) {
         Some(found) => read_tables(alloc, found),
         None => Ok(None),
     }

@@ -1,32 +1,35 @@
 //! Values.
 ghost use Rattle.std.specs.Prelude.{◌≡◌, IfOk};
 ghost use Rattle.serde_json.specs.View.{view};
+ghost use Rattle.dump_values.specs.Trees.{tree_view};
 ghost use Rattle.dump_values.specs.Values.{reference_of, value_json, value_of};
 
-use crate::members::{count_members, id_at};
+use crate::members::{has_members, id_at};
+use crate::numbers::read_number;
+use json::Value as Tree;
 use par_base::{Memory, Text, Value};
 use serde_json::{Number, Value as Json, json};
 use std::alloc::Global;
 
-fn read_reference(json: &Json) -> Option<Value>
-    ensures { result ≡ reference_of (view json.now) }
+fn read_reference(tree: &Tree<'_>) -> Option<Value>
+    ensures { result ≡ reference_of (tree_view tree.now) }
 {
-    if count_members(json) == 1 {
-        id_at(json, "ref").map(Value::Reference)
+    if has_members(tree, 1) {
+        id_at(tree, "ref").map(Value::Reference)
     } else {
         None
     }
 }
 
-/// The value that the JSON spells, where it spells one.
-pub(crate) fn read_value(alloc: Global, json: &Json) -> Result<Option<Value>, Memory>
-    ensures { IfOk result (λ value. value ≡ value_of (view json.now)) }
+/// The value that the tree spells, where it spells one.
+pub(crate) fn read_value(alloc: Global, tree: &Tree<'_>) -> Result<Option<Value>, Memory>
+    ensures { IfOk result (λ value. value ≡ value_of (tree_view tree.now)) }
 {
-    match json {
-        Json::Null => Ok(Some(Value::Null)),
-        Json::Number(number) => Ok(number.as_i64().map(Value::Int)),
-        Json::String(text) => Ok(Some(Value::Text(Text::from_str(alloc, text.as_str())?))),
-        Json::Object(_) => Ok(read_reference(json)),
+    match tree {
+        Tree::Null => Ok(Some(Value::Null)),
+        Tree::Number(text) => Ok(read_number(text).as_i64().map(Value::Int)),
+        Tree::String(text) => Ok(Some(Value::Text(Text::from_str(alloc, text)?))),
+        Tree::Object(_) => Ok(read_reference(tree)),
         _ => Ok(None),
     }
 }

@@ -23,7 +23,7 @@ use Rattle.op_seeks.specs.declared.known.CondKeys.{CondKeys}
 use Rattle.op_seeks.specs.declared.known.Known.TheVariants.{Entries}
 
 -- the pair that was mapped is the new one
-keeps_mapped : (m : Meaning) (back : Bool) (near : TableChanges) (old new : PairState) (n : ℕ) (ids : List ℕ) (mapped : IsMappedPair m back near old new n ids)
+pub keeps_mapped : (m : Meaning) (back : Bool) (near : TableChanges) (old new : PairState) (n : ℕ) (ids : List ℕ) (mapped : IsMappedPair m back near old new n ids)
     → MapsPairApart (toward back m) near (ahead back old) mapped.next (passes ids mapped.next) → KeepsApart m old new (passes ids n)
 keeps_mapped m false near old new n ids mapped maps =
     subst (λ (P : ℕ → Bool). KeepsApart m old new P) mapped.same (subst (λ (q : PairState). KeepsApart m old q (passes ids mapped.next)) (sym mapped.is) maps.apart)
@@ -32,7 +32,7 @@ keeps_mapped m true near old new n ids mapped maps =
     subst (λ (P : ℕ → Bool). KeepsApart m old new P) mapped.same (keeps_behind (flip m) (passes ids mapped.next) (exchanged old) (exchanged new) keeps)
 
 module _ (j : Joining) (k : ByKeys) (it : CondKeys) (first : k.first.now.rows ≡ it.first.now.rows) (second : k.second.now.rows ≡ it.second.now.rows) (near : TableChanges) (ids : List ℕ) where
-  keyed : (t : Bool) (st : Tables) (p : PairState) → AreCondKeys (record { on_target = t; first = k.x; second = k.y }) st p.memory it → AreKeysOf k (table_at 0 st) (table_at 1 st)
+  pub keyed : (t : Bool) (st : Tables) (p : PairState) → AreCondKeys (record { on_target = t; first = k.x; second = k.y }) st p.memory it → AreKeysOf k (table_at 0 st) (table_at 1 st)
   keyed t st p are = record { first = first ∙ are.first; second = second ∙ are.second }
 
   -- changes of S and T
@@ -54,7 +54,7 @@ module _ (v : ByValues) (it : CondKeys) (memory : v.memory.now.entries ≡ it.me
   abbrev j : Joining
   j = joining v.join.now
 
-  valued : (t : Bool) (x y : ℕ) (st : Tables) (p : PairState) → AreCondKeys (record { on_target = t; first = x; second = y }) st p.memory it → AreRowKeys v (table_at 0 st) (table_at 1 st)
+  pub valued : (t : Bool) (x y : ℕ) (st : Tables) (p : PairState) → AreCondKeys (record { on_target = t; first = x; second = y }) st p.memory it → AreRowKeys v (table_at 0 st) (table_at 1 st)
   valued t x y st p are = record { first = first ∙ are.first_rows; second = second ∙ are.second_rows }
 
   -- changes of R

@@ -1,3 +1,5 @@
 mod ApartLemmas
 mod ConditionLemmas
+mod OuterLemmas
+mod OuterColumnLemmas
 mod SeekLemmas

@@ -5,7 +5,7 @@ use Rattle.id_memory.specs.Pairs.{Pairs, pair_of}
 use Rattle.op_law.specs.Identifiers.{has_id}
 use Rattle.op_law.specs.Tables.{Tables}
 use Rattle.op_law.specs.Meaning.{PairState}
-use Rattle.op_any.specs.Operators.{Built, joining_by}
+use Rattle.op_any.specs.Operators.{Built, joining_by, outer_by}
 use Rattle.op_any.specs.Operators as «any»
 use Rattle.table_keys.specs.Keys.{keys_by}
 use Rattle.table_keys.specs.declared.columns.KeyColumns.TheVariants.{All, One}
@@ -22,7 +22,7 @@ use Rattle.op_seeks.specs.declared.known.CondKeys.{CondKeys}
 use Rattle.op_seeks.specs.declared.known.Known.{Known}
 use Rattle.op_seeks.specs.declared.known.Known.TheVariants.{Keys, Entries}
 use Rattle.op_seeks.specs.declared.sought.Sought.{Sought}
-use Rattle.op_seeks.specs.declared.sought.Sought.TheVariants.{Decompose, Outer, Join, JoinOn, DecomposeOn, Nothing}
+use Rattle.op_seeks.specs.declared.sought.Sought.TheVariants.{Decompose, Outer, Join, JoinOn, DecomposeOn, OuterOn, Nothing}
 
 -- ---- places
 
@@ -62,7 +62,7 @@ place_of («any».OuterJoinFk first second place) = key_place false place
 place_of («any».JoinFk first second place) = key_place false place
 place_of («any».JoinOn first second c) = condition_place false (equal_in (joining_by first second c) c)
 place_of («any».DecomposeOn first second c) = condition_place true (equal_in (joining_by first second c) c)
-place_of («any».OuterJoinOn first second c) = None
+place_of («any».OuterJoinOn first second c) = condition_place false (equal_in (outer_by first second c) c)
 
 -- what was found of a built operator is it, or it seeks nothing
 abbrev pub IsSought : Sought → Built → Type 0
@@ -71,6 +71,7 @@ IsSought (Outer it) b = b ≡ «any».OuterJoinFk it.now.first it.now.second it.
 IsSought (Join it) b = b ≡ «any».JoinFk it.now.first it.now.second it.now.place
 IsSought (JoinOn it) b = b ≡ «any».JoinOn it.now.first it.now.second (expr_term it.now.condition)
 IsSought (DecomposeOn it) b = b ≡ «any».DecomposeOn it.now.first it.now.second (expr_term it.now.condition)
+IsSought (OuterOn it) b = b ≡ «any».OuterJoinOn it.now.first it.now.second (expr_term it.now.condition)
 IsSought Nothing b = place_of b ≡ None
 
 -- ---- what is known
@@ -91,10 +92,10 @@ AreKnown (Some (ForeignKey fk)) p (Entries it) = ⊥
 AreKnown (Some (Condition c)) p (Keys keys) = ⊥
 AreKnown (Some (Condition c)) p (Entries it) = AreCondKeys c (side_at (Some (Condition c)) p) p.memory it
 
--- identifiers are closed by what is known: each brings what it refers to and one that refers to it; or the rows of its entry, and an entry of each row
+-- identifiers are closed by what is known: each brings what it refers to and one that refers to it; or the rows of its entry, and an entry of each row, and an absent half is one of them
 abbrev pub AreClosedBy : Known → List ℕ → Type 0
 AreClosedBy (Keys keys) ids = AreClosing keys ids
-AreClosedBy (Entries it) ids = IsClosedIn (has_id ids) it.memory.now.entries
+AreClosedBy (Entries it) ids = IsClosedIn (has_id ids) it.memory.now.entries × (has_id ids 0 ≡ true)
 
 -- of the entries, those of listed identifiers pass, and no others, and so do their rows
 pub record PassEntries (P : ℕ → Bool) (ids : List ℕ) (m : Pairs) : Type 0 where

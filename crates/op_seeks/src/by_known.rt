@@ -10,6 +10,7 @@ ghost use Rattle.op_seeks.specs.declared.known.Known.TheVariants.{Entries, Keys}
 use crate::condition::{ids_of_decompose_on, ids_of_join_on};
 use crate::decompose::{apart_of_decompose, footprint_of_decompose, footprint_of_outer};
 use crate::join::{apart_of_join, footprint_of_join};
+use crate::outer::ids_of_outer_on;
 use crate::sought::{Sought, at_least, listed, sought_in};
 use crate::{CondKeys, Crossed};
 use expr_lang::Steps;
@@ -39,6 +40,7 @@ pub(crate) fn foot_by_keys(
         Sought::Join(it) => footprint_of_join(alloc, it, backward, keys, near, wanted),
         Sought::JoinOn(_) => at_least(alloc, keys, wanted),
         Sought::DecomposeOn(_) => at_least(alloc, keys, wanted),
+        Sought::OuterOn(_) => at_least(alloc, keys, wanted),
         Sought::Nothing => at_least(alloc, keys, wanted),
     }
 }
@@ -62,6 +64,7 @@ pub(crate) fn apart_by_keys(
         Sought::Join(it) => apart_of_join(alloc, it, keys, crossed, wanted),
         Sought::JoinOn(_) => at_least(alloc, keys, wanted),
         Sought::DecomposeOn(_) => at_least(alloc, keys, wanted),
+        Sought::OuterOn(_) => at_least(alloc, keys, wanted),
         Sought::Nothing => at_least(alloc, keys, wanted),
     }
 }
@@ -85,6 +88,7 @@ pub(crate) fn ids_by_entries<L: Ledger>(
     match sought_in(operator) {
         Sought::JoinOn(join) => ids_of_join_on(alloc, join, it, crossed, wanted, steps),
         Sought::DecomposeOn(join) => ids_of_decompose_on(alloc, join, it, crossed, wanted, steps),
+        Sought::OuterOn(join) => ids_of_outer_on(alloc, join, it, crossed, wanted, steps),
         Sought::Decompose(_) => listed(alloc, wanted),
         Sought::Outer(_) => listed(alloc, wanted),
         Sought::Join(_) => listed(alloc, wanted),

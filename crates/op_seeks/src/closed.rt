@@ -1,5 +1,7 @@
 //! Identifiers that are closed by what is known.
-ghost use Rattle.std.specs.Prelude.{IfOk};
+ghost use Rattle.std.specs.Prelude.{◌≡◌, true, IfOk};
+ghost use Rattle.op_law.specs.Identifiers.{has_id};
+ghost use Rattle.cond_parts.specs.Closed.{IsClosedIn};
 ghost use Rattle.fk_closing.specs.Found.{AreAmong};
 ghost use Rattle.fk_parts.specs.Laws.{AreClosing};
 ghost use Rattle.op_seeks.specs.Places.{AreClosedBy};
@@ -7,6 +9,8 @@ ghost use Rattle.op_seeks.specs.Places.{AreClosedBy};
 use crate::Known;
 use cond_closing::read_ids;
 use fk_closing::{FkKeys, closed_beside};
+use id_memory::PairMemory;
+use outer_closing::with_absent;
 use par_base::{List, Memory};
 use row_store::Change;
 use std::alloc::Global;
@@ -22,6 +26,21 @@ fn closed_by_keys(
     ensures holds { IfOk result (AreAmong wanted.now) }
 {
     let ids = closed_beside(alloc, keys, changes, wanted)?;
+    Ok(ids)
+}
+
+/// By the entries of a memory, with 0, which stands for an absent half.
+fn closed_by_entries(
+    alloc: Global,
+    memory: &PairMemory,
+    wanted: &[u64],
+) -> Result<List<u64>, Memory>
+    ensures closed { IfOk result (λ ids. IsClosedIn (has_id ids) memory.now.entries) }
+    ensures absent { IfOk result (λ ids. has_id ids 0 ≡ true) }
+    ensures holds { IfOk result (AreAmong wanted.now) }
+{
+    let all = with_absent(alloc, wanted)?;
+    let ids = read_ids(alloc, memory, all.as_slice())?;
     Ok(ids)
 }
 
@@ -42,9 +61,6 @@ pub fn closed_by(
 {
     match known {
         Known::Keys(keys) => closed_by_keys(alloc, keys, changes, wanted),
-        Known::Entries(it) => {
-            let ids = read_ids(alloc, it.memory, wanted)?;
-            Ok(ids)
-        }
+        Known::Entries(it) => closed_by_entries(alloc, it.memory, wanted),
     }
 }

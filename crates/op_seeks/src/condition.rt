@@ -41,7 +41,7 @@ fn shown_by<L: Ledger>(
         (Entries it.now) near.now.tables changes ids) }
     ensures holds { IfOk result (AreAmong wanted.now) }
 {
-    let Some((x, y)) = equal_columns(join) else {
+    let Some((x, y)) = equal_columns(join, &join.condition) else {
         return listed(alloc, wanted);
     };
     let keys = ByKeys {

@@ -1,7 +1,7 @@
 //! The trait of operators that look for identifiers, and what any operator does.
 ghost use Rattle.std.specs.Prelude.{◌≡◌, Bool, Option, IfOk};
 ghost use Rattle.cond_closing.specs.Columns.{equal_in};
-ghost use Rattle.op_cond_join.specs.Joinings.{joining};
+ghost use Rattle.expr_lang.specs.Terms.{expr_term};
 ghost use Rattle.fk_closing.specs.Found.{AreAmong};
 ghost use Rattle.op_seeks.specs.Places.{condition_place, place_of};
 ghost use Rattle.op_seeks.specs.Seeking.{ApartOver, FootprintOf, SeekLaws};
@@ -9,12 +9,12 @@ ghost use Rattle.op_seeks.specs.declared.place.SeekPlace.{SeekPlace as SeekPlace
 ghost use Rattle.op_seeks.specs.inner.BuiltSeeks.{built_seeks};
 
 use crate::by_known::{apart_by_keys, foot_by_keys, ids_by_entries};
+use crate::outer_columns::OuterColumns;
 use crate::sought::{Sought, sought_in};
 use crate::{CondPlace, Crossed, FkPlace, Known, SeekPlace};
-use cond_closing::equal_columns;
-use expr_lang::Steps;
+use cond_closing::{Columned, equal_columns};
+use expr_lang::{Expr, Steps};
 use op_any::AnyOp;
-use op_cond_join::JoinOn;
 use op_law::Operator;
 use par_base::{List, Memory};
 use std::alloc::Global;
@@ -63,11 +63,11 @@ pub trait Seeks: Operator {
 }
 
 /// The columns that a condition makes equal.
-fn columns_of(join: &JoinOn, on_target: bool) -> Option<SeekPlace>
-    ensures { let j = joining join.now in
-        result ≡ condition_place on_target (equal_in j j.condition) }
+fn columns_of<C: Columned>(join: &C, condition: &Expr, on_target: bool) -> Option<SeekPlace>
+    ensures { result ≡ condition_place on_target
+        (equal_in (C.joins join.now) (expr_term condition.now)) }
 {
-    match equal_columns(join) {
+    match equal_columns(join, condition) {
         Some((first, second)) => Some(SeekPlace::Condition(CondPlace {
             on_target,
             first,
@@ -94,8 +94,9 @@ impl Seeks for AnyOp {
                 on_target: false,
                 place: it.place,
             })),
-            Sought::JoinOn(it) => columns_of(it, false),
-            Sought::DecomposeOn(it) => columns_of(it, true),
+            Sought::JoinOn(it) => columns_of(it, &it.condition, false),
+            Sought::DecomposeOn(it) => columns_of(it, &it.condition, true),
+            Sought::OuterOn(it) => columns_of(&OuterColumns { it }, &it.condition, false),
             Sought::Nothing => None,
         }
     }

@@ -8,6 +8,7 @@ use fk_closing::{FkKeys, closed_ids};
 use id_closing::add_all;
 use op_any::{BuiltOp, DecomposeFk, JoinFk};
 use op_cond_join::JoinOn;
+use op_outer_cond::OuterOn;
 use par_base::{List, Memory};
 use std::alloc::Global;
 
@@ -21,6 +22,7 @@ pub(crate) enum Sought<'a> {
     JoinOn(&'a JoinOn),
     /// The flip of joining.
     DecomposeOn(&'a JoinOn),
+    OuterOn(&'a OuterOn),
     /// It seeks nothing.
     Nothing,
 }
@@ -47,7 +49,7 @@ pub(crate) fn sought_in(operator: &BuiltOp) -> Sought<'_>
         BuiltOp::JoinFk(it) => Sought::Join(it),
         BuiltOp::JoinOn(it) => Sought::JoinOn(it),
         BuiltOp::DecomposeOn(it) => Sought::DecomposeOn(&it.inner),
-        BuiltOp::OuterJoinOn(_) => Sought::Nothing,
+        BuiltOp::OuterJoinOn(it) => Sought::OuterOn(it),
     }
 }
 

@@ -13,7 +13,7 @@ use par_base::{List, Memory};
 use std::alloc::Global;
 
 /// What is wanted, and 0, which stands for an absent half.
-pub(crate) fn with_absent(alloc: Global, wanted: &[u64]) -> Result<List<u64>, Memory>
+pub fn with_absent(alloc: Global, wanted: &[u64]) -> Result<List<u64>, Memory>
     ensures absent { IfOk result (λ ids. has_id ids 0 ≡ true) }
     ensures holds { IfOk result (AreAmong wanted.now) }
 {

@@ -2,7 +2,7 @@ mod ChoiceLemmas
 mod AbsentLemmas
 mod EntryLemmas
 mod ShownLemmas
-mod PartLaws
+pub mod PartLaws
 mod EntriesLemmas
 mod RenewedLemmas
 mod ForwardLaws

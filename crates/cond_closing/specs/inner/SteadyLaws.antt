@@ -6,7 +6,7 @@ use Rattle.id_closing.specs.Found.{AreAmong}
 use Rattle.id_closing.specs.Closing.{IsAmongMore}
 use Rattle.cond_closing.specs.Steady.{BringsStill, ChangingMemory, IsBrought}
 
-still_more : (half : Half) (it : ChangingMemory) (some all : List ℕ) (q : ℕ) → AreAmong some all → BringsStill half it some q → BringsStill half it all q
+pub still_more : (half : Half) (it : ChangingMemory) (some all : List ℕ) (q : ℕ) → AreAmong some all → BringsStill half it some q → BringsStill half it all q
 still_more half it some all q among brings e is has still =
     let f = brings e is has still in
     record { id = f.id; still = f.still; among = among f.id f.among }

@@ -1,12 +1,11 @@
 -- What the calls that load a dump ensure.
-use Rattle.std.specs.Prelude.{◌≡◌, ℕ, Bool, List, Some, Result, Ok, Err, ⊤, map}
+use Rattle.std.specs.Prelude.{◌≡◌, ℕ, Bool, List, Result, Ok, Err, ⊤, map}
 use mathlib.Core.List.{reverse}
 use Rattle.par_base.specs.declared.fault.Fault.{Fault}
 use Rattle.par_base.specs.declared.fault.Fault.TheVariants.{Refused, Memory}
 use Rattle.row_store.specs.Rows.{Rows}
 use Rattle.id_memory.specs.Pairs.{Pairs}
 use Rattle.id_memory.specs.States.{MemoryState}
-use Rattle.serde_json.specs.Data.{Data}
 use Rattle.version_graph.specs.Edges.{Drawn, IsGraph, numbers}
 use Rattle.version_graph.specs.Finished.{IsFinished}
 use Rattle.version_graph.specs.declared.parts.Placed.{Placed}
@@ -15,21 +14,12 @@ use Rattle.op_any.specs.Operators.{AnyView}
 use Rattle.version_model.specs.declared.numbered.Numbered.{Numbered}
 use Rattle.version_model.specs.Kept.{numbers_in}
 use Rattle.db_state.specs.declared.parts.Parts.{Parts}
-use Rattle.dump_values.specs.Dumps.{Dump, Kept, dump_of, dump_seen}
-use Rattle.dump_values.specs.declared.dumps.DumpLines.{DumpLines}
+use Rattle.dump_values.specs.Dumps.{Dump, Kept}
 use Rattle.dump_graph.specs.Graphs.{AreNames}
 use Rattle.dump_graph.specs.Texts.{AreFromTexts}
 use Rattle.dump_graph.specs.declared.refused.DumpRefused.{DumpRefused}
 use Rattle.dump_file.specs.Stands.{HasNoOther}
 use Rattle.dump_file.specs.Told.{aux_line, auxes_told, dump_told, kept_told, memories_told, memory_line, remembers, stored_line}
-
--- ---- reading
-
--- what the JSON tells, or a refusal where it tells nothing
-abbrev pub ReadsLines : Data → Result DumpLines (Fault DumpRefused) → Type 0
-ReadsLines d (Ok lines) = dump_of d ≡ Some (dump_seen lines)
-ReadsLines d (Err (Refused r)) = (dump : Dump) → dump_of d ≡ Some dump → ⊥
-ReadsLines d (Err (Memory memory)) = ⊤
 
 -- ---- filling in
 

@@ -1,11 +1,10 @@
 -- What the calls that read a dump ensure.
-use Rattle.std.specs.Prelude.{◌≡◌, ◌⊎◌, ℕ, ◌==◌, ◌<◌, ◌^◌, Bool, true, not, codes, List, map, Option, Some, None, option_and_then, if◌then◌else◌, Result, Ok, Err, ⊤}
+use Rattle.std.specs.Prelude.{◌≡◌, ◌⊎◌, ℕ, ◌==◌, ◌<◌, ◌≤◌, ◌^◌, Bool, true, false, not, codes, List, map, Option, Some, None, option_and_then, if◌then◌else◌, Result, Ok, Err, ⊤}
 use Rattle.par_base.specs.declared.fault.Fault.{Fault}
 use Rattle.par_base.specs.declared.fault.Fault.TheVariants.{Refused, Memory}
 use Rattle.serde_json.specs.Data.{Data, Items}
 use Rattle.serde_json.specs.Find.{as_array, get}
 use Rattle.serde_json.specs.View.{items_of, view}
-use Rattle.serde_json.specs.declared.value.Value.{Value as Json}
 use Rattle.version_graph.specs.Sets.{Each}
 use Rattle.version_graph.specs.declared.parts.Placed.{Placed}
 use Rattle.layout_planner.specs.Counts.{AreCounts, counts_told, tables_counted}
@@ -13,12 +12,16 @@ use Rattle.layout_planner.specs.declared.planning.TableCount.{TableCount}
 use Rattle.migration.specs.Pending.{IsPending}
 use Rattle.op_any.specs.Operators.{AnyView}
 use Rattle.db_state.specs.declared.parts.Parts.{Parts}
+use Rattle.dump_values.specs.Dumps.{dump_of, dump_seen}
 use Rattle.dump_values.specs.Members.{number_json}
 use Rattle.dump_values.specs.Pairs.{two_of}
+use Rattle.dump_values.specs.declared.dumps.DumpLines.{DumpLines}
 use Rattle.dump_graph.specs.declared.refused.DumpRefused.{DumpRefused}
-use Rattle.dump_formats.specs.Formats.{count_json, counts_json, first_of, goal_json, goal_told}
-use Rattle.dump_formats.specs.Stands.{Spells, StandsFor}
+use Rattle.dump_formats.specs.Formats.{count_json, counts_json, first_of, goal_json, goal_told, is_second}
+use Rattle.dump_formats.specs.Stands.{IsDumpOf, Spells, StandsFor}
 use Rattle.dump_formats.specs.declared.loaded.Loaded.{Loaded}
+use Rattle.dump_formats.specs.declared.loading.ReadDump.{ReadDump}
+use Rattle.dump_formats.specs.declared.loading.ReadDump.TheVariants.{First, Second}
 use Rattle.dump_formats.specs.declared.parts.Members.{Members}
 
 -- a test tells whether P holds
@@ -78,25 +81,47 @@ FindsBeside p c g None = (counts : List TableCount) (pending : List ℕ) → Are
 
 -- ---- the whole
 
+-- the next identifier of what was read is one
+abbrev pub IsInRange : DumpLines → Type 0
+IsInRange lines = (1 ≤ lines.kept.next) × (lines.kept.next ≤ 2 ^ 63)
+
 -- the parts of a dump of the second format
 pub record AreParts (d : Data) (s : Members) : Type 0 where
-  pub first : view s.first ≡ first_of d
+  pub first : dump_of (first_of d) ≡ Some (dump_seen s.first)
   pub counts : get (codes "counts") d ≡ Some (view s.counts)
   pub goal : get (codes "goal") d ≡ Some (view s.goal)
 
--- they are taken apart, or one of them is missing
-abbrev pub Splits : Data → Option Members → Type 0
-Splits d (Some s) = AreParts d s
-Splits d None = (get (codes "counts") d ≡ None) ⊎ (get (codes "goal") d ≡ None)
+-- they are read, or one of them is missing
+abbrev pub FindsParts : Data → Option Members → Type 0
+FindsParts d (Some s) = AreParts d s × IsInRange s.first
+FindsParts d None = (get (codes "counts") d ≡ None) ⊎ ((get (codes "goal") d ≡ None) ⊎ (dump_of (first_of d) ≡ None))
 
--- the JSON that the bytes spell, or a refusal where they spell none
-abbrev pub ReadsJson : List ℕ → Result Json (Fault DumpRefused) → Type 0
-ReadsJson bytes (Ok json) = Spells bytes (view json)
-ReadsJson bytes (Err (Refused r)) = (d : Data) → Spells bytes d → ⊥
-ReadsJson bytes (Err (Memory memory)) = ⊤
+-- this was read of the JSON
+abbrev pub IsReadOf : Data → ReadDump → Type 0
+IsReadOf d (First lines) = (is_second d ≡ false) × (dump_of d ≡ Some (dump_seen lines))
+IsReadOf d (Second s) = (is_second d ≡ true) × AreParts d s
+
+abbrev pub FitsDump : ReadDump → Type 0
+FitsDump (First lines) = IsInRange lines
+FitsDump (Second s) = IsInRange s.first
+
+-- a dump of either format, or none where the JSON stands for nothing
+abbrev pub FindsDump : Data → Option ReadDump → Type 0
+FindsDump d (Some r) = IsReadOf d r × FitsDump r
+FindsDump d None = (l : Loaded) → StandsFor d l → ⊥
+
+-- what the bytes tell, or a refusal where they are no dump
+abbrev pub ReadsDump : List ℕ → Result ReadDump (Fault DumpRefused) → Type 0
+ReadsDump bytes (Ok r) = (d : Data) × Spells bytes d × IsReadOf d r × FitsDump r
+ReadsDump bytes (Err (Refused r)) = (l : Loaded) → IsDumpOf bytes l → ⊥
+ReadsDump bytes (Err (Memory memory)) = ⊤
 
 -- that for which JSON stands, with this limit, or a refusal where there is nothing
 abbrev pub LoadsJson : Data → ℕ → Result Loaded (Fault DumpRefused) → Type 0
 LoadsJson d limit (Ok l) = StandsFor d l × (l.database.ids.limit ≡ limit)
 LoadsJson d limit (Err (Refused r)) = (l : Loaded) → StandsFor d l → ⊥
 LoadsJson d limit (Err (Memory memory)) = ⊤
+
+-- the same of what was read, whatever JSON it was read of
+unfoldable pub LoadsRead : ReadDump → ℕ → Result Loaded (Fault DumpRefused) → Type 0
+LoadsRead r limit loaded = (d : Data) → IsReadOf d r → LoadsJson d limit loaded

@@ -2,12 +2,12 @@
 use Rattle.std.proofs.Common.{◌≡◌, [], None, sym, subst, arith}
 use Rattle.id_memory.specs.Pairs.{Pairs}
 use Rattle.op_law.specs.Meaning.{Meaning}
-use Rattle.op_any.specs.Operators.{Built, joining_by, meaning_of}
+use Rattle.op_any.specs.Operators.{Built, joining_by, meaning_of, outer_by}
 use Rattle.op_any.specs.Operators.{CreateTable, DropTable, Rename, AddColumn, AddTracked, DropColumn, Split, Merge, DecomposeSingle, DecomposePk, OuterJoinPk, JoinPk, DecomposeFk, OuterJoinFk, JoinFk, JoinOn, DecomposeOn, OuterJoinOn}
 use Rattle.cond_closing.specs.Columns.{equal_in}
 use Rattle.op_seeks.specs.Places.{place_of}
 use Rattle.op_seeks.specs.Seeking.{IsMemory, SeekLaws}
-use Rattle.op_seeks.specs.inner.SplitsBy.{decompose_by, decompose_on_by, join_by, join_on_by, outer_by}
+use Rattle.op_seeks.specs.inner.SplitsBy.{decompose_by, decompose_on_by, join_by, join_on_by, outer_by as outer_key_by, outer_on_by}
 
 -- one without entries is a memory
 none_stand : (m : Pairs) → m ≡ [] → IsMemory m
@@ -31,7 +31,7 @@ built_seeks (DecomposePk first second) = none_seeks (meaning_of (DecomposePk fir
 built_seeks (OuterJoinPk first second) = none_seeks (meaning_of (OuterJoinPk first second))
 built_seeks (JoinPk first second) = none_seeks (meaning_of (JoinPk first second))
 built_seeks (DecomposeFk first second place) = record { splits = decompose_by first second place; memory = λ seeks some hs ht p pair. none_stand p.memory pair.related.0 }
-built_seeks (OuterJoinFk first second place) = record { splits = outer_by first second place; memory = λ seeks some hs ht p pair. none_stand p.memory pair.related.0 }
+built_seeks (OuterJoinFk first second place) = record { splits = outer_key_by first second place; memory = λ seeks some hs ht p pair. none_stand p.memory pair.related.0 }
 built_seeks (JoinFk first second place) = record { splits = join_by first second place; memory = λ seeks some hs ht p pair. none_stand p.memory pair.related.0 }
 built_seeks (JoinOn first second c) = record {
   splits = join_on_by (joining_by first second c) (equal_in (joining_by first second c) c);
@@ -41,4 +41,7 @@ built_seeks (DecomposeOn first second c) = record {
   splits = decompose_on_by (joining_by first second c) (equal_in (joining_by first second c) c);
   memory = λ seeks some hs ht p pair. record { rises = pair.related.rises; one = pair.related.one };
 }
-built_seeks (OuterJoinOn first second c) = none_seeks (meaning_of (OuterJoinOn first second c))
+built_seeks (OuterJoinOn first second c) = record {
+  splits = outer_on_by (outer_by first second c) (equal_in (outer_by first second c) c);
+  memory = λ seeks some hs ht p pair. record { rises = pair.related.joined.rises; one = pair.related.joined.one };
+}

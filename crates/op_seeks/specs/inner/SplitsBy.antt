@@ -20,6 +20,8 @@ use Rattle.cond_parts.specs.Closed.{IsClosedIn}
 use Rattle.cond_parts.proofs.MemoryLemmas.{Each, each_of}
 use Rattle.cond_parts.proofs.PartLaws.{closed_splits}
 use Rattle.cond_parts.proofs.StayLemmas.{stands_more}
+use Rattle.outer_law.specs.OuterOn.{outer_on}
+use Rattle.outer_parts.proofs.PartLaws.{closed_splits as outer_splits}
 use Rattle.op_seeks.specs.Places.{AreClosedBy, AreKnown, PassEntries, PassKnown, condition_place, key_place}
 use Rattle.op_seeks.specs.declared.known.Known.{Known}
 use Rattle.op_seeks.specs.declared.known.Known.TheVariants.{Keys, Entries}
@@ -72,11 +74,20 @@ module _ (j : Joining) where
       → IsPair (join_on j) hs ht p → Splits (join_on j) p P
   join_on_by None known ids P hs ht p are closing pass pair = absurd are
   join_on_by (Some both) (Keys keys) ids P hs ht p are closing pass pair = absurd are
-  join_on_by (Some both) (Entries it) ids P hs ht p are closing pass pair = by_memory it.memory.now.entries ids P hs ht p are.memory closing pass.rows.all pass.entries pair
+  join_on_by (Some both) (Entries it) ids P hs ht p are closing pass pair = by_memory it.memory.now.entries ids P hs ht p are.memory closing.0 pass.rows.all pass.entries pair
 
   pub decompose_on_by : (o : Option (ℕ × ℕ)) (known : Known) (ids : List ℕ) (P : ℕ → Bool) (hs ht : List Heading) (p : PairState) → AreKnown (condition_place true o) p known → AreClosedBy known ids → PassKnown P ids (condition_place true o) p
       → IsPair (flip (join_on j)) hs ht p → Splits (flip (join_on j)) p P
   decompose_on_by None known ids P hs ht p are closing pass pair = absurd are
   decompose_on_by (Some both) (Keys keys) ids P hs ht p are closing pass pair = absurd are
   decompose_on_by (Some both) (Entries it) ids P hs ht p are closing pass pair =
-      splits_behind (join_on j) P (exchanged p) (by_memory it.memory.now.entries ids P ht hs (exchanged p) are.memory closing pass.rows.all pass.entries (turned (flip (join_on j)) hs ht p pair))
+      splits_behind (join_on j) P (exchanged p) (by_memory it.memory.now.entries ids P ht hs (exchanged p) are.memory closing.0 pass.rows.all pass.entries (turned (flip (join_on j)) hs ht p pair))
+
+  pub outer_on_by : (o : Option (ℕ × ℕ)) (known : Known) (ids : List ℕ) (P : ℕ → Bool) (hs ht : List Heading) (p : PairState) → AreKnown (condition_place false o) p known → AreClosedBy known ids → PassKnown P ids (condition_place false o) p
+      → IsPair (outer_on j) hs ht p → Splits (outer_on j) p P
+  outer_on_by None known ids P hs ht p are closing pass pair = absurd are
+  outer_on_by (Some both) (Keys keys) ids P hs ht p are closing pass pair = absurd are
+  outer_on_by (Some both) (Entries it) ids P hs ht p are closing pass pair =
+      let closed = closed_under P ids p.memory pair.related.joined.rises pass.rows.all pass.entries (subst (λ (es : Pairs). IsClosedIn (has_id ids) es) are.memory closing.0) in
+      outer_splits j P hs ht p pair
+      (record { absent = pass.rows.all 0 closing.1; rows = closed.rows; first = λ q low own stand. closed.first q own stand; second = λ q low own stand. closed.second q own stand })

@@ -3,8 +3,8 @@ use Rattle.op_law.specs.Identifiers.{has_id}
 use Rattle.row_changes.specs.Touched.{touched}
 use Rattle.op_cond_join.specs.Joinings.{joining}
 use Rattle.id_closing.specs.Closing.{IsClosing}
-use Rattle.cond_closing.specs.Steady.{IsBrought}
-use Rattle.cond_closing.proofs.BackwardLemmas.{assigned_memory, begins_more, closes_assigned}
+use Rattle.cond_closing.specs.Steady.{IsBrought, changed_entries}
+use Rattle.cond_closing.proofs.BackwardLemmas.{begins_more, closes_assigned}
 use Rattle.cond_closing.proofs.assigned.assigned_ids.Goals as goal
 
 pub returns-clause-closed : goal.returns-clause-closed
@@ -17,7 +17,7 @@ returns-clause-closed c =
     let all = c.add_all.new.ids in
     closes_assigned it near changed all c.in_ok-ids.ids same
     (begins_more it near c.in_ok-begin.begin all c.in_ok-add_all.ensures.stay c.in_ok-begin.ensures)
-    (subst (λ (xs : List ℕ). IsClosing (IsBrought (assigned_memory it.memory.now.entries changed)) xs c.in_ok-ids.ids) c.as_slice-3.ensures c.in_ok-ids.ensures)
+    (subst (λ (xs : List ℕ). IsClosing (IsBrought (changed_entries it.memory.now.entries changed)) xs c.in_ok-ids.ids) c.as_slice-3.ensures c.in_ok-ids.ensures)
 
 -- and so a footprint
 pub returns-clause-foot : goal.returns-clause-foot

@@ -1,11 +1,12 @@
 use Rattle.std.specs.Prelude.{IfSome}
 use Rattle.std.proofs.Common.{ℕ, Option, sym, subst}
-use Rattle.op_cond_join.specs.Joinings.{joining}
+use Rattle.expr_lang.specs.Terms.{expr_term}
 use Rattle.cond_closing.specs.Columns.{MakesEqual}
 use Rattle.cond_closing.proofs.ColumnLemmas.{equal_makes}
 use Rattle.cond_closing.proofs.columns.equal_columns.Goals as goal
 
 pub returns-clause-equal : goal.returns-clause-equal
-returns-clause-equal c =
-    let j = joining c.args.join.now in
-    subst (λ (o : Option (ℕ × ℕ)). IfSome o (λ both. MakesEqual j j.condition both.0 both.1)) (sym c.equal_in.ensures) (equal_makes j j.condition)
+returns-clause-equal g c =
+    let j = g.C.Columned.joins c.args.join.now in
+    let condition = expr_term c.args.condition.now in
+    subst (λ (o : Option (ℕ × ℕ)). IfSome o (λ both. MakesEqual j condition both.0 both.1)) (sym c.equal_in.ensures) (equal_makes j condition)

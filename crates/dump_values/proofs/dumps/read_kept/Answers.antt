@@ -2,7 +2,7 @@ use Rattle.std.specs.Prelude.{option_map}
 use Rattle.std.proofs.Common.{ℕ, List, sym, ap, ◌∙◌}
 use Rattle.id_memory.specs.States.{MemoryState}
 use Rattle.row_store.specs.States.{TableState}
-use Rattle.serde_json.specs.View.{items_view, view}
+use Rattle.dump_values.specs.Trees.{tree_view, trees_view}
 use Rattle.dump_values.specs.Dumps.{auxes_seen, memories_seen, stored_seen}
 use Rattle.dump_values.specs.Lines.{aux_of, memory_of, stored_of}
 use Rattle.dump_values.specs.Members.{list_of}
@@ -15,6 +15,6 @@ returns-in-Some-3-clause-value c =
     let found = c.in-Some-3 in
     let stored = sym (ap (option_map (λ (ls : List (ℕ × TableState)). stored_seen ls)) c.in-Some-2.is) ∙ c.in_ok-stored.ensures in
     let others = sym (ap (option_map (λ (l : List (ℕ × List TableState) × List (ℕ × MemoryState)). (auxes_seen l.0, memories_seen l.1))) found.is) ∙ c.in_ok-auxes.ensures in
-    kept_read (view c.args.json) (c.in-Some.layout, c.in-Some.next) (stored_seen c.in-Some-2.stored, (auxes_seen found.auxes, memories_seen found.memories))
+    kept_read (tree_view c.args.tree) (c.in-Some.layout, c.in-Some.next) (stored_seen c.in-Some-2.stored, (auxes_seen found.auxes, memories_seen found.memories))
     (sym c.in_ok-layout.ensures.value ∙ c.in-Some.is)
-    (lists_read (list_of stored_of) (list_of aux_of) (list_of memory_of) _ _ _ (items_view taken.stored.items, (items_view taken.auxes.items, items_view taken.memories.items)) _ _ taken.ensures stored others)
+    (lists_read (list_of stored_of) (list_of aux_of) (list_of memory_of) _ _ _ (trees_view taken.stored.items, (trees_view taken.auxes.items, trees_view taken.memories.items)) _ _ taken.ensures stored others)

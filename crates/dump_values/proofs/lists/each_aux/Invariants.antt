@@ -1,10 +1,10 @@
 use Rattle.std.specs.Prelude.{option_map}
 use Rattle.std.proofs.Common.{◌≡◌, ◌++◌, drop, length}
-use Rattle.serde_json.specs.View.{items_view}
+use Rattle.dump_values.specs.Trees.{trees_view}
 use Rattle.dump_values.specs.Dumps.{auxes_seen}
 use Rattle.dump_values.specs.Lines.{aux_of}
 use Rattle.dump_values.specs.Members.{list_of}
 use Rattle.dump_values.proofs.lists.each_aux.Given as goal
 
 abbrev pub invariant-loop-item : goal.invariant-loop-item
-invariant-loop-item l = list_of aux_of (items_view l.fn.items.items) ≡ option_map (λ ls. auxes_seen l.lines ++ ls) (list_of aux_of (items_view (drop (length l.yielded) l.fn.items.items)))
+invariant-loop-item l = list_of aux_of (trees_view l.fn.items.items) ≡ option_map (λ ls. auxes_seen l.lines ++ ls) (list_of aux_of (trees_view (drop (length l.yielded) l.fn.items.items)))

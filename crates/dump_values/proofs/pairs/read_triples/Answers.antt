@@ -3,11 +3,10 @@ use Rattle.std.proofs.lemmas.Iterator.Adapters.{YieldsList-from_vec}
 use Rattle.std.proofs.lemmas.Iterator.Consumers.{YieldsList-turn}
 use Rattle.std.proofs.lemmas.List.{length_push}
 use Rattle.id_memory.specs.Pairs.{Pairs, RiseFrom}
-use Rattle.serde_json.specs.declared.value.Value.{Value as Json}
-use Rattle.serde_json.specs.View.{items_view, view}
+use Rattle.dump_values.specs.Trees.{tree_view, trees_view}
 use Rattle.dump_values.specs.Pairs.{may_follow, pairs_behind}
 use Rattle.dump_values.specs.inner.Calls.{EndBefore}
-use Rattle.dump_values.proofs.ListLemmas.{begins}
+use Rattle.dump_values.proofs.ListLemmas.{Tree, begins}
 use Rattle.dump_values.proofs.PairLemmas.{ends_more, ends_push, follow_least, rise_push, step}
 use Rattle.dump_values.proofs.pairs.read_triples.Goals as goal
 
@@ -33,10 +32,10 @@ loop-item-preserved c =
     let found = sym c.take_triple.ensures.value ∙ c.in-Some-take_triple.is in
     let put = c.in_ok-put_behind.ensures in
     record {
-      read = l.invariant.read ∙ ap (λ (ys : List Json). pairs_behind old l.least (items_view ys)) dropped
-          ∙ step old l.least e (view one) (items_view (drop (length l.yielded + 1) xs)) found follows
-          ∙ ap (λ (n : ℕ). pairs_behind (old ++ e ∷ []) (e.0 + 1) (items_view (drop n xs))) (sym next)
-          ∙ ap (λ (made : Pairs). pairs_behind made (e.0 + 1) (items_view (drop (length (l.yielded ++ one ∷ [])) xs))) (sym put);
+      read = l.invariant.read ∙ ap (λ (ys : List Tree). pairs_behind old l.least (trees_view ys)) dropped
+          ∙ step old l.least e (tree_view one) (trees_view (drop (length l.yielded + 1) xs)) found follows
+          ∙ ap (λ (n : ℕ). pairs_behind (old ++ e ∷ []) (e.0 + 1) (trees_view (drop n xs))) (sym next)
+          ∙ ap (λ (made : Pairs). pairs_behind made (e.0 + 1) (trees_view (drop (length (l.yielded ++ one ∷ [])) xs))) (sym put);
       rise = subst (λ (made : Pairs). RiseFrom 0 made) (sym put) (rise_push old 0 e l.invariant.rise ends (omega arith));
       below = subst (λ (made : Pairs). EndBefore made (e.0 + 1)) (sym put) (ends_push old e ends);
     }

@@ -5,10 +5,9 @@ use Rattle.std.proofs.lemmas.Iterator.Consumers.{YieldsList-turn}
 use Rattle.std.proofs.lemmas.List.{length_push}
 use Rattle.row_store.specs.Rows.{AreBelow, Rows}
 use Rattle.row_store.specs.inner.FoundRows.{below_more, below_push}
-use Rattle.serde_json.specs.declared.value.Value.{Value as Json}
-use Rattle.serde_json.specs.View.{items_view, view}
+use Rattle.dump_values.specs.Trees.{tree_view, trees_view}
 use Rattle.dump_values.specs.Tables.{rows_from}
-use Rattle.dump_values.proofs.ListLemmas.{begins}
+use Rattle.dump_values.proofs.ListLemmas.{Tree, begins}
 use Rattle.dump_values.proofs.RiseLemmas.{step}
 use Rattle.dump_values.proofs.tables.read_rows.Goals as goal
 
@@ -25,9 +24,9 @@ loop-item-preserved c =
     let dropped = begins xs (length l.yielded) one turn.0 turn.1 in
     let found = sym c.in_ok-id.ensures.value ∙ c.in-Some-2.is in
     record {
-      read = l.invariant.read ∙ ap (λ (ys : List Json). option_map (λ (rs : Rows). old ++ rs) (rows_from l.least (items_view ys))) dropped
-          ∙ step old l.least id row (view one) (items_view (drop (length l.yielded + 1) xs)) found c.if-id-least.false
-          ∙ ap (λ (n : ℕ). option_map (λ (rs : Rows). (old ++ (id, row) ∷ []) ++ rs) (rows_from (id + 1) (items_view (drop n xs)))) (sym next)
-          ∙ ap (λ (new : Rows). option_map (λ (rs : Rows). new ++ rs) (rows_from (id + 1) (items_view (drop (length (l.yielded ++ one ∷ [])) xs)))) (sym c.in_ok-push.ensures.ok);
+      read = l.invariant.read ∙ ap (λ (ys : List Tree). option_map (λ (rs : Rows). old ++ rs) (rows_from l.least (trees_view ys))) dropped
+          ∙ step old l.least id row (tree_view one) (trees_view (drop (length l.yielded + 1) xs)) found c.if-id-least.false
+          ∙ ap (λ (n : ℕ). option_map (λ (rs : Rows). (old ++ (id, row) ∷ []) ++ rs) (rows_from (id + 1) (trees_view (drop n xs)))) (sym next)
+          ∙ ap (λ (new : Rows). option_map (λ (rs : Rows). new ++ rs) (rows_from (id + 1) (trees_view (drop (length (l.yielded ++ one ∷ [])) xs)))) (sym c.in_ok-push.ensures.ok);
       below = subst (λ (new : Rows). AreBelow new (id + 1)) (sym c.in_ok-push.ensures.ok) (below_push old id row (below_more old l.least id c.if-id-least.false l.invariant.below));
     }

@@ -1,0 +1,18 @@
+use Rattle.std.proofs.Common.{true, false}
+use Rattle.op_cond_join.specs.Joinings.{joining}
+use Rattle.outer_law.specs.OuterOn.{outer_on}
+use Rattle.cond_closing.specs.Columns.{equal_in}
+use Rattle.op_seeks.specs.Places.{condition_place}
+use Rattle.op_seeks.specs.declared.known.Known.TheVariants.{Entries}
+use Rattle.op_seeks.proofs.SeekLemmas.{at_changes}
+use Rattle.op_seeks.proofs.outer.ids_of_places.Goals as goal
+
+pub returns-then-crossed-clause-apart : goal.returns-then-crossed-clause-apart
+returns-then-crossed-clause-apart g c =
+    let j = joining c.args.join.now in
+    at_changes c.assigned_by.result (outer_on j) (condition_place false (equal_in j j.condition)) true c.args.crossed.backward (Entries c.args.it.now) c.args.crossed.near.now.tables c.args.crossed.changes.now.tables c.if-crossed.true c.assigned_by.ensures.apart
+
+pub returns-else-crossed-clause-apart : goal.returns-else-crossed-clause-apart
+returns-else-crossed-clause-apart g c =
+    let j = joining c.args.join.now in
+    at_changes c.shown_by.result (outer_on j) (condition_place false (equal_in j j.condition)) false c.args.crossed.backward (Entries c.args.it.now) c.args.crossed.near.now.tables c.args.crossed.changes.now.tables c.if-crossed.false c.shown_by.ensures.apart
