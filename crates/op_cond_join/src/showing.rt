@@ -224,9 +224,10 @@ fn add_all_pairs<L: Ledger>(
         made.old ++ filter (is_new_in it.now) (pairs_with row.now.0 it.now.new_t.now.rows)) }
 {
     match &seconds.keyed {
-        Some(keyed) => add_keyed_pairs(alloc, it, row, keyed, made, steps),
-        None => add_new_pairs(alloc, it, row.0, seconds.all.as_slice(), made, steps),
+        Some(keyed) => add_keyed_pairs(alloc, it, row, keyed, made, steps)?,
+        None => add_new_pairs(alloc, it, row.0, seconds.all.as_slice(), made, steps)?,
     }
+    Ok(())
 }
 
 /// Adds the pairs of a first row that are shown and were not in the memory. A row that is as it was
@@ -246,9 +247,11 @@ fn add_pairs_of<L: Ledger>(
         made.old ++ filter (is_new_in it.now) (pairs_with row.now.0 it.now.new_t.now.rows)) }
 {
     if is_as_before(it.s, row.0, &row.1) {
-        return add_new_pairs(alloc, it, row.0, seconds.changed.as_slice(), made, steps);
+        add_new_pairs(alloc, it, row.0, seconds.changed.as_slice(), made, steps)?;
+        return Ok(());
     }
-    add_all_pairs(alloc, it, row, seconds, made, steps)
+    add_all_pairs(alloc, it, row, seconds, made, steps)?;
+    Ok(())
 }
 
 /// The pairs that are shown and were not in the memory, in order.

@@ -12,4 +12,4 @@ returns g c =
     let a = c.args.row.now.0 in
     c.in_ok-add_new_pairs.ensures
     ∙ ap (λ (bs : List ℕ). c.args.made.now ++ filter (is_new_in it) (pairs_of a bs)) c.as_slice.ensures
-    ∙ ap (λ (xs : List (ℕ × ℕ)). c.args.made.now ++ xs) (c.in_ok-ids_for-ids.ensures j j.condition it.new_t.now.rows c.requires.rise c.requires.keyed a (is_new_in it) (only_matches it c.args.row.now.1 a c.requires.there))
+    ∙ ap (λ (xs : List (ℕ × ℕ)). c.args.made.now ++ xs) (c.in_ok-ids.ensures j j.condition it.new_t.now.rows c.requires.rise c.requires.keyed a (is_new_in it) (only_matches it c.args.row.now.1 a c.requires.there))
