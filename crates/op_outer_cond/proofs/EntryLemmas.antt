@@ -1,8 +1,15 @@
 -- Passes over the rows of a new source.
 use Rattle.std.proofs.Common.{◌≡◌, ℕ, ◌+◌, ◌<◌, ◌≤◌, List, [], ◌∷◌, ◌++◌, length, filter, drop, take, slice_index_or, Bool, Option, Some, None, refl, ap, sym, ◌∙◌, subst, append_assoc, append-nil, arith}
+use Rattle.std.proofs.lemmas.Bool.{ne_eqb}
 use Rattle.std.proofs.lemmas.List.{take_more}
 use Rattle.par_base.specs.declared.value.Value.{Value}
 use Rattle.row_store.specs.Rows.{Rows, AreBelow, row_of}
+use Rattle.row_store.specs.inner.FoundRows.{from_at}
+use Rattle.equal_columns.specs.Keyed.{PassesMatches}
+use Rattle.equal_columns.proofs.MatchLaws.{shown_match}
+use Rattle.outer_law.specs.Entries.{with_absent}
+use Rattle.op_outer_cond.specs.declared.showing.Showing.{Showing}
+use Rattle.op_outer_cond.specs.inner.Calls.{joining_in, is_new_in, AreFromOne}
 use Rattle.id_memory.specs.Pairs.{Pairs, RiseFrom as PairsRise}
 use Rattle.op_rows.specs.Cells.{with_row}
 use Rattle.row_parts.specs.Places.{row_of_both as joined_row}
@@ -25,16 +32,6 @@ row_wide j s t a b row e = cell_wide (row_of s a) (row_of t b) e
 pub with_append : (a : ℕ) (xs ys : Rows) → pairs_with a (xs ++ ys) ≡ pairs_with a xs ++ pairs_with a ys
 with_append a [] ys = refl
 with_append a (x ∷ xs) ys = ap (λ (zs : List (ℕ × ℕ)). (a, x.0) ∷ zs) (with_append a xs ys)
-
--- one pair more
-pub with_more : (test : ℕ × ℕ → Bool) (before : List (ℕ × ℕ)) (a : ℕ) (front : ℕ × List Value) (rows : Rows) (i : ℕ) (row : ℕ × List Value) (made new : List (ℕ × ℕ)) → i < length rows → row ≡ slice_index_or rows i row
-    → made ≡ before ++ filter test (pairs_with a (front ∷ take i rows)) → new ≡ made ++ filter test ((a, row.0) ∷ []) → new ≡ before ++ filter test (pairs_with a (front ∷ take (i + 1) rows))
-with_more test before a front rows i row made new h at is pushed =
-    let last = filter test ((a, row.0) ∷ []) in
-    let split : take (i + 1) rows ≡ take i rows ++ row ∷ [] = take_more rows i row h ∙ ap (λ (r : ℕ × List Value). take i rows ++ r ∷ []) (sym at) in
-    let more : filter test (pairs_with a (front ∷ take (i + 1) rows)) ≡ filter test (pairs_with a (front ∷ take i rows)) ++ last =
-    ap (λ (all : Rows). filter test (pairs_with a (front ∷ all))) split ∙ ap (filter test) (with_append a (front ∷ take i rows) (row ∷ [])) ∙ filter_append test (pairs_with a (front ∷ take i rows)) ((a, row.0) ∷ []) in
-    pushed ∙ ap (λ (xs : List (ℕ × ℕ)). xs ++ last) is ∙ append_assoc before (filter test (pairs_with a (front ∷ take i rows))) last ∙ ap (λ (xs : List (ℕ × ℕ)). before ++ xs) (sym more)
 
 -- the same of first rows
 pub all_append : (xs ys t : Rows) → all_pairs (xs ++ ys) t ≡ all_pairs xs t ++ all_pairs ys t
@@ -77,3 +74,21 @@ below_all j s t n (x ∷ xs) e fs rise =
 
 pub below_next : (j : Joining) (s t : Rows) (es : Pairs) (i : ℕ) → i < length es → PairsRise 0 es → AreBelow (joined j s t (take i es)) (slice_index_or es i (0, 0, 0)).0
 below_next j s t es i h rise = (below_all j s t 0 (take i es) (slice_index_or es i (0, 0, 0)) (drop (i + 1) es) (subst (λ (all : Pairs). PairsRise 0 all) (split_at es i h) rise)).1
+
+-- the absent second half and other second rows, of a first half
+pub behind_absent : (test : ℕ × ℕ → Bool) (a : ℕ) (places : List ℕ) (rows : Rows) (made one two xs : List (ℕ × ℕ)) → one ≡ made ++ filter test ((a, 0) ∷ []) → two ≡ one ++ filter test xs
+    → filter test xs ≡ filter test (pairs_with a rows) → two ≡ made ++ filter test (pairs_with a (with_absent places rows))
+behind_absent test a places rows made one two xs first second same =
+    second ∙ ap (λ (ys : List (ℕ × ℕ)). ys ++ filter test xs) first ∙ append_assoc made (filter test ((a, 0) ∷ [])) (filter test xs)
+    ∙ ap (λ (ys : List (ℕ × ℕ)). made ++ (filter test ((a, 0) ∷ []) ++ ys)) same
+    ∙ ap (λ (ys : List (ℕ × ℕ)). made ++ ys) (sym (filter_append test ((a, 0) ∷ []) (pairs_with a rows)))
+
+-- a pair of rows that is an entry and was none matches
+pub entry_match : (it : Showing) (row : List Value) (a : ℕ) → AreFromOne it → row_of it.new_s.now.rows a ≡ Some row → PassesMatches (joining_in it) (joining_in it).condition it.new_t.now.rows row a (is_new_in it)
+entry_match it row a from first b other second fails =
+    let m = it.memory.now.entries in
+    let low = from_at 1 it.new_s.now.rows a row from.0 first in
+    let high = from_at 1 it.new_t.now.rows b other from.1 second in
+    let one = ne_eqb a 0 (λ q. absurd (omega (arith, q, low))) in
+    let two = ne_eqb b 0 (λ q. absurd (omega (arith, q, high))) in
+    rw (one, two) (shown_match (joining_in it) it.s.now.rows it.t.now.rows m it.new_s.now.rows it.new_t.now.rows row a first b other second fails)

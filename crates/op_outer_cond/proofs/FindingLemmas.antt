@@ -1,5 +1,5 @@
 -- The full entries that a pass over all pairs finds.
-use Rattle.std.proofs.Common.{◌≡◌, ℕ, ◌+◌, ◌<◌, ◌==◌, List, [], ◌∷◌, ◌++◌, length, filter, take, slice_index_or, Bool, true, false, ◌&&◌, if◌then◌else◌, IsSome, refl, ap, sym, ◌∙◌, subst, append-nil}
+use Rattle.std.proofs.Common.{◌≡◌, ℕ, ◌+◌, ◌<◌, ◌==◌, List, [], ◌∷◌, ◌++◌, length, filter, take, slice_index_or, Bool, true, false, ◌&&◌, if◌then◌else◌, not, IsSome, refl, ap, sym, ◌∙◌, subst, append-nil}
 use Rattle.std.proofs.lemmas.List.{take_more}
 use Rattle.std.proofs.lemmas.Bool.{and_parts, eqb-true, eq-eqb}
 use Rattle.par_base.specs.declared.value.Value.{Value}
@@ -8,15 +8,17 @@ use Rattle.op_law.specs.Identifiers.{has_id, put_id}
 use Rattle.op_rows.specs.inner.CellLemmas.{has_put}
 use Rattle.row_map.specs.IdPairs.{IdPairs, holds_pair, IsWithPair}
 use Rattle.row_parts.specs.RowCells.{by_test}
-use Rattle.pair_rows.specs.Shown.{pairs_with, all_pairs}
+use Rattle.pair_rows.specs.Shown.{pairs_with, all_pairs, has}
+use Rattle.pair_rows.specs.inner.Changed.{pairs_of}
+use Rattle.id_memory.specs.Pairs.{Pairs}
 use Rattle.pair_rows.specs.inner.Lookups.{filter_append}
 use Rattle.pair_rows.specs.inner.ShownLaws.{shown_there}
 use Rattle.outer_law.specs.Entries.{some_row}
 use Rattle.op_outer_cond.specs.declared.showing.Showing.{Showing}
 use Rattle.op_outer_cond.specs.declared.finding.Found.{Found}
-use Rattle.op_outer_cond.specs.inner.Calls.{joining_in, is_full_in, is_full_pair}
-use Rattle.op_outer_cond.specs.inner.Finding.{has_first, has_second, AddsPairs, HasPairs, Finds}
-use Rattle.op_outer_cond.proofs.EntryLemmas.{with_append, all_append}
+use Rattle.op_outer_cond.specs.inner.Calls.{joining_in, is_full_in, is_full_pair, is_new_full}
+use Rattle.op_outer_cond.specs.inner.Finding.{has_first, has_second, pairs_in, AddsPairs, HasPairs, Finds}
+use Rattle.op_outer_cond.proofs.EntryLemmas.{all_append}
 
 -- a pair, a first and a second identifier of two lists
 holds_append : (xs ys : IdPairs) (a b : ℕ) → holds_pair (xs ++ ys) a b ≡ (if holds_pair xs a b then true else holds_pair ys a b)
@@ -79,14 +81,34 @@ adds_more f g h xs ys one two = record {
       ∙ one_choice (has_second xs b) (has_second ys b) (has_id f.second b) ∙ ap (λ (z : Bool). if z then true else has_id f.second b) (sym (second_append xs ys b));
 }
 
+-- pairs of two lists
+of_append : (a : ℕ) (xs ys : List ℕ) → pairs_of a (xs ++ ys) ≡ pairs_of a xs ++ pairs_of a ys
+of_append a [] ys = refl
+of_append a (x ∷ xs) ys = ap (λ (zs : IdPairs). (a, x) ∷ zs) (of_append a xs ys)
+
+in_append : (xs ys : Pairs) → pairs_in (xs ++ ys) ≡ pairs_in xs ++ pairs_in ys
+in_append [] ys = refl
+in_append (x ∷ xs) ys = ap (λ (zs : IdPairs). (x.1, x.2) ∷ zs) (in_append xs ys)
+
 -- one second row more
-pub with_next : (test : ℕ × ℕ → Bool) (a : ℕ) (rows : Rows) (i : ℕ) (row : ℕ × List Value) (f g h : Found) → i < length rows → row ≡ slice_index_or rows i row
-    → AddsPairs f (filter test (pairs_with a (take i rows))) g → AddsPairs g (filter test ((a, row.0) ∷ [])) h → AddsPairs f (filter test (pairs_with a (take (i + 1) rows))) h
-with_next test a rows i row f g h low at one two =
-    let split : filter test (pairs_with a (take (i + 1) rows)) ≡ filter test (pairs_with a (take i rows)) ++ filter test ((a, row.0) ∷ []) =
-    ap (λ (rs : Rows). filter test (pairs_with a rs)) (take_more rows i row low ∙ ap (λ (r : ℕ × List Value). take i rows ++ r ∷ []) (sym at))
-    ∙ ap (filter test) (with_append a (take i rows) (row ∷ [])) ∙ filter_append test (pairs_with a (take i rows)) ((a, row.0) ∷ []) in
-    subst (λ (xs : IdPairs). AddsPairs f xs h) (sym split) (adds_more f g h (filter test (pairs_with a (take i rows))) (filter test ((a, row.0) ∷ [])) one two)
+pub each_next : (test : ℕ × ℕ → Bool) (a : ℕ) (bs : List ℕ) (i : ℕ) (f g h : Found) → i < length bs
+    → AddsPairs f (filter test (pairs_of a (take i bs))) g → AddsPairs g (filter test (pairs_of a (slice_index_or bs i 0 ∷ []))) h → AddsPairs f (filter test (pairs_of a (take (i + 1) bs))) h
+each_next test a bs i f g h low one two =
+    let last = slice_index_or bs i 0 ∷ [] in
+    let split : filter test (pairs_of a (take (i + 1) bs)) ≡ filter test (pairs_of a (take i bs)) ++ filter test (pairs_of a last) =
+    ap (λ (all : List ℕ). filter test (pairs_of a all)) (take_more bs i 0 low)
+    ∙ ap (filter test) (of_append a (take i bs) last) ∙ filter_append test (pairs_of a (take i bs)) (pairs_of a last) in
+    subst (λ (xs : IdPairs). AddsPairs f xs h) (sym split) (adds_more f g h (filter test (pairs_of a (take i bs))) (filter test (pairs_of a last)) one two)
+
+-- one entry more
+pub kept_next : (test : ℕ × ℕ → Bool) (es : Pairs) (i : ℕ) (f g h : Found) → i < length es
+    → AddsPairs f (filter test (pairs_in (take i es))) g → AddsPairs g (filter test (pairs_in (slice_index_or es i (0, 0, 0) ∷ []))) h → AddsPairs f (filter test (pairs_in (take (i + 1) es))) h
+kept_next test es i f g h low one two =
+    let last = slice_index_or es i (0, 0, 0) ∷ [] in
+    let split : filter test (pairs_in (take (i + 1) es)) ≡ filter test (pairs_in (take i es)) ++ filter test (pairs_in last) =
+    ap (λ (all : Pairs). filter test (pairs_in all)) (take_more es i (0, 0, 0) low)
+    ∙ ap (filter test) (in_append (take i es) last) ∙ filter_append test (pairs_in (take i es)) (pairs_in last) in
+    subst (λ (xs : IdPairs). AddsPairs f xs h) (sym split) (adds_more f g h (filter test (pairs_in (take i es))) (filter test (pairs_in last)) one two)
 
 -- one first row more
 turn_choice : (x y : Bool) → (if y then true else x) ≡ (if x then true else y)
@@ -95,21 +117,21 @@ turn_choice true false = refl
 turn_choice false true = refl
 turn_choice false false = refl
 
-has_more : (g h : Found) (xs ys : IdPairs) → HasPairs xs g → AddsPairs g ys h → HasPairs (xs ++ ys) h
+pub has_more : (g h : Found) (xs ys : IdPairs) → HasPairs xs g → AddsPairs g ys h → HasPairs (xs ++ ys) h
 has_more g h xs ys one two = record {
   pairs = λ a b. two.pairs a b ∙ ap (λ (z : Bool). if holds_pair ys a b then true else z) (one.pairs a b) ∙ turn_choice (holds_pair xs a b) (holds_pair ys a b) ∙ sym (holds_append xs ys a b);
   first = λ a. two.first a ∙ ap (λ (z : Bool). if has_first ys a then true else z) (one.first a) ∙ turn_choice (has_first xs a) (has_first ys a) ∙ sym (first_append xs ys a);
   second = λ b. two.second b ∙ ap (λ (z : Bool). if has_second ys b then true else z) (one.second b) ∙ turn_choice (has_second xs b) (has_second ys b) ∙ sym (second_append xs ys b);
 }
 
-pub all_next : (test : ℕ × ℕ → Bool) (rows t : Rows) (i : ℕ) (row : ℕ × List Value) (g h : Found) → i < length rows → row ≡ slice_index_or rows i row
-    → HasPairs (filter test (all_pairs (take i rows) t)) g → AddsPairs g (filter test (pairs_with row.0 t)) h → HasPairs (filter test (all_pairs (take (i + 1) rows) t)) h
-all_next test rows t i row g h low at one two =
+pub all_next : (test : ℕ × ℕ → Bool) (rows t : Rows) (i : ℕ) (row : ℕ × List Value) (f g h : Found) → i < length rows → row ≡ slice_index_or rows i row
+    → AddsPairs f (filter test (all_pairs (take i rows) t)) g → AddsPairs g (filter test (pairs_with row.0 t)) h → AddsPairs f (filter test (all_pairs (take (i + 1) rows) t)) h
+all_next test rows t i row f g h low at one two =
     let split : filter test (all_pairs (take (i + 1) rows) t) ≡ filter test (all_pairs (take i rows) t) ++ filter test (pairs_with row.0 t) =
     ap (λ (rs : Rows). filter test (all_pairs rs t)) (take_more rows i row low ∙ ap (λ (r : ℕ × List Value). take i rows ++ r ∷ []) (sym at))
     ∙ ap (filter test) (all_append (take i rows) (row ∷ []) t ∙ ap (λ (xs : IdPairs). all_pairs (take i rows) t ++ xs) (append-nil (pairs_with row.0 t)))
     ∙ filter_append test (all_pairs (take i rows) t) (pairs_with row.0 t) in
-    subst (λ (xs : IdPairs). HasPairs xs h) (sym split) (has_more g h (filter test (all_pairs (take i rows) t)) (filter test (pairs_with row.0 t)) one two)
+    subst (λ (xs : IdPairs). AddsPairs f xs h) (sym split) (adds_more f g h (filter test (all_pairs (take i rows) t)) (filter test (pairs_with row.0 t)) one two)
 
 -- of the pairs that pass, those that stand in a list are found, and no others
 holds_filter : (full : ℕ → ℕ → Bool) (xs : IdPairs) (a b : ℕ) → holds_pair xs a b ≡ true → full a b ≡ true → holds_pair (filter (λ x. full x.0 x.1) xs) a b ≡ true
@@ -241,22 +263,71 @@ both_ways : (x y : Bool) → (x ≡ true → y ≡ true) → (y ≡ true → x �
 both_ways true y f g = sym (f refl)
 both_ways false y f g = by_test y (λ q. g q ∙ sym q) (λ q. sym q)
 
--- so the pass finds the full entries, and the rows that are in one
-pub finds_all : (it : Showing) (g : Found) → HasPairs (filter (is_full_pair it) (all_pairs it.new_s.now.rows it.new_t.now.rows)) g → Finds it g
-finds_all it g has =
+-- the pair of an entry stands among those of all entries
+holds_entry : (es : Pairs) (a b : ℕ) → has es a b ≡ true → holds_pair (pairs_in es) a b ≡ true
+unfolding holds_pair
+holds_entry [] a b h = absurd (cc)
+holds_entry (e ∷ es) a b h =
+    by_test (e.1 == a && e.2 == b)
+    (λ q.
+    let parts = and_parts (e.1 == a) (e.2 == b) q in
+    let first : (a == e.1) ≡ true = eq-eqb a e.1 (sym (eqb-true e.1 a parts.0)) in
+    let second : (b == e.2) ≡ true = eq-eqb b e.2 (sym (eqb-true e.2 b parts.1)) in
+    rw (first, second) refl)
+    (λ q. let later : has es a b ≡ true = rw q at h in either_second (a == e.1 && b == e.2) (holds_pair (pairs_in es) a b) (holds_entry es a b later))
+
+-- what was there, or doesn't pass, isn't new
+pub not_new : (full had : Bool) → had ≡ true → (full && not had) ≡ false
+not_new true true h = refl
+not_new true false h = absurd (cc)
+not_new false had h = refl
+
+pub not_full : (full had : Bool) → full ≡ false → (full && not had) ≡ false
+not_full true had h = absurd (cc)
+not_full false had h = refl
+
+-- what passes and was none
+is_new : (full had : Bool) → full ≡ true → had ≡ false → (full && not had) ≡ true
+is_new true false one two = refl
+is_new true true one two = absurd (cc)
+is_new false had one two = absurd (cc)
+
+-- either of two tests
+either_is : (x y : Bool) (X : Type 0) → (if x then true else y) ≡ true → (x ≡ true → X) → (y ≡ true → X) → X
+either_is true y X h f g = f refl
+either_is false y X h f g = g h
+
+-- so both passes find the full entries, and the rows that are in one
+pub finds_all : (it : Showing) (g : Found) → HasPairs (filter (is_full_pair it) (pairs_in it.memory.now.entries) ++ filter (is_new_full it) (all_pairs it.new_s.now.rows it.new_t.now.rows)) g → Finds it g
+finds_all it g all_has =
     let full = is_full_in it in
+    let m = it.memory.now.entries in
+    let new : ℕ → ℕ → Bool = λ a b. is_full_in it a b && not (has m a b) in
     let s = it.new_s.now.rows in
     let t = it.new_t.now.rows in
     let all = all_pairs s t in
-    let found = filter (is_full_pair it) all in
-    let there = shown_there (joining_in it) it.s.now.rows it.t.now.rows it.memory.now.entries s t in
-    let holds : (a b : ℕ) → full a b ≡ true → holds_pair found a b ≡ true = λ a b passes. let both = there a b passes in holds_filter full all a b (holds_all s t a b both.0 both.1) passes in
+    let kept = filter (is_full_pair it) (pairs_in m) in
+    let more = filter (is_new_full it) all in
+    let found = kept ++ more in
+    let there = shown_there (joining_in it) it.s.now.rows it.t.now.rows m s t in
+    let holds : (a b : ℕ) → full a b ≡ true → holds_pair found a b ≡ true =
+    λ a b passes.
+    let both = there a b passes in
+    holds_append kept more a b
+    ∙ by_test (has m a b)
+    (λ had. either_first (holds_pair kept a b) (holds_pair more a b) (holds_filter full (pairs_in m) a b (holds_entry m a b had) passes))
+    (λ had. either_second (holds_pair kept a b) (holds_pair more a b) (holds_filter new all a b (holds_all s t a b both.0 both.1) (is_new (full a b) (has m a b) passes had))) in
+    let passes : (a b : ℕ) → holds_pair found a b ≡ true → full a b ≡ true =
+    λ a b h.
+    either_is (holds_pair kept a b) (holds_pair more a b) (full a b ≡ true) (sym (holds_append kept more a b) ∙ h)
+    (λ one. holds_passes full (pairs_in m) a b one)
+    (λ two. (and_parts (full a b) (not (has m a b)) (holds_passes new all a b two)).0) in
     record {
-      pairs = λ a b. has.pairs a b ∙ both_ways (holds_pair found a b) (full a b) (λ h. holds_passes full all a b h) (λ h. holds a b h);
-      first = λ a. has.first a ∙ both_ways (has_first found a) (some_row (λ b. full a b) t)
-          (λ h. first_is found a (some_row (λ b. full a b) t ≡ true) h (λ b stands. let passes = holds_passes full all a b stands in some_found (λ b. full a b) t b (there a b passes).1 passes))
-          (λ h. some_is (λ b. full a b) t (has_first found a ≡ true) h (λ b some passes. first_has found a b (holds a b passes)));
-      second = λ b. has.second b ∙ both_ways (has_second found b) (some_row (λ a. full a b) s)
-          (λ h. second_is found b (some_row (λ a. full a b) s ≡ true) h (λ a stands. let passes = holds_passes full all a b stands in some_found (λ a. full a b) s a (there a b passes).0 passes))
-          (λ h. some_is (λ a. full a b) s (has_second found b ≡ true) h (λ a some passes. second_has found a b (holds a b passes)));
+      pairs = λ a b. all_has.pairs a b ∙ both_ways (holds_pair found a b) (full a b) (passes a b) (holds a b);
+      first = λ a. all_has.first a ∙ both_ways (has_first found a) (some_row (λ b. full a b) t)
+          (λ h. first_is found a (some_row (λ b. full a b) t ≡ true) h (λ b stands. let is = passes a b stands in some_found (λ b. full a b) t b (there a b is).1 is))
+          (λ h. some_is (λ b. full a b) t (has_first found a ≡ true) h (λ b some is. first_has found a b (holds a b is)));
+      second = λ b. all_has.second b ∙ both_ways (has_second found b) (some_row (λ a. full a b) s)
+          (λ h. second_is found b (some_row (λ a. full a b) s ≡ true) h (λ a stands. let is = passes a b stands in some_found (λ a. full a b) s a (there a b is).0 is))
+          (λ h. some_is (λ a. full a b) s (has_second found b ≡ true) h (λ a some is. second_has found a b (holds a b is)));
     }

@@ -1,6 +1,6 @@
 -- The new entries are a memory.
 use Rattle.std.proofs.Common.{◌≡◌, ℕ, ap, sym, ◌∙◌, subst}
-use Rattle.row_store.specs.Rows.{Rows}
+use Rattle.row_store.specs.Rows.{Rows, RiseFrom as RowsRise}
 use Rattle.id_memory.specs.Pairs.{Pairs, RiseFrom, IsOneToOne}
 use Rattle.op_law.specs.Tables.{Tables}
 use Rattle.op_law.specs.Meaning.{PairState}
@@ -31,3 +31,10 @@ forward_entries j near old n k s t ns nt pairs some same first second new_first 
     ∙ ap (λ (rows : Rows). entries j (table_at 0 old.source) (table_at 1 old.source) old.memory (table_at 0 near) rows k) new_second
     ∙ ap (λ (i : ℕ). entries j (table_at 0 old.source) (table_at 1 old.source) old.memory (table_at 0 near) (table_at 1 near) i) same in
     subst (λ (es : Pairs). AreEntries es) (sym all) (record { rises = related.joined.rises; one = related.joined.one })
+
+-- the rows of a new source are from 1 on
+pub near_from : (j : Joining) (near : Tables) (old : PairState) (n : ℕ) (ns nt : Rows) → SomeMap (outer_on j) near old n → ns ≡ table_at 0 near → nt ≡ table_at 1 near → RowsRise 1 ns × RowsRise 1 nt
+near_from j near old n ns nt some first second =
+    let pair = (forward_half j).kept some.hs some.ht near old n some.may in
+    let related : IsOuter j (table_at 0 near) (table_at 1 near) _ (entries j (table_at 0 old.source) (table_at 1 old.source) old.memory (table_at 0 near) (table_at 1 near) n) = pair.related in
+    (subst (λ (rows : Rows). RowsRise 1 rows) (sym first) related.first.rise, subst (λ (rows : Rows). RowsRise 1 rows) (sym second) related.second.rise)

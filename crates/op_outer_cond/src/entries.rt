@@ -1,13 +1,17 @@
 //! The entries of a new source.
-ghost use Rattle.std.specs.Prelude.{◌≡◌, ◌++◌, ◌∷◌, [], filter, IfOk, OnOk};
+ghost use Rattle.std.specs.Prelude.{◌≡◌, ◌++◌, ◌∷◌, [], filter, Some, IfOk, OnOk};
+ghost use Rattle.row_store.specs.Rows.{row_of};
 ghost use Rattle.pair_rows.specs.Shown.{pairs_with};
+ghost use Rattle.pair_rows.specs.inner.Changed.{pairs_of};
 ghost use Rattle.outer_law.specs.Entries.{with_absent, some_row};
+ghost use Rattle.op_outer_cond.specs.inner.Calls.{AreFromOne, AreSeconds};
 ghost use Rattle.op_outer_cond.specs.inner.Calls.{is_full_in, is_entry_in, is_new_in, new_in};
 ghost use Rattle.op_outer_cond.specs.inner.Finding.{Finds};
 
 use crate::finding::Found;
+use crate::seconds::{Seconds, ids_for};
 use crate::showing::Showing;
-use par_base::{List, Memory};
+use par_base::{List, Memory, Row};
 use std::alloc::Global;
 
 /// Whether a pair is a full entry.
@@ -93,21 +97,60 @@ fn add_if_new(
     Ok(())
 }
 
-/// Adds the pairs with a first half that are entries and were none, 0 first.
-fn add_with(
+/// Adds the pairs of a first half with these second ones that are entries and were none.
+fn add_each(
     it: &Showing<'_>,
     found: &Found,
     a: u64,
+    seconds: &[u64],
     made: &mut List<(u64, u64)>,
 ) -> Result<(), Memory>
     requires { Finds it.now found.now }
-    ensures { OnOk result (made.new ≡ made.old ++ filter (is_new_in it.now)
-        (pairs_with a (with_absent it.now.join.now.second.now it.now.new_t.now.rows))) }
+    ensures { OnOk result (made.new
+        ≡ made.old ++ filter (is_new_in it.now) (pairs_of a seconds.now)) }
 {
-    add_if_new(it, found, a, 0, made)?;
-    for row in it.new_t.iter() {
-        add_if_new(it, found, a, row.0, made)?;
+    for b in seconds {
+        add_if_new(it, found, a, *b, made)?;
     }
+    Ok(())
+}
+
+/// Adds the pairs with an absent first half that are entries and were none.
+fn add_absent(
+    it: &Showing<'_>,
+    found: &Found,
+    seconds: &Seconds,
+    made: &mut List<(u64, u64)>,
+) -> Result<(), Memory>
+    requires finds { Finds it.now found.now }
+    requires seconds { AreSeconds it.now seconds.now }
+    ensures { OnOk result (made.new ≡ made.old ++ filter (is_new_in it.now)
+        (pairs_with 0 (with_absent it.now.join.now.second.now it.now.new_t.now.rows))) }
+{
+    add_if_new(it, found, 0, 0, made)?;
+    add_each(it, found, 0, seconds.all.as_slice(), made)?;
+    Ok(())
+}
+
+/// Adds the pairs of a first row that are entries and were none, 0 first.
+fn add_with(
+    alloc: Global,
+    it: &Showing<'_>,
+    found: &Found,
+    seconds: &Seconds,
+    row: &(u64, Row),
+    made: &mut List<(u64, u64)>,
+) -> Result<(), Memory>
+    requires finds { Finds it.now found.now }
+    requires seconds { AreSeconds it.now seconds.now }
+    requires from { AreFromOne it.now }
+    requires there { row_of it.now.new_s.now.rows row.now.0 ≡ Some row.now.1 }
+    ensures { OnOk result (made.new ≡ made.old ++ filter (is_new_in it.now)
+        (pairs_with row.now.0 (with_absent it.now.join.now.second.now it.now.new_t.now.rows))) }
+{
+    add_if_new(it, found, row.0, 0, made)?;
+    let ids = ids_for(alloc, seconds, &row.1)?;
+    add_each(it, found, row.0, ids.as_slice(), made)?;
     Ok(())
 }
 
@@ -116,14 +159,17 @@ pub(crate) fn new_entries(
     alloc: Global,
     it: &Showing<'_>,
     found: &Found,
+    seconds: &Seconds,
 ) -> Result<List<(u64, u64)>, Memory>
-    requires { Finds it.now found.now }
+    requires finds { Finds it.now found.now }
+    requires seconds { AreSeconds it.now seconds.now }
+    requires from { AreFromOne it.now }
     ensures { IfOk result (λ made. made ≡ new_in it.now) }
 {
     let mut made = List::new(alloc);
-    add_with(it, found, 0, &mut made)?;
+    add_absent(it, found, seconds, &mut made)?;
     for row in it.new_s.iter() {
-        add_with(it, found, row.0, &mut made)?;
+        add_with(alloc, it, found, seconds, row, &mut made)?;
     }
     Ok(made)
 }

@@ -1,12 +1,17 @@
-//! The full entries of a new source. Each pair of rows is looked at once.
-ghost use Rattle.std.specs.Prelude.{◌∷◌, [], filter, IfOk, OnOk};
-ghost use Rattle.pair_rows.specs.Shown.{pairs_with};
-ghost use Rattle.op_outer_cond.specs.inner.Calls.{ReadsIn, is_full_pair};
-ghost use Rattle.op_outer_cond.specs.inner.Finding.{AddsPairs, HasPairs, Finds};
+//! The full entries of a new source: those of the old memory that are still ones, and the pairs of rows
+//! that match and were none.
+ghost use Rattle.std.specs.Prelude.{◌≡◌, ◌∷◌, [], filter, Some, IfOk, OnOk};
+ghost use Rattle.row_store.specs.Rows.{row_of};
+ghost use Rattle.pair_rows.specs.Shown.{all_pairs, pairs_with};
+ghost use Rattle.pair_rows.specs.inner.Changed.{pairs_of};
+ghost use Rattle.op_outer_cond.specs.inner.Calls.{ReadsIn, AreSeconds, is_full_pair, is_new_full};
+ghost use Rattle.op_outer_cond.specs.inner.Finding.{pairs_in, AddsPairs, HasPairs, Finds};
 
+use crate::seconds::{Seconds, ids_for};
 use crate::showing::{Showing, is_full};
 use expr_lang::Steps;
-use par_base::Memory;
+use pair_rows::entries_of;
+use par_base::{Memory, Row};
 use row_map::{IdSet, PairSet};
 use std::alloc::Global;
 use std::sync::ledger::Ledger;
@@ -40,8 +45,44 @@ fn add(found: &mut Found, a: u64, b: u64) -> Result<(), Memory>
     Ok(())
 }
 
-/// Adds a pair that is a full entry.
+/// Adds the pair of an entry that is still full.
 fn add_if_full<L: Ledger>(
+    alloc: Global,
+    it: &Showing<'_>,
+    entry: &(u64, u64, u64),
+    found: &mut Found,
+    steps: &mut Steps<L>,
+) -> Result<(), Memory>
+    requires { ReadsIn it.now }
+    ensures { OnOk result (AddsPairs found.old
+        (filter (is_full_pair it.now) (pairs_in (entry.now ∷ []))) found.new) }
+{
+    if is_full(alloc, it, entry.1, entry.2, steps)? {
+        add(found, entry.1, entry.2)?;
+    }
+    Ok(())
+}
+
+/// Adds the pairs of entries that are still full.
+fn add_kept<L: Ledger>(
+    alloc: Global,
+    it: &Showing<'_>,
+    entries: &[(u64, u64, u64)],
+    found: &mut Found,
+    steps: &mut Steps<L>,
+) -> Result<(), Memory>
+    requires { ReadsIn it.now }
+    ensures { OnOk result (AddsPairs found.old
+        (filter (is_full_pair it.now) (pairs_in entries.now)) found.new) }
+{
+    for entry in entries {
+        add_if_full(alloc, it, entry, found, steps)?;
+    }
+    Ok(())
+}
+
+/// Adds a pair that is a full entry and was none.
+fn add_if_new<L: Ledger>(
     alloc: Global,
     it: &Showing<'_>,
     a: u64,
@@ -50,29 +91,72 @@ fn add_if_full<L: Ledger>(
     steps: &mut Steps<L>,
 ) -> Result<(), Memory>
     requires { ReadsIn it.now }
-    ensures { OnOk result (AddsPairs found.old (filter (is_full_pair it.now) ((a, b) ∷ []))
+    ensures { OnOk result (AddsPairs found.old (filter (is_new_full it.now) (pairs_of a (b ∷ [])))
         found.new) }
 {
+    if it.memory.id_of(a, b).is_some() {
+        return Ok(());
+    }
     if is_full(alloc, it, a, b, steps)? {
         add(found, a, b)?;
     }
     Ok(())
 }
 
-/// Adds the pairs of a first row that are full entries.
-fn add_with<L: Ledger>(
+/// Adds the pairs of a first row with these second ones that are full entries and were none.
+fn add_each<L: Ledger>(
     alloc: Global,
     it: &Showing<'_>,
     a: u64,
+    seconds: &[u64],
     found: &mut Found,
     steps: &mut Steps<L>,
 ) -> Result<(), Memory>
     requires { ReadsIn it.now }
     ensures { OnOk result (AddsPairs found.old
-        (filter (is_full_pair it.now) (pairs_with a it.now.new_t.now.rows)) found.new) }
+        (filter (is_new_full it.now) (pairs_of a seconds.now)) found.new) }
 {
-    for row in it.new_t.iter() {
-        add_if_full(alloc, it, a, row.0, found, steps)?;
+    for b in seconds {
+        add_if_new(alloc, it, a, *b, found, steps)?;
+    }
+    Ok(())
+}
+
+/// Adds the pairs of a first row that are full entries and were none.
+fn add_with<L: Ledger>(
+    alloc: Global,
+    it: &Showing<'_>,
+    seconds: &Seconds,
+    row: &(u64, Row),
+    found: &mut Found,
+    steps: &mut Steps<L>,
+) -> Result<(), Memory>
+    requires reads { ReadsIn it.now }
+    requires seconds { AreSeconds it.now seconds.now }
+    requires there { row_of it.now.new_s.now.rows row.now.0 ≡ Some row.now.1 }
+    ensures { OnOk result (AddsPairs found.old
+        (filter (is_new_full it.now) (pairs_with row.now.0 it.now.new_t.now.rows)) found.new) }
+{
+    let ids = ids_for(alloc, seconds, &row.1)?;
+    add_each(alloc, it, row.0, ids.as_slice(), found, steps)?;
+    Ok(())
+}
+
+/// Adds all pairs that are full entries and were none.
+fn add_new<L: Ledger>(
+    alloc: Global,
+    it: &Showing<'_>,
+    seconds: &Seconds,
+    found: &mut Found,
+    steps: &mut Steps<L>,
+) -> Result<(), Memory>
+    requires reads { ReadsIn it.now }
+    requires seconds { AreSeconds it.now seconds.now }
+    ensures { OnOk result (AddsPairs found.old (filter (is_new_full it.now)
+        (all_pairs it.now.new_s.now.rows it.now.new_t.now.rows)) found.new) }
+{
+    for row in it.new_s.iter() {
+        add_with(alloc, it, seconds, row, found, steps)?;
     }
     Ok(())
 }
@@ -81,14 +165,16 @@ fn add_with<L: Ledger>(
 pub(crate) fn found_in<L: Ledger>(
     alloc: Global,
     it: &Showing<'_>,
+    seconds: &Seconds,
     steps: &mut Steps<L>,
 ) -> Result<Found, Memory>
-    requires { ReadsIn it.now }
+    requires reads { ReadsIn it.now }
+    requires seconds { AreSeconds it.now seconds.now }
     ensures { IfOk result (λ found. Finds it.now found) }
 {
     let mut found = none_found(alloc);
-    for row in it.new_s.iter() {
-        add_with(alloc, it, row.0, &mut found, steps)?;
-    }
+    let entries = entries_of(alloc, it.memory)?;
+    add_kept(alloc, it, entries.as_slice(), &mut found, steps)?;
+    add_new(alloc, it, seconds, &mut found, steps)?;
     Ok(found)
 }

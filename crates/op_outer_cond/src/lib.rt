@@ -20,6 +20,7 @@ mod parts;
 mod places;
 mod placing;
 mod reading;
+mod seconds;
 mod showing;
 mod standing;
 

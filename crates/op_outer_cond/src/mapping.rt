@@ -10,7 +10,7 @@ ghost use Rattle.pair_rows.specs.inner.Draws.{Draws};
 ghost use Rattle.outer_law.specs.OuterOn.{outer_on, outer_forward, outer_backward};
 ghost use Rattle.outer_law.specs.Placed.{full, standing, beginning};
 ghost use Rattle.op_outer_cond.specs.Outerings.{joining};
-ghost use Rattle.op_outer_cond.specs.inner.Calls.{joining_of, ReadsIn, new_in, entries_in};
+ghost use Rattle.op_outer_cond.specs.inner.Calls.{joining_of, AreFromOne, ReadsIn, new_in, entries_in};
 ghost use Rattle.op_outer_cond.specs.inner.Placings.{placing_of, Knows, IsReady, full_kept_in, placed_in};
 ghost use Rattle.op_outer_cond.specs.inner.Mappings.{mapped_in};
 
@@ -21,6 +21,7 @@ use crate::outer::OuterOn;
 use crate::places::{Outer, outer_of, places_of};
 use crate::placing::{Placing, place};
 use crate::reading::shown;
+use crate::seconds::seconds_in;
 use crate::showing::Showing;
 use crate::standing::{full, standing};
 use expr_lang::Steps;
@@ -49,14 +50,16 @@ fn entries<L: Ledger>(
     ids: &mut IdCounter,
     steps: &mut Steps<L>,
 ) -> Result<List<(u64, u64, u64)>, Fault<IdsSpent>>
-    requires { ReadsIn it.now }
+    requires reads { ReadsIn it.now }
+    requires from { AreFromOne it.now }
     ensures { Draws (ids.old.next + length (new_in it.now)) ids.old ids.new
         (λ made. made ≡ entries_in it.now ids.old.next) result }
 {
-    let found = found_in(alloc, it, steps)?;
+    let seconds = seconds_in(alloc, it)?;
+    let found = found_in(alloc, it, &seconds, steps)?;
     let old = entries_of(alloc, it.memory)?;
     let mut made = kept_entries(alloc, it, &found, old.as_slice())?;
-    let new = new_entries(alloc, it, &found)?;
+    let new = new_entries(alloc, it, &found, &seconds)?;
     let drawn = draw_for(alloc, new.as_slice(), ids)?;
     append(&mut made, drawn.as_slice())?;
     Ok(made)

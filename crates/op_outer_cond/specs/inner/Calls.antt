@@ -1,11 +1,15 @@
 -- What the inner calls answer.
-use Rattle.std.specs.Prelude.{◌≡◌, ℕ, ◌+◌, List, length, Bool, true, ◌&&◌, not}
+use Rattle.std.specs.Prelude.{◌≡◌, ℕ, ◌+◌, List, length, Bool, true, ◌&&◌, not, IfSome}
 use Rattle.expr_lang.specs.Terms.{expr_term}
 use Rattle.expr_lang.specs.Val.{fits_row}
-use Rattle.row_store.specs.Rows.{row_of}
+use Rattle.row_store.specs.Rows.{row_of, RiseFrom}
 use Rattle.id_memory.specs.Pairs.{Pairs}
 use Rattle.pair_rows.specs.Shown.{Joining, has, is_shown}
+use Rattle.pair_rows.specs.inner.Changed.{ids_of}
+use Rattle.equal_columns.specs.Keyed.{AreKeyed}
+use Rattle.equal_columns.specs.declared.keyed.KeyedRows.{KeyedRows}
 use Rattle.op_outer_cond.specs.declared.places.Outer.{Outer}
+use Rattle.op_outer_cond.specs.declared.seconds.Seconds.{Seconds}
 use Rattle.op_outer_cond.specs.declared.showing.Showing.{Showing}
 use Rattle.outer_law.specs.Entries.{is_entry, entries, new_entries}
 
@@ -50,3 +54,21 @@ entries_in it n = entries (joining_in it) it.s.now.rows it.t.now.rows it.memory.
 -- both new rows of a pair are as they were
 abbrev pub IsPairStill : Showing → ℕ → ℕ → Type 0
 IsPairStill it a b = (row_of it.s.now.rows a ≡ row_of it.new_s.now.rows a) × (row_of it.t.now.rows b ≡ row_of it.new_t.now.rows b)
+
+-- whether a pair of new rows is a full entry and was none
+abbrev pub is_new_full : Showing → ℕ × ℕ → Bool
+is_new_full it x = is_full_in it x.0 x.1 && not (has it.memory.now.entries x.0 x.1)
+
+-- no new row has the identifier of an absent half
+abbrev pub AreFromOne : Showing → Type 0
+AreFromOne it = RiseFrom 1 it.new_s.now.rows × RiseFrom 1 it.new_t.now.rows
+
+-- these find the new second rows with the value of a first row, in columns that are equal wherever the condition holds
+abbrev pub AreSecondsKeyed : Showing → KeyedRows → Type 0
+AreSecondsKeyed it keyed = AreKeyed (joining_in it) (joining_in it).condition it.new_t.now.rows keyed
+
+-- the identifiers of the new second rows, and what finds those that a first row can match
+pub record AreSeconds (it : Showing) (seconds : Seconds) : Type 0 where
+  pub all_of : seconds.all ≡ ids_of it.new_t.now.rows
+  pub keyed : IfSome seconds.keyed (AreSecondsKeyed it)
+  pub rise : RiseFrom 0 it.new_t.now.rows

@@ -1,11 +1,17 @@
 -- The full entries that were found, and the rows that are in one.
 use Rattle.std.specs.Prelude.{◌≡◌, ℕ, ◌==◌, [], ◌∷◌, Bool, true, false, if◌then◌else◌}
+use Rattle.id_memory.specs.Pairs.{Pairs}
 use Rattle.op_law.specs.Identifiers.{has_id}
 use Rattle.row_map.specs.IdPairs.{IdPairs, holds_pair}
 use Rattle.outer_law.specs.Entries.{some_row}
 use Rattle.op_outer_cond.specs.declared.showing.Showing.{Showing}
 use Rattle.op_outer_cond.specs.declared.finding.Found.{Found}
 use Rattle.op_outer_cond.specs.inner.Calls.{is_full_in}
+
+-- the pairs of entries
+abbrev pub pairs_in : Pairs → IdPairs
+pairs_in [] = []
+pairs_in (e ∷ es) = (e.1, e.2) ∷ pairs_in es
 
 -- whether some pair has this first identifier
 abbrev pub has_first : IdPairs → ℕ → Bool

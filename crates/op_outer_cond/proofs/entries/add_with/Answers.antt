@@ -1,20 +1,13 @@
-use Rattle.std.proofs.Common.{ℕ, ◌++◌, length, filter, take, ap, sym, ◌∙◌}
-use Rattle.row_store.specs.inner.RowsLeft.{comes, passed}
-use Rattle.row_parts.specs.Places.{nulls}
-use Rattle.pair_rows.specs.Shown.{pairs_with}
-use Rattle.outer_law.specs.Entries.{with_absent}
+use Rattle.std.proofs.Common.{ℕ, List, filter, ap, ◌∙◌}
+use Rattle.pair_rows.specs.inner.Changed.{pairs_of}
 use Rattle.op_outer_cond.specs.inner.Calls.{is_new_in}
-use Rattle.op_outer_cond.proofs.EntryLemmas.{with_more}
+use Rattle.op_outer_cond.proofs.EntryLemmas.{behind_absent, entry_match}
 use Rattle.op_outer_cond.proofs.entries.add_with.Goals as goal
 
-pub loop-row-preserved : goal.loop-row-preserved
-loop-row-preserved c =
+pub returns : goal.returns
+returns c =
     let it = c.args.it.now in
-    let rows = it.new_t.now.rows in
-    let places = it.join.now.second.now in
-    let come = comes rows c.loop-row.row-iterator c.in-Some.row.now c.next.new.self c.loop-row.invariant.left c.in-Some.ensures.steps in
-    record {
-      left = come.rest;
-      made = with_more (is_new_in it) c.args.made.now c.args.a (0, nulls (length places)) rows (passed rows c.loop-row.row-iterator) c.in-Some.row.now c.loop-row.made c.add_if_new-in-loop-row.new.made come.within come.is c.loop-row.invariant.made c.in_ok-add_if_new-2.ensures
-          ∙ ap (λ (n : ℕ). c.args.made.now ++ filter (is_new_in it) (pairs_with c.args.a (with_absent places (take n rows)))) (sym come.next);
-    }
+    let test = is_new_in it in
+    let a = c.args.row.now.0 in
+    behind_absent test a it.join.now.second.now it.new_t.now.rows c.args.made.now c.add_if_new.new.made c.add_each.new.made (pairs_of a c.as_slice.result.now) c.in_ok-add_if_new.ensures c.in_ok-add_each.ensures
+    (ap (λ (bs : List ℕ). filter test (pairs_of a bs)) c.as_slice.ensures ∙ c.in_ok-ids.ensures it c.requires.seconds a test (entry_match it c.args.row.now.1 a c.requires.from c.requires.there))

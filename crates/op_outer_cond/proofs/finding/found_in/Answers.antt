@@ -1,34 +1,17 @@
-use Rattle.std.proofs.Common.{◌∙◌, ℕ, filter, take, sym, subst}
-use Rattle.row_store.specs.Rows.{Rows}
-use Rattle.row_store.specs.inner.RowsLeft.{all_left, comes, none_passed, passed, take_passed}
+use Rattle.std.proofs.Common.{◌∙◌, [], filter, subst}
+use Rattle.id_memory.specs.Pairs.{Pairs}
 use Rattle.pair_rows.specs.Shown.{all_pairs}
-use Rattle.op_outer_cond.specs.inner.Calls.{is_full_pair}
-use Rattle.op_outer_cond.specs.inner.Finding.{HasPairs}
-use Rattle.op_outer_cond.proofs.FindingLemmas.{all_next, finds_all}
+use Rattle.op_outer_cond.specs.inner.Calls.{is_full_pair, is_new_full}
+use Rattle.op_outer_cond.specs.inner.Finding.{pairs_in, AddsPairs}
+use Rattle.op_outer_cond.proofs.FindingLemmas.{finds_all, has_more}
 use Rattle.op_outer_cond.proofs.finding.found_in.Goals as goal
-
-pub loop-row-init : goal.loop-row-init
-loop-row-init g c =
-    let it = c.args.it.now in
-    let rows = it.new_s.now.rows in
-    let same = c.into_iter-row-iterator.ensures.into_iter_gives ∙ c.iter-row-items.ensures.all in
-    record {
-      left = all_left rows c.into_iter-row-iterator.result same;
-      found = subst (λ (n : ℕ). HasPairs (filter (is_full_pair it) (all_pairs (take n rows) it.new_t.now.rows)) c.none_found-found.result) (sym (none_passed rows c.into_iter-row-iterator.result same)) c.none_found-found.ensures;
-    }
-
-pub loop-row-preserved : goal.loop-row-preserved
-loop-row-preserved g c =
-    let it = c.args.it.now in
-    let rows = it.new_s.now.rows in
-    let come = comes rows c.loop-row.row-iterator c.in-Some.row.now c.next.new.self c.loop-row.invariant.left c.in-Some.ensures.steps in
-    record {
-      left = come.rest;
-      found = subst (λ (n : ℕ). HasPairs (filter (is_full_pair it) (all_pairs (take n rows) it.new_t.now.rows)) c.add_with.new.found) (sym come.next)
-          (all_next (is_full_pair it) rows it.new_t.now.rows (passed rows c.loop-row.row-iterator) c.in-Some.row.now c.loop-row.found c.add_with.new.found come.within come.is c.loop-row.invariant.found c.in_ok-add_with.ensures);
-    }
 
 pub returns : goal.returns
 returns g c =
     let it = c.args.it.now in
-    finds_all it c.loop-row.found (subst (λ (rows : Rows). HasPairs (filter (is_full_pair it) (all_pairs rows it.new_t.now.rows)) c.loop-row.found) (take_passed it.new_s.now.rows c.loop-row.row-iterator c.in-None.ensures.steps.0) c.loop-row.invariant.found)
+    let kept = filter (is_full_pair it) (pairs_in it.memory.now.entries) in
+    let more = filter (is_new_full it) (all_pairs it.new_s.now.rows it.new_t.now.rows) in
+    let first = c.none_found-found.result in
+    let second = c.add_kept.new.found in
+    let adds = subst (λ (es : Pairs). AddsPairs first (filter (is_full_pair it) (pairs_in es)) second) (c.as_slice.ensures ∙ c.in_ok-entries.ensures.all) c.in_ok-add_kept.ensures in
+    finds_all it c.add_new.new.found (has_more second c.add_new.new.found kept more (has_more first second [] kept c.none_found-found.ensures adds) c.in_ok-add_new.ensures)

@@ -2,8 +2,12 @@ use Rattle.std.proofs.Common.{◌∙◌, ap}
 use Rattle.id_memory.specs.States.{CounterState}
 use Rattle.op_law.specs.Calls.{seen}
 use Rattle.op_outer_cond.specs.inner.Calls.{joining_of}
-use Rattle.op_outer_cond.proofs.MappingLemmas.{forward_entries}
+use Rattle.op_outer_cond.proofs.MappingLemmas.{forward_entries, near_from}
 use Rattle.op_outer_cond.proofs.mapping.forward_with.Goals as goal
+
+pub entries-requires-clause-from : goal.entries-requires-clause-from
+entries-requires-clause-from g c =
+    near_from (joining_of c.args.join.now) c.args.near.now (seen c.args.old.now) c.args.ids.now.next _ _ c.requires c.table_in-3.ensures c.table_in-4.ensures
 
 pub memory_of-requires-clause-rise : goal.memory_of-requires-clause-rise
 memory_of-requires-clause-rise g c =
