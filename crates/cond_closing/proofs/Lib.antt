@@ -1,7 +1,6 @@
 mod SearchLemmas
 mod EntryLemmas
 mod StillLemmas
-mod ColumnLemmas
 mod RowLemmas
 pub mod StandLaws
 pub mod KeyedLaws

@@ -8,7 +8,7 @@ use Rattle.table_keys.specs.declared.columns.KeyColumns.TheVariants.{One}
 use Rattle.pair_rows.specs.declared.half.Half.{Half}
 use Rattle.pair_rows.specs.declared.half.Half.TheVariants.{First, Second}
 use Rattle.op_cond_join.specs.Joinings.{joining}
-use Rattle.cond_closing.specs.Columns.{MakesEqual}
+use Rattle.equal_columns.specs.Columns.{MakesEqual}
 use Rattle.cond_closing.specs.declared.by_keys.ByKeys.{ByKeys}
 
 -- its columns, x of S and y of T, are equal wherever the condition holds

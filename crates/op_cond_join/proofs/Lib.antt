@@ -1,4 +1,5 @@
 mod RowLemmas
+mod KeyedLemmas
 mod JoiningLemmas
 mod MappingLemmas
 mod AssigningLemmas

@@ -5,7 +5,7 @@ use Rattle.std.proofs.lemmas.Bool.{cases_lt, eq-eqb, eqb-true, le-ltb, lt-ltb, n
 use mathlib.Core.Logic.{inl, inr}
 use Rattle.op_law.proofs.OnlyLaws.{by_test}
 use Rattle.op_outer_cond.specs.Outerings.{places_from}
-use Rattle.cond_closing.specs.Columns.{column_at, column_if, place_in}
+use Rattle.equal_columns.specs.Columns.{column_at, column_if, place_in}
 
 -- so many places
 pub places_long : (from n : ℕ) → length (places_from from n) ≡ n

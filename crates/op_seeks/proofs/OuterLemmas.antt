@@ -5,7 +5,7 @@ use Rattle.row_changes.specs.Changed.{TableChanges}
 use Rattle.pair_rows.specs.Shown.{Joining}
 use Rattle.op_cond_join.specs.Joinings.{joining}
 use Rattle.outer_law.specs.OuterOn.{outer_on}
-use Rattle.cond_closing.specs.Columns.{equal_in}
+use Rattle.equal_columns.specs.Columns.{equal_in}
 use Rattle.cond_closing.specs.Keyed.{AreKeysOf}
 use Rattle.cond_closing.specs.declared.assigned.ByValues.{ByValues}
 use Rattle.cond_closing.specs.declared.by_keys.ByKeys.{ByKeys}

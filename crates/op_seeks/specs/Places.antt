@@ -14,7 +14,7 @@ use Rattle.fk_closing.specs.Keys.{AreFkKeys}
 use Rattle.fk_parts.specs.Closed.{PassListed}
 use Rattle.fk_parts.specs.Laws.{AreClosing}
 use Rattle.cond_parts.specs.Closed.{IsClosedIn}
-use Rattle.cond_closing.specs.Columns.{equal_in}
+use Rattle.equal_columns.specs.Columns.{equal_in}
 use Rattle.op_seeks.specs.declared.place.CondPlace.{CondPlace}
 use Rattle.op_seeks.specs.declared.place.SeekPlace.{SeekPlace}
 use Rattle.op_seeks.specs.declared.place.SeekPlace.TheVariants.{ForeignKey, Condition}

@@ -3,7 +3,7 @@ ghost use Rattle.std.specs.Prelude.{true, false, IfOk};
 ghost use Rattle.op_law.specs.Meaning.{flip};
 ghost use Rattle.op_cond_join.specs.Joinings.{joining};
 ghost use Rattle.op_cond_join.specs.JoinOn.{join_on};
-ghost use Rattle.cond_closing.specs.Columns.{equal_in};
+ghost use Rattle.equal_columns.specs.Columns.{equal_in};
 ghost use Rattle.fk_closing.specs.Found.{AreAmong};
 ghost use Rattle.row_changes.specs.Changed.{TableChanges};
 ghost use Rattle.op_seeks.specs.Places.{condition_place};
@@ -12,7 +12,8 @@ ghost use Rattle.op_seeks.specs.declared.known.Known.TheVariants.{Entries};
 
 use crate::sought::listed;
 use crate::{CondKeys, Crossed};
-use cond_closing::{ByKeys, ByValues, assigned_ids, equal_columns, shown_ids};
+use cond_closing::{ByKeys, ByValues, assigned_ids, shown_ids};
+use equal_columns::equal_columns;
 use expr_lang::Steps;
 use op_cond_join::JoinOn;
 use par_base::{List, Memory};

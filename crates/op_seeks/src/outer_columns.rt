@@ -1,10 +1,10 @@
 //! The columns of OUTER JOIN ON a condition, which are S's and then T's.
 ghost use Rattle.std.specs.Prelude.{◌≡◌, length, IfOk};
-ghost use Rattle.cond_closing.specs.Columns.{column_at};
+ghost use Rattle.equal_columns.specs.Columns.{column_at};
 ghost use Rattle.op_cond_join.specs.Joinings.{joining as joining_on};
 ghost use Rattle.op_outer_cond.specs.Outerings.{joining, places_from};
 
-use cond_closing::Columned;
+use equal_columns::Columned;
 use op_cond_join::JoinOn;
 use op_outer_cond::OuterOn;
 use par_base::{List, Memory};

@@ -1,6 +1,6 @@
 //! The trait of operators that look for identifiers, and what any operator does.
 ghost use Rattle.std.specs.Prelude.{◌≡◌, Bool, Option, IfOk};
-ghost use Rattle.cond_closing.specs.Columns.{equal_in};
+ghost use Rattle.equal_columns.specs.Columns.{equal_in};
 ghost use Rattle.expr_lang.specs.Terms.{expr_term};
 ghost use Rattle.fk_closing.specs.Found.{AreAmong};
 ghost use Rattle.op_seeks.specs.Places.{condition_place, place_of};
@@ -12,7 +12,7 @@ use crate::by_known::{apart_by_keys, foot_by_keys, ids_by_entries};
 use crate::outer_columns::OuterColumns;
 use crate::sought::{Sought, sought_in};
 use crate::{CondPlace, Crossed, FkPlace, Known, SeekPlace};
-use cond_closing::{Columned, equal_columns};
+use equal_columns::{Columned, equal_columns};
 use expr_lang::{Expr, Steps};
 use op_any::AnyOp;
 use op_law::Operator;

@@ -4,7 +4,7 @@ use Rattle.id_memory.specs.Pairs.{Pairs}
 use Rattle.op_law.specs.Meaning.{Meaning}
 use Rattle.op_any.specs.Operators.{Built, joining_by, meaning_of, outer_by}
 use Rattle.op_any.specs.Operators.{CreateTable, DropTable, Rename, AddColumn, AddTracked, DropColumn, Split, Merge, DecomposeSingle, DecomposePk, OuterJoinPk, JoinPk, DecomposeFk, OuterJoinFk, JoinFk, JoinOn, DecomposeOn, OuterJoinOn}
-use Rattle.cond_closing.specs.Columns.{equal_in}
+use Rattle.equal_columns.specs.Columns.{equal_in}
 use Rattle.op_seeks.specs.Places.{place_of}
 use Rattle.op_seeks.specs.Seeking.{IsMemory, SeekLaws}
 use Rattle.op_seeks.specs.inner.SplitsBy.{decompose_by, decompose_on_by, join_by, join_on_by, outer_by as outer_key_by, outer_on_by}

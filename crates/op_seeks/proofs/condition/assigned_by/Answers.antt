@@ -1,6 +1,6 @@
 use Rattle.std.proofs.Common.{refl}
 use Rattle.op_cond_join.specs.Joinings.{joining}
-use Rattle.cond_closing.specs.Columns.{equal_in}
+use Rattle.equal_columns.specs.Columns.{equal_in}
 use Rattle.cond_closing.specs.declared.assigned.ByValues.{ByValues}
 use Rattle.op_seeks.proofs.ConditionLemmas.{assigned_apart, assigned_foot, turned_apart, turned_foot}
 use Rattle.op_seeks.proofs.condition.assigned_by.Goals as goal

@@ -1,7 +1,7 @@
 use Rattle.std.proofs.Common.{true, false}
 use Rattle.op_cond_join.specs.Joinings.{joining}
 use Rattle.op_cond_join.specs.JoinOn.{join_on}
-use Rattle.cond_closing.specs.Columns.{equal_in}
+use Rattle.equal_columns.specs.Columns.{equal_in}
 use Rattle.op_seeks.specs.Places.{condition_place}
 use Rattle.op_seeks.specs.declared.known.Known.TheVariants.{Entries}
 use Rattle.op_seeks.proofs.SeekLemmas.{at_changes}

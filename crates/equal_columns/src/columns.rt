@@ -1,14 +1,12 @@
 //! Columns of two tables that are equal wherever the condition holds of their joined rows.
 ghost use Rattle.std.specs.Prelude.{◌≡◌, ◌<◌, length, IfSome, Some, None};
 ghost use Rattle.expr_lang.specs.Terms.{expr_term};
-ghost use Rattle.op_cond_join.specs.Joinings.{joining};
 ghost use Rattle.pair_rows.specs.Shown.{Joining};
-ghost use Rattle.cond_closing.specs.Columns.{column_at as column_there, columns_at as columns_there};
-ghost use Rattle.cond_closing.specs.Columns.{columns_by, equal_in as equal_there, place_named};
-ghost use Rattle.cond_closing.specs.Columns.{place_in as place_there, MakesEqual};
+ghost use Rattle.equal_columns.specs.Columns.{column_at as column_there, columns_at as columns_there};
+ghost use Rattle.equal_columns.specs.Columns.{columns_by, equal_in as equal_there, place_named};
+ghost use Rattle.equal_columns.specs.Columns.{place_in as place_there, MakesEqual};
 
 use expr_lang::{BinaryOp, Expr};
-use op_cond_join::JoinOn;
 
 /// At which place of a list this one stands first.
 fn place_in(places: &[usize], place: usize) -> Option<usize>
@@ -27,8 +25,11 @@ fn place_in(places: &[usize], place: usize) -> Option<usize>
     }
 }
 
-/// The column of the one table at this place of joined rows, where it is one of that table alone.
-fn column_at(own: &[usize], others: &[usize], place: usize) -> Option<usize>
+/// The column of a table at this place of joined rows, where it is one of that table alone. `own` are
+/// the places of the table's columns, and `others` those of the other table's.
+///
+/// It takes time in the number of the columns, and no memory.
+pub fn column_at(own: &[usize], others: &[usize], place: usize) -> Option<usize>
     ensures { result ≡ column_there own.now others.now place }
 {
     if place_in(others, place).is_some() {
@@ -53,18 +54,6 @@ pub trait Columned {
     /// The column of T at this place, where it is one of T alone. It takes no memory.
     fn second_at(&self, place: usize) -> Option<usize>
         ensures { result ≡ column_there (joins self.now).second (joins self.now).first place };
-}
-
-impl Columned for JoinOn {
-    ghost joins = { λ it. joining it };
-
-    fn first_at(&self, place: usize) -> Option<usize> {
-        column_at(self.first.as_slice(), self.second.as_slice(), place)
-    }
-
-    fn second_at(&self, place: usize) -> Option<usize> {
-        column_at(self.second.as_slice(), self.first.as_slice(), place)
-    }
 }
 
 /// The columns at two places of joined rows, where the first is one of S, and the second of T.

@@ -14,12 +14,12 @@ use Rattle.expr_lang.specs.Val.{val}
 use Rattle.expr_lang.specs.Operations.{compared, is_true, truth}
 use Rattle.expr_lang.specs.declared.tree.BinaryOp.{BinaryOp}
 use Rattle.expr_lang.specs.declared.tree.BinaryOp.TheVariants as op
-use Rattle.op_law.proofs.OnlyLaws.{by_test}
+use Rattle.row_parts.specs.RowCells.{by_test}
 use Rattle.row_parts.specs.Places.{filled, row_of_both as joined_row, value_for, value_of_both}
 use Rattle.row_parts.specs.RowCells.{value_or}
 use Rattle.row_parts.specs.RowEdits.{value_at}
 use Rattle.pair_rows.specs.Shown.{Joining}
-use Rattle.cond_closing.specs.Columns.{AreColumns, IsColumn, MakesEqual, both_of, column_at, column_if, columns_at, columns_by, equal_by, equal_in, or_else, place_in, place_named}
+use Rattle.equal_columns.specs.Columns.{AreColumns, IsColumn, MakesEqual, both_of, column_at, column_if, columns_at, columns_by, equal_by, equal_in, or_else, place_in, place_named}
 
 -- the values that were filled in
 at_filled : (count from place : ℕ) (f : ℕ → Value) → place < count → value_at place (filled count from f) ≡ f (from + place)

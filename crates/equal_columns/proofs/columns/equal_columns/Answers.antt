@@ -1,9 +1,9 @@
 use Rattle.std.specs.Prelude.{IfSome}
 use Rattle.std.proofs.Common.{ℕ, Option, sym, subst}
 use Rattle.expr_lang.specs.Terms.{expr_term}
-use Rattle.cond_closing.specs.Columns.{MakesEqual}
-use Rattle.cond_closing.proofs.ColumnLemmas.{equal_makes}
-use Rattle.cond_closing.proofs.columns.equal_columns.Goals as goal
+use Rattle.equal_columns.specs.Columns.{MakesEqual}
+use Rattle.equal_columns.proofs.ColumnLemmas.{equal_makes}
+use Rattle.equal_columns.proofs.columns.equal_columns.Goals as goal
 
 pub returns-clause-equal : goal.returns-clause-equal
 returns-clause-equal g c =

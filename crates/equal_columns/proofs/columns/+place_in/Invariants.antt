@@ -1,5 +1,5 @@
 use Rattle.std.proofs.Common.{length}
-use Rattle.cond_closing.proofs.columns.+place_in.Given as goal
+use Rattle.equal_columns.proofs.columns.+place_in.Given as goal
 
 abbrev pub decreases-place_in : goal.decreases-place_in
 decreases-place_in l = length l.places.now
