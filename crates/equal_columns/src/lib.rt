@@ -5,7 +5,7 @@
 //! and that the rows of T with the value of a row of S are enough for any choice of matching pairs. It
 //! knows nothing of the operators that have a condition, nor of memories.
 //!
-//! Lemmas that crates above may use stand in proofs/: `ColumnLemmas`.
+//! Lemmas that crates above may use stand in proofs/: `ColumnLemmas`, `MatchLaws`.
 #![tactic(auto)]
 
 mod columns;

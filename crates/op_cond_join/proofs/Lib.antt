@@ -1,5 +1,4 @@
 mod RowLemmas
-mod KeyedLemmas
 mod JoiningLemmas
 mod MappingLemmas
 mod AssigningLemmas
