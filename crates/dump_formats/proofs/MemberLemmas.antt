@@ -1,21 +1,26 @@
 -- Members that are put to an object or taken out of it.
+use Rattle.std.specs.Borrow.{Bor}
 use Rattle.std.specs.Prelude.{◌≤◌, codes, filter, not, Some}
 use Rattle.std.specs.Cmp.Lexicographic.{slice_cmp}
 use Rattle.std.specs.Ordering.{match_ordering}
-use Rattle.std.proofs.Common.{◌≡◌, ℕ, List, [], ◌∷◌, Bool, true, false, cond, Ordering, Less, Equal, Greater, nat_cmp, is_eq, bytes_eq, refl, sym, ap, ◌∙◌, arith}
+use Rattle.std.proofs.Common.{◌≡◌, ℕ, List, [], ◌∷◌, ◌++◌, Bool, true, false, cond, Ordering, Less, Equal, Greater, nat_cmp, is_eq, bytes_eq, Vec, Global, refl, sym, ap, ◌∙◌, arith}
 use Rattle.std.proofs.Math.Nat.{le-max_left, le-max_right, max-le}
 use Rattle.std.proofs.lemmas.Bool.{or_from, or_parts}
 use Rattle.std.proofs.lemmas.Cmp.{nat_list_cmp_total, tied_itself}
 use Rattle.std.proofs.lemmas.Map.Text.{is_eq-slice_cmp}
 use Rattle.std.proofs.lemmas.Slice.Eq.{bytes_eq-Decides}
-use Rattle.json.specs.Value.{members_view}
-use Rattle.serde_json.specs.Data.{Data, unsigned, Members, no_members, member, put, depth, members_depth}
+use Rattle.json.specs.Json.{Json}
+use Rattle.json.specs.Value.{members_view, view_step}
+use Rattle.json.specs.declared.value.Value.{Number, Object, Value-F, fold-roll-Value}
+use Rattle.json.specs.declared.value.Value.TheVariants.{rolls-Number, rolls-Object}
+use Rattle.serde_json.specs.Data.{Data, unsigned, number, object, Members, no_members, member, put, depth, members_depth}
 use Rattle.serde_json.specs.Read.{number_of}
 use Rattle.serde_json.specs.Written.{has_float, members_have_float}
 use Rattle.serde_json.proofs.OnLiterals.{serde_json_on_literals}
-use Rattle.dump_values.specs.Trees.{entries_view, members_data, tree_view}
-use Rattle.dump_values.proofs.TreeLemmas.{Above, Entry, Sorted, above_less, compare, put_at, sorted_put}
-use Rattle.dump_formats.specs.Formats.{without}
+use Rattle.dump_values.specs.Members.{number_json}
+use Rattle.dump_values.specs.Trees.{entries_view, json_data, members_data, number_or_0, tree_view}
+use Rattle.dump_values.proofs.TreeLemmas.{Above, Entry, Sorted, above_less, compare, one_more, put_at, sorted_put}
+use Rattle.dump_formats.specs.Formats.{first_of, without}
 
 -- ---- members without floats, which nest no deeper
 
@@ -143,6 +148,27 @@ module _ {A : Type 0} (k : List ℕ) where
   others_kept xs = sym (left_behind xs no_members tt)
 
 -- the text of the format is read
-pub one_read : number_of (codes "1") ≡ Some (unsigned 1)
+one_read : number_of (codes "1") ≡ Some (unsigned 1)
 unfolding serde_json_on_literals
 one_read = refl
+
+-- ---- trees that are made
+
+pub object_seen : (members : Vec (Entry Global) Global) → tree_view (Object members) ≡ object (entries_view members.items)
+object_seen members = ap (λ t. tree_view t) (sym (rolls-Object members)) ∙ ap json_data (fold-roll-Value Global Json view_step (Value-F.Object members))
+
+pub one_seen : (text : Bor (List ℕ)) → text.now ≡ codes "1" → tree_view {A = Global} (Number text) ≡ number_json 1
+one_seen text is =
+    ap (λ t. tree_view t) (sym (rolls-Number text)) ∙ ap json_data (fold-roll-Value Global Json view_step (Value-F.Number text))
+    ∙ ap (λ s. number (number_or_0 (number_of s))) is ∙ ap (λ o. number (number_or_0 o)) one_read
+
+-- what is left of an object with the members that are left, and the format behind them
+pub first_left : {A : Type 0} → (before once twice after : List (Entry A)) (x : Entry A)
+    → entries_view once ≡ without (codes "counts") (entries_view before) → entries_view twice ≡ without (codes "goal") (entries_view once)
+    → after ≡ twice ++ x ∷ [] → x.0.now ≡ codes "format" → tree_view x.1 ≡ number_json 1
+    → object (entries_view after) ≡ first_of (object (entries_view before))
+first_left before once twice after x counts goal behind key value =
+    ap (λ xs. object (entries_view xs)) behind
+    ∙ ap (λ ms. object ms) (one_more twice x)
+    ∙ ap (λ (p : List ℕ × Data). object (put p.0 p.1 (entries_view twice))) (λ i. (key i, value i))
+    ∙ ap (λ ms. object (put (codes "format") (number_json 1) ms)) (goal ∙ ap (without (codes "goal")) counts)
