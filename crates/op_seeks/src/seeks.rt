@@ -5,13 +5,14 @@ ghost use Rattle.expr_lang.specs.Terms.{expr_term};
 ghost use Rattle.fk_closing.specs.Found.{AreAmong};
 ghost use Rattle.op_seeks.specs.Places.{condition_place, place_of};
 ghost use Rattle.op_seeks.specs.Seeking.{ApartOver, FootprintOf, SeekLaws};
+ghost use Rattle.op_seeks.specs.declared.known.Known.TheVariants.{Entries};
 ghost use Rattle.op_seeks.specs.declared.place.SeekPlace.{SeekPlace as SeekPlaceView};
 ghost use Rattle.op_seeks.specs.inner.BuiltSeeks.{built_seeks};
 
 use crate::by_known::{apart_by_keys, foot_by_keys, ids_by_entries};
 use crate::outer_columns::OuterColumns;
 use crate::sought::{Sought, sought_in};
-use crate::{CondPlace, Crossed, FkPlace, Known, SeekPlace};
+use crate::{CondKeys, CondPlace, Crossed, FkPlace, Known, SeekPlace};
 use equal_columns::{Columned, equal_columns};
 use expr_lang::{Expr, Steps};
 use op_any::AnyOp;
@@ -56,6 +57,23 @@ pub trait Seeks: Operator {
     ) -> Result<List<u64>, Memory>
         ensures apart { IfOk result (ApartOver (Self.meaning self.now) (seeks self.now)
             crossed.entry.backward known.now crossed.entry.near.now.tables
+            crossed.entry.changes.now.tables) }
+        ensures holds { IfOk result (AreAmong wanted.now) };
+
+    /// By a memory: both a footprint, and identifiers that keep changes to themselves. `footprint` and
+    /// `apart` answer it too, where a memory is known.
+    fn seen_by_entries<L: Ledger>(
+        &self,
+        alloc: Global,
+        it: &CondKeys<'_>,
+        crossed: Crossed<'_>,
+        wanted: &[u64],
+        steps: &mut Steps<L>,
+    ) -> Result<List<u64>, Memory>
+        ensures foot { IfOk result (FootprintOf (Self.meaning self.now) (seeks self.now)
+            crossed.entry.backward (Entries it.now) crossed.entry.near.now.tables) }
+        ensures apart { IfOk result (ApartOver (Self.meaning self.now) (seeks self.now)
+            crossed.entry.backward (Entries it.now) crossed.entry.near.now.tables
             crossed.entry.changes.now.tables) }
         ensures holds { IfOk result (AreAmong wanted.now) };
 
@@ -131,6 +149,17 @@ impl Seeks for AnyOp {
                 ids_by_entries(alloc, self.operator(), it, crossed, wanted, steps)
             }
         }
+    }
+
+    fn seen_by_entries<L: Ledger>(
+        &self,
+        alloc: Global,
+        it: &CondKeys<'_>,
+        crossed: Crossed<'_>,
+        wanted: &[u64],
+        steps: &mut Steps<L>,
+    ) -> Result<List<u64>, Memory> {
+        ids_by_entries(alloc, self.operator(), it, crossed, wanted, steps)
     }
 
     ghost seeking = { λ it. built_seeks it.operator };

@@ -1,6 +1,6 @@
 use Rattle.std.proofs.Common.{ℕ, List, sym, ◌∙◌, subst}
 use Rattle.op_seeks.specs.Seeking.{ApartOver}
-use Rattle.sought_ids.proofs.enough.is_apart.Goals as goal
+use Rattle.sought_ids.proofs.seen.is_apart.Goals as goal
 
 pub returns : goal.returns
 returns g c is =
