@@ -3,10 +3,10 @@ ghost use Rattle.std.specs.Prelude.{◌≡◌, true, IfOk};
 ghost use Rattle.version_model.specs.Calls.{crossing_of};
 ghost use Rattle.op_seeks.specs.Found.{AreAmong};
 ghost use Rattle.op_seeks.specs.Seeking.{ApartOver, FootprintOf};
-ghost use Rattle.op_seeks.specs.declared.known.Known.TheVariants.{Entries};
+ghost use Rattle.op_seeks.specs.declared.known.Known.TheVariants.{Entries, Keys};
 
 use expr_lang::Steps;
-use op_seeks::{CondKeys, Crossed, Known, Seeks};
+use op_seeks::{CondKeys, Crossed, FkKeys, Known, Seeks};
 use par_base::{List, Memory};
 use row_changes::SideChanges;
 use std::alloc::Global;
@@ -20,17 +20,16 @@ pub(crate) struct Sides {
     pub(crate) changes: SideChanges,
 }
 
-// A footprint of what was carried to the near side, with these.
-fn foot_over<O: Seeks, L: Ledger>(
+// By foreign keys, a footprint of what was carried to the near side, with these.
+fn foot_over<O: Seeks>(
     alloc: Global,
-    known: &Known<'_>,
+    keys: &FkKeys<'_>,
     sides: &Sides,
     over: &Way<'_, O>,
     ids: &[u64],
-    steps: &mut Steps<L>,
 ) -> Result<List<u64>, Memory>
     ensures foot { let p = crossing_of over.now in IfOk result (FootprintOf (O.meaning p.operator)
-        (O.seeks p.operator) p.backward known.now sides.now.near.tables) }
+        (O.seeks p.operator) p.backward (Keys keys.now) sides.now.near.tables) }
     ensures holds { IfOk result (AreAmong ids.now) }
 {
     let crossed = Crossed {
@@ -38,20 +37,19 @@ fn foot_over<O: Seeks, L: Ledger>(
         near: &sides.near,
         changes: &sides.changes,
     };
-    over.operator.footprint(alloc, known, crossed, ids, steps)
+    over.operator.footprint(alloc, keys, crossed, ids)
 }
 
-// Identifiers that keep what was carried to themselves, with these.
-fn apart_over<O: Seeks, L: Ledger>(
+// By foreign keys, identifiers that keep what was carried to themselves, with these.
+fn apart_over<O: Seeks>(
     alloc: Global,
-    known: &Known<'_>,
+    keys: &FkKeys<'_>,
     sides: &Sides,
     over: &Way<'_, O>,
     ids: &[u64],
-    steps: &mut Steps<L>,
 ) -> Result<List<u64>, Memory>
     ensures apart { let p = crossing_of over.now in IfOk result (ApartOver (O.meaning p.operator)
-        (O.seeks p.operator) p.backward known.now sides.now.near.tables sides.now.changes.tables) }
+        (O.seeks p.operator) p.backward (Keys keys.now) sides.now.near.tables sides.now.changes.tables) }
     ensures holds { IfOk result (AreAmong ids.now) }
 {
     let crossed = Crossed {
@@ -59,7 +57,7 @@ fn apart_over<O: Seeks, L: Ledger>(
         near: &sides.near,
         changes: &sides.changes,
     };
-    over.operator.apart(alloc, known, crossed, ids, steps)
+    over.operator.apart(alloc, keys, crossed, ids)
 }
 
 fn are_same(some: &[u64], other: &[u64]) -> bool
@@ -68,59 +66,56 @@ fn are_same(some: &[u64], other: &[u64]) -> bool
     some == other
 }
 
-fn is_foot<O: Seeks, L: Ledger>(
+fn is_foot<O: Seeks>(
     alloc: Global,
-    known: &Known<'_>,
+    keys: &FkKeys<'_>,
     sides: &Sides,
     over: &Way<'_, O>,
     ids: &[u64],
-    steps: &mut Steps<L>,
 ) -> Result<bool, Memory>
     ensures { let p = crossing_of over.now in IfOk result (λ is. is ≡ true
-        → FootprintOf (O.meaning p.operator) (O.seeks p.operator) p.backward known.now
+        → FootprintOf (O.meaning p.operator) (O.seeks p.operator) p.backward (Keys keys.now)
         sides.now.near.tables ids.now) }
 {
-    let foot = foot_over(alloc, known, sides, over, ids, steps)?;
+    let foot = foot_over(alloc, keys, sides, over, ids)?;
     Ok(are_same(foot.as_slice(), ids))
 }
 
-fn is_apart<O: Seeks, L: Ledger>(
+fn is_apart<O: Seeks>(
     alloc: Global,
-    known: &Known<'_>,
+    keys: &FkKeys<'_>,
     sides: &Sides,
     over: &Way<'_, O>,
     ids: &[u64],
-    steps: &mut Steps<L>,
 ) -> Result<bool, Memory>
     ensures { let p = crossing_of over.now in IfOk result (λ is. is ≡ true
-        → ApartOver (O.meaning p.operator) (O.seeks p.operator) p.backward known.now
+        → ApartOver (O.meaning p.operator) (O.seeks p.operator) p.backward (Keys keys.now)
         sides.now.near.tables sides.now.changes.tables ids.now) }
 {
-    let apart = apart_over(alloc, known, sides, over, ids, steps)?;
+    let apart = apart_over(alloc, keys, sides, over, ids)?;
     Ok(are_same(apart.as_slice(), ids))
 }
 
-fn is_enough_by_keys<O: Seeks, L: Ledger>(
+fn is_enough_by_keys<O: Seeks>(
     alloc: Global,
-    known: &Known<'_>,
+    keys: &FkKeys<'_>,
     sides: &Sides,
     over: &Way<'_, O>,
     ids: &[u64],
-    steps: &mut Steps<L>,
 ) -> Result<bool, Memory>
     ensures foot { let p = crossing_of over.now in IfOk result (λ is. is ≡ true
-        → FootprintOf (O.meaning p.operator) (O.seeks p.operator) p.backward known.now
+        → FootprintOf (O.meaning p.operator) (O.seeks p.operator) p.backward (Keys keys.now)
         sides.now.near.tables ids.now) }
     ensures apart { let p = crossing_of over.now in IfOk result (λ is. is ≡ true
-        → ApartOver (O.meaning p.operator) (O.seeks p.operator) p.backward known.now
+        → ApartOver (O.meaning p.operator) (O.seeks p.operator) p.backward (Keys keys.now)
         sides.now.near.tables sides.now.changes.tables ids.now) }
 {
-    let foot = is_foot(alloc, known, sides, over, ids, steps)?;
-    let apart = is_apart(alloc, known, sides, over, ids, steps)?;
+    let foot = is_foot(alloc, keys, sides, over, ids)?;
+    let apart = is_apart(alloc, keys, sides, over, ids)?;
     Ok(foot && apart)
 }
 
-// A footprint of what was carried to the near side, by a memory, which keeps it to itself, with these.
+// By a memory, a footprint of what was carried to the near side that keeps it to itself, with these.
 fn seen_over<O: Seeks, L: Ledger>(
     alloc: Global,
     it: &CondKeys<'_>,
@@ -142,7 +137,7 @@ fn seen_over<O: Seeks, L: Ledger>(
         changes: &sides.changes,
     };
     over.operator
-        .seen_by_entries(alloc, it, crossed, ids, steps)
+        .footprint_apart(alloc, it, crossed, ids, steps)
 }
 
 fn is_enough_by_entries<O: Seeks, L: Ledger>(
@@ -180,23 +175,22 @@ pub(crate) fn is_enough_by<O: Seeks, L: Ledger>(
         sides.now.near.tables sides.now.changes.tables ids.now) }
 {
     match known {
-        Known::Keys(_) => is_enough_by_keys(alloc, known, sides, over, ids, steps),
+        Known::Keys(keys) => is_enough_by_keys(alloc, keys, sides, over, ids),
         Known::Entries(it) => is_enough_by_entries(alloc, it, sides, over, ids, steps),
     }
 }
 
-fn more_by_keys<O: Seeks, L: Ledger>(
+fn more_by_keys<O: Seeks>(
     alloc: Global,
-    known: &Known<'_>,
+    keys: &FkKeys<'_>,
     sides: &Sides,
     over: &Way<'_, O>,
     ids: &[u64],
-    steps: &mut Steps<L>,
 ) -> Result<List<u64>, Memory>
     ensures { IfOk result (AreAmong ids.now) }
 {
-    let foot = foot_over(alloc, known, sides, over, ids, steps)?;
-    let apart = apart_over(alloc, known, sides, over, foot.as_slice(), steps)?;
+    let foot = foot_over(alloc, keys, sides, over, ids)?;
+    let apart = apart_over(alloc, keys, sides, over, foot.as_slice())?;
     Ok(apart)
 }
 
@@ -211,7 +205,7 @@ pub(crate) fn more_by<O: Seeks, L: Ledger>(
     ensures { IfOk result (AreAmong ids.now) }
 {
     match known {
-        Known::Keys(_) => more_by_keys(alloc, known, sides, over, ids, steps),
+        Known::Keys(keys) => more_by_keys(alloc, keys, sides, over, ids),
         Known::Entries(it) => seen_over(alloc, it, sides, over, ids, steps),
     }
 }
