@@ -5,7 +5,8 @@
 //! by the keys of S and T, and by its memory where it is on a condition, a footprint of changes is
 //! found forward and backward; that identifiers are found which keep changes to themselves; and that
 //! identifiers which are closed by what is known split a pair (`specs/Seeking.antt`). Of operators that
-//! seek nothing it promises nothing: among these are conditions without an equality of two columns. It knows nothing of where keys are kept.
+//! seek nothing it promises nothing: among these are conditions without an equality of two columns.
+//! It knows nothing of where keys are kept.
 #![tactic(auto)]
 
 mod by_known;

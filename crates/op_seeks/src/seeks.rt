@@ -5,15 +5,17 @@ ghost use Rattle.expr_lang.specs.Terms.{expr_term};
 ghost use Rattle.fk_closing.specs.Found.{AreAmong};
 ghost use Rattle.op_seeks.specs.Places.{condition_place, place_of};
 ghost use Rattle.op_seeks.specs.Seeking.{ApartOver, FootprintOf, SeekLaws};
+ghost use Rattle.op_seeks.specs.declared.known.Known.TheVariants.{Entries, Keys};
 ghost use Rattle.op_seeks.specs.declared.place.SeekPlace.{SeekPlace as SeekPlaceView};
 ghost use Rattle.op_seeks.specs.inner.BuiltSeeks.{built_seeks};
 
 use crate::by_known::{apart_by_keys, foot_by_keys, ids_by_entries};
 use crate::outer_columns::OuterColumns;
 use crate::sought::{Sought, sought_in};
-use crate::{CondPlace, Crossed, FkPlace, Known, SeekPlace};
+use crate::{CondKeys, CondPlace, Crossed, FkPlace, SeekPlace};
 use equal_columns::{Columned, equal_columns};
 use expr_lang::{Expr, Steps};
+use fk_closing::FkKeys;
 use op_any::AnyOp;
 use op_law::Operator;
 use par_base::{List, Memory};
@@ -30,32 +32,47 @@ pub trait Seeks: Operator {
     fn place(&self) -> Option<SeekPlace>
         ensures { result ≡ seeks self.now };
 
-    /// A footprint of changes of its near side, which holds what is wanted. It takes up to three
-    /// look-ups for each identifier that is found, and for each that changes name.
-    fn footprint<L: Ledger>(
+    /// By foreign keys: a footprint of changes of its near side, which holds what is wanted. It takes
+    /// up to three look-ups for each identifier that is found, and for each that changes name.
+    fn footprint(
         &self,
         alloc: Global,
-        known: &Known<'_>,
+        keys: &FkKeys<'_>,
+        crossed: Crossed<'_>,
+        wanted: &[u64],
+    ) -> Result<List<u64>, Memory>
+        ensures foot { IfOk result (FootprintOf (Self.meaning self.now) (seeks self.now)
+            crossed.entry.backward (Keys keys.now) crossed.entry.near.now.tables) }
+        ensures holds { IfOk result (AreAmong wanted.now) };
+
+    /// By foreign keys: identifiers that keep changes to themselves, which hold what is wanted. It
+    /// costs what `footprint` does.
+    fn apart(
+        &self,
+        alloc: Global,
+        keys: &FkKeys<'_>,
+        crossed: Crossed<'_>,
+        wanted: &[u64],
+    ) -> Result<List<u64>, Memory>
+        ensures apart { IfOk result (ApartOver (Self.meaning self.now) (seeks self.now)
+            crossed.entry.backward (Keys keys.now) crossed.entry.near.now.tables
+            crossed.entry.changes.now.tables) }
+        ensures holds { IfOk result (AreAmong wanted.now) };
+
+    /// By a memory: a footprint of changes of its near side that keeps them to itself, which holds
+    /// what is wanted. It takes what the crates that find it for a condition say.
+    fn footprint_apart<L: Ledger>(
+        &self,
+        alloc: Global,
+        it: &CondKeys<'_>,
         crossed: Crossed<'_>,
         wanted: &[u64],
         steps: &mut Steps<L>,
     ) -> Result<List<u64>, Memory>
         ensures foot { IfOk result (FootprintOf (Self.meaning self.now) (seeks self.now)
-            crossed.entry.backward known.now crossed.entry.near.now.tables) }
-        ensures holds { IfOk result (AreAmong wanted.now) };
-
-    /// Identifiers that keep changes to themselves, which hold what is wanted. It costs what
-    /// `footprint` does.
-    fn apart<L: Ledger>(
-        &self,
-        alloc: Global,
-        known: &Known<'_>,
-        crossed: Crossed<'_>,
-        wanted: &[u64],
-        steps: &mut Steps<L>,
-    ) -> Result<List<u64>, Memory>
+            crossed.entry.backward (Entries it.now) crossed.entry.near.now.tables) }
         ensures apart { IfOk result (ApartOver (Self.meaning self.now) (seeks self.now)
-            crossed.entry.backward known.now crossed.entry.near.now.tables
+            crossed.entry.backward (Entries it.now) crossed.entry.near.now.tables
             crossed.entry.changes.now.tables) }
         ensures holds { IfOk result (AreAmong wanted.now) };
 
@@ -101,36 +118,35 @@ impl Seeks for AnyOp {
         }
     }
 
-    fn footprint<L: Ledger>(
+    fn footprint(
         &self,
         alloc: Global,
-        known: &Known<'_>,
+        keys: &FkKeys<'_>,
         crossed: Crossed<'_>,
         wanted: &[u64],
-        steps: &mut Steps<L>,
     ) -> Result<List<u64>, Memory> {
-        match known {
-            Known::Keys(keys) => foot_by_keys(alloc, self.operator(), keys, crossed, wanted),
-            Known::Entries(it) => {
-                ids_by_entries(alloc, self.operator(), it, crossed, wanted, steps)
-            }
-        }
+        foot_by_keys(alloc, self.operator(), keys, crossed, wanted)
     }
 
-    fn apart<L: Ledger>(
+    fn apart(
         &self,
         alloc: Global,
-        known: &Known<'_>,
+        keys: &FkKeys<'_>,
+        crossed: Crossed<'_>,
+        wanted: &[u64],
+    ) -> Result<List<u64>, Memory> {
+        apart_by_keys(alloc, self.operator(), keys, crossed, wanted)
+    }
+
+    fn footprint_apart<L: Ledger>(
+        &self,
+        alloc: Global,
+        it: &CondKeys<'_>,
         crossed: Crossed<'_>,
         wanted: &[u64],
         steps: &mut Steps<L>,
     ) -> Result<List<u64>, Memory> {
-        match known {
-            Known::Keys(keys) => apart_by_keys(alloc, self.operator(), keys, crossed, wanted),
-            Known::Entries(it) => {
-                ids_by_entries(alloc, self.operator(), it, crossed, wanted, steps)
-            }
-        }
+        ids_by_entries(alloc, self.operator(), it, crossed, wanted, steps)
     }
 
     ghost seeking = { λ it. built_seeks it.operator };

@@ -6,15 +6,15 @@ ghost use Rattle.version_model.specs.Calls.{crossing_of};
 ghost use Rattle.changes_walk.specs.Calls.{AtStep};
 ghost use Rattle.changes_walk.specs.Changing.{latest_changes};
 ghost use Rattle.op_seeks.specs.Found.{AreAmong};
-ghost use Rattle.op_seeks.specs.Seeking.{ApartOver, FootprintOf};
 ghost use Rattle.sought_ids.specs.Sought.{AreEnough, AreSomeKeys, SeesOver, SeesStep, key_tables, kept_in};
 
 use crate::Kept;
 use crate::keys::{known_over, side_of_place};
+use crate::seen::{Sides, is_enough_by, more_by};
 use changes_walk::changes_now;
 use expr_lang::Steps;
 use layout_rules::holds;
-use op_seeks::{Crossed, Known, Seeks};
+use op_seeks::Seeks;
 use par_base::{List, Memory};
 use row_changes::SideChanges;
 use row_store::Changes;
@@ -30,13 +30,6 @@ pub struct Carried<'a> {
     pub made: &'a [Numbered<Changes>],
     pub set: u32,
     pub operators: &'a [u32],
-}
-
-/// What was carried to the near side of a crossing, and to S and T.
-#[derive(Drop)]
-struct Sides {
-    near: SideChanges,
-    changes: SideChanges,
 }
 
 fn side_of(
@@ -75,106 +68,6 @@ fn sides_over<O: Seeks>(
     let near = side_of(alloc, made, over.near)?;
     let changes = side_of(alloc, made, key_tables_of(over))?;
     Ok(Sides { near, changes })
-}
-
-// A footprint of what was carried to the near side, with these.
-fn foot_over<O: Seeks, L: Ledger>(
-    alloc: Global,
-    known: &Known<'_>,
-    sides: &Sides,
-    over: &Way<'_, O>,
-    ids: &[u64],
-    steps: &mut Steps<L>,
-) -> Result<List<u64>, Memory>
-    ensures foot { let p = crossing_of over.now in IfOk result (FootprintOf (O.meaning p.operator)
-        (O.seeks p.operator) p.backward known.now sides.now.near.tables) }
-    ensures holds { IfOk result (AreAmong ids.now) }
-{
-    let crossed = Crossed {
-        backward: over.backward,
-        near: &sides.near,
-        changes: &sides.changes,
-    };
-    over.operator.footprint(alloc, known, crossed, ids, steps)
-}
-
-// Identifiers that keep what was carried to themselves, with these.
-fn apart_over<O: Seeks, L: Ledger>(
-    alloc: Global,
-    known: &Known<'_>,
-    sides: &Sides,
-    over: &Way<'_, O>,
-    ids: &[u64],
-    steps: &mut Steps<L>,
-) -> Result<List<u64>, Memory>
-    ensures apart { let p = crossing_of over.now in IfOk result (ApartOver (O.meaning p.operator)
-        (O.seeks p.operator) p.backward known.now sides.now.near.tables sides.now.changes.tables) }
-    ensures holds { IfOk result (AreAmong ids.now) }
-{
-    let crossed = Crossed {
-        backward: over.backward,
-        near: &sides.near,
-        changes: &sides.changes,
-    };
-    over.operator.apart(alloc, known, crossed, ids, steps)
-}
-
-fn are_same(some: &[u64], other: &[u64]) -> bool
-    ensures { result ≡ true → some.now ≡ other.now }
-{
-    some == other
-}
-
-fn is_foot<O: Seeks, L: Ledger>(
-    alloc: Global,
-    known: &Known<'_>,
-    sides: &Sides,
-    over: &Way<'_, O>,
-    ids: &[u64],
-    steps: &mut Steps<L>,
-) -> Result<bool, Memory>
-    ensures { let p = crossing_of over.now in IfOk result (λ is. is ≡ true
-        → FootprintOf (O.meaning p.operator) (O.seeks p.operator) p.backward known.now
-        sides.now.near.tables ids.now) }
-{
-    let foot = foot_over(alloc, known, sides, over, ids, steps)?;
-    Ok(are_same(foot.as_slice(), ids))
-}
-
-fn is_apart<O: Seeks, L: Ledger>(
-    alloc: Global,
-    known: &Known<'_>,
-    sides: &Sides,
-    over: &Way<'_, O>,
-    ids: &[u64],
-    steps: &mut Steps<L>,
-) -> Result<bool, Memory>
-    ensures { let p = crossing_of over.now in IfOk result (λ is. is ≡ true
-        → ApartOver (O.meaning p.operator) (O.seeks p.operator) p.backward known.now
-        sides.now.near.tables sides.now.changes.tables ids.now) }
-{
-    let apart = apart_over(alloc, known, sides, over, ids, steps)?;
-    Ok(are_same(apart.as_slice(), ids))
-}
-
-fn is_enough_by<O: Seeks, L: Ledger>(
-    alloc: Global,
-    known: &Known<'_>,
-    sides: &Sides,
-    over: &Way<'_, O>,
-    ids: &[u64],
-    steps: &mut Steps<L>,
-) -> Result<bool, Memory>
-    ensures foot { let p = crossing_of over.now in IfOk result (λ is. is ≡ true
-        → FootprintOf (O.meaning p.operator) (O.seeks p.operator) p.backward known.now
-        sides.now.near.tables ids.now) }
-    ensures apart { let p = crossing_of over.now in IfOk result (λ is. is ≡ true
-        → ApartOver (O.meaning p.operator) (O.seeks p.operator) p.backward known.now
-        sides.now.near.tables sides.now.changes.tables ids.now) }
-{
-    let foot = is_foot(alloc, known, sides, over, ids, steps)?;
-    let apart = is_apart(alloc, known, sides, over, ids, steps)?;
-    Ok(foot && apart)
 }
 
 fn is_enough_over<O: Seeks, L: Ledger>(
@@ -277,8 +170,8 @@ fn more_over<O: Seeks, L: Ledger>(
     match known_over(carried.kept, over) {
         Some(known) => {
             let sides = sides_over(alloc, carried.made, over)?;
-            let foot = foot_over(alloc, &known, &sides, over, ids.as_slice(), steps)?;
-            apart_over(alloc, &known, &sides, over, foot.as_slice(), steps)
+            let more = more_by(alloc, &known, &sides, over, ids.as_slice(), steps)?;
+            Ok(more)
         }
         None => Ok(ids),
     }

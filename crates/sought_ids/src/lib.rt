@@ -14,6 +14,7 @@ mod closed;
 mod enough;
 mod kept;
 mod keys;
+mod seen;
 
 pub use closed::closed_over;
 pub use enough::{Carried, is_enough, more_ids};

@@ -1,9 +1,0 @@
-use Rattle.std.proofs.Common.{ℕ, List, sym, ◌∙◌, subst}
-use Rattle.op_seeks.specs.Seeking.{FootprintOf}
-use Rattle.sought_ids.proofs.enough.is_foot.Goals as goal
-
-pub returns : goal.returns
-returns g c is =
-    let over = c.args.over.now in
-    subst (λ (l : List ℕ). FootprintOf (g.O.Operator.meaning over.operator.now) (g.O.Seeks.seeks over.operator.now) over.backward c.args.known.now c.args.sides.now.near.tables l)
-    (sym c.as_slice.ensures ∙ c.are_same.ensures is) c.in_ok-foot.ensures.foot
