@@ -9,8 +9,7 @@ use Rattle.version_model.specs.Kept.{pairs_at}
 use Rattle.version_model.specs.States.{headings}
 use Rattle.version_model.specs.Steps.{IsRelated}
 use Rattle.version_model.specs.declared.numbered.Numbered.{Numbered}
-use Rattle.db_state.specs.Fields.{IsDatabase, state_for}
-use Rattle.db_state.specs.declared.parts.Parts.{Parts}
+use Rattle.db_state.specs.Fields.{state_for}
 use Rattle.dump_values.specs.Laws.{DumpsReadBack}
 use Rattle.dump_file.specs.Laws.{DumpStands, OthersForget}
 use Rattle.dump_file.specs.Told.{dump_told, remembers}

@@ -1,6 +1,6 @@
 -- Entries that are filled in are those of which the lines tell, and no others.
-use Rattle.std.specs.Prelude.{◌<◌, ◌≤◌, ◌==◌, Option, Some, None, filter, option_map, option_and_then}
-use Rattle.std.proofs.Common.{◌≡◌, ℕ, ◌+◌, List, [], ◌∷◌, ◌++◌, Bool, true, false, cond, map, inl, refl, sym, ap, ◌∙◌}
+use Rattle.std.specs.Prelude.{◌==◌, Option, Some, None, filter, option_map, option_and_then}
+use Rattle.std.proofs.Common.{◌≡◌, ℕ, List, [], ◌∷◌, Bool, true, false, cond, map, inl, refl, sym, ap, ◌∙◌}
 use Rattle.std.proofs.lemmas.Bool.{cond-false, cond-true, eq-eqb, eqb-true, false≢true, ne_eqb}
 use Rattle.version_graph.specs.Sets.{Distinct, Each, In}
 use Rattle.version_graph.proofs.SetLaws.{in_map, origin}

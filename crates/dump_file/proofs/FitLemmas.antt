@@ -1,8 +1,7 @@
 -- The numbers, rows and memories of a database are such as a dump tells.
 use Rattle.std.specs.Prelude.{◌≤◌, ◌<◌, ◌^◌, ℤ, pos, negsuc, FitsSigned}
 use Rattle.std.specs.Int.{w64}
-use Rattle.std.specs.Option.{option_map_or}
-use Rattle.std.proofs.Common.{◌≡◌, ℕ, List, [], ◌∷◌, Bool, true, false, map, Option, inl, inr, refl, sym, ap, ◌∙◌, subst, arith}
+use Rattle.std.proofs.Common.{◌≡◌, ℕ, List, [], ◌∷◌, Bool, true, false, map, inl, inr, refl, sym, ap, ◌∙◌, subst, arith}
 use Rattle.std.proofs.lemmas.List.{map-append}
 use mathlib.Core.List.{reverse}
 use Rattle.par_base.specs.declared.value.Value.{Value}
@@ -10,14 +9,13 @@ use Rattle.par_base.specs.declared.value.Value.TheVariants.{Null, Int, Text, Ref
 use Rattle.row_store.specs.Rows.{RiseFrom, Rows}
 use Rattle.row_store.specs.States.{TableState}
 use Rattle.id_memory.specs.Pairs.{Pairs}
-use Rattle.id_memory.specs.States.{MemoryState}
 use Rattle.version_graph.specs.Edges.{AreEdges, is_in, made, made_by_edge, numbers, version_sets}
 use Rattle.version_graph.specs.Forest.{Link, crossing, forest}
-use Rattle.version_graph.specs.Sets.{Distinct, In}
+use Rattle.version_graph.specs.Sets.{In}
 use Rattle.version_graph.specs.Tables.{TableVersion, table_numbers}
 use Rattle.version_graph.specs.declared.parts.Placed.{Placed}
 use Rattle.version_graph.proofs.SetLaws.{each_at, in_left, in_map, in_right}
-use Rattle.version_graph.proofs.TableLaws.{numbers_made, rises_apart}
+use Rattle.version_graph.proofs.TableLaws.{numbers_made}
 use Rattle.op_law.specs.Calls.{tables_of}
 use Rattle.op_law.specs.Laws.{HalfLaws}
 use Rattle.op_law.specs.Sound.{IsBelow, PairsSound, RowsSound, TablesSound, ValueSound, ValuesSound}
@@ -27,7 +25,7 @@ use Rattle.op_any.specs.Operators.{AnyView, any_laws, any_meaning}
 use Rattle.layout_rules.proofs.ChangeLaws.{number_lives}
 use Rattle.version_graph.proofs.WalkLaws.{Of, all_of, is_forest}
 use Rattle.version_model.proofs.CrossingLaws.{is_within}
-use Rattle.version_model.specs.Kept.{pairs_at, auxes_at, numbers_in}
+use Rattle.version_model.specs.Kept.{pairs_at, auxes_at}
 use Rattle.version_model.specs.States.{State, headings}
 use Rattle.version_model.specs.Steps.{IsRelated, directed}
 use Rattle.version_model.specs.declared.numbered.Numbered.{Numbered}
@@ -39,7 +37,7 @@ use Rattle.dump_values.specs.Laws.{AllFit, AuxFits, DumpFits, IdFits, IntFits, M
 use Rattle.dump_file.specs.Told.{aux_line, dump_told, has_tables, memory_line, remembers, stored_line}
 use Rattle.dump_file.specs.inner.Calls.{HasWords}
 use Rattle.dump_file.proofs.AuxLemmas.{AuxSound, aux_sound}
-use Rattle.dump_file.proofs.ListedLemmas.{fit_filter, fit_map, fit_of, numbers_once, of_reverse, value_held}
+use Rattle.dump_file.proofs.ListedLemmas.{fit_filter, fit_map, fit_of, of_reverse}
 use Rattle.dump_file.proofs.MemoryLemmas.{IsMemory, are_pairs, link_number}
 use Rattle.dump_file.proofs.StateLemmas.{aux_there, memory_lives, memory_there, rows_there}
 

@@ -1,6 +1,6 @@
 -- What is loaded stands for the dump, and where nothing is loaded nothing does.
 use Rattle.std.specs.Prelude.{Some, Result, Ok, Err}
-use Rattle.std.proofs.Common.{◌≡◌, ℕ, List, [], true, map, refl, sym, ap, subst, ◌∙◌}
+use Rattle.std.proofs.Common.{◌≡◌, ℕ, [], true, map, refl, sym, ap, subst, ◌∙◌}
 use mathlib.Core.List.{reverse}
 use Rattle.par_base.specs.declared.fault.Fault.{Fault}
 use Rattle.par_base.specs.declared.fault.Fault.TheVariants.{Refused, Memory}

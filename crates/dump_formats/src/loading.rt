@@ -81,6 +81,7 @@ fn read_beside(
 }
 
 // A dump of the first format.
+#[tactic(auto, using(crate::proofs::StandLemmas::first_read, crate::proofs::StandLemmas::first_none))]
 fn load_first<L: Ledger>(
     alloc: Global,
     first: DumpLines,
@@ -99,6 +100,7 @@ fn load_first<L: Ledger>(
 }
 
 // A dump of the second format.
+#[tactic(auto, using(crate::proofs::StandLemmas::second_read, crate::proofs::StandLemmas::second_none, crate::proofs::StandLemmas::second_lonely, crate::proofs::StandLemmas::waits))]
 fn load_second<L: Ledger>(
     alloc: Global,
     second: Members,
@@ -130,6 +132,7 @@ fn load_second<L: Ledger>(
 /// beside it. It is refused exactly where they are a dump of none. It takes time in the number of
 /// bytes, that of building the graph, and that of `check`, which asks each operator once. The bytes are
 /// let go as soon as they are read, before the check.
+#[tactic(auto, using(crate::proofs::StandLemmas::bytes_read))]
 pub fn load<L: Ledger>(
     alloc: Global,
     bytes: Vec<u8>,

@@ -10,5 +10,5 @@ returns-in_ok-push-in-Object c =
     let after = c.push.new.self in
     object_seen after
     ∙ first_left before.items c.let_go.new.members.items c.let_go-in-Object.new.members.items after.items _
-        c.let_go.ensures c.let_go-in-Object.ensures c.in_ok-push-in-Object.ensures.items refl (one_seen _ refl)
+    c.let_go.ensures c.let_go-in-Object.ensures c.in_ok-push-in-Object.ensures.items refl (one_seen _ refl)
     ∙ sym (ap (λ t. first_of (tree_view t)) c.in-Object.is ∙ ap first_of (object_seen before))
