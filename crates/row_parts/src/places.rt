@@ -88,7 +88,8 @@ pub fn row_of_both(
     ensures { let whole = of_both first_places.now second_places.now first.now second.now in
         IfOk result (λ row. row ≡ whole) }
 {
-    let mut row = List::new(alloc);
+    let width = first_places.len().saturating_add(second_places.len());
+    let mut row = Vec::with_capacity(alloc, width)?;
     for _ in 0..first_places.len() {
         let place = row.len();
         row.push(value_of_both(alloc, first_places, second_places, first, second, place)?)?;
@@ -97,5 +98,5 @@ pub fn row_of_both(
         let place = row.len();
         row.push(value_of_both(alloc, first_places, second_places, first, second, place)?)?;
     }
-    Row::from_list(alloc, row)
+    Row::from_list(alloc, List::from_vec(row))
 }
