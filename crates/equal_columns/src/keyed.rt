@@ -1,8 +1,9 @@
 //! The rows of T with the value that a row of S has.
-ghost use Rattle.std.specs.Prelude.{ℕ, ◌≡◌, IfOk, IfSome};
+ghost use Rattle.std.specs.Prelude.{ℕ, ◌≡◌, is_some, IfOk, IfSome};
 ghost use Rattle.row_store.specs.Rows.{Rows, RiseFrom};
 ghost use Rattle.expr_lang.specs.Terms.{Term, expr_term};
 ghost use Rattle.pair_rows.specs.Shown.{Joining};
+ghost use Rattle.equal_columns.specs.Columns.{equal_in};
 ghost use Rattle.equal_columns.specs.Keyed.{keyed_from, AreEnough, AreKeyed};
 
 use crate::{Columned, equal_columns};
@@ -58,8 +59,10 @@ pub fn keyed_rows<C: Columned>(
     condition: &Expr,
     t: &Table,
 ) -> Result<Option<KeyedRows>, Memory>
-    ensures { IfOk result (λ found. IfSome found (AreKeyed (C.joins join.now)
+    ensures keyed { IfOk result (λ found. IfSome found (AreKeyed (C.joins join.now)
         (expr_term condition.now) t.now.rows)) }
+    ensures exact { IfOk result (λ found. is_some found
+        ≡ is_some (equal_in (C.joins join.now) (expr_term condition.now))) }
 {
     let Some((x, y)) = equal_columns(join, condition) else {
         return Ok(None);
