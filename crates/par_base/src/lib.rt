@@ -28,6 +28,6 @@ pub use literal::{literal_text, one_literal, read_literal, without_doubling};
 pub use name::{Name, copy_names, folded_byte, is_reserved_word, read_name};
 pub use refusal::{IdsSpent, Refusal};
 pub use row::Row;
-pub use same::{is_same_row, is_same_values};
+pub use same::{compare_values, is_same_row, is_same_values};
 pub use text::Text;
 pub use value::Value;
