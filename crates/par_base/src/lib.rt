@@ -2,8 +2,9 @@
 //! rows, and the refusals of statements.
 //!
 //! It promises the crates above that the literal text of a value reads back as that value and as
-//! no other, that a `Name` is always a name in lower case, and that values and rows are told the
-//! same exactly where they are equal. It knows nothing of statements, tables or versions.
+//! no other, that a `Name` is always a name in lower case, that values and rows are told the same
+//! exactly where they are equal, and that they stand in one total order. It knows nothing of
+//! statements, tables or versions.
 //!
 //! Lemmas that crates above may use stand in proofs/: `LiteralLaws`, `TestLaws`.
 #![tactic(auto)]
