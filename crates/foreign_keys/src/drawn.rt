@@ -47,8 +47,7 @@ impl Drawn {
         self.values.as_slice()
     }
 
-    /// Whether the value is there. It takes comparisons in the logarithm of the values for each
-    /// value of the row.
+    /// Whether the value is there. It takes comparisons of rows in the logarithm of the values.
     pub fn has(&self, value: &Row) -> bool
         ensures { result ≡ has_value self.now value.now }
     {
@@ -58,8 +57,8 @@ impl Drawn {
         }
     }
 
-    /// How many values stand before this one. It takes comparisons in the logarithm of the values
-    /// for each value of the row.
+    /// How many values stand before this one. It takes comparisons of rows in the logarithm of the
+    /// values.
     pub fn place(&self, value: &Row) -> u64
         ensures value { result ≡ place_of self.now value.now }
         ensures within { result ≤ length self.now }
@@ -70,8 +69,7 @@ impl Drawn {
         }
     }
 
-    /// Adds a value that isn't there. It takes comparisons in the logarithm of the values for each
-    /// value of the row.
+    /// Adds a value that isn't there. It takes comparisons of rows in the logarithm of the values.
     pub fn with(self, value: Row) -> Result<Drawn, Memory>
         ensures { IfOk result (λ drawn. drawn ≡ add_once value self) }
     {

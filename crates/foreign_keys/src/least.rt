@@ -27,8 +27,8 @@ fn add_least(least: &mut RowMap, is_meant: bool, row: &Row, id: u64) -> Result<(
     Ok(())
 }
 
-/// The least row of each value, of those that are meant. It takes one pass, and comparisons in the
-/// logarithm of the values for each value of a row.
+/// The least row of each value, of those that are meant. It takes one pass, and comparisons of rows
+/// in the logarithm of the values for each row.
 pub fn least_rows<C: Chooses>(alloc: Global, each: &C, table: &Table) -> Result<RowMap, Memory>
     ensures { IfOk result (AreLeast (C.meant each.now) table.now.rows) }
 {

@@ -1,20 +1,20 @@
 -- The first entry from a key on is the least row with the key, where it has the key.
 use Rattle.std.specs.Ordering.{is_lt, nat_cmp, ordering_then, ordering_reverse}
 use Rattle.std.proofs.Common.{◌≡◌, ℕ, ◌≤◌, false, List, [], ◌∷◌, Some, Ordering, Less, Equal, Greater, true≢false, refl, sym, ap, ◌∙◌, subst, arith}
-use Rattle.std.proofs.lemmas.Cmp.{tied_itself, lists_total, ranked}
+use Rattle.std.proofs.lemmas.Cmp.{tied_itself, ranked}
 use Rattle.par_base.specs.declared.value.Value.{Value}
 use Rattle.row_store.specs.Rows.{row_of}
 use Rattle.ordered_pages.specs.Entries.{Rise, entry_of, entries_from}
 use Rattle.ordered_pages.proofs.OrderLaws.{first_from, first_least, first_there, none_from}
 use Rattle.key_index.specs.declared.keyed.Keyed.{Keyed}
-use Rattle.key_index.specs.Values.{row_cmp}
+use Rattle.par_base.specs.RowOrder.{row_cmp}
+use Rattle.par_base.specs.inner.OrderLaws.{row_total, equal_rows}
 use Rattle.key_index.specs.Keys.{keyed_cmp}
-use Rattle.key_index.specs.inner.OrderLemmas.{value_total, row_same}
 use Rattle.key_index.specs.inner.Entries.{keyed_order, HaveOneEach, keys_by_id}
 use Rattle.key_index.proofs.EntryLemmas.{laws, keys_are, stands, is_key}
 
 own_row : (key : List Value) → row_cmp key key ≡ Equal
-own_row key = tied_itself (lists_total value_total) key
+own_row key = tied_itself row_total key
 
 reached : (r : Ordering) (q n : ℕ) → r ≡ nat_cmp q n → is_lt r ≡ false → n ≤ q
 reached Less q n is h = absurd (true≢false h)
@@ -40,9 +40,9 @@ least_on key q n h = reached (nat_cmp q n) q n refl (sym (ap is_lt (at_key key q
 between_by : (key other : List Value) (n i q : ℕ) (r : Ordering) → row_cmp other key ≡ r → is_lt (keyed_cmp (other, i) (key, n)) ≡ false → is_lt (keyed_cmp (key, q) (other, i)) ≡ false → other ≡ key
 between_by key other n i q Less is low high =
     absurd (true≢false (sym (ap (λ (r : Ordering). is_lt (ordering_then r (nat_cmp i n))) is) ∙ low))
-between_by key other n i q Equal is low high = row_same other key is
+between_by key other n i q Equal is low high = equal_rows other key is
 between_by key other n i q Greater is low high =
-    let turned : row_cmp key other ≡ Less = (lists_total value_total).antisymm key other ∙ ap ordering_reverse is in
+    let turned : row_cmp key other ≡ Less = row_total.antisymm key other ∙ ap ordering_reverse is in
     absurd (true≢false (sym (ap (λ (r : Ordering). is_lt (ordering_then r (nat_cmp q i))) turned) ∙ high))
 
 module _ (es : List Keyed) (key : List Value) (n : ℕ) (rise : Rise keyed_order es) (each : HaveOneEach es) where

@@ -10,7 +10,7 @@ use Rattle.row_store.specs.Rows.{Rows, row_of}
 use Rattle.ordered_pages.specs.Entries.{AreBehind, Rise, entry_of, entries_from}
 use Rattle.ordered_pages.proofs.OrderLaws.{behind_entry, entry_here, itself}
 use Rattle.key_index.specs.declared.keyed.Keyed.{Keyed}
-use Rattle.key_index.specs.Values.{row_cmp}
+use Rattle.par_base.specs.RowOrder.{row_cmp}
 use Rattle.key_index.specs.Keys.{keyed_cmp}
 use Rattle.key_index.specs.inner.OrderLemmas.{keyed_total}
 use Rattle.key_index.specs.Tables.{refers_to, refs_to}

@@ -3,7 +3,7 @@ use Rattle.std.specs.Prelude.{ℕ, List}
 use Rattle.std.specs.declared.cmp.Ordering.{Ordering}
 use Rattle.std.specs.Ordering.{nat_cmp, ordering_then}
 use Rattle.par_base.specs.declared.value.Value.{Value}
-use Rattle.key_index.specs.Values.{row_cmp}
+use Rattle.par_base.specs.RowOrder.{row_cmp}
 
 -- a key comes before a greater one, and at one key the lower identifier first
 abbrev pub keyed_cmp : List Value × ℕ → List Value × ℕ → Ordering

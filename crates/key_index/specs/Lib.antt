@@ -3,5 +3,4 @@ pub mod Found
 pub mod Keys
 pub mod States
 pub mod Tables
-pub mod Values
 pub mod inner

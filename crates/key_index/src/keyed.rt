@@ -3,9 +3,8 @@ ghost use Rattle.std.specs.Prelude.{◌≡◌, ◌+◌};
 ghost use Rattle.std.specs.Ordering.{nat_cmp};
 ghost use Rattle.key_index.specs.Keys.{keyed_cmp};
 
-use crate::order::compare_rows;
 use ordered_pages::{Entry, Probe};
-use par_base::{Row, Value};
+use par_base::{Row, Value, compare_values};
 use std::cmp::Ordering;
 
 /// The key of a row, with the row's identifier.
@@ -31,7 +30,7 @@ impl Entry for Keyed {
     } };
 
     fn compare(&self, other: &Self) -> Ordering {
-        compare_rows(self.key.as_slice(), other.key.as_slice()).then(self.id.cmp(&other.id))
+        self.key.cmp(&other.key).then(self.id.cmp(&other.id))
     }
 }
 
@@ -46,7 +45,7 @@ impl<'a> Probe<Keyed> for From<'a> {
     ghost key = { λ probe. (probe.key.now, probe.id) };
 
     fn compare(&self, entry: &Keyed) -> Ordering {
-        compare_rows(self.key, entry.key.as_slice()).then(self.id.cmp(&entry.id))
+        compare_values(self.key, entry.key.as_slice()).then(self.id.cmp(&entry.id))
     }
 }
 
@@ -61,7 +60,7 @@ impl<'a> Probe<Keyed> for Behind<'a> {
     ghost key = { λ probe. (probe.key.now, probe.id + 1) };
 
     fn compare(&self, entry: &Keyed) -> Ordering {
-        compare_rows(self.key, entry.key.as_slice()).then(compare_next(self.id, entry.id))
+        compare_values(self.key, entry.key.as_slice()).then(compare_next(self.id, entry.id))
     }
 }
 

@@ -11,7 +11,6 @@ mod build;
 mod exchange;
 mod index;
 mod keyed;
-mod order;
 mod references;
 
 pub use index::KeyIndex;

@@ -1,4 +1,3 @@
 pub mod LiteralLaws
 mod NameText
-mod SameLemmas
 pub mod TestLaws

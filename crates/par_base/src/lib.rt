@@ -2,8 +2,9 @@
 //! rows, and the refusals of statements.
 //!
 //! It promises the crates above that the literal text of a value reads back as that value and as
-//! no other, that a `Name` is always a name in lower case, and that values and rows are told the
-//! same exactly where they are equal. It knows nothing of statements, tables or versions.
+//! no other, that a `Name` is always a name in lower case, that values and rows are told the same
+//! exactly where they are equal, and that they stand in one total order. It knows nothing of
+//! statements, tables or versions.
 //!
 //! Lemmas that crates above may use stand in proofs/: `LiteralLaws`, `TestLaws`.
 #![tactic(auto)]
@@ -28,6 +29,6 @@ pub use literal::{literal_text, one_literal, read_literal, without_doubling};
 pub use name::{Name, copy_names, folded_byte, is_reserved_word, read_name};
 pub use refusal::{IdsSpent, Refusal};
 pub use row::Row;
-pub use same::{is_same_row, is_same_values};
+pub use same::{compare_values, is_same_row, is_same_values};
 pub use text::Text;
 pub use value::Value;

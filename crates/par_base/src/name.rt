@@ -234,5 +234,5 @@ fn is_among(words: &[&str], bytes: &[u8]) -> bool
 fn is_word(word: &str, bytes: &[u8]) -> bool
     ensures { result ≡ bytes_eq word.now bytes.now }
 {
-    word.as_bytes() == bytes
+    word.len() == bytes.len() && word.as_bytes() == bytes
 }

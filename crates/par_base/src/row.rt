@@ -1,9 +1,15 @@
-//! Rows, whose values are shared by their copies.
-ghost use Rattle.std.specs.Prelude.{◌≡◌, ◌==◌, ◌<◌, length, slice_get, IfOk, OnSome};
+//! Rows, whose values are shared by their copies, with their equality and order.
+ghost use Rattle.std.specs.Prelude.{◌≡◌, ◌==◌, ◌<◌, Some, length, slice_get, IfOk, OnSome, refl};
+ghost use Rattle.std.specs.Cmp.{partial_equiv_from_equiv};
 ghost use Rattle.std.specs.Option.{option_copied};
+ghost use Rattle.par_base.specs.SameRows.{same_row};
+ghost use Rattle.par_base.specs.RowOrder.{row_cmp};
+ghost use Rattle.par_base.specs.inner.OrderLaws.{row_equality, row_order, row_total, row_ties};
 
+use crate::same::compare_values;
 use crate::{List, Memory, Value};
 use std::alloc::Global;
+use std::cmp::Ordering;
 use std::marker::Model;
 use std::rc::Rc;
 
@@ -78,6 +84,45 @@ impl Row {
         ensures { IfOk result (λ made. made ≡ self.now) }
     {
         copy_values(alloc, self.as_slice())
+    }
+}
+
+impl PartialEq for Row {
+    ghost eq = { same_row };
+
+    ghost laws = { partial_equiv_from_equiv row_equality };
+
+    #[tactic(auto, using(crate::specs::inner::OrderLaws::same_in_order))]
+    fn eq(&self, other: &Row) -> bool {
+        self.as_slice() == other.as_slice()
+    }
+}
+
+impl Eq for Row {
+    ghost laws = { row_equality };
+}
+
+impl PartialOrd for Row {
+    ghost partial_cmp = { λ some other. Some (row_cmp some other) };
+
+    ghost laws = { row_order };
+
+    fn partial_cmp(&self, other: &Row) -> Option<Ordering> {
+        Some(self.cmp(other))
+    }
+}
+
+impl Ord for Row {
+    ghost cmp = { row_cmp };
+
+    ghost total = { row_total };
+
+    ghost matches_partial_cmp = { λ some other. refl };
+
+    ghost matches_eq = { row_ties };
+
+    fn cmp(&self, other: &Row) -> Ordering {
+        compare_values(self.as_slice(), other.as_slice())
     }
 }
 

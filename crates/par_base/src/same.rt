@@ -1,39 +1,29 @@
-//! Equal values and equal rows.
+//! Which rows are equal, and how they are ordered.
 ghost use Rattle.std.specs.Prelude.{◌≡◌, IsTrue, ◌↔◌};
 ghost use Rattle.par_base.specs.SameRows.{same_row};
+ghost use Rattle.par_base.specs.RowOrder.{row_cmp};
 
 use crate::{Row, Value};
-
-fn is_same_value(some: &Value, other: &Value) -> bool
-    ensures { IsTrue result ↔ (some.now ≡ other.now) }
-{
-    match (some, other) {
-        (Value::Null, Value::Null) => true,
-        (Value::Int(x), Value::Int(y)) => *x == *y,
-        (Value::Text(a), Value::Text(b)) => a.as_str() == b.as_str(),
-        (Value::Reference(m), Value::Reference(n)) => *m == *n,
-        _ => false,
-    }
-}
+use std::cmp::Ordering;
 
 /// Whether both are the same values.
-pub fn is_same_values(some: &[Value], other: &[Value]) -> bool
+#[tactic(auto, using(crate::specs::inner::OrderLaws::equal_in_order))]
+pub fn is_same_values<'a>(some: &'a [Value], other: &'a [Value]) -> bool
     ensures { IsTrue result ↔ (some.now ≡ other.now) }
 {
-    if some.len() != other.len() {
-        return false;
-    }
-    for at in 0..some.len() {
-        if !is_same_value(&some[at], &other[at]) {
-            return false;
-        }
-    }
-    true
+    some == other
 }
 
 /// Whether both rows have the same values.
 pub fn is_same_row(some: &Row, other: &Row) -> bool
     ensures { result ≡ same_row some.now other.now }
 {
-    is_same_values(some.as_slice(), other.as_slice())
+    some == other
+}
+
+/// How two rows of these values stand to each other. It takes no memory.
+pub fn compare_values<'a>(some: &'a [Value], other: &'a [Value]) -> Ordering
+    ensures { result ≡ row_cmp some.now other.now }
+{
+    Ord::cmp(&some, &other)
 }

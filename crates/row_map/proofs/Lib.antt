@@ -1,7 +1,4 @@
 mod IdLaws
 mod IdNumberLaws
 mod IdPairLaws
-mod NumberingLaws
-mod PathLaws
-mod RowLaws
-mod SymbolLaws
+mod RowNumberLaws

@@ -1,5 +1,3 @@
 pub mod IdNumbers
 pub mod IdPairs
-pub mod Numbering
-pub mod Paths
 pub mod RowNumbers

@@ -8,9 +8,7 @@
 mod id_map;
 mod id_set;
 mod pair_set;
-mod paths;
 mod row_map;
-mod symbol;
 
 pub use id_map::IdMap;
 pub use id_set::IdSet;

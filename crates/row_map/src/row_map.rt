@@ -1,13 +1,9 @@
-//! Numbers by row. Each row is a path, and its number stands at the node to which the path leads:
-//! so no row is kept, no look-up takes memory, and long texts are kept once.
+//! Numbers by row, in a search tree. The tree shares the values of the rows that were put.
 ghost use Rattle.std.specs.Prelude.{◌≡◌, List, None, OnOk, OnErr};
 ghost use Rattle.par_base.specs.declared.value.Value.{Value};
-ghost use Rattle.row_map.specs.RowNumbers.{number_of_row, IsWithRow, HasSameNumbers};
+ghost use Rattle.row_map.specs.RowNumbers.{number_of_row, IsWithRow};
 
-use crate::IdMap;
-use crate::paths::{make_node, node_of};
-use crate::symbol::Symbol;
-use par_base::{Memory, Row, Value};
+use par_base::{Memory, Row};
 use std::alloc::Global;
 use std::collections::BTreeMap;
 use std::marker::Model;
@@ -15,27 +11,15 @@ use std::marker::Model;
 /// A map from rows to numbers.
 #[derive(Drop)]
 pub struct RowMap {
-    alloc: Global,
-    texts: BTreeMap<String, u64>,
-    steps: BTreeMap<(u64, Symbol), u64>,
-    numbers: IdMap,
+    numbers: BTreeMap<Row, u64>,
 }
 
 impl Model for RowMap {
-    ghost use Rattle.std.specs.Prelude.{length};
     ghost use Rattle.row_map.specs.RowNumbers.{RowNumbers};
-    ghost use Rattle.row_map.specs.Paths.{text_numbers, AreWell, AreAtNodes};
 
     ghost Value = { RowNumbers };
 
-    ghost view = { λ map. record {
-      texts = text_numbers map.texts;
-      steps = map.steps.entries;
-      numbers = map.numbers;
-    } };
-
-    ghost invariant = { λ map. AreWell map.texts map.steps
-        × AreAtNodes (length map.steps.entries) map.numbers };
+    ghost view = { λ map. map.numbers.entries };
 }
 
 impl RowMap {
@@ -44,30 +28,26 @@ impl RowMap {
         ensures { (row : List Value) → number_of_row result row ≡ None }
     {
         RowMap {
-            alloc,
-            texts: BTreeMap::new(alloc),
-            steps: BTreeMap::new(alloc),
-            numbers: IdMap::new(alloc),
+            numbers: BTreeMap::new(alloc),
         }
     }
 
-    /// Puts a number at the row, in place of one that is there. For each value of the row it takes
-    /// comparisons in the logarithm of the values that were put.
+    /// Puts a number at the row, in place of one that is there. It takes comparisons of rows in the
+    /// logarithm of the entries, and memory for one entry: the values are shared.
     pub fn insert(&mut self, row: &Row, number: u64) -> Result<(), Memory>
         ensures ok { OnOk result (IsWithRow self.old row.now number self.new) }
-        ensures err { OnErr result (HasSameNumbers self.old self.new) }
+        ensures err { OnErr result (self.new ≡ self.old) }
     {
-        let node = make_node(self.alloc, &mut self.texts, &mut self.steps, row.as_slice())?;
-        self.numbers.insert(node, number)?;
+        let key = row.copy(row.allocator())?;
+        self.numbers.insert(key, number)?;
         Ok(())
     }
 
-    /// The number of the row. It takes no memory, and for each value of the row comparisons in the
-    /// logarithm of the values that were put.
+    /// The number of the row. It takes no memory, and comparisons of rows in the logarithm of the
+    /// entries.
     pub fn get(&self, row: &Row) -> Option<u64>
         ensures { result ≡ number_of_row self.now row.now }
     {
-        let node = node_of(&self.texts, &self.steps, row.as_slice())?;
-        self.numbers.get(node)
+        self.numbers.get(row).copied()
     }
 }
