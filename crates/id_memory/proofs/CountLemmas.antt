@@ -1,7 +1,7 @@
 -- Entries that rise, and how many of them pass a test.
 use Rattle.std.specs.Prelude.{count_by}
 use Rattle.std.specs.Ordering.{is_eq, is_lt}
-use Rattle.std.proofs.Common.{◌≡◌, ℕ, ◌+◌, ◌<◌, ◌≤◌, List, [], ◌∷◌, Bool, true, false, cond, length, Option, Some, None, if◌then◌else◌, Ordering, Less, Equal, Greater, refl, sym, ap, ◌∙◌, subst, arith}
+use Rattle.std.proofs.Common.{◌≡◌, ◌+◌, ◌<◌, ◌≤◌, List, [], ◌∷◌, Bool, true, false, cond, length, Option, Some, None, if◌then◌else◌, Ordering, Less, Equal, Greater, refl, sym, ap, ◌∙◌, subst, arith}
 use Rattle.std.proofs.lemmas.List.Sums.{sum_by-cons}
 use Rattle.ordered_pages.specs.Orders.{Order, IsTotal}
 use Rattle.ordered_pages.specs.Entries.{AreBehind, Rise, entry_of, PutsAt}

@@ -1,12 +1,12 @@
 -- What pages say of entries by identifier, said of pairs.
 use Rattle.std.specs.Ordering.{is_eq, nat_cmp}
 use Rattle.std.specs.Cmp.{nat_cmp_is}
-use Rattle.std.proofs.Common.{◌≡◌, ℕ, ◌+◌, ◌≤◌, ◌==◌, List, [], ◌∷◌, Bool, true, false, Option, Some, None, if◌then◌else◌, Ordering, Less, Equal, Greater, refl, sym, ap, ◌∙◌, arith}
+use Rattle.std.proofs.Common.{◌≡◌, ℕ, ◌+◌, ◌≤◌, ◌==◌, [], ◌∷◌, Bool, true, false, Option, Some, None, if◌then◌else◌, Ordering, Less, Equal, Greater, refl, sym, ap, ◌∙◌, arith}
 use Rattle.std.proofs.lemmas.Bool.Decides.{nat_tests}
 use Rattle.std.proofs.lemmas.Cmp.{ranked}
 use Rattle.par_base.proofs.TestLaws.{apart_below, apart_above}
 use Rattle.ordered_pages.specs.Entries.{AreBehind, Rise, entry_of, PutsAt}
-use Rattle.ordered_pages.proofs.OrderLaws.{entry_key, one_list}
+use Rattle.ordered_pages.proofs.OrderLaws.{entry_key, one_list, puts_nothing}
 use Rattle.id_memory.specs.Pairs.{Pairs, RiseFrom, pair_of, IsWith}
 use Rattle.id_memory.specs.inner.Orders.{Triple, id_order, id_total}
 
@@ -87,3 +87,7 @@ is_with before now p slot rise puts =
           ∙ ap (λ (t : Bool). if t then pair_in slot else pair_in (entry_of id_order before q)) (same_ids p q)
           ∙ ap (λ (rest : Option (ℕ × ℕ)). if p == q then pair_in slot else rest) (pair_is before q);
     }
+
+-- where there is no pair, none is taken out
+pub none_taken : (es : Pairs) (p : ℕ) → Rise id_order es → pair_of es p ≡ None → IsWith es p None es
+none_taken es p rise none = is_with es es p None rise (puts_nothing id_order id_total es p (no_entry es p none))

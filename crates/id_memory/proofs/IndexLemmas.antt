@@ -1,5 +1,5 @@
 -- The entries of a memory by identifier, and by pair, both ways round.
-use Rattle.std.specs.Prelude.{◌&&◌, ◌↔◌, count_by, MatchOption}
+use Rattle.std.specs.Prelude.{◌&&◌, ◌↔◌, count_by}
 use Rattle.std.specs.Option.{option_map}
 use Rattle.std.specs.Ordering.{is_eq, nat_cmp}
 use Rattle.std.proofs.Common.{◌≡◌, ℕ, ◌+◌, ◌<◌, ◌≤◌, ◌==◌, List, [], ◌∷◌, Bool, true, false, Option, Some, None, if◌then◌else◌, refl, sym, ap, ◌∙◌, subst, arith}
@@ -10,7 +10,7 @@ use Rattle.ordered_pages.proofs.OrderLaws.{entry_key}
 use Rattle.id_memory.specs.Pairs.{Pairs, RiseFrom, IsOneToOne, pair_of, id_of, has_pair}
 use Rattle.id_memory.specs.Found.{IsLeastFrom}
 use Rattle.id_memory.specs.inner.Orders.{Triple, id_order, id_total, pair_order, pair_total}
-use Rattle.id_memory.specs.inner.Calls.{CountsMore, HasMore}
+use Rattle.id_memory.specs.inner.Calls.{HasMore}
 use Rattle.id_memory.specs.inner.Indexed.{IsIndexed, Lists, by_pair, by_turned_pair}
 use Rattle.id_memory.proofs.CountLemmas.{count_cons, count_no, count_some, count_yes, most_one, some_count}
 use Rattle.id_memory.proofs.IdLemmas.{pair_in, pair_is, rises, some_entry, they_rise}
@@ -130,7 +130,7 @@ module _ (m : Pairs) (first second : List Triple) (it : IsIndexed m first second
   looked_by s t None None is id_is = refl
   looked_by s t None (Some p) is id_is =
       let there = in_first p s t ((other_way m (rises m it.rises) one_to_one p s t).0 id_is) in
-      let no : None ≡ Some (s, t, p) = sym is ∙ there in
+      let no : ◌≡◌ {A = Option Triple} None (Some (s, t, p)) = sym is ∙ there in
       cc
   looked_by s t (Some x) id is id_is =
       sym ((other_way m (rises m it.rises) one_to_one x.2 s t).1 (of_first x.2 s t (whole s t first x is))) ∙ id_is

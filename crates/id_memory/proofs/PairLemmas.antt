@@ -2,12 +2,13 @@
 use Rattle.std.specs.Prelude.{count_by}
 use Rattle.std.specs.Ordering.{is_lt, nat_cmp, ordering_then}
 use Rattle.std.proofs.Common.{◌≡◌, ℕ, ◌+◌, ◌<◌, ◌≤◌, ◌==◌, List, [], ◌∷◌, Bool, true, false, Some, if◌then◌else◌, Ordering, Less, Equal, Greater, true≢false, refl, sym, ap, ◌∙◌, subst, arith}
+use Rattle.std.proofs.lemmas.Bool.{eq-eqb}
 use Rattle.std.proofs.lemmas.Cmp.{nat_cmp_total, ranked, tied_itself}
 use Rattle.par_base.proofs.TestLaws.{apart_below, apart_above}
 use Rattle.ordered_pages.specs.Entries.{AreBehind, Rise, entry_of, entries_from}
-use Rattle.ordered_pages.proofs.OrderLaws.{first_from, first_least, first_there, is_less, none_from}
+use Rattle.ordered_pages.proofs.OrderLaws.{first_from, first_least, first_there, none_from}
 use Rattle.id_memory.specs.inner.Orders.{Triple, pair_cmp, pair_order, pair_total}
-use Rattle.id_memory.proofs.CountLemmas.{count_no}
+use Rattle.id_memory.proofs.CountLemmas.{count_no, count_yes}
 
 -- how first halves stand where pairs do
 less_by : (m n a b : ℕ) (r : Ordering) → r ≡ nat_cmp m a → ordering_then r (nat_cmp n b) ≡ Less → m ≤ a
@@ -60,7 +61,7 @@ second_least : (a q n : ℕ) → is_lt (pair_cmp (a, q) (a, n)) ≡ false → n 
 second_least a q n h = reached (nat_cmp q n) q n refl (sym (ap is_lt (at_first a q n)) ∙ h)
 
 -- the first halves are from this one on
-abbrev pub AreFrom : ℕ → List Triple → Type 0
+abbrev AreFrom : ℕ → List Triple → Type 0
 AreFrom a [] = Unit {0}
 AreFrom a (x ∷ xs) = (a ≤ x.0) × AreFrom a xs
 
@@ -73,28 +74,37 @@ none_above a b [] h from = refl
 none_above a b (x ∷ xs) h from = count_no (λ x. x.0 == a) x xs (apart_above x.0 a (omega (arith, h, from.0))) ∙ none_above a b xs h from.1
 
 -- where one of another first half comes, none of this one is left
-pub none_left : (a : ℕ) (x : Triple) (xs : List Triple) → Rise pair_order (x ∷ xs) → AreFrom a (x ∷ xs) → (x.0 ≡ a → ⊥) → count_by (λ x. x.0 == a) (x ∷ xs) ≡ 0
+none_left : (a : ℕ) (x : Triple) (xs : List Triple) → Rise pair_order (x ∷ xs) → AreFrom a (x ∷ xs) → (x.0 ≡ a → ⊥) → count_by (λ x. x.0 == a) (x ∷ xs) ≡ 0
 none_left a x xs rise from other =
     let above : a + 1 ≤ x.0 = omega (arith, from.0, other) in
     none_above a (a + 1) (x ∷ xs) (omega arith) (above, from_behind (a + 1) x.0 x.1 xs above rise.0)
 
--- THE ENTRIES FROM A FIRST HALF ON rise, are from it on, and have all of it
-pub record IsRun (a : ℕ) (es left : List Triple) : Type 0 where
+-- THE ENTRIES FROM A FIRST HALF ON that are left, after so many: they rise, are from it on, and have the others of it
+pub record IsRun (a n : ℕ) (es left : List Triple) : Type 0 where
   pub rise : Rise pair_order left
   pub from : AreFrom a left
-  pub all : count_by (λ x. x.0 == a) left ≡ count_by (λ x. x.0 == a) es
+  pub all : n + count_by (λ x. x.0 == a) left ≡ count_by (λ x. x.0 == a) es
 
-run_by : (a : ℕ) (e : Triple) (es : List Triple) (b : Bool) → is_lt (pair_cmp (e.0, e.1) (a, 0)) ≡ b → Rise pair_order (e ∷ es) → IsRun a es (entries_from pair_order es (a, 0))
-    → IsRun a (e ∷ es) (if b then entries_from pair_order es (a, 0) else e ∷ es)
+run_by : (a : ℕ) (e : Triple) (es : List Triple) (b : Bool) → is_lt (pair_cmp (e.0, e.1) (a, 0)) ≡ b → Rise pair_order (e ∷ es) → IsRun a 0 es (entries_from pair_order es (a, 0))
+    → IsRun a 0 (e ∷ es) (if b then entries_from pair_order es (a, 0) else e ∷ es)
 run_by a e es true is rise rest =
     record { rise = rest.rise; from = rest.from; all = rest.all ∙ sym (count_no (λ x. x.0 == a) e es (apart_below e.0 a (first_under e.0 e.1 a is))) }
 run_by a e es false is rise rest =
     let low = first_from_on e.0 e.1 a 0 is in
-    record { rise = rise; from = (low, from_behind a e.0 e.1 es low rise.0); all = refl }
+    record { rise = rise; from = (low, from_behind a e.0 e.1 es low rise.0); all = omega arith }
 
-pub run_is : (a : ℕ) (es : List Triple) → Rise pair_order es → IsRun a es (entries_from pair_order es (a, 0))
-run_is a [] rise = record { rise = tt; from = tt; all = refl }
+pub run_is : (a : ℕ) (es : List Triple) → Rise pair_order es → IsRun a 0 es (entries_from pair_order es (a, 0))
+run_is a [] rise = record { rise = tt; from = tt; all = omega arith }
 run_is a (e ∷ es) rise = run_by a e es (is_lt (pair_cmp (e.0, e.1) (a, 0))) refl rise (run_is a es rise.1)
+
+-- one more of it
+pub run_next : (a n : ℕ) (es left : List Triple) (x : Triple) → IsRun a n es (x ∷ left) → x.0 ≡ a → IsRun a (n + 1) es left
+run_next a n es left x run own =
+    record { rise = run.rise.1; from = run.from.1; all = omega (arith, run.all, count_yes (λ x. x.0 == a) x left (eq-eqb x.0 a own)) }
+
+-- where one of another first half comes, all were counted
+pub run_ends : (a n : ℕ) (es left : List Triple) (x : Triple) → IsRun a n es (x ∷ left) → (x.0 ≡ a → ⊥) → n ≡ count_by (λ x. x.0 == a) es
+run_ends a n es left x run other = omega (arith, run.all, none_left a x left run.rise run.from other)
 
 -- the first entry from a pair on
 module _ (es : List Triple) (a n : ℕ) (rise : Rise pair_order es) where

@@ -77,8 +77,10 @@ impl Probe<IdEntry> for Id {
 pub(crate) fn find(entries: &Pages<IdEntry>, p: u64) -> Option<(u64, u64)>
     ensures { result ≡ pair_of entries.now.entries p }
 {
-    let own = entries.get(&Id { id: p })?;
-    Some((own.entry.1, own.entry.2))
+    match entries.get(&Id { id: p }) {
+        Some(own) => Some((own.entry.1, own.entry.2)),
+        None => None,
+    }
 }
 
 /// Puts an entry of a new identifier. It takes no memory.
@@ -101,6 +103,5 @@ pub(crate) fn leave(entries: &mut Pages<IdEntry>, p: u64, s: u64, t: u64)
     ensures more { HasMore id_order (p, s, t) entries.new entries.old }
     ensures len { length entries.new.entries + 1 ≡ length entries.old.entries }
 {
-    let _ = (s, t);
     let _ = entries.take(&Id { id: p });
 }

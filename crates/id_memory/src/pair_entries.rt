@@ -45,7 +45,10 @@ impl Entry for PairEntry {
     ghost total = { pair_total };
 
     fn compare(&self, other: &Self) -> Ordering {
-        self.entry.0.cmp(&other.entry.0).then(self.entry.1.cmp(&other.entry.1))
+        self.entry
+            .0
+            .cmp(&other.entry.0)
+            .then(self.entry.1.cmp(&other.entry.1))
     }
 }
 
@@ -81,7 +84,9 @@ impl Probe<PairEntry> for Behind {
     ghost key = { λ probe. (probe.a, probe.b + 1) };
 
     fn compare(&self, own: &PairEntry) -> Ordering {
-        self.a.cmp(&own.entry.0).then(compare_next(self.b, own.entry.1))
+        self.a
+            .cmp(&own.entry.0)
+            .then(compare_next(self.b, own.entry.1))
     }
 }
 
@@ -134,7 +139,9 @@ pub(crate) fn first_with<P: Probe<PairEntry>>(
         (P.key probe.now).1 result }
 {
     let mut left = pairs.iter_from(probe);
-    let own = left.next()?;
+    let Some(own) = left.next() else {
+        return None;
+    };
     if own.entry.0 == a {
         return Some((own.entry.1, own.entry.2));
     }
@@ -154,6 +161,5 @@ pub(crate) fn leave(pairs: &mut Pages<PairEntry>, a: u64, b: u64, c: u64)
     requires { HasPair (a, b, c) pairs.old }
     ensures { HasMore pair_order (a, b, c) pairs.new pairs.old }
 {
-    let _ = c;
     let _ = pairs.take(&From { a, b });
 }

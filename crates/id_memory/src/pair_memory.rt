@@ -196,13 +196,7 @@ fn copied<E: CopyEntry>(pages: &Pages<E>) -> Result<Pages<E>, Memory>
 }
 
 /// Puts the pair of an identifier, both ways round.
-fn enter_both(
-    first: &mut Pages<PairEntry>,
-    second: &mut Pages<PairEntry>,
-    p: u64,
-    s: u64,
-    t: u64,
-)
+fn enter_both(first: &mut Pages<PairEntry>, second: &mut Pages<PairEntry>, p: u64, s: u64, t: u64)
     requires first { HasNone (s, t) first.old }
     requires second { HasNone (t, s) second.old }
     ensures first { HasMore pair_order (s, t, p) first.old first.new }
@@ -213,13 +207,7 @@ fn enter_both(
 }
 
 /// Takes the pair of an identifier out, both ways round.
-fn leave_both(
-    first: &mut Pages<PairEntry>,
-    second: &mut Pages<PairEntry>,
-    p: u64,
-    s: u64,
-    t: u64,
-)
+fn leave_both(first: &mut Pages<PairEntry>, second: &mut Pages<PairEntry>, p: u64, s: u64, t: u64)
     requires first { HasPair (s, t, p) first.old }
     requires second { HasPair (t, s, p) second.old }
     ensures first { HasMore pair_order (s, t, p) first.new first.old }
