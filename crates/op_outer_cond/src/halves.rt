@@ -28,7 +28,7 @@ pub(crate) fn other_in(half: Half, entry: &(u64, u64, u64)) -> u64
 }
 
 /// How many entries have this half, counted no further than to two.
-pub(crate) fn up_to_two_with(half: Half, memory: &PairMemory, id: u64) -> usize
+fn up_to_two_with(half: Half, memory: &PairMemory, id: u64) -> usize
     ensures { result ≡ min 2 (with_half (pick_of half) id memory.now.entries) }
 {
     match half {
@@ -46,7 +46,7 @@ pub(crate) fn has_one(half: Half, memory: &PairMemory, id: u64) -> bool
 
 /// Whether no two entries have this half.
 pub(crate) fn has_no_two(half: Half, memory: &PairMemory, id: u64) -> bool
-    ensures { IsTrue result ↔ with_half (pick_of half) id memory.now.entries ≤ 1 }
+    ensures { IsTrue result ↔ (with_half (pick_of half) id memory.now.entries ≤ 1) }
 {
     up_to_two_with(half, memory, id) <= 1
 }
