@@ -19,7 +19,7 @@ use Rattle.id_closing.specs.Found.{AreAmong}
 use Rattle.id_closing.specs.Closing.{IsClosing}
 use Rattle.cond_closing.specs.Entries.{IsEntry}
 use Rattle.cond_closing.specs.Steady.{BringsStill, ChangingMemory, IsBrought, IsStillBy, changed_entries, stays}
-use Rattle.cond_closing.proofs.SearchLemmas.{Triple}
+use Rattle.cond_closing.proofs.EntryLemmas.{Triple}
 use Rattle.cond_closing.proofs.StandLaws.{entry_under, listed_passes, listed_under, stands_by, stands_in}
 
 -- a test that fails

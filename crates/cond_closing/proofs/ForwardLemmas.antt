@@ -40,7 +40,7 @@ use Rattle.cond_closing.specs.Shown.{BeginsShown}
 use Rattle.cond_closing.specs.Steady.{BringsStill, ChangingMemory, IsBrought, stays}
 use Rattle.cond_closing.specs.declared.steady.Changing.TheVariants.{Halves}
 use Rattle.cond_closing.proofs.ChangedLaws.{new_at}
-use Rattle.cond_closing.proofs.SearchLemmas.{Triple}
+use Rattle.cond_closing.proofs.EntryLemmas.{Triple}
 use Rattle.cond_closing.proofs.StandLaws.{either_of, entry_under, listed_passes, listed_under, stands_by, stands_in}
 
 -- two rows that match

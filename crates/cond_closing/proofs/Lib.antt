@@ -1,4 +1,3 @@
-mod SearchLemmas
 mod EntryLemmas
 mod StillLemmas
 mod RowLemmas

@@ -10,7 +10,7 @@ use Rattle.pair_parts.specs.Parts.{memory_only}
 use Rattle.cond_parts.specs.Closed.{BringsEntry, IsClosedIn}
 use Rattle.id_closing.specs.Closing.{IsClosing}
 use Rattle.cond_closing.specs.Steady.{BringsStill, IsBrought, changed_entries}
-use Rattle.cond_closing.proofs.SearchLemmas.{Triple}
+use Rattle.cond_closing.proofs.EntryLemmas.{Triple}
 use Rattle.cond_closing.proofs.StandLaws.{all_stand, stands_by, stands_in}
 
 module _ (m : Pairs) (rise : RiseFrom 0 m) (ids : List ℕ) where

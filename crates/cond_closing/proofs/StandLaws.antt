@@ -11,8 +11,7 @@ use Rattle.op_law.proofs.OnlyLaws.{by_test}
 use Rattle.operator_changes.specs.Footprint.{passes}
 use Rattle.pair_rows.specs.Stays.{stands}
 use Rattle.cond_closing.specs.Entries.{IsEntry}
-use Rattle.cond_closing.proofs.EntryLemmas.{first_in, later_entry, own_entry, same_entry, second_in}
-use Rattle.cond_closing.proofs.SearchLemmas.{Triple}
+use Rattle.cond_closing.proofs.EntryLemmas.{first_in, later_entry, own_entry, same_entry, second_in, Triple}
 
 -- entries of one identifier are one
 pub entry_same : (m : Pairs) (d e : Triple) → IsEntry m d → IsEntry m e → d.0 ≡ e.0 → d ≡ e

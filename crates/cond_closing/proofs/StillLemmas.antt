@@ -12,8 +12,7 @@ use Rattle.id_closing.proofs.FoundLaws.{added_has, added_stays, end_has, end_sta
 use Rattle.cond_closing.specs.Entries.{IsEntry, IsNextWith, NoneWith, other_of}
 use Rattle.cond_closing.specs.Steady.{BringsBoth, BringsStill, ChangingMemory, IsBrought, IsStill, IsStillBy, stays}
 use Rattle.cond_closing.proofs.BroughtLaws.{brings_found}
-use Rattle.cond_closing.proofs.EntryLemmas.{first_in, it_is, second_in, up_to}
-use Rattle.cond_closing.proofs.SearchLemmas.{Triple}
+use Rattle.cond_closing.proofs.EntryLemmas.{first_in, it_is, second_in, Triple, up_to}
 use Rattle.cond_closing.proofs.StandLaws.{entry_same}
 
 -- both rows of an entry, added

@@ -1,7 +1,6 @@
 -- The entries of a memory that have an identifier as one half, in the order of the other half.
-use Rattle.std.specs.Prelude.{◌≡◌, ℕ, ◌<◌, ◌≤◌, true, List, count_by, Option, Some, MatchOption}
+use Rattle.std.specs.Prelude.{◌≡◌, ℕ, ◌≤◌, true, List, Option, Some, MatchOption}
 use Rattle.id_memory.specs.Pairs.{Pairs, pair_of}
-use Rattle.id_memory.specs.PairKeys.{is_triple}
 use Rattle.op_law.specs.Identifiers.{has_id}
 use Rattle.pair_rows.specs.declared.half.Half.{Half}
 use Rattle.pair_rows.specs.declared.half.Half.TheVariants.{First, Second}
@@ -36,18 +35,3 @@ IsNextWith half m q from found = MatchOption found (NoneWith half m q from) (λ 
 -- all entries that have q as this half are among these
 abbrev pub HasEntries : Half → Pairs → List ℕ → ℕ → Type 0
 HasEntries half m ids q = (e : ℕ × ℕ × ℕ) → IsEntry m e → pick_of half e ≡ q → has_id ids e.0 ≡ true
-
--- a list of triples has this one
-abbrev pub HasTriple : List (ℕ × ℕ × ℕ) → ℕ × ℕ × ℕ → Type 0
-HasTriple items x = 0 < count_by (is_triple x.0 x.1 x.2) items
-
--- no triple of the list has this first number, and a second one from this one on
-abbrev pub NoneListed : List (ℕ × ℕ × ℕ) → ℕ → ℕ → Type 0
-NoneListed items a from = (x : ℕ × ℕ × ℕ) → HasTriple items x → x.0 ≡ a → from ≤ x.1 → ⊥
-
--- the triple is the first one that does
-pub record IsFirstListed (items : List (ℕ × ℕ × ℕ)) (a from : ℕ) (x : ℕ × ℕ × ℕ) : Type 0 where
-  pub lists : HasTriple items x
-  pub has : x.0 ≡ a
-  pub behind : from ≤ x.1
-  pub least : (y : ℕ × ℕ × ℕ) → HasTriple items y → y.0 ≡ a → from ≤ y.1 → x.1 ≤ y.1

@@ -1,182 +1,186 @@
--- A memory and its two look-up lists.
-use Rattle.std.specs.Prelude.{◌&&◌, count_by, IfSome, IfNone, ◌↔◌}
-use Rattle.std.proofs.Common.{◌≡◌, ℕ, ◌+◌, ◌<◌, ◌≤◌, ◌==◌, ◌⊎◌, List, [], ◌∷◌, Bool, true, false, if◌then◌else◌, Option, Some, None, refl, sym, ap, ◌∙◌, subst, arith}
-use Rattle.std.proofs.lemmas.Bool.Decides.{nat_tests}
-use Rattle.std.proofs.lemmas.Bool.{and_from, and_parts, cases_lt, eq-eqb, eqb-true}
-use mathlib.Core.Logic.{inl, inr}
+-- The entries of a memory by identifier, and by pair, both ways round.
+use Rattle.std.specs.Prelude.{◌&&◌, ◌↔◌, count_by}
+use Rattle.std.specs.Option.{option_map}
+use Rattle.std.specs.Ordering.{is_eq, nat_cmp}
+use Rattle.std.proofs.Common.{◌≡◌, ℕ, ◌+◌, ◌<◌, ◌≤◌, ◌==◌, List, [], ◌∷◌, Bool, true, false, Option, Some, None, if◌then◌else◌, refl, sym, ap, ◌∙◌, subst, arith}
+use Rattle.std.proofs.lemmas.Bool.{and_parts, eq-eqb, eqb-true}
+use Rattle.ordered_pages.specs.Entries.{Rise, entry_of}
+use Rattle.ordered_pages.specs.States.{PagesState}
+use Rattle.ordered_pages.proofs.OrderLaws.{entry_key}
 use Rattle.id_memory.specs.Pairs.{Pairs, RiseFrom, IsOneToOne, pair_of, id_of, has_pair}
-use Rattle.id_memory.specs.PairKeys.{SortedFrom, has_key, is_triple}
-use Rattle.id_memory.specs.inner.Calls.{CountsMore, CountsLess}
-use Rattle.id_memory.specs.Indexed.{IsIndexed, by_pair, by_turned_pair}
-use Rattle.id_memory.proofs.EntryLemmas.{entry, none_under}
-use Rattle.id_memory.proofs.KeyLemmas.{count_cons, count_yes, count_no}
+use Rattle.id_memory.specs.Found.{IsLeastFrom}
+use Rattle.id_memory.specs.inner.Orders.{Triple, id_order, id_total, pair_order, pair_total}
+use Rattle.id_memory.specs.inner.Calls.{HasMore}
+use Rattle.id_memory.specs.inner.Indexed.{IsIndexed, Lists, by_pair, by_turned_pair}
+use Rattle.id_memory.proofs.CountLemmas.{count_cons, count_no, count_some, count_yes, most_one, some_count}
+use Rattle.id_memory.proofs.IdLemmas.{pair_in, pair_is, rises, some_entry, they_rise}
 
-none_by : (e : ℕ × ℕ × ℕ) (es : Pairs) (s t : ℕ) (b : Bool) → has_pair s t e ≡ b → count_by (has_pair s t) (e ∷ es) ≡ 0 → (count_by (has_pair s t) es ≡ 0 → id_of es s t ≡ None) → id_of (e ∷ es) s t ≡ None
-none_by e es s t true is none rest = let more = count_yes (has_pair s t) e es is in absurd (omega (arith, more, none))
-none_by e es s t false is none rest = rw is (rest (sym (count_no (has_pair s t) e es is) ∙ none))
+-- whether an entry is this one
+abbrev is_entry : Triple → Triple → Bool
+is_entry x y = y.0 == x.0 && (y.1 == x.1 && y.2 == x.2)
 
--- a pair that no entry has, has no identifier
-pub no_id : (es : Pairs) (s t : ℕ) → count_by (has_pair s t) es ≡ 0 → id_of es s t ≡ None
-no_id [] s t none = refl
-no_id (e ∷ es) s t none = none_by e es s t (has_pair s t e) refl none (no_id es s t)
+is_same : (x y : Triple) → is_entry x y ≡ true → y ≡ x
+is_same x y e =
+    let parts = and_parts (y.0 == x.0) (y.1 == x.1 && y.2 == x.2) e in
+    let rest = and_parts (y.1 == x.1) (y.2 == x.2) parts.1 in
+    ap (λ (k : ℕ). (k, y.1, y.2)) (eqb-true y.0 x.0 parts.0) ∙ ap (λ (k : ℕ). (x.0, k, y.2)) (eqb-true y.1 x.1 rest.0) ∙ ap (λ (k : ℕ). (x.0, x.1, k)) (eqb-true y.2 x.2 rest.1)
 
-no_pair_by : (e : ℕ × ℕ × ℕ) (es : Pairs) (s t : ℕ) (b : Bool) → has_pair s t e ≡ b → id_of (e ∷ es) s t ≡ None → (id_of es s t ≡ None → count_by (has_pair s t) es ≡ 0) → count_by (has_pair s t) (e ∷ es) ≡ 0
-no_pair_by e es s t true is none rest = let some : Some e.0 ≡ None = rw is at none in cc
-no_pair_by e es s t false is none rest = count_no (has_pair s t) e es is ∙ rest (rw is at none)
+is_own : (x : Triple) → is_entry x x ≡ true
+is_own x = rw (eq-eqb x.0 x.0 refl, eq-eqb x.1 x.1 refl, eq-eqb x.2 x.2 refl) refl
 
--- a pair that has no identifier, no entry has
-pub no_pair : (es : Pairs) (s t : ℕ) → id_of es s t ≡ None → count_by (has_pair s t) es ≡ 0
-no_pair [] s t none = refl
-no_pair (e ∷ es) s t none = no_pair_by e es s t (has_pair s t e) refl none (no_pair es s t)
+-- whether it has this pair in front
+abbrev has_key : ℕ → ℕ → Triple → Bool
+has_key a b x = x.0 == a && x.1 == b
 
-fewer_by : (p q : ℕ × ℕ × ℕ → Bool) (e : ℕ × ℕ × ℕ) (es : Pairs) (b : Bool) → p e ≡ b → (p e ≡ true → q e ≡ true) → count_by p es ≤ count_by q es → count_by p (e ∷ es) ≤ count_by q (e ∷ es)
-fewer_by p q e es true is passes rest = omega (arith, count_yes p e es is, count_yes q e es (passes is), rest)
-fewer_by p q e es false is passes rest = omega (arith, count_no p e es is, count_cons q e es, rest)
+key_is : (a b : ℕ) (x : Triple) → has_key a b x ≡ true → ◌≡◌ {A = ℕ × ℕ} (x.0, x.1) (a, b)
+key_is a b x e =
+    let parts = and_parts (x.0 == a) (x.1 == b) e in
+    ap (λ (k : ℕ). (k, x.1)) (eqb-true x.0 a parts.0) ∙ ap (λ (k : ℕ). (a, k)) (eqb-true x.1 b parts.1)
 
--- a test that passes less counts less
-fewer : (p q : ℕ × ℕ × ℕ → Bool) (es : Pairs) → ((e : ℕ × ℕ × ℕ) → p e ≡ true → q e ≡ true) → count_by p es ≤ count_by q es
-fewer p q [] passes = omega arith
-fewer p q (e ∷ es) passes = fewer_by p q e es (p e) refl (passes e) (fewer p q es passes)
+own_pair : (s t : ℕ) → (s == s && t == t) ≡ true
+own_pair s t = rw (eq-eqb s s refl, eq-eqb t t refl) refl
 
-has_from : (s t p : ℕ) (e : ℕ × ℕ × ℕ) → is_triple s t p (by_pair e) ≡ true → has_pair s t e ≡ true
-has_from s t p e is =
-    let parts = and_parts (e.1 == s) (e.2 == t && e.0 == p) is in
-    let rest = and_parts (e.2 == t) (e.0 == p) parts.1 in
-    and_from (e.1 == s) (e.2 == t) parts.0 rest.0
+-- an entry is in a list by pairs, and the other way round
+module _ (turn : Triple → Triple) (back : (d e : Triple) → turn d ≡ turn e → d ≡ e) (m : Pairs) (items : List Triple) (rise : Rise id_order m) (rise_items : Rise pair_order items) (lists : Lists turn m items) where
+  listed : (e : Triple) → pair_of m e.0 ≡ Some (e.1, e.2) → entry_of pair_order items ((turn e).0, (turn e).1) ≡ Some (turn e)
+  listed e is =
+      let some = some_count id_order id_total (λ d. is_entry (turn e) (turn d)) e.0 e m (some_entry m e.0 e.1 e.2 is) (is_own (turn e)) in
+      count_some pair_order pair_total (is_entry (turn e)) (turn e) items (is_same (turn e)) rise_items (subst (λ (n : ℕ). 0 < n) (sym (lists (is_entry (turn e)))) some)
 
-id_from : (s t p : ℕ) (e : ℕ × ℕ × ℕ) → is_triple s t p (by_pair e) ≡ true → e.0 ≡ p
-id_from s t p e is =
-    let parts = and_parts (e.1 == s) (e.2 == t && e.0 == p) is in
-    let rest = and_parts (e.2 == t) (e.0 == p) parts.1 in
-    eqb-true e.0 p rest.1
+  unlisted : (e : Triple) → entry_of pair_order items ((turn e).0, (turn e).1) ≡ Some (turn e) → pair_of m e.0 ≡ Some (e.1, e.2)
+  unlisted e is =
+      let some = some_count pair_order pair_total (is_entry (turn e)) ((turn e).0, (turn e).1) (turn e) items is (is_own (turn e)) in
+      let there = count_some id_order id_total (λ d. is_entry (turn e) (turn d)) e m (λ d q. back d e (is_same (turn e) (turn d) q)) rise (subst (λ (n : ℕ). 0 < n) (lists (is_entry (turn e))) some) in
+      sym (pair_is m e.0) ∙ ap pair_in there
 
-found_by : (e : ℕ × ℕ × ℕ) (es : Pairs) (s t p : ℕ) (b c : Bool) → has_pair s t e ≡ b → is_triple s t p (by_pair e) ≡ c
-    → count_by (has_pair s t) (e ∷ es) ≤ 1 → 0 < count_by (λ e. is_triple s t p (by_pair e)) (e ∷ es)
-    → (count_by (has_pair s t) es ≤ 1 → 0 < count_by (λ e. is_triple s t p (by_pair e)) es → id_of es s t ≡ Some p)
-    → id_of (e ∷ es) s t ≡ Some p
-found_by e es s t p true true has is one some rest = rw has (ap Some (id_from s t p e is))
-found_by e es s t p true false has is one some rest =
-    let more = count_yes (has_pair s t) e es has in
-    let same = count_no (λ x. is_triple s t p (by_pair x)) e es is in
-    let within = fewer (λ x. is_triple s t p (by_pair x)) (has_pair s t) es (has_from s t p) in
-    absurd (omega (arith, more, same, within, one, some))
-found_by e es s t p false true has is one some rest = let yes_it = has_from s t p e is in cc
-found_by e es s t p false false has is one some rest =
-    let less = count_no (has_pair s t) e es has in
-    let same = count_no (λ x. is_triple s t p (by_pair x)) e es is in
-    rw has (rest (omega (arith, less, one)) (omega (arith, same, some)))
+back_pair : (d e : Triple) → by_pair d ≡ by_pair e → d ≡ e
+back_pair d e same = ap (λ (x : Triple). (x.2, x.0, x.1)) same
 
--- the entry of a pair tells its identifier
-pub id_found : (es : Pairs) (s t p : ℕ) → count_by (has_pair s t) es ≤ 1 → 0 < count_by (λ e. is_triple s t p (by_pair e)) es → id_of es s t ≡ Some p
-id_found [] s t p one some = absurd (omega arith)
-id_found (e ∷ es) s t p one some = found_by e es s t p (has_pair s t e) (is_triple s t p (by_pair e)) refl refl one some (id_found es s t p)
+back_turned : (d e : Triple) → by_turned_pair d ≡ by_turned_pair e → d ≡ e
+back_turned d e same = ap (λ (x : Triple). (x.2, x.1, x.0)) same
 
-listed_by : (test : ℕ × ℕ × ℕ → Bool) (e : ℕ × ℕ × ℕ) (es : Pairs) (p s t : ℕ) (b : Bool) → (e.0 == p) ≡ b → pair_of (e ∷ es) p ≡ Some (s, t) → test (p, s, t) ≡ true → (pair_of es p ≡ Some (s, t) → test (p, s, t) ≡ true → 0 < count_by test es) → 0 < count_by test (e ∷ es)
-listed_by test e es p s t true own is passes rest =
-    let same = entry e p s t (eqb-true e.0 p own) (rw own at is) in
-    omega (arith, count_yes test e es (ap test same ∙ passes))
-listed_by test e es p s t false own is passes rest = omega (arith, count_cons test e es, rest (rw own at is) passes)
+found_by : (e : Triple) (es : Pairs) (p s t : ℕ) (b c : Bool) → has_pair s t e ≡ c → (if b then Some e else entry_of id_order es p) ≡ Some (p, s, t) → count_by (has_pair s t) (e ∷ es) ≤ 1
+    → (count_by (has_pair s t) es ≤ 1 → entry_of id_order es p ≡ Some (p, s, t) → id_of es s t ≡ Some p) → (if c then Some e.0 else id_of es s t) ≡ Some p
+found_by e es p s t true true has is one rest = let same : ◌≡◌ {A = Triple} e (p, s, t) = cc in ap (λ (x : Triple). Some x.0) same
+found_by e es p s t true false has is one rest =
+    let same : ◌≡◌ {A = Triple} e (p, s, t) = cc in
+    let no : true ≡ false = sym (own_pair s t) ∙ sym (ap (has_pair s t) same) ∙ has in
+    cc
+found_by e es p s t false true has is one rest =
+    let some = some_count id_order id_total (has_pair s t) p (p, s, t) es is (own_pair s t) in
+    absurd (omega (arith, some, one, count_yes (has_pair s t) e es has))
+found_by e es p s t false false has is one rest = rest (omega (arith, one, count_no (has_pair s t) e es has)) is
 
--- what an entry passes is counted
-pub listed : (test : ℕ × ℕ × ℕ → Bool) (es : Pairs) (p s t : ℕ) → pair_of es p ≡ Some (s, t) → test (p, s, t) ≡ true → 0 < count_by test es
-listed test [] p s t is passes = cc
-listed test (e ∷ es) p s t is passes = listed_by test e es p s t (e.0 == p) refl is passes (listed test es p s t)
+id_found : (es : Pairs) (p s t : ℕ) → count_by (has_pair s t) es ≤ 1 → entry_of id_order es p ≡ Some (p, s, t) → id_of es s t ≡ Some p
+id_found [] p s t one is = cc
+id_found (e ∷ es) p s t one is = found_by e es p s t (is_eq (nat_cmp e.0 p)) (has_pair s t e) refl is one (id_found es p s t)
 
-pub triple_passes : (a b c : ℕ) → is_triple a b c (a, b, c) ≡ true
-triple_passes a b c = rw (eq-eqb a a refl, eq-eqb b b refl, eq-eqb c c refl) refl
-
-and_turned : (a b : Bool) → (a && b) ≡ (b && a)
-and_turned true true = refl
-and_turned true false = refl
-and_turned false true = refl
-and_turned false false = refl
-
--- a new pair is in neither list
-pub absent_first : (es : Pairs) (first second : List (ℕ × ℕ × ℕ)) (s t : ℕ) → IsIndexed es first second → id_of es s t ≡ None → count_by (has_key s t) first ≡ 0
-absent_first es first second s t is none = is.first_lists (has_key s t) ∙ no_pair es s t none
-
-pub absent_second : (es : Pairs) (first second : List (ℕ × ℕ × ℕ)) (s t : ℕ) → IsIndexed es first second → id_of es s t ≡ None → count_by (has_key t s) second ≡ 0
-absent_second es first second s t is none =
-    is.second_lists (has_key t s) ∙ ap (λ (test : ℕ × ℕ × ℕ → Bool). count_by test es) (λ i e. and_turned (e.2 == t) (e.1 == s) i) ∙ no_pair es s t none
-
--- an entry is in both lists
-pub there_first : (es : Pairs) (first second : List (ℕ × ℕ × ℕ)) (p s t : ℕ) → IsIndexed es first second → pair_of es p ≡ Some (s, t) → 0 < count_by (is_triple s t p) first
-there_first es first second p s t is has = subst (λ (n : ℕ). 0 < n) (sym (is.first_lists (is_triple s t p))) (listed (λ e. is_triple s t p (by_pair e)) es p s t has (triple_passes s t p))
-
-pub there_second : (es : Pairs) (first second : List (ℕ × ℕ × ℕ)) (p s t : ℕ) → IsIndexed es first second → pair_of es p ≡ Some (s, t) → 0 < count_by (is_triple t s p) second
-there_second es first second p s t is has = subst (λ (n : ℕ). 0 < n) (sym (is.second_lists (is_triple t s p))) (listed (λ e. is_triple t s p (by_turned_pair e)) es p s t has (triple_passes t s p))
-
-one_more : (es now : Pairs) (p s t u v : ℕ) (b : Bool) → has_pair u v (p, s, t) ≡ b → IsOneToOne es → count_by (has_pair s t) es ≡ 0 → count_by (has_pair u v) now ≡ count_by (has_pair u v) es + (if has_pair u v (p, s, t) then 1 else 0) → count_by (has_pair u v) now ≤ 1
-one_more es now p s t u v true is one none more =
-    let parts = and_parts (s == u) (t == v) is in
-    let same : count_by (has_pair u v) es ≡ 0 = subst (λ (k : ℕ). count_by (has_pair k v) es ≡ 0) (eqb-true s u parts.0) (subst (λ (k : ℕ). count_by (has_pair s k) es ≡ 0) (eqb-true t v parts.1) none) in
-    let all : count_by (has_pair u v) now ≡ count_by (has_pair u v) es + 1 = rw is at more in
-    omega (arith, same, all)
-one_more es now p s t u v false is one none more =
-    let all : count_by (has_pair u v) now ≡ count_by (has_pair u v) es + 0 = rw is at more in
-    omega (arith, one u v, all)
-
--- an entry more in all three lists
-pub put_indexed : (es first second es_now first_now second_now : List (ℕ × ℕ × ℕ)) (p s t : ℕ) → IsIndexed es first second → id_of es s t ≡ None
-    → RiseFrom 0 es_now → CountsMore (p, s, t) es es_now → SortedFrom 0 first_now → CountsMore (s, t, p) first first_now → SortedFrom 0 second_now → CountsMore (t, s, p) second second_now
-    → IsIndexed es_now first_now second_now
-put_indexed es first second es_now first_now second_now p s t is none rise adds sorted_first adds_first sorted_second adds_second =
-    record {
-      rises = rise;
-      one = λ u v. one_more es es_now p s t u v (has_pair u v (p, s, t)) refl is.one (no_pair es s t none) (adds (has_pair u v));
-      first_sorted = sorted_first;
-      first_lists = λ test. adds_first test ∙ ap (λ (n : ℕ). n + (if test (s, t, p) then 1 else 0)) (is.first_lists test) ∙ sym (adds (λ e. test (by_pair e)));
-      second_sorted = sorted_second;
-      second_lists = λ test. adds_second test ∙ ap (λ (n : ℕ). n + (if test (t, s, p) then 1 else 0)) (is.second_lists test) ∙ sym (adds (λ e. test (by_turned_pair e)));
-    }
-
-less : (a b c d x : ℕ) → a + x ≡ b → c + x ≡ d → b ≡ d → a ≡ c
-less a b c d x e f g = omega arith
-
--- an entry less in all three lists
-pub remove_indexed : (es first second es_now first_now second_now : List (ℕ × ℕ × ℕ)) (p s t : ℕ) → IsIndexed es first second
-    → RiseFrom 0 es_now → CountsLess (p, s, t) es es_now → SortedFrom 0 first_now → CountsLess (s, t, p) first first_now → SortedFrom 0 second_now → CountsLess (t, s, p) second second_now
-    → IsIndexed es_now first_now second_now
-remove_indexed es first second es_now first_now second_now p s t is rise loses sorted_first loses_first sorted_second loses_second =
-    record {
-      rises = rise;
-      one = λ u v. omega (arith, loses (has_pair u v), is.one u v);
-      first_sorted = sorted_first;
-      first_lists = λ test. less (count_by test first_now) (count_by test first) (count_by (λ e. test (by_pair e)) es_now) (count_by (λ e. test (by_pair e)) es) (if test (s, t, p) then 1 else 0) (loses_first test) (loses (λ e. test (by_pair e))) (is.first_lists test);
-      second_sorted = sorted_second;
-      second_lists = λ test. less (count_by test second_now) (count_by test second) (count_by (λ e. test (by_turned_pair e)) es_now) (count_by (λ e. test (by_turned_pair e)) es) (if test (t, s, p) then 1 else 0) (loses_second test) (loses (λ e. test (by_turned_pair e))) (is.second_lists test);
-    }
-
-later : (n : ℕ) (e : ℕ × ℕ × ℕ) (es : Pairs) (s t p : ℕ) → RiseFrom n (e ∷ es) → pair_of es p ≡ Some (s, t) → (p < e.0 + 1) ⊎ (e.0 + 1 ≤ p) → pair_of (e ∷ es) p ≡ Some (s, t)
-later n e es s t p rise there (inl h) = let none = none_under (e.0 + 1) es p rise.1 h in cc
-later n e es s t p rise there (inr h) = let other : (e.0 == p) ≡ false = grind (arith, nat_tests) in rw other there
-
-id_some_by : (n : ℕ) (e : ℕ × ℕ × ℕ) (es : Pairs) (s t p : ℕ) (b : Bool) → has_pair s t e ≡ b → RiseFrom n (e ∷ es) → id_of (e ∷ es) s t ≡ Some p → (id_of es s t ≡ Some p → pair_of es p ≡ Some (s, t)) → pair_of (e ∷ es) p ≡ Some (s, t)
-id_some_by n e es s t p true has rise is rest =
-    let some : Some e.0 ≡ Some p = rw has at is in
+counted_by : (e : Triple) (es : Pairs) (p s t : ℕ) (b : Bool) → has_pair s t e ≡ b → (if b then Some e.0 else id_of es s t) ≡ Some p → (id_of es s t ≡ Some p → 0 < count_by (is_entry (p, s, t)) es) → 0 < count_by (is_entry (p, s, t)) (e ∷ es)
+counted_by e es p s t true has is rest =
     let same : e.0 ≡ p = cc in
-    let own : (e.0 == p) ≡ true = grind (arith, nat_tests) in
-    let parts = and_parts (e.1 == s) (e.2 == t) has in
-    let pair : ◌≡◌ {A = ℕ × ℕ} (e.1, e.2) (s, t) = ap (λ (k : ℕ). (k, e.2)) (eqb-true e.1 s parts.0) ∙ ap (λ (k : ℕ). (s, k)) (eqb-true e.2 t parts.1) in
-    rw own (ap (λ (k : ℕ × ℕ). Some k) pair)
-id_some_by n e es s t p false has rise is rest =
-    let there = rest (rw has at is) in
-    later n e es s t p rise there (cases_lt p (e.0 + 1))
+    let here : is_entry (p, s, t) e ≡ true = rw (eq-eqb e.0 p same) has in
+    omega (arith, count_yes (is_entry (p, s, t)) e es here)
+counted_by e es p s t false has is rest = omega (arith, rest is, count_cons (is_entry (p, s, t)) e es)
 
--- the identifier of a pair has the pair
-pub id_some : (n : ℕ) (es : Pairs) (s t p : ℕ) → RiseFrom n es → id_of es s t ≡ Some p → pair_of es p ≡ Some (s, t)
-id_some n [] s t p rise is = cc
-id_some n (e ∷ es) s t p rise is = id_some_by n e es s t p (has_pair s t e) refl rise is (id_some (e.0 + 1) es s t p rise.1)
+id_counted : (es : Pairs) (p s t : ℕ) → id_of es s t ≡ Some p → 0 < count_by (is_entry (p, s, t)) es
+id_counted [] p s t is = cc
+id_counted (e ∷ es) p s t is = counted_by e es p s t (has_pair s t e) refl is (id_counted es p s t)
 
 -- a pair has an identifier exactly where the identifier has the pair
 pub other_way : (es : Pairs) → RiseFrom 0 es → IsOneToOne es → (p s t : ℕ) → (id_of es s t ≡ Some p) ↔ (pair_of es p ≡ Some (s, t))
 other_way es rise one p s t = (
-  λ is. id_some 0 es s t p rise is,
-  λ has. id_found es s t p (one s t) (listed (λ e. is_triple s t p (by_pair e)) es p s t has (triple_passes s t p)),
+  λ is. sym (pair_is es p) ∙ ap pair_in (count_some id_order id_total (is_entry (p, s, t)) (p, s, t) es (is_same (p, s, t)) (they_rise 0 es rise) (id_counted es p s t is)),
+  λ has. id_found es p s t (one s t) (some_entry es p s t has),
 )
 
--- what the look-up list finds is the identifier
-pub looked_up : (es : Pairs) (first second : List (ℕ × ℕ × ℕ)) (s t : ℕ) (found : Option ℕ) → IsIndexed es first second
-    → IfSome found (λ p. 0 < count_by (is_triple s t p) first) → IfNone found (count_by (has_key s t) first ≡ 0) → found ≡ id_of es s t
-looked_up es first second s t (Some p) is some none = sym (id_found es s t p (is.one s t) (subst (λ (n : ℕ). 0 < n) (is.first_lists (is_triple s t p)) some))
-looked_up es first second s t None is some none = sym (no_id es s t (sym (is.first_lists (has_key s t)) ∙ none))
+least_by : (has own : ℕ → ℕ → Type 0) (from : ℕ) (found : Option (ℕ × ℕ)) → ((n p : ℕ) → has n p → own n p) → ((n p : ℕ) → own n p → has n p) → IsLeastFrom has from found → IsLeastFrom own from found
+least_by has own from None f g none = λ n p h is. none n p h (g n p is)
+least_by has own from (Some e) f g is = (is.0, f e.0 e.1 is.1, λ n p h there. is.2 n p h (g n p there))
+
+module _ (m : Pairs) (first second : List Triple) (it : IsIndexed m first second) where
+  pub one_to_one : IsOneToOne m
+  one_to_one s t = subst (λ (n : ℕ). n ≤ 1) (it.first_lists (has_key s t)) (most_one pair_order pair_total (has_key s t) (s, t) first (key_is s t) it.first_rises)
+
+  -- a pair with its identifier, in either list
+  pub in_first : (p s t : ℕ) → pair_of m p ≡ Some (s, t) → entry_of pair_order first (s, t) ≡ Some (s, t, p)
+  in_first p s t is = listed by_pair back_pair m first it.rises it.first_rises it.first_lists (p, s, t) is
+
+  pub in_second : (p s t : ℕ) → pair_of m p ≡ Some (s, t) → entry_of pair_order second (t, s) ≡ Some (t, s, p)
+  in_second p s t is = listed by_turned_pair back_turned m second it.rises it.second_rises it.second_lists (p, s, t) is
+
+  of_first : (p s t : ℕ) → entry_of pair_order first (s, t) ≡ Some (s, t, p) → pair_of m p ≡ Some (s, t)
+  of_first p s t is = unlisted by_pair back_pair m first it.rises it.first_rises it.first_lists (p, s, t) is
+
+  of_second : (p s t : ℕ) → entry_of pair_order second (t, s) ≡ Some (t, s, p) → pair_of m p ≡ Some (s, t)
+  of_second p s t is = unlisted by_turned_pair back_turned m second it.rises it.second_rises it.second_lists (p, s, t) is
+
+  -- what either list finds
+  pub least_first : (s from : ℕ) (found : Option (ℕ × ℕ)) → IsLeastFrom (λ b c. entry_of pair_order first (s, b) ≡ Some (s, b, c)) from found → IsLeastFrom (λ t p. pair_of m p ≡ Some (s, t)) from found
+  least_first s from found = least_by (λ b c. entry_of pair_order first (s, b) ≡ Some (s, b, c)) (λ t p. pair_of m p ≡ Some (s, t)) from found (λ t p. of_first p s t) (λ t p. in_first p s t)
+
+  pub least_second : (t from : ℕ) (found : Option (ℕ × ℕ)) → IsLeastFrom (λ b c. entry_of pair_order second (t, b) ≡ Some (t, b, c)) from found → IsLeastFrom (λ s p. pair_of m p ≡ Some (s, t)) from found
+  least_second t from found = least_by (λ b c. entry_of pair_order second (t, b) ≡ Some (t, b, c)) (λ s p. pair_of m p ≡ Some (s, t)) from found (λ s p. of_second p s t) (λ s p. in_second p s t)
+
+  whole : (a b : ℕ) (items : List Triple) (x : Triple) → entry_of pair_order items (a, b) ≡ Some x → entry_of pair_order items (a, b) ≡ Some (a, b, x.2)
+  whole a b items x is =
+      let own = entry_key pair_order pair_total items (a, b) x is in
+      is ∙ ap (λ (k : ℕ × ℕ). Some (k.0, k.1, x.2)) own
+
+  looked_by : (s t : ℕ) (own : Option Triple) (id : Option ℕ) → entry_of pair_order first (s, t) ≡ own → id_of m s t ≡ id → option_map (λ x. x.2) own ≡ id
+  looked_by s t None None is id_is = refl
+  looked_by s t None (Some p) is id_is =
+      let there = in_first p s t ((other_way m (rises m it.rises) one_to_one p s t).0 id_is) in
+      let no : ◌≡◌ {A = Option Triple} None (Some (s, t, p)) = sym is ∙ there in
+      cc
+  looked_by s t (Some x) id is id_is =
+      sym ((other_way m (rises m it.rises) one_to_one x.2 s t).1 (of_first x.2 s t (whole s t first x is))) ∙ id_is
+
+  -- what the first list finds is the identifier
+  pub looked_up : (s t : ℕ) → option_map (λ x. x.2) (entry_of pair_order first (s, t)) ≡ id_of m s t
+  looked_up s t = looked_by s t (entry_of pair_order first (s, t)) (id_of m s t) refl refl
+
+  absent_by : (s t p : ℕ) → id_of m s t ≡ None → pair_of m p ≡ Some (s, t) → ⊥
+  absent_by s t p none is =
+      let some = (other_way m (rises m it.rises) one_to_one p s t).1 is in
+      let no : None ≡ Some p = sym none ∙ some in
+      cc
+
+  absent : (a b : ℕ) (items : List Triple) (own : Option Triple) → entry_of pair_order items (a, b) ≡ own → ((p : ℕ) → entry_of pair_order items (a, b) ≡ Some (a, b, p) → ⊥) → own ≡ None
+  absent a b items None is none = refl
+  absent a b items (Some x) is none = absurd (none x.2 (whole a b items x is))
+
+  -- a new pair is in neither list
+  pub absent_first : (s t : ℕ) → id_of m s t ≡ None → entry_of pair_order first (s, t) ≡ None
+  absent_first s t none = absent s t first (entry_of pair_order first (s, t)) refl (λ p is. absent_by s t p none (of_first p s t is))
+
+  pub absent_second : (s t : ℕ) → id_of m s t ≡ None → entry_of pair_order second (t, s) ≡ None
+  absent_second s t none = absent t s second (entry_of pair_order second (t, s)) refl (λ p is. absent_by s t p none (of_second p s t is))
+
+-- an entry more in all three lists
+pub put_indexed : (es first second es_now first_now second_now : PagesState Triple) (p s t : ℕ) → IsIndexed es.entries first.entries second.entries
+    → HasMore id_order (p, s, t) es es_now → HasMore pair_order (s, t, p) first first_now → HasMore pair_order (t, s, p) second second_now
+    → IsIndexed es_now.entries first_now.entries second_now.entries
+put_indexed es first second es_now first_now second_now p s t is more more_first more_second =
+    record {
+      rises = more.more_rises;
+      first_rises = more_first.more_rises;
+      first_lists = λ test. more_first.counts test ∙ ap (λ (n : ℕ). n + (if test (s, t, p) then 1 else 0)) (is.first_lists test) ∙ sym (more.counts (λ e. test (by_pair e)));
+      second_rises = more_second.more_rises;
+      second_lists = λ test. more_second.counts test ∙ ap (λ (n : ℕ). n + (if test (t, s, p) then 1 else 0)) (is.second_lists test) ∙ sym (more.counts (λ e. test (by_turned_pair e)));
+    }
+
+fewer : (a b c d x : ℕ) → b ≡ a + x → d ≡ c + x → b ≡ d → a ≡ c
+fewer a b c d x e f g = omega (arith, e, f, g)
+
+-- an entry less in all three lists
+pub taken_indexed : (es first second es_now first_now second_now : PagesState Triple) (p s t : ℕ) → IsIndexed es.entries first.entries second.entries
+    → HasMore id_order (p, s, t) es_now es → HasMore pair_order (s, t, p) first_now first → HasMore pair_order (t, s, p) second_now second
+    → IsIndexed es_now.entries first_now.entries second_now.entries
+taken_indexed es first second es_now first_now second_now p s t is more more_first more_second =
+    record {
+      rises = more.less_rises;
+      first_rises = more_first.less_rises;
+      first_lists = λ test. fewer (count_by test first_now.entries) (count_by test first.entries) (count_by (λ e. test (by_pair e)) es_now.entries) (count_by (λ e. test (by_pair e)) es.entries) (if test (s, t, p) then 1 else 0) (more_first.counts test) (more.counts (λ e. test (by_pair e))) (is.first_lists test);
+      second_rises = more_second.less_rises;
+      second_lists = λ test. fewer (count_by test second_now.entries) (count_by test second.entries) (count_by (λ e. test (by_turned_pair e)) es_now.entries) (count_by (λ e. test (by_turned_pair e)) es.entries) (if test (t, s, p) then 1 else 0) (more_second.counts test) (more.counts (λ e. test (by_turned_pair e))) (is.second_lists test);
+    }

@@ -1,3 +1,4 @@
-mod EntryLemmas
-mod KeyLemmas
+mod CountLemmas
+mod IdLemmas
 mod IndexLemmas
+mod PairLemmas

@@ -1,6 +1,5 @@
-pub mod Indexed
+pub mod Found
 pub mod Laws
-pub mod PairKeys
 pub mod Pairs
 pub mod States
 pub mod inner

@@ -1,5 +1,5 @@
 -- What contracts say of the entries of a memory.
-use Rattle.std.specs.Prelude.{◌≡◌, ℕ, suc, ◌+◌, ◌≤◌, ◌==◌, ◌&&◌, nat_lt, Bool, List, [], ◌∷◌, count_by, if◌then◌else◌, Option, Some, None}
+use Rattle.std.specs.Prelude.{◌≡◌, ℕ, ◌+◌, ◌≤◌, ◌==◌, ◌&&◌, Bool, List, [], ◌∷◌, count_by, if◌then◌else◌, Option, Some, None}
 
 -- identifiers p, each with its pair (s, t)
 abbrev pub Pairs : Type 0
@@ -40,8 +40,3 @@ with_second t es = count_by (λ e. e.2 == t) es
 pub record IsWith (before : Pairs) (p : ℕ) (pair : Option (ℕ × ℕ)) (now : Pairs) : Type 0 where
   pub rises : RiseFrom 0 now
   pub pairs : (q : ℕ) → pair_of now q ≡ (if p == q then pair else pair_of before q)
-
--- how many identifiers are below this one, where they rise
-abbrev pub place_of_id : Pairs → ℕ → ℕ
-place_of_id [] p = 0
-place_of_id (e ∷ es) p = if nat_lt e.0 p then suc (place_of_id es p) else 0

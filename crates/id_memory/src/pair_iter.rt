@@ -2,12 +2,14 @@
 ghost use Rattle.std.specs.Prelude.{◌≡◌};
 ghost use Rattle.std.specs.Iterator.{YieldsFirst, item_count};
 
+use crate::id_entries::IdEntry;
+use ordered_pages::EntryItems;
 use std::marker::Model;
 
-/// The entries (p, s, t) of a memory that are left, by ascending p.
+/// The entries (p, s, t) of a memory that are left, by ascending p. An entry takes constant time.
 #[derive(Drop)]
 pub struct PairIter<'a> {
-    entries: &'a [(u64, u64, u64)],
+    entries: EntryItems<'a, IdEntry>,
 }
 
 impl<'a> Model for PairIter<'a> {
@@ -15,12 +17,12 @@ impl<'a> Model for PairIter<'a> {
 
     ghost Value = { Pairs };
 
-    ghost view = { λ iter. iter.entries.now };
+    ghost view = { λ iter. iter.entries };
 }
 
 impl<'a> PairIter<'a> {
-    pub(crate) fn new(entries: &'a [(u64, u64, u64)]) -> PairIter<'a>
-        ensures { result ≡ entries.now }
+    pub(crate) fn new(entries: EntryItems<'a, IdEntry>) -> PairIter<'a>
+        ensures { result ≡ entries.entry }
     {
         PairIter { entries }
     }
@@ -34,8 +36,9 @@ impl<'a> Iterator for PairIter<'a> {
     ghost remaining = { item_count (λ left. left) };
 
     fn next(&mut self) -> Option<(u64, u64, u64)> {
-        let (first, others) = self.entries.split_first()?;
-        self.entries = others;
-        Some(*first)
+        match self.entries.next() {
+            Some(own) => Some(own.entry()),
+            None => None,
+        }
     }
 }

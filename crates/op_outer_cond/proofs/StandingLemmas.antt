@@ -1,36 +1,13 @@
 -- Rows that stand in entries, by counting.
-use Rattle.std.specs.Prelude.{nat_lt}
 use Rattle.std.proofs.Common.{◌≡◌, ℕ, ◌+◌, ◌<◌, ◌≤◌, List, [], ◌∷◌, ◌++◌, length, take, drop, filter, slice_index_or, Bool, true, if◌then◌else◌, ap, sym, ◌∙◌, subst, take-append-drop, arith}
 use Rattle.std.proofs.lemmas.List.{take_more, drop_more}
 use Rattle.par_base.specs.declared.value.Value.{Value}
 use Rattle.row_store.specs.Rows.{Rows, RiseFrom, AreBelow}
 use Rattle.pair_rows.specs.inner.Lookups.{filter_append}
 use Rattle.outer_law.specs.Placed.{standing}
-use Rattle.std.proofs.lemmas.Bool.Decides.{nat_tests}
-use Rattle.std.proofs.lemmas.Bool.{false≢true}
 use Rattle.id_memory.specs.Pairs.{Pairs}
 use Rattle.row_parts.specs.RowCells.{by_test}
 use Rattle.pair_rows.specs.Stays.{stands}
-use Rattle.outer_law.specs.Entries.{with_half}
-use Rattle.outer_law.proofs.StartLaws.{ArePicks, stands_counted, counted_stands}
-
--- more than none
-some_counted : (k : ℕ) → 1 ≤ k → nat_lt 0 k ≡ true
-some_counted k e = grind (arith, nat_tests)
-
--- and the other way
-counted_some : (k : ℕ) → nat_lt 0 k ≡ true → 1 ≤ k
-counted_some k e = grind (arith, nat_tests)
-
--- an identifier stands in an entry where some entries with it are counted
-pub standing_by : (pick other : ℕ × ℕ × ℕ → ℕ) (picks : ArePicks pick other) (es : Pairs) (id : ℕ) → nat_lt 0 (with_half pick id es) ≡ stands pick es id
-standing_by pick other picks es id =
-    by_test (stands pick es id)
-    (λ q. some_counted (with_half pick id es) (stands_counted pick other picks es id q) ∙ sym q)
-    (λ q.
-    by_test (nat_lt 0 (with_half pick id es))
-    (λ u. absurd (false≢true (sym q ∙ counted_stands pick other picks es id (counted_some (with_half pick id es) u))))
-    (λ u. u ∙ sym q))
 
 -- rows that stand are below the next row
 behind_kept : (test : ℕ → Bool) (n : ℕ) (xs : Rows) (x : ℕ × List Value) (ys : Rows) → RiseFrom n (xs ++ x ∷ ys) → (n ≤ x.0) × AreBelow (filter (λ r. test r.0) xs) x.0

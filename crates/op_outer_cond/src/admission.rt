@@ -14,7 +14,7 @@ ghost use Rattle.op_outer_cond.specs.Outerings.{joining};
 ghost use Rattle.op_outer_cond.specs.inner.Calls.{joining_of};
 ghost use Rattle.op_outer_cond.specs.inner.Admitted.{other_of, IsOnce, AreOnce, AreIn, AreOuter, IsSource};
 
-use crate::halves::{entries_with, half_in, other_in};
+use crate::halves::{half_in, has_no_two, other_in};
 use crate::outer::OuterOn;
 use crate::places::{Outer, outer_of, places_of};
 use crate::reading::{read_source, read_target, shown};
@@ -97,7 +97,7 @@ fn is_once(half: Half, memory: &PairMemory, entry: &(u64, u64, u64)) -> bool
     if other_in(half, entry) != 0 {
         return true;
     }
-    entries_with(half, memory, half_in(half, entry)) <= 1
+    has_no_two(half, memory, half_in(half, entry))
 }
 
 /// The same of each entry.

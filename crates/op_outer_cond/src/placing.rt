@@ -11,7 +11,7 @@ ghost use Rattle.outer_law.specs.Placed.{own_alone, place_both, place_first, pla
 ghost use Rattle.op_outer_cond.specs.inner.Placings.{placing_of, parts_in, shared_choice, IsReady, IsGiven, changed_in, row_in, placed_in, ending_in};
 
 use crate::half_rows::{HalfRows, got_alone, got_shared};
-use crate::halves::entries_with;
+use crate::halves::has_one;
 use crate::parts::{Part, Parts, is_present, parts_of};
 use crate::places::Outer;
 use id_memory::{IdCounter, PairMemory};
@@ -44,7 +44,7 @@ fn own_alone(half: Half, memory: &PairMemory, own: Option<u64>) -> Option<u64>
     ensures { result ≡ own_alone (pick_of half) memory.now.entries own }
 {
     let id = own?;
-    if entries_with(half, memory, id) == 1 {
+    if has_one(half, memory, id) {
         Some(id)
     } else {
         None

@@ -2,11 +2,11 @@
 ghost use Rattle.std.specs.Prelude.{◌≡◌, ◌++◌, ◌∷◌, [], if◌then◌else◌, IfOk, OnOk};
 ghost use Rattle.row_store.specs.Rows.{AreBelow};
 ghost use Rattle.pair_rows.specs.Halves.{pick_of};
-ghost use Rattle.pair_rows.specs.Stays.{stands};
+ghost use Rattle.pair_rows.specs.Stays.{stands as stands_lem};
 ghost use Rattle.outer_law.specs.Placed.{full, standing};
 
 use id_memory::PairMemory;
-use pair_rows::Half;
+use pair_rows::{Half, stands};
 use par_base::{List, Memory, Row};
 use row_store::Table;
 use std::alloc::Global;
@@ -27,16 +27,6 @@ pub(crate) fn full(
     Ok(made)
 }
 
-/// Whether an identifier stands in an entry.
-fn stands(half: Half, memory: &PairMemory, id: u64) -> bool
-    ensures { result ≡ stands (pick_of half) memory.now.entries id }
-{
-    match half {
-        Half::First => memory.pairs_of_first(id) > 0,
-        Half::Second => memory.pairs_of_second(id) > 0,
-    }
-}
-
 /// Puts a row behind the others, where it stands in an entry.
 fn push_if_stands(
     alloc: Global,
@@ -47,7 +37,7 @@ fn push_if_stands(
 ) -> Result<(), Memory>
     requires { AreBelow made.old.rows row.now.0 }
     ensures { OnOk result (made.new.rows ≡ made.old.rows ++
-        (if stands (pick_of half) memory.now.entries row.now.0 then row.now ∷ [] else [])) }
+        (if stands_lem (pick_of half) memory.now.entries row.now.0 then row.now ∷ [] else [])) }
 {
     if stands(half, memory, row.0) {
         made.push(row.0, row.1.copy(alloc)?)?;

@@ -1,5 +1,8 @@
 -- Passes over rows of which some stay.
-use Rattle.std.proofs.Common.{◌≡◌, ℕ, ◌+◌, ◌<◌, ◌≤◌, ◌==◌, nat_lt, List, [], ◌∷◌, ◌++◌, length, take, drop, filter, count_by, slice_index_or, Bool, true, not, cond, if◌then◌else◌, ◌||◌, refl, ap, sym, ◌∙◌, subst, take-append-drop, arith}
+use Rattle.std.proofs.Common.{◌≡◌, ℕ, zero, suc, ◌+◌, ◌<◌, ◌≤◌, ◌==◌, nat_lt, List, [], ◌∷◌, ◌++◌, length, take, drop, filter, count_by, slice_index_or, Bool, true, not, cond, if◌then◌else◌, ◌||◌, refl, ap, sym, ◌∙◌, subst, take-append-drop, arith}
+use Rattle.std.specs.Prelude.{min}
+use Rattle.std.proofs.Math.Nat.{min-eq_left, min-zero}
+use Rattle.std.proofs.lemmas.Bool.{lt-ltb}
 use Rattle.std.proofs.lemmas.Bool.Decides.{nat_tests}
 use Rattle.std.proofs.lemmas.List.{take_more, drop_more}
 use Rattle.par_base.specs.declared.value.Value.{Value}
@@ -13,6 +16,11 @@ use Rattle.pair_rows.specs.inner.Lookups.{filter_append}
 -- more than none
 some_counted : (k n : ℕ) → k ≡ 1 + n → nat_lt 0 k ≡ true
 some_counted k n e = grind (arith, nat_tests)
+
+-- whether one of so many is counted is whether there are some
+pub some_of : (n : ℕ) → nat_lt 0 (min 1 n) ≡ nat_lt 0 n
+some_of zero = ap (nat_lt 0) (min-zero 1)
+some_of (suc n) = ap (nat_lt 0) (min-eq_left (omega arith)) ∙ sym (lt-ltb 0 (suc n) (omega arith))
 
 -- an identifier stands in a pair where some pairs with it are counted
 pub stands_counted : (pick : ℕ × ℕ × ℕ → ℕ) (es : Pairs) (id : ℕ) → nat_lt 0 (count_by (λ e. pick e == id) es) ≡ stands pick es id

@@ -21,6 +21,6 @@ pub use half::Half;
 pub use memories::{draw_for, entries_of, memory_of};
 pub use side_reading::{push_cell, side_read};
 pub use sides::{aux_in, table_in};
-pub use stays::{alone, staying};
+pub use stays::{alone, stands, staying};
 pub use taken::{Taken, is_taken, none_taken, take};
 pub use unchanged::{OldTarget, kept_in, unchanged_pair};

@@ -11,13 +11,13 @@ use par_base::{Memory, Row};
 use row_store::Table;
 use std::alloc::Global;
 
-/// Whether an identifier stands in a pair.
-fn stands(half: Half, memory: &PairMemory, id: u64) -> bool
+/// Whether an identifier stands in a pair, found by two binary searches. It takes no memory.
+pub fn stands(half: Half, memory: &PairMemory, id: u64) -> bool
     ensures { result ≡ stands (pick_of half) memory.now.entries id }
 {
     match half {
-        Half::First => memory.pairs_of_first(id) > 0,
-        Half::Second => memory.pairs_of_second(id) > 0,
+        Half::First => memory.pairs_of_first(id, 1) > 0,
+        Half::Second => memory.pairs_of_second(id, 1) > 0,
     }
 }
 

@@ -1,26 +1,28 @@
--- What calls on sorted lists of triples ensure.
-use Rattle.std.specs.Prelude.{◌≡◌, ℕ, ◌+◌, Bool, List, count_by, if◌then◌else◌, vec_len, vec_capacity}
-use Rattle.std.specs.Global.{Vec}
-use Rattle.id_memory.specs.PairKeys.{SortedFrom}
+-- What calls on entries in pages ask for and ensure.
+use Rattle.std.specs.Prelude.{◌≡◌, ℕ, ◌+◌, ◌<◌, Bool, List, length, count_by, if◌then◌else◌, Some, None}
+use Rattle.ordered_pages.specs.Orders.{Order}
+use Rattle.ordered_pages.specs.Entries.{Rise, entry_of}
+use Rattle.ordered_pages.specs.States.{PagesState}
+use Rattle.id_memory.specs.inner.Orders.{Triple, pair_order}
 
--- every test passes as many as before, and the triple besides
-abbrev pub CountsMore : ℕ × ℕ × ℕ → List (ℕ × ℕ × ℕ) → List (ℕ × ℕ × ℕ) → Type 0
-CountsMore x before now = (test : ℕ × ℕ × ℕ → Bool) → count_by test now ≡ count_by test before + (if test x then 1 else 0)
+-- every test passes as many as before, and the entry besides
+abbrev pub CountsMore : Triple → List Triple → List Triple → Type 0
+CountsMore x before now = (test : Triple → Bool) → count_by test now ≡ count_by test before + (if test x then 1 else 0)
 
--- every test passes as many as before, but for the triple
-abbrev pub CountsLess : ℕ × ℕ × ℕ → List (ℕ × ℕ × ℕ) → List (ℕ × ℕ × ℕ) → Type 0
-CountsLess x before now = (test : ℕ × ℕ × ℕ → Bool) → count_by test now + (if test x then 1 else 0) ≡ count_by test before
+-- the second pages have the entry besides, and as much room in all
+pub record HasMore {K : Type 0} (order : Order Triple K) (x : Triple) (less more : PagesState Triple) : Type 0 where
+  pub less_rises : Rise order less.entries
+  pub more_rises : Rise order more.entries
+  pub counts : CountsMore x less.entries more.entries
+  pub capacity : more.capacity ≡ less.capacity
 
--- the list has one triple more, and keeps its capacity
-pub record AddsTriple (x : ℕ × ℕ × ℕ) (before now : Vec (ℕ × ℕ × ℕ)) : Type 0 where
-  pub sorted : SortedFrom 0 now.items
-  pub counts : CountsMore x before.items now.items
-  pub len : vec_len now ≡ vec_len before + 1
-  pub capacity : vec_capacity now ≡ vec_capacity before
+-- the pages don't have the pair, and have room for it
+pub record HasNone (pair : ℕ × ℕ) (pages : PagesState Triple) : Type 0 where
+  pub rises : Rise pair_order pages.entries
+  pub absent : entry_of pair_order pages.entries pair ≡ None
+  pub room : length pages.entries < pages.capacity
 
--- the list has one triple less, and keeps its capacity
-pub record LosesTriple (x : ℕ × ℕ × ℕ) (before now : Vec (ℕ × ℕ × ℕ)) : Type 0 where
-  pub sorted : SortedFrom 0 now.items
-  pub counts : CountsLess x before.items now.items
-  pub len : vec_len now + 1 ≡ vec_len before
-  pub capacity : vec_capacity now ≡ vec_capacity before
+-- the pages have the pair with its identifier
+pub record HasPair (x : Triple) (pages : PagesState Triple) : Type 0 where
+  pub rises : Rise pair_order pages.entries
+  pub there : entry_of pair_order pages.entries (x.0, x.1) ≡ Some x

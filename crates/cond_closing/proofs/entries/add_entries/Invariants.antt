@@ -4,7 +4,7 @@ use Rattle.pair_rows.specs.Halves.{pick_of}
 use Rattle.table_keys.specs.States.{behind}
 use Rattle.id_closing.specs.Found.{AreAmong}
 use Rattle.cond_closing.specs.Entries.{IsEntry, other_of}
-use Rattle.cond_closing.proofs.SearchLemmas.{Triple}
+use Rattle.cond_closing.proofs.EntryLemmas.{Triple}
 use Rattle.cond_closing.proofs.entries.add_entries.Given as goal
 
 abbrev pub invariant-loop-entry : goal.invariant-loop-entry

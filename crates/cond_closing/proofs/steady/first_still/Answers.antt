@@ -1,7 +1,7 @@
 use Rattle.std.proofs.Common.{Option, sym, ◌∙◌, subst}
 use Rattle.table_keys.specs.States.{behind}
 use Rattle.cond_closing.specs.Entries.{IsNextWith}
-use Rattle.cond_closing.proofs.SearchLemmas.{Triple}
+use Rattle.cond_closing.proofs.EntryLemmas.{Triple}
 use Rattle.cond_closing.proofs.StillLemmas.{none_of, passed_more, still_behind, still_found, still_none}
 use Rattle.cond_closing.proofs.steady.first_still.Goals as goal
 

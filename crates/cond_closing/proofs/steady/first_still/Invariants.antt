@@ -3,7 +3,7 @@ use Rattle.pair_rows.specs.Halves.{pick_of}
 use Rattle.table_keys.specs.States.{behind}
 use Rattle.cond_closing.specs.Entries.{IsEntry, other_of}
 use Rattle.cond_closing.specs.Steady.{stays}
-use Rattle.cond_closing.proofs.SearchLemmas.{Triple}
+use Rattle.cond_closing.proofs.EntryLemmas.{Triple}
 use Rattle.cond_closing.proofs.steady.first_still.Given as goal
 
 abbrev pub invariant-loop-entry : goal.invariant-loop-entry

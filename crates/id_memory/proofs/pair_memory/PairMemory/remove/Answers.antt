@@ -1,16 +1,27 @@
-use Rattle.std.proofs.Common.{rules}
-use Rattle.id_memory.proofs.IndexLemmas.{there_first, there_second, remove_indexed}
+use Rattle.std.proofs.Common.{None, ap, subst, sym, ◌∙◌, rules}
+use Rattle.id_memory.specs.Pairs.{Pairs, IsWith}
+use Rattle.id_memory.specs.States.{MemoryState}
+use Rattle.id_memory.proofs.IdLemmas.{none_taken}
+use Rattle.id_memory.proofs.IndexLemmas.{in_first, in_second}
 use Rattle.id_memory.proofs.pair_memory.PairMemory.remove.Goals as goal
 
-pub leave_both-requires-clause-first_there : goal.leave_both-requires-clause-first_there
-leave_both-requires-clause-first_there c =
-    there_first c.self.inside.entries.items c.self.inside.by_first.items c.self.inside.by_second.items c.args.p c.in-Some.s c.in-Some.t c.self.invariant (search rules)
+pub leave_both-requires-clause-first : goal.leave_both-requires-clause-first
+leave_both-requires-clause-first c =
+    let it = c.self.invariant.0 in
+    record {
+      rises = it.first_rises;
+      there = in_first c.self.inside.entries.entries c.self.inside.by_first.entries c.self.inside.by_second.entries it c.args.p c.in-Some.s c.in-Some.t (search rules);
+    }
 
-pub leave_both-requires-clause-second_there : goal.leave_both-requires-clause-second_there
-leave_both-requires-clause-second_there c =
-    there_second c.self.inside.entries.items c.self.inside.by_first.items c.self.inside.by_second.items c.args.p c.in-Some.s c.in-Some.t c.self.invariant (search rules)
+pub leave_both-requires-clause-second : goal.leave_both-requires-clause-second
+leave_both-requires-clause-second c =
+    let it = c.self.invariant.0 in
+    record {
+      rises = it.second_rises;
+      there = in_second c.self.inside.entries.entries c.self.inside.by_first.entries c.self.inside.by_second.entries it c.args.p c.in-Some.s c.in-Some.t (search rules);
+    }
 
-pub invariant_of-self : goal.invariant_of-self
-invariant_of-self c =
-    remove_indexed c.self.inside.entries.items c.self.inside.by_first.items c.self.inside.by_second.items c.leave.new.entries.items c.leave_both.new.first.items c.leave_both.new.second.items c.args.p c.in-Some.s c.in-Some.t c.self.invariant
-    c.leave.ensures.with.rises c.leave.ensures.counts c.leave_both.ensures.first.sorted c.leave_both.ensures.first.counts c.leave_both.ensures.second.sorted c.leave_both.ensures.second.counts
+pub returns-in_default-clause-without : goal.returns-in_default-clause-without
+returns-in_default-clause-without c =
+    subst (λ (m : Pairs). IsWith m c.args.p None m) (ap (λ (memory : MemoryState). memory.entries) c.self.view_is)
+    (none_taken c.self.inside.entries.entries c.args.p c.self.invariant.0.rises (sym c.find.ensures ∙ c.in_default.is))
