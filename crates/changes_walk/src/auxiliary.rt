@@ -16,8 +16,8 @@ use crate::progress::Changing;
 use crate::reader::StateRead;
 use expr_lang::Steps;
 use id_memory::PairMemory;
+use op_cells::ByCells;
 use op_law::{Aux, Operator, Pair, Side};
-use operator_changes::aux_changes_over;
 use par_base::{List, Memory};
 use row_changes::{SideChanges, changed_copies, differences};
 use row_store::Changes;
@@ -127,7 +127,7 @@ fn is_bare(aux: &Aux) -> bool
 
 /// Over an operator that treats each identifier by itself, from the old rows of the identifiers
 /// that the changes of both sides name. Its memory is empty, and stays so.
-fn aux_local<O: Operator, D: StateRead, L: Ledger>(
+fn aux_local<O: ByCells, D: StateRead, L: Ledger>(
     alloc: Global,
     over: &Way<'_, O>,
     rows: &D,
@@ -146,9 +146,8 @@ fn aux_local<O: Operator, D: StateRead, L: Ledger>(
     let near = side_of(alloc, made.tables.as_slice(), over.near)?;
     let far = side_of(alloc, made.tables.as_slice(), over.far)?;
     let mut old = read_over(rows, over);
-    aux_changes_over(
+    over.operator.aux_differences(
         alloc,
-        over.operator,
         over.backward,
         &near,
         &far,
@@ -184,7 +183,7 @@ fn aux_whole<O: Operator, D: StateRead, L: Ledger>(
 /// are kept, none come, and it reads nothing. Over an operator that treats each identifier by itself it
 /// reads of the old state the rows of the identifiers that the changes name, and no others; over any
 /// other it copies the tables on both sides.
-pub fn aux_changes<O: Operator, D: StateRead, L: Ledger>(
+pub fn aux_changes<O: ByCells, D: StateRead, L: Ledger>(
     alloc: Global,
     over: &Way<'_, O>,
     rows: &D,

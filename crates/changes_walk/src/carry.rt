@@ -10,14 +10,14 @@ use crate::progress::Changing;
 use crate::reader::StateRead;
 use expr_lang::Steps;
 use layout_rules::holds;
-use op_law::Operator;
+use op_cells::ByCells;
 use par_base::{Fault, IdsSpent};
 use std::alloc::Global;
 use std::sync::ledger::Ledger;
 use version_graph::{Graph, Step};
 use version_model::way_of;
 
-fn make_step<O: Operator, D: StateRead, L: Ledger>(
+fn make_step<O: ByCells, D: StateRead, L: Ledger>(
     alloc: Global,
     graph: &Graph<O>,
     rows: &D,
@@ -43,7 +43,7 @@ fn make_step<O: Operator, D: StateRead, L: Ledger>(
 /// can reach. Over operators that treat each identifier by itself it reads of the old state the rows
 /// of the identifiers that the changes name, and no others; over any other it copies the tables on
 /// both sides. For each other operator of the walk it takes the time to look through these.
-pub fn carry_changes<O: Operator, D: StateRead, L: Ledger>(
+pub fn carry_changes<O: ByCells, D: StateRead, L: Ledger>(
     alloc: Global,
     graph: &Graph<O>,
     rows: &D,

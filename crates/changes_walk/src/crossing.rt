@@ -11,8 +11,8 @@ use crate::progress::Changing;
 use crate::reader::StateRead;
 use crate::whole::whole_changes;
 use expr_lang::Steps;
+use op_cells::ByCells;
 use op_law::Operator;
-use operator_changes::changes_over;
 use par_base::{Fault, IdsSpent};
 use std::alloc::Global;
 use std::sync::ledger::Ledger;
@@ -20,7 +20,7 @@ use version_model::Way;
 
 /// Over an operator that treats each identifier by itself, from the old rows of the identifiers
 /// that the near changes name. Its memory is empty, and stays so.
-fn cross_local<O: Operator, D: StateRead, L: Ledger>(
+fn cross_local<O: ByCells, D: StateRead, L: Ledger>(
     alloc: Global,
     rows: &D,
     made: &mut Changing,
@@ -36,9 +36,8 @@ fn cross_local<O: Operator, D: StateRead, L: Ledger>(
 {
     let near = side_of(alloc, made.tables.as_slice(), over.near)?;
     let mut old = read_over(rows, over);
-    let far = changes_over(
+    let far = over.operator.far_changes(
         alloc,
-        over.operator,
         over.backward,
         &near,
         &mut old,
@@ -78,7 +77,7 @@ fn cross_whole<O: Operator, D: StateRead, L: Ledger>(
 }
 
 /// Makes the changes of the far side of a way, and its memory, from the changes of the near side.
-pub(crate) fn cross<O: Operator, D: StateRead, L: Ledger>(
+pub(crate) fn cross<O: ByCells, D: StateRead, L: Ledger>(
     alloc: Global,
     rows: &D,
     made: &mut Changing,

@@ -13,7 +13,8 @@ use crate::tree::Tree;
 use changes_walk::{aux_changes, changes_now};
 use db_state::{Db, Sight, aux_seen, stored_way};
 use expr_lang::Steps;
-use op_law::{Aux, Operator};
+use op_cells::ByCells;
+use op_law::Aux;
 use par_base::{List, Memory};
 use row_changes::SideChanges;
 use row_store::Changes;
@@ -58,7 +59,7 @@ fn aux_before(
     }
 }
 
-fn aux_change<O: Operator, L: Ledger>(
+fn aux_change<O: ByCells, L: Ledger>(
     alloc: Global,
     db: &Db<O>,
     making: &Making,
@@ -88,7 +89,7 @@ fn aux_change<O: Operator, L: Ledger>(
 }
 
 /// The changes of the auxiliary tables that are seen, of each operator of the tree.
-pub(crate) fn tree_aux_changes<O: Operator, L: Ledger>(
+pub(crate) fn tree_aux_changes<O: ByCells, L: Ledger>(
     alloc: Global,
     db: &Db<O>,
     tree: &Tree,

@@ -15,7 +15,7 @@ use changes_walk::{Changing, StateRead, carry_changes};
 use db_state::{Db, Sight};
 use expr_lang::Steps;
 use id_memory::PairMemory;
-use op_law::Operator;
+use op_cells::ByCells;
 use pair_parts::memory_part;
 use par_base::{Fault, IdsSpent, List, Memory, Row};
 use row_store::Table;
@@ -99,7 +99,7 @@ pub(crate) fn first_made(alloc: Global, written: RowWrite) -> Result<Changing, M
 }
 
 /// Carries the changes of a write along its tree.
-fn carry_write<O: Operator, L: Ledger>(
+fn carry_write<O: ByCells, L: Ledger>(
     alloc: Global,
     graph: &Graph<O>,
     rows: Seen<'_>,
@@ -121,7 +121,7 @@ fn carry_write<O: Operator, L: Ledger>(
 }
 
 /// Makes the write of what is seen: of all rows, or of those of some identifiers.
-pub(crate) fn make_write<O: Operator, L: Ledger>(
+pub(crate) fn make_write<O: ByCells, L: Ledger>(
     alloc: Global,
     db: &Db<O>,
     tree: &Tree,

@@ -19,6 +19,7 @@ use crate::tree::Tree;
 use db_state::{Db, Sight};
 use expr_lang::Steps;
 use layout_rules::holds;
+use op_cells::ByCells;
 use op_law::Operator;
 use operator_changes::add_drawn;
 use par_base::{Fault, List, Memory};
@@ -215,7 +216,7 @@ fn judge<O: Seeks, L: Ledger>(
 
 // What the write makes of what stands at these identifiers, unless it needs an identifier that the
 // counter doesn't give.
-fn make_seen<O: Operator, L: Ledger>(
+fn make_seen<O: ByCells, L: Ledger>(
     alloc: Global,
     db: &Db<O>,
     writing: Writing<'_>,
@@ -239,7 +240,7 @@ fn make_seen<O: Operator, L: Ledger>(
     }
 }
 
-fn try_part<O: Seeks, L: Ledger>(
+fn try_part<O: Seeks + ByCells, L: Ledger>(
     alloc: Global,
     db: &Db<O>,
     keys: &[Numbered<TableKeys>],
@@ -282,7 +283,7 @@ fn try_part<O: Seeks, L: Ledger>(
 /// A part of the tree of which the write is made, so that it is the part of the write, where one is
 /// found. It copies the rows of the part, so often as it grows, and looks up to three times for
 /// each of its identifiers and each operator that seeks.
-pub(crate) fn make_part<O: Seeks, L: Ledger>(
+pub(crate) fn make_part<O: Seeks + ByCells, L: Ledger>(
     alloc: Global,
     db: &Db<O>,
     keys: &[Numbered<TableKeys>],

@@ -34,6 +34,7 @@ use crate::tree::{Tree, tree_of};
 use changes_walk::Changing;
 use db_state::{Db, Sight, are_local};
 use expr_lang::Steps;
+use op_cells::ByCells;
 use op_law::Operator;
 use pair_changes::PairChange;
 use par_base::{Fault, IdsSpent, List, Memory};
@@ -82,7 +83,7 @@ pub(crate) fn plan_with<O: Operator>(
 }
 
 // The plan of what was made of what is seen of the tree.
-fn plan_of<O: Operator, L: Ledger>(
+fn plan_of<O: ByCells, L: Ledger>(
     alloc: Global,
     db: &Db<O>,
     tree: &Tree,
@@ -111,7 +112,7 @@ fn plan_of<O: Operator, L: Ledger>(
 }
 
 // The plan of a write that is made of what is seen of its tree, for which the kept keys are made ready.
-fn plan_seen<O: Operator, L: Ledger>(
+fn plan_seen<O: ByCells, L: Ledger>(
     alloc: Global,
     db: &Db<O>,
     keys: &mut Vec<Numbered<TableKeys>>,
@@ -142,7 +143,7 @@ fn plan_seen<O: Operator, L: Ledger>(
 }
 
 // The plan of a write that was made of a part of its tree.
-fn plan_part<O: Seeks, L: Ledger>(
+fn plan_part<O: Seeks + ByCells, L: Ledger>(
     alloc: Global,
     db: &Db<O>,
     keys: &mut Vec<Numbered<TableKeys>>,
@@ -172,7 +173,7 @@ fn plan_part<O: Seeks, L: Ledger>(
 
 // A part of the tree of which the write is made, where its changes are few, each of the operators
 // treats each identifier by itself or seeks, and one is found.
-fn part_of<O: Seeks, L: Ledger>(
+fn part_of<O: Seeks + ByCells, L: Ledger>(
     alloc: Global,
     db: &Db<O>,
     keys: &mut Vec<Numbered<TableKeys>>,
@@ -196,7 +197,7 @@ fn part_of<O: Seeks, L: Ledger>(
 }
 
 // The plan of a write of a tree, of a part of it where one is found, and else of all rows.
-fn plan_wide<O: Seeks, L: Ledger>(
+fn plan_wide<O: Seeks + ByCells, L: Ledger>(
     alloc: Global,
     db: &Db<O>,
     keys: &mut Vec<Numbered<TableKeys>>,
@@ -230,7 +231,7 @@ fn plan_wide<O: Seeks, L: Ledger>(
 
 // The plan of a write over operators that treat each identifier by itself: of the rows of the
 // identifiers that its changes name.
-fn plan_named<O: Operator, L: Ledger>(
+fn plan_named<O: ByCells, L: Ledger>(
     alloc: Global,
     db: &Db<O>,
     keys: &mut Vec<Numbered<TableKeys>>,
@@ -258,7 +259,7 @@ fn plan_named<O: Operator, L: Ledger>(
 
 // The plan of a write over operators that treat each identifier by itself: of its changes where its
 // table stands alone, and else of the rows of the identifiers that they name.
-fn plan_local<O: Operator, L: Ledger>(
+fn plan_local<O: ByCells, L: Ledger>(
     alloc: Global,
     db: &Db<O>,
     keys: &mut Vec<Numbered<TableKeys>>,
@@ -288,7 +289,7 @@ fn plan_local<O: Operator, L: Ledger>(
 
 // The plan of a write of a tree: of the rows that its changes name where each operator treats each
 // identifier by itself, and else of more.
-fn plan_tree<O: Seeks, L: Ledger>(
+fn plan_tree<O: Seeks + ByCells, L: Ledger>(
     alloc: Global,
     db: &Db<O>,
     keys: &mut Vec<Numbered<TableKeys>>,
@@ -332,7 +333,7 @@ fn plan_tree<O: Seeks, L: Ledger>(
 /// missing, sixty-four times at most. Else, and where that finds no part, it reads and copies these
 /// tables, near and far for each operator. Of the operators that aren't between these tables it looks
 /// at their numbers alone.
-pub fn plan<O: Seeks + Drop, L: Ledger>(
+pub fn plan<O: Seeks + ByCells + Drop, L: Ledger>(
     alloc: Global,
     db: &mut Db<O>,
     keys: &mut Vec<Numbered<TableKeys>>,

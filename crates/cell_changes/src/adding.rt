@@ -1,0 +1,89 @@
+//! The changes of some tables, which grow identifier by identifier.
+ghost use Rattle.std.specs.Prelude.{◌≡◌, ◌↔◌, length, IfOk, IsTrue, OnOk};
+ghost use Rattle.std.specs.Option.{option_copied, option_map};
+ghost use Rattle.row_store.specs.Changes.{IsAbove};
+ghost use Rattle.op_rows.specs.Cells.{nth_cell};
+ghost use Rattle.cell_changes.specs.Growing.{no_changes as no_changes_lem, AddsCell, AddsCells, AllAbove};
+
+use op_law::copied;
+use par_base::{List, Memory, Row, is_same_values};
+use row_store::{Change, Changes};
+use std::alloc::Global;
+
+/// No changes of so many tables.
+pub(crate) fn no_changes(alloc: Global, count: usize) -> Result<Vec<Changes>, Memory>
+    ensures { IfOk result (λ made. made.items ≡ no_changes_lem count) }
+{
+    let mut made = Vec::new(alloc);
+    for _ in 0..count {
+        made.push(Changes::new(alloc))?;
+    }
+    Ok(made)
+}
+
+// Whether both are the same row, or none.
+fn is_same_cell(some: Option<&Row>, other: Option<&Row>) -> bool
+    ensures { IsTrue result ↔ (option_map (λ row. row.now) some.entry
+        ≡ option_map (λ row. row.now) other.entry) }
+{
+    match (some, other) {
+        (Some(some), Some(other)) => is_same_values(some.as_slice(), other.as_slice()),
+        (None, None) => true,
+        _ => false,
+    }
+}
+
+// The cell at a place, from 0 on; past the last one there is nothing.
+fn cell_at(cells: &[Option<Row>], at: usize) -> Option<&Row>
+    ensures { option_copied result ≡ nth_cell at cells.now }
+{
+    match cells.get(at) {
+        Some(Some(row)) => Some(row),
+        _ => None,
+    }
+}
+
+// Adds the change of a greater identifier, where it leaves another row.
+fn add_change(
+    alloc: Global,
+    changes: &mut Changes,
+    id: u64,
+    old: Option<&Row>,
+    new: Option<&Row>,
+) -> Result<(), Memory>
+    requires { IsAbove changes.old id }
+    ensures { OnOk result (AddsCell id (option_copied old.entry) (option_copied new.entry)
+        changes.old changes.new) }
+{
+    if is_same_cell(old, new) {
+        return Ok(());
+    }
+    changes.push(Change {
+        id,
+        old: copied(alloc, old)?,
+        new: copied(alloc, new)?,
+    })
+}
+
+/// Adds the changes of a greater identifier: one for each table that has another row there.
+pub(crate) fn add_changes(
+    alloc: Global,
+    tables: &mut [Changes],
+    id: u64,
+    old: &[Option<Row>],
+    new: &[Option<Row>],
+) -> Result<(), Memory>
+    requires { AllAbove tables.old id }
+    ensures { OnOk result (AddsCells id old.now new.now tables.old tables.new) }
+{
+    for which in 0..tables.len() {
+        add_change(
+            alloc,
+            &mut tables[which],
+            id,
+            cell_at(old, which),
+            cell_at(new, which),
+        )?;
+    }
+    Ok(())
+}
