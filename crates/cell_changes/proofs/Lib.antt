@@ -1,0 +1,4 @@
+mod CrossingLemmas
+mod GrowingLemmas
+mod PlaceLemmas
+mod ReadingLemmas
