@@ -1,14 +1,15 @@
 -- What is picked of the cells is the difference of the tables.
-use Rattle.std.proofs.Common.{◌≡◌, ℕ, ◌+◌, ◌*◌, ◌≤◌, List, [], ◌∷◌, Bool, true, false, not, length, refl, ap, sym, ◌∙◌, subst, arith}
-use Rattle.par_base.specs.declared.fault.Fault.{Fault}
+use Rattle.std.proofs.Common.{◌≡◌, ℕ, ◌+◌, ◌*◌, ◌≤◌, List, [], ◌∷◌, Bool, true, false, not, length, Ok, refl, ap, sym, ◌∙◌, subst, arith}
 use Rattle.id_memory.specs.Pairs.{pair_of}
 use Rattle.id_memory.specs.States.{CounterState}
 use Rattle.row_store.specs.Rows.{row_of}
 use Rattle.op_law.specs.Tables.{Tables, AllRise}
 use Rattle.op_law.specs.Meaning.{Meaning, PairState}
 use Rattle.op_rows.specs.Cells.{Cells, cells_at, first_cell, other_cells}
-use Rattle.op_rows.specs.NearSides.{seen_from, half_from}
-use Rattle.op_rows.specs.RowMeaning.{RowMeaning, RowHalf, RowLaws, rowwise}
+use Rattle.op_rows.specs.NearSides.{seen_from}
+use Rattle.op_rows.specs.RowCalls.{MayRows, SomeRows}
+use Rattle.op_rows.specs.declared.near_side.NearSide.{NearSide}
+use Rattle.op_rows.specs.RowMeaning.{RowMeaning, RowHalf, RowLaws, flip_row, rowwise}
 use Rattle.op_rows.specs.inner.CellLemmas.{has_id, IdsRise}
 use Rattle.op_rows.specs.inner.RowwiseAt.{aux_at, aux_rise, far_at, pair_at}
 use Rattle.op_rows.specs.inner.RowwiseLaws.{half}
@@ -19,11 +20,11 @@ use Rattle.row_changes.specs.Touched.{EachPass, touched}
 use Rattle.row_changes.proofs.ChangedLaws.{after_other, changed_at}
 use Rattle.row_changes.proofs.PickLaws.{picks_difference}
 use Rattle.row_changes.proofs.TouchedLaws.{each_pass, rise_over, stays_over, touched_pass}
-use Rattle.pair_changes.specs.MemoryChanges.{IsMemoryDifference}
+use Rattle.pair_changes.specs.declared.change.PairChange.{PairChange}
 use Rattle.operator_changes.specs.AuxCalls.{MayChangePair, changed_pair, touched_both}
-use Rattle.operator_changes.specs.Calls.{MayChange, ahead, mapped_changes, toward, IsFarDifference}
+use Rattle.operator_changes.specs.Calls.{MayChange, ahead, mapped_changes, toward, IsChangedTo, IsFarDifference}
 use Rattle.operator_changes.specs.Pairs.{side_at}
-use Rattle.cell_changes.specs.Crossing.{near_side, far_cells, aux_cells, MayCross, MayKeep}
+use Rattle.cell_changes.specs.Crossing.{near_side, far_cells, aux_cells, MapsCells, MayCross, MayKeep}
 use Rattle.cell_changes.specs.Growing.{PicksCells}
 
 -- PICKED OF SOME IDENTIFIERS, the changes are the difference of two sides that are the same at all others
@@ -134,3 +135,53 @@ near_is true p = refl
 pub far_side_is : (b : Bool) (p : PairState) → (ahead b p).target ≡ side_at (not b) p
 far_side_is false p = refl
 far_side_is true p = refl
+
+-- what is mapped at an identifier may be
+pub may_rows : (b : Bool) (side : NearSide) (r : RowMeaning) (near : TableChanges) (p : PairState) (id : ℕ) (now old far : Cells) → side ≡ near_side b
+    → now ≡ cells_at (changed_tables (side_at b p) near) id → old ≡ cells_at (side_at b p) id → far ≡ cells_at (side_at (not b) p) id
+    → MayCross (seen_from (near_side b) r) near (ahead b p) → MayRows (seen_from side r) now old far
+may_rows false side r near p id now old far s n o f may = rw (s, n, o, f) (may.rows id)
+may_rows true side r near p id now old far s n o f may = rw (s, n, o, f) (may.rows id)
+
+-- what is made of it is the far side's
+pub maps_cells : (b : Bool) (side : NearSide) (r : RowMeaning) (near : TableChanges) (p : PairState) (id : ℕ) (now old far made : Cells) → side ≡ near_side b
+    → now ≡ cells_at (changed_tables (side_at b p) near) id → old ≡ cells_at (side_at b p) id → far ≡ cells_at (side_at (not b) p) id
+    → made ≡ (seen_from side r).forward now old far
+    → MapsCells (seen_from (near_side b) r) near (ahead b p) id (record { old = far; new = made })
+maps_cells false side r near p id now old far made s n o f m = (f, cc)
+maps_cells true side r near p id now old far made s n o f m = (f, cc)
+
+-- the auxiliary rows of an identifier may be made
+pub some_rows : (b : Bool) (side : NearSide) (r : RowMeaning) (near far : TableChanges) (p : PairState) (id : ℕ) (some other : Cells) → side ≡ near_side b
+    → some ≡ cells_at (changed_tables (side_at b p) near) id → other ≡ cells_at (changed_tables (side_at (not b) p) far) id
+    → MayKeep (seen_from (near_side b) r) near far (ahead b p) → SomeRows (seen_from side r) some other
+some_rows false side r near far p id some other s n f may = rw (s, n, f) (may.rows id)
+some_rows true side r near far p id some other s n f may = rw (s, n, f) (may.rows id)
+
+pub keeps_cells : (b : Bool) (side : NearSide) (r : RowMeaning) (near far : TableChanges) (p : PairState) (id : ℕ) (some other made : Cells) → side ≡ near_side b
+    → some ≡ cells_at (changed_tables (side_at b p) near) id → other ≡ cells_at (changed_tables (side_at (not b) p) far) id
+    → made ≡ (seen_from side r).aux_at_source some other → made ≡ aux_cells (seen_from (near_side b) r) near far (ahead b p) id
+keeps_cells false side r near far p id some other made s n f m = cc
+keeps_cells true side r near far p id some other made s n f m = cc
+
+-- THE ANSWER of changes by cells
+pub answered : (b : Bool) (r : RowMeaning) (laws : RowLaws r) (near : TableChanges) (p : PairState) (counter : CounterState) (cs : TableChanges) (pairs : List PairChange) → MayChange (toward b (rowwise r)) near p counter.next
+    → PicksCells (cells_at p.target) (far_cells (seen_from (near_side b) r) near p) (touched near) cs → length cs ≡ length p.target → pairs ≡ []
+    → IsChangedTo p (mapped_changes (toward b (rowwise r)) near p counter.next) counter counter (Ok (record { side = record { tables = cs }; memory = pairs }))
+answered false r laws near p counter cs pairs may picks long none = (
+  omega arith,
+  subst (λ (ps : List PairChange). IsFarDifference p (mapped_changes (rowwise r) near p counter.next) (record { side = record { tables = cs }; memory = ps })) (sym none) (difference_is r laws.0 near p counter.next cs may picks long),
+  refl,
+)
+answered true r laws near p counter cs pairs may picks long none = (
+  omega arith,
+  subst (λ (ps : List PairChange). IsFarDifference p (mapped_changes (rowwise (flip_row r)) near p counter.next) (record { side = record { tables = cs }; memory = ps })) (sym none) (difference_is (flip_row r) laws.1 near p counter.next cs may picks long),
+  refl,
+)
+
+-- and of auxiliary tables by cells
+pub differ : (b : Bool) (r : RowMeaning) (laws : RowLaws r) (near far : TableChanges) (p : PairState) (aux : Tables) (cs : TableChanges) → MayChangePair (toward b (rowwise r)) near far p → aux ≡ (toward b (rowwise r)).aux_at_source p
+    → PicksCells (cells_at aux) (aux_cells (seen_from (near_side b) r) near far p) (touched_both near far) cs → length cs ≡ length aux
+    → AreDifferences aux ((toward b (rowwise r)).aux_at_source (changed_pair p near far)) cs
+differ false r laws near far p aux cs may is picks long = aux_is r laws.0 near far p aux cs may is picks long
+differ true r laws near far p aux cs may is picks long = aux_is (flip_row r) laws.1 near far p aux cs may is picks long

@@ -1,5 +1,5 @@
 -- The changes of some tables grow, table by table and identifier by identifier.
-use Rattle.std.proofs.Common.{◌≡◌, ◌⊎◌, ℕ, zero, suc, ◌+◌, ◌<◌, ◌≤◌, List, [], ◌∷◌, ◌++◌, Option, take, set, get_or, length, refl, ap, sym, ◌∙◌, subst, arith}
+use Rattle.std.proofs.Common.{◌≡◌, ◌⊎◌, ℕ, zero, suc, ◌+◌, ◌<◌, ◌≤◌, List, [], ◌∷◌, ◌++◌, Option, take, drop, set, get_or, length, refl, ap, sym, ◌∙◌, subst, arith}
 use mathlib.Core.Logic.{inl, inr}
 use Rattle.par_base.specs.declared.value.Value.{Value}
 use Rattle.row_store.specs.declared.change.Change.{Change}
@@ -44,7 +44,7 @@ adds_next zero id old new before [] d x h up one = absurd (omega arith)
 adds_next zero id old new [] (n ∷ ns) d x h up one = absurd (cc)
 adds_next zero id old new (c ∷ cs) (n ∷ ns) d x h up one =
     let same : n ≡ c = ap (λ (l : TableChanges). get_or l 0 d) up in
-    let rest : ns ≡ cs = ap (λ (l : TableChanges). Rattle.std.proofs.Common.drop 1 l) up in
+    let rest : ns ≡ cs = ap (λ (l : TableChanges). drop 1 l) up in
     (subst (λ (b : List Change). AddsCell id (first_cell old) (first_cell new) b x) same
     (subst (λ (o : Option (List Value)). AddsCell id o (first_cell new) n x) (nth_first old)
     (subst (λ (w : Option (List Value)). AddsCell id (nth_cell zero old) w n x) (nth_first new) one)), rest)
@@ -108,3 +108,23 @@ adds_long id old new [] [] adds = refl
 adds_long id old new [] (d ∷ ds) adds = absurd adds
 adds_long id old new (c ∷ cs) [] adds = absurd adds
 adds_long id old new (c ∷ cs) (d ∷ ds) adds = ap suc (adds_long id (other_cells old) (other_cells new) cs ds adds.1)
+
+-- a slice that was written takes the place of what it was taken from
+pub written_back : {A : Type 0} (n : ℕ) (new old : List A) → length new ≡ n → length old ≡ n → take n (new ++ drop (length new) old) ≡ new
+written_back {A = A} n [] old e h = let k : n ≡ zero = omega (arith, e) in rw k refl
+written_back {A = A} n (x ∷ xs) [] e h = absurd (omega arith)
+written_back {A = A} n (x ∷ xs) (y ∷ ys) e h = let k : n ≡ suc (length xs) = omega (arith, e) in rw k (ap (λ (rest : List A). x ∷ rest) (written_back (length xs) xs ys refl (omega (arith, h, k))))
+
+-- the changes after one more identifier, where `view` is the slice of those before it
+pub pass_more : (f g : ℕ → Cells) (ids : List ℕ) (i n : ℕ) (before view new : TableChanges) (old now : Cells) → i < length ids → view ≡ before → PicksCells f g (take i ids) before → length new ≡ n → length before ≡ n
+    → old ≡ f (get_or ids i 0) → now ≡ g (get_or ids i 0) → AddsCells (get_or ids i 0) old now view new → PicksCells f g (take (i + 1) ids) (take n (new ++ drop (length new) before))
+pass_more f g ids i n before view new old now h same picks long many o w adds =
+    let id = get_or ids i 0 in
+    subst (λ (cs : TableChanges). PicksCells f g (take (i + 1) ids) cs) (sym (written_back n new before long many))
+    (cells_more f g ids i before new h picks
+    (subst (λ (cs : TableChanges). AddsCells id (f id) (g id) cs new) same
+    (subst (λ (cells : Cells). AddsCells id cells (g id) view new) o
+    (subst (λ (cells : Cells). AddsCells id old cells view new) w adds))))
+
+pub pass_long : (n : ℕ) (new before : TableChanges) → length new ≡ n → length before ≡ n → length (take n (new ++ drop (length new) before)) ≡ length before
+pass_long n new before long many = ap length (written_back n new before long many) ∙ long ∙ sym many

@@ -61,3 +61,19 @@ after_none (b ∷ bs) id row e =
     by_test (b.id == id)
     (λ t. let same : None ≡ Some b = rw t at e in absurd (cc))
     (λ t. let rest : None ≡ change_of bs id = rw t at e in rw t (after_none bs id row rest))
+
+-- what stands at the place is the change of the identifier, if it is one
+pub found_here : (cs : List Change) (id at : ℕ) (c : Change) → IsPlaceOf cs id at → Some c ≡ slice_get cs at → c.id ≡ id → Some c ≡ change_of cs id
+found_here cs id at c place found same =
+    let own : (c.id == id) ≡ true = grind (arith, nat_tests, same) in
+    let here : only_of id (Some c) ≡ Some c = rw own refl in
+    sym here ∙ ap (only_of id) found ∙ sym place
+
+pub found_other : (cs : List Change) (id at : ℕ) (c : Change) → IsPlaceOf cs id at → Some c ≡ slice_get cs at → (c.id ≡ id → ⊥) → None ≡ change_of cs id
+found_other cs id at c place found differ =
+    let other : (c.id == id) ≡ false = grind (arith, nat_tests, differ) in
+    let none : only_of id (Some c) ≡ None = rw other refl in
+    sym none ∙ ap (only_of id) found ∙ sym place
+
+pub found_none : (cs : List Change) (id at : ℕ) → IsPlaceOf cs id at → None ≡ slice_get cs at → None ≡ change_of cs id
+found_none cs id at place none = ap (only_of id) none ∙ sym place

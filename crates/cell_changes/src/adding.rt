@@ -1,6 +1,6 @@
 //! The changes of some tables, which grow identifier by identifier.
-ghost use Rattle.std.specs.Prelude.{◌≡◌, ◌↔◌, length, IfOk, IsTrue, OnOk};
-ghost use Rattle.std.specs.Option.{option_copied, option_map};
+ghost use Rattle.std.specs.Prelude.{◌≡◌, ◌↔◌, IfOk, IsTrue, OnOk};
+ghost use Rattle.std.specs.Option.{option_copied};
 ghost use Rattle.row_store.specs.Changes.{IsAbove};
 ghost use Rattle.op_rows.specs.Cells.{nth_cell};
 ghost use Rattle.cell_changes.specs.Growing.{no_changes as no_changes_lem, AddsCell, AddsCells, AllAbove};
@@ -23,8 +23,7 @@ pub(crate) fn no_changes(alloc: Global, count: usize) -> Result<Vec<Changes>, Me
 
 // Whether both are the same row, or none.
 fn is_same_cell(some: Option<&Row>, other: Option<&Row>) -> bool
-    ensures { IsTrue result ↔ (option_map (λ row. row.now) some.entry
-        ≡ option_map (λ row. row.now) other.entry) }
+    ensures { IsTrue result ↔ (option_copied some.entry ≡ option_copied other.entry) }
 {
     match (some, other) {
         (Some(some), Some(other)) => is_same_values(some.as_slice(), other.as_slice()),

@@ -99,7 +99,7 @@ fn keep_all<R: RowOperator, V: PairRead, L: Ledger>(
         let before = cells_of(alloc, aux, *id)?;
         add_changes(
             alloc,
-            tables.as_mut_slice(),
+            &mut tables,
             *id,
             before.as_slice(),
             new.as_slice(),

@@ -95,7 +95,7 @@ fn map_all<R: RowOperator, V: PairRead, L: Ledger>(
         let far = map_at(alloc, operator, backward, near, old, *id, steps)?;
         add_changes(
             alloc,
-            tables.as_mut_slice(),
+            &mut tables,
             *id,
             far.old.as_slice(),
             far.new.as_slice(),

@@ -1,5 +1,5 @@
 //! What stands at one identifier: in a side of an old pair, before and after changes, and in tables.
-ghost use Rattle.std.specs.Prelude.{◌≡◌, ℕ, ◌≤◌, ◌<◌, length, IfOk};
+ghost use Rattle.std.specs.Prelude.{◌≡◌, slice_get, IfOk};
 ghost use Rattle.std.specs.Option.{option_copied};
 ghost use Rattle.row_store.specs.Rows.{row_of};
 ghost use Rattle.row_store.specs.Changes.{after, ChangesRise};
@@ -53,12 +53,19 @@ fn place_of(changes: &[Change], id: u64) -> usize
     changes.partition_point(|change| change.id < id)
 }
 
+fn item_at(changes: &[Change], at: usize) -> Option<&Change>
+    ensures { option_copied result ≡ slice_get changes.now at }
+{
+    changes.get(at)
+}
+
 // The change of the identifier, found by halving.
 fn change_at(changes: &[Change], id: u64) -> Option<&Change>
     requires { ChangesRise 0 changes.now }
     ensures { option_copied result ≡ change_of changes.now id }
 {
-    match changes.get(place_of(changes, id)) {
+    let at = place_of(changes, id);
+    match item_at(changes, at) {
         Some(change) => {
             if change.id == id {
                 Some(change)
