@@ -144,12 +144,12 @@ may_rows false side r near p id now old far s n o f may = rw (s, n, o, f) (may.r
 may_rows true side r near p id now old far s n o f may = rw (s, n, o, f) (may.rows id)
 
 -- what is made of it is the far side's
-pub maps_cells : (b : Bool) (side : NearSide) (r : RowMeaning) (near : TableChanges) (p : PairState) (id : ℕ) (now old far made : Cells) → side ≡ near_side b
-    → now ≡ cells_at (changed_tables (side_at b p) near) id → old ≡ cells_at (side_at b p) id → far ≡ cells_at (side_at (not b) p) id
+pub maps_cells : (b : Bool) (side : NearSide) (r : RowMeaning) (near : TableChanges) (p : PairState) (id : ℕ) (now old far kept made : Cells) → side ≡ near_side b
+    → now ≡ cells_at (changed_tables (side_at b p) near) id → old ≡ cells_at (side_at b p) id → far ≡ cells_at (side_at (not b) p) id → kept ≡ cells_at (side_at (not b) p) id
     → made ≡ (seen_from side r).forward now old far
-    → MapsCells (seen_from (near_side b) r) near (ahead b p) id (record { old = far; new = made })
-maps_cells false side r near p id now old far made s n o f m = (f, cc)
-maps_cells true side r near p id now old far made s n o f m = (f, cc)
+    → MapsCells (seen_from (near_side b) r) near (ahead b p) id (record { old = kept; new = made })
+maps_cells false side r near p id now old far kept made s n o f k m = (k, cc)
+maps_cells true side r near p id now old far kept made s n o f k m = (k, cc)
 
 -- the auxiliary rows of an identifier may be made
 pub some_rows : (b : Bool) (side : NearSide) (r : RowMeaning) (near far : TableChanges) (p : PairState) (id : ℕ) (some other : Cells) → side ≡ near_side b

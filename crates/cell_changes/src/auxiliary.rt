@@ -55,7 +55,7 @@ fn keep_at<R: RowOperator, V: PairRead, L: Ledger>(
     requires { MayKeep (seen_from (near_side_lem backward) (R.row_meaning operator.now))
         changes.near.now changes.far.now (ahead backward (V.pair old.old)) }
     ensures cells { IfOk result (λ cells. cells ≡ aux_cells (seen_from (near_side_lem backward)
-        (R.row_meaning operator.now)) changes.near.now changes.far.now
+        (R.row_meaning operator.now)) changes.entry.near.now changes.entry.far.now
         (ahead backward (V.pair old.old)) id) }
     ensures same { V.pair old.new ≡ V.pair old.old }
     ensures steps { steps.new ≤ steps.old + 8 }
@@ -87,8 +87,8 @@ fn keep_all<R: RowOperator, V: PairRead, L: Ledger>(
         changes.near.now changes.far.now (ahead backward (V.pair old.old)) }
     requires rise { IdsRise 0 ids.now }
     ensures picks { IfOk result (λ made. PicksCells (cells_at (contents aux.now)) (aux_cells
-        (seen_from (near_side_lem backward) (R.row_meaning operator.now)) changes.near.now
-        changes.far.now (ahead backward (V.pair old.old))) ids.now made.items) }
+        (seen_from (near_side_lem backward) (R.row_meaning operator.now)) changes.entry.near.now
+        changes.entry.far.now (ahead backward (V.pair old.old))) ids.now made.items) }
     ensures many { IfOk result (λ made. length made.items ≡ length aux.now) }
     ensures same { V.pair old.new ≡ V.pair old.old }
     ensures steps { steps.new ≤ steps.old + 8 * length ids.now }

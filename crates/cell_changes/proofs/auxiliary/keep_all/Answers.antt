@@ -1,4 +1,4 @@
-use Rattle.std.proofs.Common.{[], List, length, get_or, refl, ap, sym, ◌∙◌, subst, arith}
+use Rattle.std.proofs.Common.{◌≡◌, [], List, length, get_or, refl, ap, sym, ◌∙◌, subst, arith}
 use Rattle.std.proofs.lemmas.List.{length-map}
 use Rattle.op_law.specs.Meaning.{PairState}
 use Rattle.op_law.specs.Tables.{Tables, contents}
@@ -18,8 +18,8 @@ loop-id-init g c =
     let old = cells_at (contents c.args.aux.now) in
     let new = aux_cells r c.args.changes.near.now c.args.changes.far.now p in
     record {
-      picks = subst (λ (cs : TableChanges). PicksCells old new [] cs) (sym c.in_ok-tables.ensures) (picks_none old new c.len.result);
-      many = ap length c.in_ok-tables.ensures ∙ no_changes_long c.len.result ∙ c.len.ensures;
+      picks = subst (λ (cs : TableChanges). PicksCells old new [] cs) (sym c.in_ok-tables.ensures) (picks_none old new (length c.args.aux.now));
+      many = ap length c.in_ok-tables.ensures ∙ no_changes_long (length c.args.aux.now);
       same = refl;
       steps = omega arith;
     }
@@ -50,11 +50,11 @@ loop-id-preserved g c =
     let inv = c.loop-id.invariant in
     let made = c.in_ok-new.ensures.cells ∙ ap (λ (q : PairState). aux_cells r near far (ahead b q) id) inv.same in
     let tables = c.loop-id.tables in
-    let long = omega (arith, c.add_changes.auto.tables, c.deref_mut.ensures.len) in
-    let many = omega (arith, ap length c.deref_mut.ensures.value, c.deref_mut.ensures.len) in
+    let long : length c.add_changes.new.tables ≡ tables.len = omega (arith, c.add_changes.auto.tables, c.deref_mut.ensures.len) in
+    let many : length tables.items ≡ tables.len = omega (arith, ap length c.deref_mut.ensures.value, c.deref_mut.ensures.len) in
     record {
-      picks = pass_more (cells_at (contents c.args.aux.now)) (aux_cells r near far p) c.args.ids.now i tables.len tables.items c.deref_mut.result.now c.add_changes.new.tables c.as_slice.result.now c.as_slice-2.result.now
-          c.loop-id-test.true c.deref_mut.ensures.value inv.picks long many (c.as_slice.ensures ∙ c.in_ok-before.ensures) (c.as_slice-2.ensures ∙ made) c.in_ok-add_changes.ensures;
+      picks = pass_more (cells_at (contents c.args.aux.now)) (aux_cells r near far p) c.args.ids.now i tables.len tables.items c.deref_mut.result.now c.add_changes.new.tables c.as_slice.result.now c.as_slice-in-loop-id.result.now
+          c.loop-id-test.true c.deref_mut.ensures.value inv.picks long many (c.as_slice.ensures ∙ c.in_ok-before.ensures) (c.as_slice-in-loop-id.ensures ∙ made) c.in_ok-add_changes.ensures;
       many = pass_long tables.len c.add_changes.new.tables tables.items long many ∙ inv.many;
       same = c.in_ok-new.ensures.same ∙ inv.same;
       steps = omega (arith, c.in_ok-new.ensures.steps, inv.steps);

@@ -14,14 +14,14 @@ cells_after-requires-clause-fit g c = subst (λ (ts : Tables). AreChangesOf ts c
 pub cells_after-requires-clause-rise : goal.cells_after-requires-clause-rise
 cells_after-requires-clause-rise g c = subst AllRise (near_is c.args.backward (g.V.PairRead.pair c.args.old.now)) c.requires.near_rise
 
-pub cells_after-2-requires-clause-fit : goal.cells_after-2-requires-clause-fit
-cells_after-2-requires-clause-fit g c =
+pub cells_after-requires-2-clause-fit : goal.cells_after-requires-2-clause-fit
+cells_after-requires-2-clause-fit g c =
     let b = c.args.backward in
     subst (λ (q : PairState). AreChangesOf (side_at (not b) q) c.args.changes.far.now) (sym c.in_ok-near.ensures.same)
     (subst (λ (ts : Tables). AreChangesOf ts c.args.changes.far.now) (far_side_is b (g.V.PairRead.pair c.args.old.now)) c.requires.far_fit)
 
-pub cells_after-2-requires-clause-rise : goal.cells_after-2-requires-clause-rise
-cells_after-2-requires-clause-rise g c =
+pub cells_after-requires-2-clause-rise : goal.cells_after-requires-2-clause-rise
+cells_after-requires-2-clause-rise g c =
     let b = c.args.backward in
     subst (λ (q : PairState). AllRise (side_at (not b) q)) (sym c.in_ok-near.ensures.same)
     (subst AllRise (far_side_is b (g.V.PairRead.pair c.args.old.now)) c.requires.far_rise)

@@ -1,4 +1,4 @@
-use Rattle.std.proofs.Common.{[], length, get_or, refl, ap, sym, ◌∙◌, subst, arith}
+use Rattle.std.proofs.Common.{◌≡◌, [], length, get_or, refl, ap, sym, ◌∙◌, subst, arith}
 use Rattle.op_law.specs.Meaning.{PairState}
 use Rattle.op_law.specs.Tables.{Tables}
 use Rattle.op_rows.specs.Cells.{cells_at}
@@ -49,11 +49,11 @@ loop-id-preserved g c =
     let far = c.in_ok-far.far in
     let cells = subst (λ (q : PairState). MapsCells r c.args.near.now (ahead b q) (get_or c.args.ids.now i 0) far) inv.same c.in_ok-far.ensures.cells in
     let tables = c.loop-id.tables in
-    let long = omega (arith, c.add_changes.auto.tables, c.deref_mut.ensures.len) in
-    let many = omega (arith, ap length c.deref_mut.ensures.value, c.deref_mut.ensures.len) in
+    let long : length c.add_changes.new.tables ≡ tables.len = omega (arith, c.add_changes.auto.tables, c.deref_mut.ensures.len) in
+    let many : length tables.items ≡ tables.len = omega (arith, ap length c.deref_mut.ensures.value, c.deref_mut.ensures.len) in
     record {
-      picks = pass_more (cells_at p.target) (far_cells r c.args.near.now p) c.args.ids.now i tables.len tables.items c.deref_mut.result.now c.add_changes.new.tables c.as_slice.result.now c.as_slice-2.result.now
-          c.loop-id-test.true c.deref_mut.ensures.value inv.picks long many (c.as_slice.ensures ∙ cells.0) (c.as_slice-2.ensures ∙ cells.1) c.in_ok-add_changes.ensures;
+      picks = pass_more (cells_at p.target) (far_cells r c.args.near.now p) c.args.ids.now i tables.len tables.items c.deref_mut.result.now c.add_changes.new.tables c.as_slice.result.now c.as_slice-in-loop-id.result.now
+          c.loop-id-test.true c.deref_mut.ensures.value inv.picks long many (c.as_slice.ensures ∙ cells.0) (c.as_slice-in-loop-id.ensures ∙ cells.1) c.in_ok-add_changes.ensures;
       many = pass_long tables.len c.add_changes.new.tables tables.items long many ∙ inv.many;
       same = c.in_ok-far.ensures.same ∙ inv.same;
       steps = omega (arith, c.in_ok-far.ensures.steps, inv.steps);

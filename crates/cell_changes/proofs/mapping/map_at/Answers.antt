@@ -38,8 +38,8 @@ returns-clause-cells g c =
     let r = g.R.RowOperator.row_meaning c.args.operator.now in
     let first = c.in_ok-now.ensures.same in
     let second = c.in_ok-before.ensures.same ∙ first in
-    maps_cells b c.near_side-side.result r c.args.near.now p id _ _ _ _ c.near_side-side.ensures
+    let far = c.in_ok-far.ensures.cells ∙ ap (λ (q : PairState). cells_at (side_at (not b) q) id) second in
+    maps_cells b c.near_side-side.result r c.args.near.now p id c.made-3.result c.made.result c.made-2.result c.in_ok-far.far c.in_ok-new.new c.near_side-side.ensures
     (c.made-3.ensures ∙ c.in_ok-now.ensures.cells)
     (c.made.ensures ∙ c.in_ok-before.ensures.cells ∙ ap (λ (q : PairState). cells_at (side_at b q) id) first)
-    (c.in_ok-far.ensures.cells ∙ ap (λ (q : PairState). cells_at (side_at (not b) q) id) second)
-    c.in_ok-new.ensures.answer
+    (c.made-2.ensures ∙ far) far c.in_ok-new.ensures.answer
