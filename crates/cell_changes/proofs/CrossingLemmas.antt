@@ -58,11 +58,11 @@ module _ (r : RowMeaning) (h : RowHalf r) where
     fit = may.fit;
     rise = all_rise may.hs p.source may.may.sound.pair.source_of;
     rows = λ id. record {
-        hs = may.hs;
-        ht = may.ht;
-        pair = pair_at r h may.hs may.ht p may.may.sound.pair id;
-        near_of = cells_well may.hs (changed_tables p.source near) id may.may.near_of;
-      };
+      hs = may.hs;
+      ht = may.ht;
+      pair = pair_at r h may.hs may.ht p may.may.sound.pair id;
+      near_of = cells_well may.hs (changed_tables p.source near) id may.may.near_of;
+    };
   }
 
   -- THE CHANGES OF THE FAR SIDE

@@ -44,17 +44,22 @@ adds_next zero id old new before [] d x h up one = absurd (omega arith)
 adds_next zero id old new [] (n ∷ ns) d x h up one = absurd (cc)
 adds_next zero id old new (c ∷ cs) (n ∷ ns) d x h up one =
     let same : n ≡ c = ap (λ (l : TableChanges). get_or l 0 d) up in
-    let rest : ns ≡ cs = ap (λ (l : TableChanges). drop 1 l) up in
-    (subst (λ (b : List Change). AddsCell id (first_cell old) (first_cell new) b x) same
-    (subst (λ (o : Option (List Value)). AddsCell id o (first_cell new) n x) (nth_first old)
-    (subst (λ (w : Option (List Value)). AddsCell id (nth_cell zero old) w n x) (nth_first new) one)), rest)
+    let rest : ns ≡ cs = ap (λ (l : TableChanges). drop 1 l) up in (
+      subst (λ (b : List Change). AddsCell id (first_cell old) (first_cell new) b x) same
+          (subst (λ (o : Option (List Value)). AddsCell id o (first_cell new) n x) (nth_first old)
+          (subst (λ (w : Option (List Value)). AddsCell id (nth_cell zero old) w n x) (nth_first new) one)),
+      rest,
+    )
 adds_next (suc i) id old new [] now d x h up one = absurd (let e = ap length up in omega (arith, e))
 adds_next (suc i) id old new (c ∷ cs) [] d x h up one = absurd up
 adds_next (suc i) id old new (c ∷ cs) (n ∷ ns) d x h up one =
     let e : suc i + 1 ≡ suc (i + 1) = omega arith in
-    rw e (up.0, adds_next i id (other_cells old) (other_cells new) cs ns d x (omega arith) up.1
-    (subst (λ (o : Option (List Value)). AddsCell id o (nth_cell i (other_cells new)) (get_or ns i d) x) (nth_other i old)
-    (subst (λ (w : Option (List Value)). AddsCell id (nth_cell (suc i) old) w (get_or ns i d) x) (nth_other i new) one)))
+    rw e (
+      up.0,
+      adds_next i id (other_cells old) (other_cells new) cs ns d x (omega arith) up.1
+          (subst (λ (o : Option (List Value)). AddsCell id o (nth_cell i (other_cells new)) (get_or ns i d) x) (nth_other i old)
+          (subst (λ (w : Option (List Value)). AddsCell id (nth_cell (suc i) old) w (get_or ns i d) x) (nth_other i new) one)),
+    )
 
 -- the next table is as it was
 pub still_above : (i id : ℕ) (old new : Cells) (before now : TableChanges) (d : List Change) → i < length now → AllAbove before id → AddsUpTo i id old new before now → IsAbove (get_or now i d) id

@@ -97,13 +97,7 @@ fn keep_all<R: RowOperator, V: PairRead, L: Ledger>(
     for id in ids {
         let new = keep_at(alloc, operator, backward, changes, old, *id, steps)?;
         let before = cells_of(alloc, aux, *id)?;
-        add_changes(
-            alloc,
-            &mut tables,
-            *id,
-            before.as_slice(),
-            new.as_slice(),
-        )?;
+        add_changes(alloc, &mut tables, *id, before.as_slice(), new.as_slice())?;
     }
     Ok(tables)
 }

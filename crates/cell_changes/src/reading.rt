@@ -66,13 +66,7 @@ fn change_at(changes: &[Change], id: u64) -> Option<&Change>
 {
     let at = place_of(changes, id);
     match item_at(changes, at) {
-        Some(change) => {
-            if change.id == id {
-                Some(change)
-            } else {
-                None
-            }
-        }
+        Some(change) => { if change.id == id { Some(change) } else { None } }
         None => None,
     }
 }
@@ -113,14 +107,7 @@ pub(crate) fn cells_after<V: PairRead>(
 {
     let mut cells = List::new(alloc);
     for which in 0..changes.len() {
-        cells.push(cell_after(
-            alloc,
-            old,
-            target,
-            which,
-            &changes[which],
-            id,
-        )?)?;
+        cells.push(cell_after(alloc, old, target, which, &changes[which], id)?)?;
     }
     Ok(cells)
 }
