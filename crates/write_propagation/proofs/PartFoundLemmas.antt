@@ -32,11 +32,12 @@ use Rattle.row_changes.proofs.ChangedLaws.{changed_rise}
 use Rattle.row_changes.proofs.DifferenceLaws.{part_makes, whole_old}
 use Rattle.operator_changes.specs.Footprint.{passes, with_drawn}
 use Rattle.pair_parts.specs.Apart.{KeepsApart, SameElsewhere}
-use Rattle.pair_parts.proofs.MemoryLaws.{memory_same}
+use Rattle.pair_parts.specs.Parts.{IsMemory}
+use Rattle.pair_parts.proofs.MemoryLaws.{memory_same, none_stand}
 use Rattle.id_memory.specs.Pairs.{Pairs}
 use Rattle.sought_ids.specs.Known.{Known}
 use Rattle.sought_ids.specs.Places.{AreKnown, PassKnown, side_at}
-use Rattle.sought_ids.specs.Seeking.{ApartOver, IsChangedPair, IsMappedPair, IsMemory, SeekLaws}
+use Rattle.sought_ids.specs.Seeking.{ApartOver, IsChangedPair, IsMappedPair, SeekLaws}
 use Rattle.sought_ids.specs.SeekPlace.{SeekPlace}
 use Rattle.table_keys.specs.States.{KeysState}
 use Rattle.kept_keys.specs.Kept.{AreKeysOf}
@@ -74,7 +75,7 @@ use Rattle.write_propagation.proofs.ApartLemmas.{CarriesAt, local_maps}
 use Rattle.write_propagation.proofs.CrossedLemmas.{IsCrossedAt, mapped_by, run_crossed}
 use Rattle.write_propagation.proofs.FootprintLemmas.{footprint_carries}
 use Rattle.write_propagation.proofs.PartLemmas.{IsPartOf, Rests}
-use Rattle.write_propagation.proofs.PartRowsLemmas.{all_listed, below_alike, foot_over, half_local, key_among, key_numbers, left_alone, memory_of, none_stand, pass_known, rows_alike, side_sound, tables_changed, tables_fit, tables_pass, tables_rise, tables_sound}
+use Rattle.write_propagation.proofs.PartRowsLemmas.{all_listed, below_alike, foot_over, half_local, key_among, key_numbers, left_alone, memory_of, pass_known, rows_alike, side_sound, tables_changed, tables_fit, tables_pass, tables_rise, tables_sound}
 use Rattle.write_propagation.proofs.PartShownLemmas.{CarriesAll, before_part, end_up, local_keeps, of_end, ordered_reached, part_shown, rests, small_old, small_sound}
 use Rattle.write_propagation.proofs.SeenLemmas.{named_pass, pass_wider}
 use Rattle.write_propagation.proofs.ShownLemmas.{Remembers, Shows, end_is, end_sound, small_is}

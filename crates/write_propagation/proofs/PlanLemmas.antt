@@ -67,8 +67,7 @@ use Rattle.write_propagation.proofs.ToldLemmas.{listed, tells_apart, unlisted}
 use Rattle.write_propagation.proofs.TreeLemmas.{outside_memory, outside_table, part_memory, part_table, same_pair}
 use Rattle.write_propagation.proofs.WholeLemmas.{lives, operators_apart, path, path_inside}
 use Rattle.id_memory.specs.Pairs.{Pairs, RiseFrom}
-use Rattle.sought_ids.specs.Seeking.{IsMemory}
-use Rattle.pair_parts.specs.Parts.{memory_only}
+use Rattle.pair_parts.specs.Parts.{IsMemory, memory_only}
 use Rattle.operator_changes.proofs.MemoryLaws.{whole_difference}
 use Rattle.write_propagation.proofs.MemoryLemmas.{lead_makes}
 use Rattle.write_propagation.specs.declared.plans.Plan.{Plan}

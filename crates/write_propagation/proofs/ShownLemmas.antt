@@ -16,8 +16,8 @@ use Rattle.op_law.specs.Local.{HalfLocal, only, pair_only, rows_only}
 use Rattle.op_law.specs.Meaning.{Meaning, PairState}
 use Rattle.op_law.specs.Premises.{IsPair}
 use Rattle.id_memory.specs.Pairs.{Pairs}
-use Rattle.pair_parts.specs.Parts.{memory_only}
-use Rattle.sought_ids.specs.Seeking.{IsMemory}
+use Rattle.pair_parts.specs.Parts.{IsMemory, memory_only}
+use Rattle.pair_parts.proofs.MemoryLaws.{none_stand}
 use Rattle.row_changes.specs.Touched.{AllPass}
 use Rattle.row_changes.proofs.ChangedLaws.{other_changed}
 use Rattle.version_model.specs.Sound.{IsSound}
@@ -46,7 +46,6 @@ use Rattle.write_propagation.specs.declared.tree.Tree.{Tree}
 use Rattle.write_propagation.proofs.PartLemmas.{IsLocalInside, IsPartOf, Rests, put_only, put_own, run_part, run_rests}
 use Rattle.db_state.proofs.PartLaws.{only_map}
 use Rattle.write_propagation.proofs.TreeLemmas.{Agrees, all_agrees, all_entries, all_rows, all_sound, local_sound, part_may, part_memory, part_table, same_pair, write_agrees}
-use Rattle.write_propagation.proofs.PartRowsLemmas.{none_stand}
 use Rattle.write_propagation.proofs.WholeLemmas.{lives, path, path_inside}
 use Rattle.db_state.specs.declared.sight.Sight.{Sight}
 use Rattle.db_state.specs.declared.sight.Sight.TheVariants.{All, Of, Part}

@@ -9,7 +9,7 @@ use Rattle.version_graph.specs.Edges.{is_in}
 use Rattle.version_graph.specs.Sets.{In}
 use Rattle.op_law.specs.Meaning.{Meaning}
 use Rattle.op_law.specs.declared.side.Aux.{Aux}
-use Rattle.sought_ids.specs.Seeking.{IsMemory}
+use Rattle.pair_parts.specs.Parts.{IsMemory}
 use Rattle.changes_walk.specs.Changing.{latest_changes}
 use Rattle.pair_changes.specs.declared.change.PairChange.{PairChange}
 use Rattle.pair_changes.specs.Changed.{PairsLeadTo, changed_pairs}
