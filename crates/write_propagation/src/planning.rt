@@ -159,10 +159,10 @@ fn plan_tree<O: Seeks, L: Ledger>(
 /// sixteen steps for each operator and identifier two are for reading, six for the mapping, and eight
 /// for the auxiliary tables.
 ///
-/// Where the others among these operators are on foreign keys, and the changes are few beside the
-/// rows, it keeps the keys of their tables, if they aren't kept yet, and reads and makes the rows of
-/// the identifiers that these keys tie to the changed ones, again with those that turn out to be
-/// missing, sixty-four times at most. Else, and where that finds no part, it reads and copies these
+/// Where the others among these operators are on foreign keys or on conditions, and the changes are
+/// few beside the rows, it keeps the keys of their tables, if they aren't kept yet, and reads and makes
+/// the rows of the identifiers that these keys, and pairs, tie to the changed ones, again with those
+/// that turn out to be missing, sixty-four times at most. Else, and where that finds no part, it reads and copies these
 /// tables, near and far for each operator. Of the operators that aren't between these tables it looks
 /// at their numbers alone.
 pub fn plan<O: Seeks + Drop, L: Ledger>(
