@@ -14,6 +14,7 @@
 mod assigned;
 mod by_keys;
 mod by_rows;
+mod columns;
 mod entries;
 mod matching;
 mod reading;
@@ -23,6 +24,7 @@ mod steady;
 pub use assigned::{ByValues, assigned_ids, entry_of, first_in, own, second_in};
 pub use by_keys::ByKeys;
 pub use by_rows::ByRows;
+pub use columns::has_read_columns;
 pub use matching::Matching;
 pub use reading::read_ids;
 pub use shown::{set_of, shown_ids};

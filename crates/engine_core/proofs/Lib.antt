@@ -9,4 +9,4 @@ mod BoundLemmas
 mod LeftLemmas
 pub use Rattle.engine_versions.proofs.ChainLaws
 pub use Rattle.engine_versions.proofs.KeptTextLaws
-pub use Rattle.write_propagation.proofs.HoldLaws
+pub use Rattle.write_plans.proofs.HoldLaws

@@ -2,8 +2,8 @@
 use Rattle.std.proofs.Common.{◌≡◌, Result, Ok, Err, sym, ◌∙◌}
 use Rattle.op_any.specs.Operators.{AnyView, any_meaning}
 use Rattle.db_state.specs.declared.parts.Parts.{Parts}
-use Rattle.write_propagation.specs.Undo.{IsRevertible, Restores}
-use Rattle.write_propagation.specs.declared.undo.Undo.{Undo}
+use Rattle.write_plans.specs.Undo.{IsRevertible, Restores}
+use Rattle.write_plans.specs.declared.undo.Undo.{Undo}
 use Rattle.engine_core.specs.Undo.{LeavesWrite}
 
 -- a write leaves the graph and the layout, also where it is refused

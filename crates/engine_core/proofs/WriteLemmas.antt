@@ -26,8 +26,8 @@ use Rattle.engine_statements.specs.Calls.{planned_view, rows_after, TakesWrite}
 use Rattle.engine_statements.specs.declared.write_plan.WritePlan.{WritePlan}
 use Rattle.engine_core.specs.Act.{IsOrdinary}
 use Rattle.engine_core.specs.Kept.{Follows}
-use Rattle.write_propagation.specs.Plans.{Plans, Puts}
-use Rattle.write_propagation.specs.declared.plans.Plan.{Plan}
+use Rattle.write_plans.specs.Plans.{Plans, Puts}
+use Rattle.write_plans.specs.declared.plans.Plan.{Plan}
 
 module _ (k : Parts AnyView) (w : WritePlan) (edges : AreEdges k.graph.edges) (sound : IsSound any_meaning k.graph.edges (state_for any_meaning k)) (taken : TakesWrite k w) where
   abbrev d : AnyDatabase

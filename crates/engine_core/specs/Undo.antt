@@ -7,11 +7,11 @@ use Rattle.statements.specs.Views.{StatementView}
 use Rattle.version_graph.specs.Edges.{is_in}
 use Rattle.op_any.specs.Operators.{AnyView, any_meaning}
 use Rattle.db_state.specs.declared.parts.Parts.{Parts}
-use Rattle.write_propagation.specs.Capacity.{HoldsAtLeast}
-use Rattle.write_propagation.specs.Plans.{IsSame}
-use Rattle.write_propagation.specs.Told.{CarriedLead, TellsApart}
-use Rattle.write_propagation.specs.Undo.{Undoes}
-use Rattle.write_propagation.specs.declared.undo.Undo.{Undo}
+use Rattle.write_plans.specs.Capacity.{HoldsAtLeast}
+use Rattle.write_plans.specs.Plans.{IsSame}
+use Rattle.write_plans.specs.Told.{CarriedLead, TellsApart}
+use Rattle.write_plans.specs.Undo.{Undoes}
+use Rattle.write_plans.specs.declared.undo.Undo.{Undo}
 use Rattle.engine_state.specs.AnyDatabase.{AnyDatabase}
 use Rattle.engine_state.specs.declared.reply.Reply.{Reply}
 use Rattle.engine_statements.specs.Statements.{wrote}

@@ -33,5 +33,5 @@ pub use engine_statements::{FoundTable, find_table, select_rows, writes_are_by_i
 pub use laws::{moves_restore, moves_store_targets, replies_are_lines};
 pub use refusal_line::refusal_text;
 pub use reply_lines::reply_text;
-pub use write_propagation::{Undo, writes_stay_undoable};
+pub use write_plans::{Undo, writes_stay_undoable};
 pub use written::Written;

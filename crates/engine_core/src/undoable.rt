@@ -7,8 +7,8 @@ ghost use Rattle.par_base.specs.Checked.{Gives};
 ghost use Rattle.op_any.specs.BuiltOn.{AreBuiltOn};
 ghost use Rattle.op_any.specs.Operators.{any_meaning};
 ghost use Rattle.write_propagation.specs.Bounds.{PlansWithin};
-ghost use Rattle.write_propagation.specs.Capacity.{HoldsAsMuch};
-ghost use Rattle.write_propagation.specs.Undo.{IsRevertible, Restores};
+ghost use Rattle.write_plans.specs.Capacity.{HoldsAsMuch};
+ghost use Rattle.write_plans.specs.Undo.{IsRevertible, Restores};
 ghost use Rattle.engine_state.specs.Replies.{IsReply};
 ghost use Rattle.engine_statements.specs.Statements.{Planned, wrote};
 ghost use Rattle.engine_statements.specs.Calls.{planned_view, TakesWrite};
@@ -27,7 +27,7 @@ use par_base::{Fault, Refusal};
 use statements::Statement;
 use std::alloc::Global;
 use std::sync::ledger::Ledger;
-use write_propagation::{RowWrite, Undo, revert};
+use write_plans::{RowWrite, Undo, revert};
 
 impl Engine {
     /// Carries out an INSERT, UPDATE or DELETE as `event` does, and gives what takes it back beside its

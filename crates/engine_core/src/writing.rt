@@ -10,7 +10,7 @@ ghost use Rattle.version_model.specs.Databases.{Writes};
 ghost use Rattle.db_state.specs.Fields.{database_for, state_for};
 ghost use Rattle.kept_keys.specs.Kept.{AreKeysOf};
 ghost use Rattle.write_propagation.specs.Bounds.{PlansWithin};
-ghost use Rattle.write_propagation.specs.Plans.{rows_written};
+ghost use Rattle.write_plans.specs.Plans.{rows_written};
 ghost use Rattle.engine_core.specs.Undo.{done_of, LeavesWrite};
 
 use db_state::Db;
@@ -22,7 +22,8 @@ use std::alloc::Global;
 use std::sync::ledger::Ledger;
 use table_keys::TableKeys;
 use version_model::Numbered;
-use write_propagation::{RowWrite, Undo, commit, plan};
+use write_plans::{RowWrite, Undo, commit};
+use write_propagation::plan;
 
 /// Makes changes in a table of a live working set, carries them along the walk, also to the keys that
 /// are kept, and gives what takes them back. After an error nothing has changed but the room of tables

@@ -1,6 +1,6 @@
 //! What a write gives.
 use engine_state::Reply;
-use write_propagation::Undo;
+use write_plans::Undo;
 
 /// The reply to a write, and what takes it back.
 #[derive(Drop)]

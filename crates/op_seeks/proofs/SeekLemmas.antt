@@ -1,6 +1,6 @@
 -- Calls by what isn't known of an operator promise nothing.
 use Rattle.std.specs.Prelude.{IfOk, Result, Ok, Err}
-use Rattle.std.proofs.Common.{◌≡◌, ℕ, List, Bool, Option, Some, None, sym, subst}
+use Rattle.std.proofs.Common.{◌≡◌, ℕ, List, Bool, Option, None, sym, subst}
 use Rattle.op_law.specs.Meaning.{Meaning, PairState}
 use Rattle.row_changes.specs.Changed.{TableChanges}
 use Rattle.fk_closing.specs.Keys.{KeyRows}
@@ -19,8 +19,7 @@ pub never_sought : (place : Option SeekPlace) (known : Known) → place ≡ None
 never_sought place known none p are = subst (λ (o : Option SeekPlace). AreKnown o p known) none are
 
 pub no_keys : (t : Bool) (o : Option (ℕ × ℕ)) (keys : KeyRows) → Never (condition_place t o) (Keys keys)
-no_keys t None keys p are = are
-no_keys t (Some both) keys p are = are
+no_keys t o keys p are = are
 
 pub no_entries : (t : Bool) (place : ℕ) (it : CondKeys) → Never (key_place t place) (Entries it)
 no_entries t place it p are = are

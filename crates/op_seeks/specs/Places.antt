@@ -8,6 +8,7 @@ use Rattle.op_law.specs.Meaning.{PairState}
 use Rattle.op_any.specs.Operators.{Built, joining_by, outer_by}
 use Rattle.op_any.specs.Operators as «any»
 use Rattle.table_keys.specs.Keys.{keys_by}
+use Rattle.table_keys.specs.declared.columns.KeyColumns.{KeyColumns}
 use Rattle.table_keys.specs.declared.columns.KeyColumns.TheVariants.{All, One}
 use Rattle.pair_rows.specs.Sides.{table_at}
 use Rattle.fk_closing.specs.Keys.{AreFkKeys}
@@ -35,10 +36,18 @@ abbrev pub side_at : Option SeekPlace → PairState → Tables
 side_at None p = []
 side_at (Some place) p = if is_on_target place then p.target else p.source
 
--- where a condition makes two columns equal
+-- in which columns of S, and in which of T, rows that may match are sought: those that a condition makes equal, or all where there are none
+abbrev pub first_columns : Option (ℕ × ℕ) → KeyColumns
+first_columns None = All
+first_columns (Some equal) = One equal.0
+
+abbrev pub second_columns : Option (ℕ × ℕ) → KeyColumns
+second_columns None = All
+second_columns (Some equal) = One equal.1
+
+-- of a condition that makes these two columns equal, or none
 abbrev pub condition_place : Bool → Option (ℕ × ℕ) → Option SeekPlace
-condition_place on_target None = None
-condition_place on_target (Some both) = Some (Condition (record { on_target = on_target; first = both.0; second = both.1 }))
+condition_place on_target equal = Some (Condition (record { on_target = on_target; first = first_columns equal; second = second_columns equal }))
 
 abbrev pub key_place : Bool → ℕ → Option SeekPlace
 key_place on_target place = Some (ForeignKey (record { on_target = on_target; place = place }))
@@ -76,11 +85,11 @@ IsSought Nothing b = place_of b ≡ None
 
 -- ---- what is known
 
--- of an operator on a condition: its memory, the keys of S and T in the columns that are equal, and both tables by value
+-- of an operator on a condition: its memory, the keys of S and T in the columns in which rows are sought, and both tables by value
 pub record AreCondKeys (c : CondPlace) (st : Tables) (m : Pairs) (it : CondKeys) : Type 0 where
   pub memory : it.memory.now.entries ≡ m
-  pub first : it.first.now.rows ≡ keys_by (One c.first) (table_at 0 st)
-  pub second : it.second.now.rows ≡ keys_by (One c.second) (table_at 1 st)
+  pub first : it.first.now.rows ≡ keys_by c.first (table_at 0 st)
+  pub second : it.second.now.rows ≡ keys_by c.second (table_at 1 st)
   pub first_rows : it.first_rows.now.rows ≡ keys_by All (table_at 0 st)
   pub second_rows : it.second_rows.now.rows ≡ keys_by All (table_at 1 st)
 

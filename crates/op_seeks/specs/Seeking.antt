@@ -1,6 +1,5 @@
 -- What an operator promises of the identifiers that a write through it has to see.
 use Rattle.std.specs.Prelude.{◌≡◌, ℕ, Bool, List, Option, Some}
-use Rattle.id_memory.specs.Pairs.{IsOneToOne, Pairs, RiseFrom}
 use Rattle.op_law.specs.Tables.{Heading}
 use Rattle.op_law.specs.Meaning.{Meaning, PairState}
 use Rattle.op_law.specs.Premises.{IsPair, IsSoundPair, pair_after}
@@ -8,6 +7,7 @@ use Rattle.row_changes.specs.Changed.{AreChangesOf, TableChanges, changed_tables
 use Rattle.operator_changes.specs.Calls.{MayChange, ahead, toward}
 use Rattle.operator_changes.specs.Footprint.{IsFootprint, passes}
 use Rattle.pair_parts.specs.Apart.{KeepsApart, SameElsewhere}
+use Rattle.pair_parts.specs.Parts.{IsMemory}
 use Rattle.pair_parts.specs.Splits.{Splits}
 use Rattle.op_seeks.specs.Places.{AreClosedBy, AreKnown, PassKnown, side_at}
 use Rattle.op_seeks.specs.declared.known.Known.{Known}
@@ -38,11 +38,6 @@ pub record IsMappedPair (m : Meaning) (backward : Bool) (near : TableChanges) (o
 abbrev pub ApartOver : Meaning → Option SeekPlace → Bool → Known → TableChanges → TableChanges → List ℕ → Type 0
 ApartOver m place backward known near changes ids = (old new : PairState) (n : ℕ) → AreKnown place old known → IsChangedPair m place changes old new n → IsMappedPair m backward near old new n ids
     → SameElsewhere (passes ids n) old new → KeepsApart m old new (passes ids n)
-
--- the identifiers of a memory rise, and no pair stands twice in it
-pub record IsMemory (m : Pairs) : Type 0 where
-  pub rises : RiseFrom 0 m
-  pub one : IsOneToOne m
 
 -- THE LAWS OF AN OPERATOR THAT SEEKS: identifiers that are closed by what is known split its pairs, of which each has a memory
 pub record SeekLaws (m : Meaning) (place : Option SeekPlace) : Type 0 where

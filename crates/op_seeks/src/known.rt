@@ -5,7 +5,7 @@ use row_changes::SideChanges;
 use table_keys::TableKeys;
 
 /// The memory of an operator on a condition, the keys of S and T in the columns that the condition
-/// makes equal, and the rows of both by value.
+/// makes equal, or in all where there are none, and the rows of both by value.
 #[derive(Clone, Copy)]
 pub struct CondKeys<'a> {
     pub memory: &'a PairMemory,

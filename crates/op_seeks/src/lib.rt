@@ -1,11 +1,12 @@
 //! Operators that look for the identifiers that a write through them has to see.
 //!
 //! `Seeks` says of an operator what it seeks by, if it does: where its foreign key stands, or two
-//! columns, one of S and one of T, that its condition makes equal. It promises the crates above that,
-//! by the keys of S and T, and by its memory where it is on a condition, a footprint of changes is
-//! found forward and backward; that identifiers are found which keep changes to themselves; and that
-//! identifiers which are closed by what is known split a pair (`specs/Seeking.antt`). Of operators that
-//! seek nothing it promises nothing: among these are conditions without an equality of two columns.
+//! columns, one of S and one of T, that its condition makes equal, or all rows of both where there are
+//! no such two. It promises the crates above that, by the keys of S and T, and by its memory where it
+//! is on a condition, a footprint of changes is found forward and backward; that identifiers are found
+//! which keep changes to themselves; and that identifiers which are closed by what is known split a
+//! pair (`specs/Seeking.antt`). A condition without equal columns is asked of each changed row of S and
+//! T with each row of the other table. Of operators that seek nothing it promises nothing: all others.
 //! It knows nothing of where keys are kept.
 #![tactic(auto)]
 

@@ -1,10 +1,12 @@
 //! OUTER JOIN ON a condition.
-ghost use Rattle.std.specs.Prelude.{true, false, IfOk};
+ghost use Rattle.std.specs.Prelude.{true, false, IfOk, None};
 ghost use Rattle.op_cond_join.specs.Joinings.{joining as joining_on};
 ghost use Rattle.op_outer_cond.specs.Outerings.{joining};
 ghost use Rattle.outer_law.specs.OuterOn.{outer_on};
 ghost use Rattle.equal_columns.specs.Columns.{equal_in};
 ghost use Rattle.fk_closing.specs.Found.{AreAmong};
+ghost use Rattle.cond_closing.specs.Tabled.{AreTables};
+ghost use Rattle.outer_closing.specs.Calls.{AreOuterApart, AreOuterFootprint};
 ghost use Rattle.row_changes.specs.Changed.{TableChanges};
 ghost use Rattle.op_seeks.specs.Places.{condition_place};
 ghost use Rattle.op_seeks.specs.Seeking.{ApartOver, FootprintOf};
@@ -13,9 +15,10 @@ ghost use Rattle.op_seeks.specs.declared.known.Known.TheVariants.{Entries};
 use crate::outer_columns::join_of;
 use crate::sought::listed;
 use crate::{CondKeys, Crossed};
-use cond_closing::{ByKeys, ByValues};
+use cond_closing::{ByKeys, ByRows, ByValues, has_read_columns};
 use equal_columns::equal_columns;
 use expr_lang::Steps;
+use id_memory::PairMemory;
 use op_cond_join::JoinOn;
 use op_outer_cond::OuterOn;
 use outer_closing::{outer_assigned_ids, outer_shown_ids};
@@ -23,6 +26,55 @@ use par_base::{List, Memory};
 use row_changes::SideChanges;
 use std::alloc::Global;
 use std::sync::ledger::Ledger;
+
+/// What changes of S and T have to see, by all rows of the other table. A condition that reads columns
+/// which joined rows don't have is that of no pair.
+fn met_ids<L: Ledger>(
+    alloc: Global,
+    rows: &ByRows<'_>,
+    memory: &PairMemory,
+    near: &SideChanges,
+    wanted: &[u64],
+    steps: &mut Steps<L>,
+) -> Result<List<u64>, Memory>
+    ensures foot { IfOk result (AreOuterFootprint (joining_on rows.now.join.now) (AreTables rows.now)
+        memory.now.entries near.now.tables) }
+    ensures apart { IfOk result (AreOuterApart (joining_on rows.now.join.now) (AreTables rows.now)
+        memory.now.entries near.now.tables) }
+    ensures holds { IfOk result (AreAmong wanted.now) }
+{
+    if has_read_columns(rows.join) {
+        let ids = outer_shown_ids(alloc, rows, memory, near, wanted, steps)?;
+        return Ok(ids);
+    }
+    let ids = listed(alloc, wanted)?;
+    Ok(ids)
+}
+
+/// What changes of S and T have to see, where no columns are equal.
+fn shown_by_rows<L: Ledger>(
+    alloc: Global,
+    join: &JoinOn,
+    it: &CondKeys<'_>,
+    near: &SideChanges,
+    wanted: &[u64],
+    steps: &mut Steps<L>,
+) -> Result<List<u64>, Memory>
+    ensures foot { let j = joining_on join.now in IfOk result (FootprintOf (outer_on j)
+        (condition_place false None) false (Entries it.now) near.now.tables) }
+    ensures apart { let j = joining_on join.now in IfOk result (λ ids. (changes : TableChanges)
+        → ApartOver (outer_on j) (condition_place false None) false
+        (Entries it.now) near.now.tables changes ids) }
+    ensures holds { IfOk result (AreAmong wanted.now) }
+{
+    let rows = ByRows {
+        join,
+        first: it.first.rows(),
+        second: it.second.rows(),
+    };
+    let ids = met_ids(alloc, &rows, it.memory, near, wanted, steps)?;
+    Ok(ids)
+}
 
 /// What changes of S and T have to see.
 fn shown_by<L: Ledger>(
@@ -41,7 +93,7 @@ fn shown_by<L: Ledger>(
     ensures holds { IfOk result (AreAmong wanted.now) }
 {
     let Some((x, y)) = equal_columns(join, &join.condition) else {
-        return listed(alloc, wanted);
+        return shown_by_rows(alloc, join, it, near, wanted, steps);
     };
     let keys = ByKeys {
         join,

@@ -1,4 +1,5 @@
-//! Where an operator has its foreign key, or the columns that its condition makes equal.
+//! Where an operator has its foreign key, or the columns by which its condition leads to rows.
+use table_keys::KeyColumns;
 
 /// Whether S and T stand on the target side, and the place of the foreign key among the columns of S.
 #[derive(Clone, Copy)]
@@ -7,13 +8,14 @@ pub struct FkPlace {
     pub place: usize,
 }
 
-/// Whether S and T stand on the target side, and the places of a column of S and of one of T that are
-/// equal wherever the condition holds.
+/// Whether S and T stand on the target side, and in which columns of S and of T rows that may match
+/// are sought: in one of each that are equal wherever the condition holds, or in all columns where
+/// there are no such two, which is to look at all rows.
 #[derive(Clone, Copy)]
 pub struct CondPlace {
     pub on_target: bool,
-    pub first: usize,
-    pub second: usize,
+    pub first: KeyColumns,
+    pub second: KeyColumns,
 }
 
 /// What an operator seeks by.

@@ -21,6 +21,7 @@ use op_law::Operator;
 use par_base::{List, Memory};
 use std::alloc::Global;
 use std::sync::ledger::Ledger;
+use table_keys::KeyColumns;
 
 /// An operator that looks for the identifiers that a write through it has to see, by what is known of
 /// its S and T.
@@ -28,7 +29,7 @@ pub trait Seeks: Operator {
     ghost seeks: { Self → Option SeekPlaceView };
 
     /// What it seeks by, if it seeks: where its foreign key stands, or columns that its condition makes
-    /// equal. It takes no memory.
+    /// equal, or all columns where there are none. It takes no memory.
     fn place(&self) -> Option<SeekPlace>
         ensures { result ≡ seeks self.now };
 
@@ -79,18 +80,22 @@ pub trait Seeks: Operator {
     ghost seeking: { (operator : Self) → SeekLaws (Self.meaning operator) (seeks operator) };
 }
 
-/// The columns that a condition makes equal.
+/// The columns that a condition makes equal, or all columns.
 fn columns_of<C: Columned>(join: &C, condition: &Expr, on_target: bool) -> Option<SeekPlace>
     ensures { result ≡ condition_place on_target
         (equal_in (C.joins join.now) (expr_term condition.now)) }
 {
     match equal_columns(join, condition) {
-        Some((first, second)) => Some(SeekPlace::Condition(CondPlace {
+        Some((x, y)) => Some(SeekPlace::Condition(CondPlace {
             on_target,
-            first,
-            second,
+            first: KeyColumns::One(x),
+            second: KeyColumns::One(y),
         })),
-        None => None,
+        None => Some(SeekPlace::Condition(CondPlace {
+            on_target,
+            first: KeyColumns::All,
+            second: KeyColumns::All,
+        })),
     }
 }
 

@@ -5,7 +5,10 @@ ghost use Rattle.op_law.specs.Calls.{seen, IsMapped, MapsWithin};
 ghost use Rattle.row_changes.specs.Changed.{changed_tables, AreChangesOf};
 ghost use Rattle.row_changes.specs.Touched.{EachPass};
 ghost use Rattle.operator_changes.specs.Calls.{ahead, toward, mapped_changes, IsChangedTo, MayChange};
-ghost use Rattle.operator_changes.specs.Footprint.{IsFootprint, passes};
+ghost use Rattle.operator_changes.specs.Footprint.{IsFootprint, passes, with_drawn};
+ghost use Rattle.op_law.specs.Identifiers.{IdsRise};
+ghost use Rattle.pair_changes.specs.MemoryChanges.{IsMemoryDifference};
+ghost use Rattle.row_changes.specs.Picked.{PicksEach};
 
 use crate::drawn::add_drawn;
 use crate::part::read_pair;
@@ -14,7 +17,7 @@ use expr_lang::Steps;
 use id_memory::IdCounter;
 use op_law::{Far, Operator, Pair, Side};
 use pair_changes::pair_difference;
-use par_base::{Fault, IdsSpent};
+use par_base::{Fault, IdsSpent, Memory};
 use row_changes::{SideChanges, changed_copies, differences_at};
 use std::alloc::Global;
 use std::sync::ledger::Ledger;
@@ -87,6 +90,36 @@ fn map_part<O: Operator, L: Ledger>(
     map_over(alloc, operator, backward, &new, part, ids, steps)
 }
 
+/// What differs between the far side and memory of a part and those that were mapped, at the
+/// identifiers of the part and at those that were drawn.
+fn far_changes(
+    alloc: Global,
+    backward: bool,
+    foot: &[u64],
+    from: u64,
+    to: u64,
+    part: Pair,
+    far: Far,
+) -> Result<FarChanges, Memory>
+    requires rise { IdsRise 0 foot.now }
+    requires drawn { from ≤ to }
+    requires many { length (ahead backward (seen part)).target ≡ length far.side }
+    ensures side { IfOk result (λ made. PicksEach (with_drawn foot.now from to)
+        (ahead backward (seen part)).target far.side made.side.tables) }
+    ensures memory { IfOk result (λ made. IsMemoryDifference (ahead backward (seen part)).memory
+        far.memory.entries made.memory) }
+{
+    let ids = add_drawn(alloc, foot, from, to)?;
+    let side = differences_at(
+        alloc,
+        ids.as_slice(),
+        far_of(&part, backward).tables(),
+        far.side.tables(),
+    )?;
+    let memory = pair_difference(alloc, &part.memory, &far.memory)?;
+    Ok(FarChanges { side, memory })
+}
+
 /// Exactly the difference between the old far side and memory and those that the mapping of the
 /// changed near side gives, for any operator and a footprint of the changes. It is refused exactly
 /// where the mapping is, and reads the rows and the entries of the footprint and no others.
@@ -117,14 +150,7 @@ pub fn changes_by<O: Operator, V: PairRead, L: Ledger>(
     let part = read_pair(alloc, old, foot)?;
     let mut drawn = ids.copy();
     let far = map_part(alloc, operator, backward, near, &part, &mut drawn, steps)?;
-    let seen = add_drawn(alloc, foot, ids.next(), drawn.next())?;
-    let side = differences_at(
-        alloc,
-        seen.as_slice(),
-        far_of(&part, backward).tables(),
-        far.side.tables(),
-    )?;
-    let memory = pair_difference(alloc, &part.memory, &far.memory)?;
+    let changes = far_changes(alloc, backward, foot, ids.next(), drawn.next(), part, far)?;
     *ids = drawn;
-    Ok(FarChanges { side, memory })
+    Ok(changes)
 }

@@ -1,5 +1,5 @@
 -- Entries of the identifiers that pass.
-use Rattle.std.proofs.Common.{◌≡◌, ℕ, ◌+◌, ◌<◌, ◌≤◌, ◌==◌, [], ◌∷◌, Bool, true, false, cond, count_by, None, refl, ap, sym, ◌∙◌, arith}
+use Rattle.std.proofs.Common.{◌≡◌, ℕ, ◌+◌, ◌<◌, ◌≤◌, ◌==◌, [], ◌∷◌, Bool, true, false, cond, count_by, None, refl, ap, sym, subst, ◌∙◌, arith}
 use Rattle.std.proofs.lemmas.Bool.{eqb-true, false≢true}
 use Rattle.std.proofs.lemmas.List.Sums.{sum_by-cons}
 use Rattle.id_memory.specs.Pairs.{Pairs, RiseFrom, IsOneToOne, has_pair, pair_of}
@@ -7,7 +7,11 @@ use Rattle.op_law.specs.Local.{only}
 use Rattle.op_law.specs.Meaning.{PairState}
 use Rattle.op_law.specs.Sound.{PairsSound}
 use Rattle.op_law.proofs.OnlyLaws.{by_test}
-use Rattle.pair_parts.specs.Parts.{memory_only, part_of_pair}
+use Rattle.pair_parts.specs.Parts.{IsMemory, memory_only, part_of_pair}
+
+-- one without entries is a memory
+pub none_stand : (es : Pairs) → es ≡ [] → IsMemory es
+none_stand es none = subst (λ (x : Pairs). IsMemory x) (sym none) (record { rises = tt; one = λ s t. omega arith })
 
 -- an identifier that passes has its pair
 pub memory_in : (P : ℕ → Bool) (es : Pairs) (id : ℕ) → P id ≡ true → pair_of (memory_only P es) id ≡ pair_of es id

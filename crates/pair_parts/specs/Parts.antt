@@ -1,8 +1,13 @@
--- The part of a pair at some identifiers, with that of its memory.
+-- Memories, and the part of a pair at some identifiers, with that of its memory.
 use Rattle.std.specs.Prelude.{ℕ, Bool, filter}
-use Rattle.id_memory.specs.Pairs.{Pairs}
+use Rattle.id_memory.specs.Pairs.{IsOneToOne, Pairs, RiseFrom}
 use Rattle.op_law.specs.Local.{only}
 use Rattle.op_law.specs.Meaning.{PairState}
+
+-- the entries of a memory: their identifiers rise, and no pair stands twice
+pub record IsMemory (m : Pairs) : Type 0 where
+  pub rises : RiseFrom 0 m
+  pub one : IsOneToOne m
 
 -- the entries of the identifiers that pass
 abbrev pub memory_only : (ℕ → Bool) → Pairs → Pairs

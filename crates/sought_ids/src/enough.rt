@@ -133,7 +133,8 @@ fn is_enough_step<O: Seeks, L: Ledger>(
 }
 
 /// Whether these identifiers see all that the changes do. It takes up to three look-ups for each of
-/// them and each operator that seeks, and for each change.
+/// them and each operator that seeks, and for each change. A condition that makes no columns equal is
+/// asked besides of each changed row of S and T with each row of the other table.
 pub fn is_enough<O: Seeks, L: Ledger>(
     alloc: Global,
     graph: &Graph<O>,

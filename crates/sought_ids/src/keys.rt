@@ -1,7 +1,7 @@
 //! What is kept of an operator's tables, and its memory.
 ghost use Rattle.std.specs.Prelude.{◌≡◌, IfSome, ℕ, map};
 ghost use Rattle.row_store.specs.Rows.{Rows};
-ghost use Rattle.table_keys.specs.declared.columns.KeyColumns.TheVariants.{All, One};
+ghost use Rattle.table_keys.specs.declared.columns.KeyColumns.TheVariants.{All};
 ghost use Rattle.kept_keys.specs.Kept.{AreKeysAt, AreKeysOf};
 ghost use Rattle.op_seeks.specs.Keys.{AreFkKeys};
 ghost use Rattle.op_seeks.specs.Places.{AreCondKeys, is_on_target as is_on_target_lem};
@@ -55,16 +55,16 @@ fn keys_beside<'a>(
     Some(FkKeys::new(keys, rows))
 }
 
-// The keys of a table in one column, and in all.
+// The keys of a table in some columns, and in all.
 fn both_keys(
     items: &[Numbered<TableKeys>],
     table: u32,
-    column: usize,
+    columns: KeyColumns,
 ) -> Option<(&TableKeys, &TableKeys)>
-    ensures { IfSome result (λ both. AreKeysAt items.now table (One column) both.0.now.rows
+    ensures { IfSome result (λ both. AreKeysAt items.now table columns both.0.now.rows
         × AreKeysAt items.now table All both.1.now.rows) }
 {
-    let Some(keys) = keys_of(items, table, KeyColumns::One(column)) else {
+    let Some(keys) = keys_of(items, table, columns) else {
         return None;
     };
     let Some(rows) = keys_of(items, table, KeyColumns::All) else {
@@ -73,7 +73,7 @@ fn both_keys(
     Some((keys, rows))
 }
 
-// The memory, and the keys of two tables in the columns that are equal.
+// The memory, and the keys of two tables in the columns in which rows are sought.
 fn entries_beside<'a>(
     kept: Kept<'a>,
     tables: &[u32],
@@ -138,7 +138,7 @@ fn known_at<'a, O>(kept: Kept<'a>, over: &Way<'_, O>, place: SeekPlace) -> Optio
 {
     match place {
         SeekPlace::ForeignKey(fk) => known_by_key(kept, over, fk),
-        SeekPlace::Condition(columns) => known_by_condition(kept, over, columns),
+        SeekPlace::Condition(place) => known_by_condition(kept, over, place),
     }
 }
 
@@ -164,8 +164,12 @@ fn want(wanted: &mut List<WantedKeys>, table: u32, columns: KeyColumns) -> Resul
     wanted.push(WantedKeys { table, columns })
 }
 
-fn want_both(wanted: &mut List<WantedKeys>, table: u32, column: usize) -> Result<(), Memory> {
-    want(wanted, table, KeyColumns::One(column))?;
+fn want_both(
+    wanted: &mut List<WantedKeys>,
+    table: u32,
+    columns: KeyColumns,
+) -> Result<(), Memory> {
+    want(wanted, table, columns)?;
     want(wanted, table, KeyColumns::All)
 }
 
@@ -180,9 +184,9 @@ fn want_at(
             want(wanted, first, KeyColumns::One(fk.place))?;
             want(wanted, second, KeyColumns::All)
         }
-        SeekPlace::Condition(columns) => {
-            want_both(wanted, first, columns.first)?;
-            want_both(wanted, second, columns.second)
+        SeekPlace::Condition(it) => {
+            want_both(wanted, first, it.first)?;
+            want_both(wanted, second, it.second)
         }
     }
 }
@@ -192,7 +196,7 @@ fn is_on_target(place: SeekPlace) -> bool
 {
     match place {
         SeekPlace::ForeignKey(fk) => fk.on_target,
-        SeekPlace::Condition(columns) => columns.on_target,
+        SeekPlace::Condition(place) => place.on_target,
     }
 }
 

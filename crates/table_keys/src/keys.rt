@@ -78,6 +78,13 @@ impl TableKeys {
         self.columns
     }
 
+    /// The keys by identifier; in all columns they are the rows of the table. It takes no memory.
+    pub fn rows(&self) -> &Table
+        ensures { result.now.rows ≡ self.now.rows }
+    {
+        &self.keys
+    }
+
     /// The key of an identifier, found by two binary searches. It takes no memory.
     pub fn get(&self, id: u64) -> Option<&Row>
         ensures value { option_map (λ row. row.now) result ≡ row_of self.now.rows id }

@@ -23,7 +23,7 @@ use Rattle.version_graph.proofs.WalkLaws.{IsForest, is_forest, link_numbers, set
 use Rattle.version_graph.proofs.TreeLaws.{tree_in_walk, walk_in_tree}
 use Rattle.version_model.specs.States.{State, headings, IsWell}
 use Rattle.version_model.specs.Sound.{IsSound}
-use Rattle.version_model.specs.Steps.{after, pair_in, IsRelated, run}
+use Rattle.version_model.specs.Steps.{pair_in, IsRelated, run}
 use Rattle.version_model.specs.Writes.{write, written, MayWrite}
 use Rattle.version_model.specs.Laws.{StaysAt, WriteIsOrdinary}
 use Rattle.version_model.proofs.PutLaws.{put_apart, put_holds, put_one, put_else}

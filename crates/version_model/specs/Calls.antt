@@ -1,5 +1,5 @@
 -- What inner calls suppose and ensure.
-use Rattle.std.specs.Prelude.{◌≡◌, ℕ, ◌≤◌, ◌⊎◌, Bool, true, false, cond, List, [], ◌∷◌, map, length, Result, Ok, Err, Option, Some, None, ⊤}
+use Rattle.std.specs.Prelude.{◌≡◌, ℕ, ◌≤◌, ◌⊎◌, Bool, true, false, cond, List, [], ◌∷◌, map, Result, Ok, Err, Option, Some, None, ⊤}
 use Rattle.par_base.specs.declared.fault.Fault.{Fault}
 use Rattle.par_base.specs.declared.refusal.IdsSpent.{IdsSpent}
 use Rattle.version_graph.specs.Edges.{edge_of, sources_at}

@@ -16,7 +16,7 @@ use Rattle.row_changes.specs.Differences.{AllDiffer, IsDifference}
 use Rattle.row_changes.specs.Picked.{Lookup, Picks, change_between}
 use Rattle.row_changes.proofs.ChangedLaws.{changed_at, changed_rise}
 use Rattle.row_changes.proofs.PickLaws.{both_differ}
-use Rattle.write_propagation.specs.Told.{ChangesLead, is_change, same_cell}
+use Rattle.write_plans.specs.Told.{ChangesLead, is_change, same_cell}
 use Rattle.version_notes.specs.Differences.{difference}
 
 -- ---- rows that are the same

@@ -19,8 +19,8 @@ use Rattle.version_model.specs.States.{State}
 use Rattle.changes_walk.specs.Changing.{latest_changes}
 use Rattle.op_law.proofs.OnlyLaws.{by_test}
 use Rattle.row_changes.specs.Differences.{IsDifference}
-use Rattle.write_propagation.specs.Told.{TellsApart, is_change}
-use Rattle.write_propagation.specs.declared.undo.Undo.{Undo}
+use Rattle.write_plans.specs.Told.{TellsApart, is_change}
+use Rattle.write_plans.specs.declared.undo.Undo.{Undo}
 use Rattle.change_feed.specs.declared.note.Note.{Note}
 use Rattle.change_feed.specs.declared.note.TableChange.{TableChange}
 use Rattle.change_feed.specs.declared.note.VersionNote.{VersionNote}

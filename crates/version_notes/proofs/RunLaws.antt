@@ -6,7 +6,7 @@ use mathlib.Core.Logic.{inl, inr}
 use Rattle.version_graph.specs.Edges.{Drawn, set_named}
 use Rattle.version_graph.specs.Sets.{In}
 use Rattle.version_model.specs.Kept.{Database}
-use Rattle.write_propagation.specs.declared.undo.Undo.{Undo}
+use Rattle.write_plans.specs.declared.undo.Undo.{Undo}
 use Rattle.change_feed.specs.declared.note.Note.{Note}
 use Rattle.change_feed.specs.declared.note.VersionNote.{VersionNote}
 use Rattle.change_feed.specs.Feeds.{events_prepared, events_told}

@@ -5,7 +5,7 @@ use Rattle.row_store.specs.Rows.{Rows, row_of}
 use Rattle.row_store.specs.declared.change.Change.{Change}
 use Rattle.op_law.specs.Identifiers.{ids_over}
 use Rattle.row_changes.specs.Picked.{change_between}
-use Rattle.write_propagation.specs.Told.{is_change}
+use Rattle.write_plans.specs.Told.{is_change}
 use Rattle.change_feed.specs.declared.note.TableChange.{TableChange}
 use Rattle.change_feed.specs.declared.note.Note.{Note}
 use Rattle.change_feed.specs.Shown.{Named}

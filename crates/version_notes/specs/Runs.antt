@@ -9,8 +9,8 @@ use Rattle.version_graph.specs.declared.parts.Heading.{Heading}
 use Rattle.version_graph.specs.declared.parts.Placed.{Placed}
 use Rattle.version_model.specs.Kept.{Database}
 use Rattle.changes_walk.specs.Changing.{latest_changes}
-use Rattle.write_propagation.specs.Told.{CarriedLead, TellsApart, is_change}
-use Rattle.write_propagation.specs.declared.undo.Undo.{Undo}
+use Rattle.write_plans.specs.Told.{CarriedLead, TellsApart, is_change}
+use Rattle.write_plans.specs.declared.undo.Undo.{Undo}
 use Rattle.change_feed.specs.declared.note.Note.{Note}
 use Rattle.change_feed.specs.declared.note.TableChange.{TableChange}
 use Rattle.change_feed.specs.declared.note.VersionNote.{VersionNote}

@@ -1,7 +1,7 @@
 //! The changes of tables, as notes have them.
 ghost use Rattle.std.specs.Prelude.{◌≡◌, ◌++◌, option_to_list, filter, filter_map, IfOk, OnOk};
 ghost use Rattle.std.specs.Option.{option_copied};
-ghost use Rattle.write_propagation.specs.Told.{is_change as is_change_lem};
+ghost use Rattle.write_plans.specs.Told.{is_change as is_change_lem};
 ghost use Rattle.version_notes.specs.Differences.{table_with};
 ghost use Rattle.version_notes.specs.Runs.{carried_to, change_of, changed_table, numbers_of};
 
@@ -13,7 +13,7 @@ use row_store::{Change, Changes};
 use std::alloc::Global;
 use version_graph::{Graph, Heading};
 use version_model::latest_of;
-use write_propagation::{Undo, is_change};
+use write_plans::{Undo, is_change};
 
 fn copy_change(alloc: Global, change: &Change) -> Result<Change, Memory>
     ensures { IfOk result (λ made. made ≡ change.now) }

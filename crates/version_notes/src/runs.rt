@@ -11,7 +11,7 @@ use change_feed::{Note, VersionNote, Watcher, Watches};
 use par_base::{List, Memory, Name};
 use std::alloc::Global;
 use version_graph::Graph;
-use write_propagation::Undo;
+use write_plans::Undo;
 
 // Puts the note of a run for a version behind the others, where its rows changed.
 fn push_note<O>(

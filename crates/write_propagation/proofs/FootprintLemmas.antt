@@ -17,7 +17,7 @@ use Rattle.operator_changes.specs.Calls.{MayChange}
 use Rattle.operator_changes.specs.Footprint.{IsFootprint, passes}
 use Rattle.version_model.specs.States.{State}
 use Rattle.version_model.specs.Steps.{directed, pair_in}
-use Rattle.write_propagation.proofs.ApartLemmas.{MapsApart}
+use Rattle.write_plans.proofs.ApartLemmas.{MapsApart}
 
 -- rows that are the same where the test passes, and where it fails
 rows_same : (P : ℕ → Bool) (t u : Rows) → RiseFrom 0 t → RiseFrom 0 u → rows_only P t ≡ rows_only P u → rows_only (λ q. not (P q)) t ≡ rows_only (λ q. not (P q)) u → t ≡ u

@@ -32,11 +32,12 @@ use Rattle.row_changes.proofs.ChangedLaws.{changed_rise}
 use Rattle.row_changes.proofs.DifferenceLaws.{part_makes, whole_old}
 use Rattle.operator_changes.specs.Footprint.{passes, with_drawn}
 use Rattle.pair_parts.specs.Apart.{KeepsApart, SameElsewhere}
-use Rattle.pair_parts.proofs.MemoryLaws.{memory_same}
+use Rattle.pair_parts.specs.Parts.{IsMemory}
+use Rattle.pair_parts.proofs.MemoryLaws.{memory_same, none_stand}
 use Rattle.id_memory.specs.Pairs.{Pairs}
 use Rattle.sought_ids.specs.Known.{Known}
 use Rattle.sought_ids.specs.Places.{AreKnown, PassKnown, side_at}
-use Rattle.sought_ids.specs.Seeking.{ApartOver, IsChangedPair, IsMappedPair, IsMemory, SeekLaws}
+use Rattle.sought_ids.specs.Seeking.{ApartOver, IsChangedPair, IsMappedPair, SeekLaws}
 use Rattle.sought_ids.specs.SeekPlace.{SeekPlace}
 use Rattle.table_keys.specs.States.{KeysState}
 use Rattle.kept_keys.specs.Kept.{AreKeysOf}
@@ -62,24 +63,24 @@ use Rattle.db_state.proofs.PartLaws.{only_map}
 use Rattle.sought_ids.specs.Sought.{AreKeptOf, SeesOver, key_tables}
 use Rattle.sought_ids.proofs.SplitLaws.{listed_self, split_by as splits_closed}
 use Rattle.operator_changes.proofs.DrawnLemmas.{over_passes, passes_with, under_passes}
-use Rattle.write_propagation.specs.Making.{IsMaking, IsPlanOf, MayPlan, auxes_over, made_over, seen_write}
+use Rattle.write_plans.specs.Making.{IsMaking, IsPlanOf, MayPlan, auxes_over, made_over, seen_write}
 use Rattle.write_propagation.specs.PartMade.{ClosesTree, NamesPart, SeesTree, kept_with, named_in}
-use Rattle.write_propagation.specs.Plans.{rows_written}
-use Rattle.write_propagation.specs.Trees.{part}
-use Rattle.write_propagation.specs.declared.making.Making.{Making}
-use Rattle.write_propagation.specs.declared.plans.Plan.{Plan}
-use Rattle.write_propagation.specs.declared.plans.RowWrite.{RowWrite}
-use Rattle.write_propagation.specs.declared.tree.Tree.{Tree}
-use Rattle.write_propagation.proofs.ApartLemmas.{CarriesAt, local_maps}
+use Rattle.write_plans.specs.Plans.{rows_written}
+use Rattle.write_plans.specs.Trees.{part}
+use Rattle.write_plans.specs.declared.making.Making.{Making}
+use Rattle.write_plans.specs.declared.plans.Plan.{Plan}
+use Rattle.write_plans.specs.declared.plans.RowWrite.{RowWrite}
+use Rattle.write_plans.specs.declared.tree.Tree.{Tree}
+use Rattle.write_plans.proofs.ApartLemmas.{CarriesAt, local_maps}
 use Rattle.write_propagation.proofs.CrossedLemmas.{IsCrossedAt, mapped_by, run_crossed}
 use Rattle.write_propagation.proofs.FootprintLemmas.{footprint_carries}
-use Rattle.write_propagation.proofs.PartLemmas.{IsPartOf, Rests}
-use Rattle.write_propagation.proofs.PartRowsLemmas.{all_listed, below_alike, foot_over, half_local, key_among, key_numbers, left_alone, memory_of, none_stand, pass_known, rows_alike, side_sound, tables_changed, tables_fit, tables_pass, tables_rise, tables_sound}
-use Rattle.write_propagation.proofs.PartShownLemmas.{CarriesAll, before_part, end_up, local_keeps, of_end, ordered_reached, part_shown, rests, small_old, small_sound}
-use Rattle.write_propagation.proofs.SeenLemmas.{named_pass, pass_wider}
-use Rattle.write_propagation.proofs.ShownLemmas.{Remembers, Shows, end_is, end_sound, small_is}
-use Rattle.write_propagation.proofs.TreeLemmas.{part_table}
-use Rattle.write_propagation.proofs.WholeLemmas.{crossing_at, lives, number_of, path, path_inside, path_over}
+use Rattle.write_plans.proofs.PartLemmas.{IsPartOf, Rests}
+use Rattle.write_propagation.proofs.PartRowsLemmas.{all_listed, below_alike, foot_over, half_local, key_among, key_numbers, left_alone, memory_of, pass_known, rows_alike, side_sound, tables_changed, tables_fit, tables_pass, tables_rise, tables_sound}
+use Rattle.write_plans.proofs.PartShownLemmas.{CarriesAll, before_part, end_up, local_keeps, of_end, ordered_reached, part_shown, rests, small_old, small_sound}
+use Rattle.write_plans.proofs.SeenLemmas.{named_pass, pass_wider}
+use Rattle.write_plans.proofs.ShownLemmas.{Remembers, Shows, end_is, end_sound, small_is}
+use Rattle.write_plans.proofs.TreeLemmas.{part_table}
+use Rattle.write_plans.proofs.WholeLemmas.{crossing_at, lives, number_of, path, path_inside, path_over}
 
 -- ---- the write of the part
 

@@ -25,10 +25,11 @@ use Rattle.row_changes.specs.Touched.{AllPass, EachPass}
 use Rattle.row_changes.proofs.ChangedLaws.{after_other, changed_at}
 use Rattle.operator_changes.specs.Calls.{MayChange, ahead}
 use Rattle.operator_changes.specs.Footprint.{IsFootprint, passes}
+use Rattle.pair_parts.specs.Parts.{IsMemory}
 use Rattle.sought_ids.specs.Closed.{PassListed}
 use Rattle.sought_ids.specs.Known.{Known}
 use Rattle.sought_ids.specs.Places.{AreKnown, PassEntries, PassKnown, is_on_target, side_at}
-use Rattle.sought_ids.specs.Seeking.{FootprintOf, IsMemory, SeekLaws}
+use Rattle.sought_ids.specs.Seeking.{FootprintOf, SeekLaws}
 use Rattle.sought_ids.specs.SeekPlace.{SeekPlace}
 use Rattle.version_model.specs.States.{State}
 use Rattle.version_model.specs.Steps.{directed, pair_in}
@@ -137,10 +138,6 @@ pass_known ids n place p sound entries = record { rows = pass_listed ids n (side
 pub memory_of : (m : Meaning) (place : Option SeekPlace) → SeekLaws m place → (known : Known) (own : PairState) → AreKnown place own known → (hs ht : List Heading) (q : PairState) → IsPair m hs ht q → IsMemory q.memory
 memory_of m None laws known own are hs ht q pair = absurd are
 memory_of m (Some x) laws known own are hs ht q pair = laws.memory x refl hs ht q pair
-
--- one without entries is a memory
-pub none_stand : (es : Pairs) → es ≡ [] → IsMemory es
-none_stand es none = subst (λ (x : Pairs). IsMemory x) (sym none) (record { rises = tt; one = λ s t. omega arith })
 
 -- a footprint of a crossing's near changes, as it is crossed
 pub foot_over : (m : Meaning) (fk : Option SeekPlace) (known : Known) (near : TableChanges) (ids : List ℕ) (back : Bool) (p : PairState) → AreKnown fk (ahead back p) known → FootprintOf m fk back known near ids

@@ -16,13 +16,13 @@ use Rattle.version_model.specs.declared.numbered.Numbered.{Numbered}
 use Rattle.db_state.specs.Fields.{state_for}
 use Rattle.db_state.specs.declared.parts.Parts.{Parts}
 use Rattle.sought_ids.specs.Sought.{AreClosed, KeptState}
-use Rattle.write_propagation.specs.Making.{IsMaking, MayPlan}
+use Rattle.write_plans.specs.Making.{IsMaking, MayPlan}
 use Rattle.write_propagation.specs.PartMade.{ClosesTree, named_in, kept_with}
-use Rattle.write_propagation.specs.declared.making.Making.{Making}
-use Rattle.write_propagation.specs.declared.plans.RowWrite.{RowWrite}
-use Rattle.write_propagation.specs.declared.tree.Tree.{Tree}
+use Rattle.write_plans.specs.declared.making.Making.{Making}
+use Rattle.write_plans.specs.declared.plans.RowWrite.{RowWrite}
+use Rattle.write_plans.specs.declared.tree.Tree.{Tree}
 use Rattle.write_propagation.proofs.PartFoundLemmas.{split_ids}
-use Rattle.write_propagation.proofs.PartShownLemmas.{end_up}
+use Rattle.write_plans.proofs.PartShownLemmas.{end_up}
 
 -- those that hold what others began with, which hold what the changes name
 begun : {O : Type 0} (meaning : O → Meaning) (seeks : O → Option SeekPlace) (es : List (Placed O)) (items : KeptState) (ns first begin ids : List ℕ) → AreAmong first begin → AreClosed meaning seeks es items ns begin ids → AreClosed meaning seeks es items ns first ids

@@ -12,13 +12,13 @@ use Rattle.db_state.specs.declared.parts.Parts.{Parts}
 use Rattle.sought_ids.specs.Found.{AreAmong}
 use Rattle.sought_ids.specs.SeekPlace.{SeekPlace}
 use Rattle.sought_ids.specs.Sought.{AreClosed, AreEnough, KeptState}
-use Rattle.write_propagation.specs.Making.{IsMaking}
-use Rattle.write_propagation.specs.declared.making.Making.{Making}
+use Rattle.write_plans.specs.Making.{IsMaking}
+use Rattle.write_plans.specs.declared.making.Making.{Making}
 use Rattle.write_propagation.specs.declared.parting.PartMade.{PartMade}
 use Rattle.write_propagation.specs.declared.parting.Tried.{Tried}
 use Rattle.write_propagation.specs.declared.parting.Tried.TheVariants.{Made, More, Never}
-use Rattle.write_propagation.specs.declared.plans.RowWrite.{RowWrite}
-use Rattle.write_propagation.specs.declared.tree.Tree.{Tree}
+use Rattle.write_plans.specs.declared.plans.RowWrite.{RowWrite}
+use Rattle.write_plans.specs.declared.tree.Tree.{Tree}
 
 -- the identifiers that changes name
 abbrev pub named_in : List Change → List ℕ

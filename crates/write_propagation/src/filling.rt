@@ -1,24 +1,20 @@
 //! Keys of a tree's tables that aren't kept yet, and what makes kept ones ready.
-ghost use Rattle.std.specs.Prelude.{OnOk};
-ghost use Rattle.version_graph.specs.Sets.{Each};
 ghost use Rattle.changes_walk.specs.Reach.{IsWhole};
 ghost use Rattle.db_state.specs.Fields.{state_for};
 ghost use Rattle.kept_keys.specs.Kept.{AreKeysOf};
-ghost use Rattle.kept_keys.specs.Changed.{Both, IsPrepared, IsSameKeys};
 
-use crate::tree::Tree;
 use db_state::{Db, read_table};
 use expr_lang::Steps;
-use kept_keys::{keep_keys, keys_of, prepare_keys};
+use kept_keys::{keep_keys, keys_of};
 use layout_rules::holds;
 use op_law::Operator;
 use par_base::Memory;
-use row_store::Changes;
 use sought_ids::WantedKeys;
 use std::alloc::Global;
 use std::sync::ledger::Ledger;
 use table_keys::TableKeys;
 use version_model::Numbered;
+use write_plans::Tree;
 
 // Keeps the keys of a table of the tree, where they aren't kept.
 fn fill_table<O: Operator, L: Ledger>(
@@ -61,18 +57,4 @@ pub(crate) fn fill_keys<O: Operator, L: Ledger>(
         fill_table(alloc, db, keys, tree, *one, steps)?;
     }
     Ok(())
-}
-
-/// Makes kept keys ready for the last changes of each of these tables, and for none of others. It
-/// changes no key.
-pub(crate) fn prepare(
-    alloc: Global,
-    keys: &mut Vec<Numbered<TableKeys>>,
-    tables: &[u32],
-    made: &[Numbered<Changes>],
-) -> Result<(), Memory>
-    ensures same { Both IsSameKeys keys.old.items keys.new.items }
-    ensures ok { OnOk result (Each (IsPrepared tables.now made.now) keys.new.items) }
-{
-    prepare_keys(alloc, keys.as_mut_slice(), tables, made)
 }

@@ -9,13 +9,9 @@ ghost use Rattle.db_state.specs.Fields.{state_for};
 ghost use Rattle.db_state.specs.Parts.{SplitsAt};
 ghost use Rattle.kept_keys.specs.Kept.{AreKeysOf};
 ghost use Rattle.sought_ids.specs.Found.{AreAmong};
-ghost use Rattle.write_propagation.specs.Making.{IsMaking, MayPlan};
+ghost use Rattle.write_plans.specs.Making.{IsMaking, MayPlan};
 ghost use Rattle.write_propagation.specs.PartMade.{named_in, ClosesTree, IsPartMade, IsTried, SeesTree};
 
-use crate::making::{Making, make_write};
-use crate::planning::named_ids;
-use crate::plans::RowWrite;
-use crate::tree::Tree;
 use db_state::{Db, Sight};
 use expr_lang::Steps;
 use layout_rules::holds;
@@ -30,6 +26,7 @@ use std::alloc::Global;
 use std::sync::ledger::Ledger;
 use table_keys::TableKeys;
 use version_model::Numbered;
+use write_plans::{Making, RowWrite, Tree, make_write, named_ids};
 
 /// How often the write of a part is tried at most.
 const TRIES: u32 = 64;

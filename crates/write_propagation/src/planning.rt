@@ -1,146 +1,37 @@
 //! The plan of a write.
-ghost use Rattle.std.specs.Prelude.{◌≡◌, ℕ, ◌+◌, ◌*◌, ◌≤◌, length, map, IfOk, IfSome};
+ghost use Rattle.std.specs.Prelude.{◌≡◌, ◌+◌, ◌*◌, ◌≤◌, length, IfOk, IfSome};
 ghost use Rattle.row_store.specs.Changes.{AreOld, ChangesRise};
-ghost use Rattle.row_changes.specs.Touched.{AllPass};
 ghost use Rattle.version_graph.specs.Sets.{In};
 ghost use Rattle.version_graph.specs.Edges.{numbers};
 ghost use Rattle.op_law.specs.Calls.{first_refused};
-ghost use Rattle.op_law.specs.Identifiers.{IdsRise};
 ghost use Rattle.version_model.specs.Writes.{MayWrite};
 ghost use Rattle.db_state.specs.Fields.{database_for, state_for};
 ghost use Rattle.kept_keys.specs.Kept.{AreKeysOf};
 ghost use Rattle.kept_keys.specs.Changed.{Both, IsSameKeys};
-ghost use Rattle.db_state.specs.Parts.{passes, AreLocalAt, Ascends, MaySee, SeenWithin};
+ghost use Rattle.db_state.specs.Parts.{AreLocalAt};
 ghost use Rattle.write_propagation.specs.Bounds.{PlansWithin};
-ghost use Rattle.write_propagation.specs.Capacity.{HoldsAtLeast};
-ghost use Rattle.write_propagation.specs.Plans.{rows_written, IsSame, Plans};
-ghost use Rattle.write_propagation.specs.Room.{HasOld, IsReadyFor};
-ghost use Rattle.write_propagation.specs.Told.{TellsCarried, TellsChanged};
-ghost use Rattle.write_propagation.specs.Making.{names_of, IsPlanOf, IsPlanWith, MayChangeAuxes, MayPlan, MayShow};
+ghost use Rattle.write_plans.specs.Capacity.{HoldsAtLeast};
+ghost use Rattle.write_plans.specs.Plans.{rows_written, IsSame, Plans};
+ghost use Rattle.write_plans.specs.Room.{HasOld, IsReadyFor};
+ghost use Rattle.write_plans.specs.Told.{TellsCarried, TellsChanged};
+ghost use Rattle.write_plans.specs.Making.{MayPlan};
 ghost use Rattle.write_propagation.specs.PartMade.{IsPartMade};
-ghost use Rattle.write_propagation.specs.Keys.{KeysLead};
+ghost use Rattle.write_plans.specs.Keys.{KeysLead};
 
-use crate::alone::{is_alone, plan_alone};
-use crate::copies::kept_of;
-use crate::differing::{table_changes, tree_aux_changes};
-use crate::filling::{fill_keys, prepare};
-use crate::making::{Making, make_write};
+use crate::filling::fill_keys;
 use crate::parting::{PartMade, Writing, are_few, make_part};
-use crate::plans::{Plan, RowWrite};
-use crate::remembering::memory_changes;
-use crate::room::make_room;
-use crate::told::changed_tables;
-use crate::tree::{Tree, tree_of};
-use changes_walk::Changing;
 use db_state::{Db, Sight, are_local};
 use expr_lang::Steps;
 use op_cells::ByCells;
-use op_law::Operator;
-use pair_changes::PairChange;
-use par_base::{Fault, IdsSpent, List, Memory};
-use row_changes::SideChanges;
-use row_store::Changes;
+use par_base::{Fault, IdsSpent, Memory};
 use sought_ids::{Seeks, seeks_all, wanted_keys};
 use std::alloc::Global;
 use std::sync::ledger::Ledger;
 use table_keys::TableKeys;
 use version_model::Numbered;
-
-// The identifiers that the changes name.
-pub(crate) fn named_ids(alloc: Global, changes: &Changes) -> Result<List<u64>, Memory>
-    ensures value { IfOk result (λ ids. ids ≡ map (λ change. change.id) changes.now) }
-    ensures rise { IfOk result (λ ids. IdsRise 0 ids) }
-{
-    let mut ids = List::new(alloc);
-    for change in changes.as_slice() {
-        ids.push(change.id)?;
-    }
-    Ok(ids)
-}
-
-/// The plan of what was made, with these changes of auxiliary tables and of memories.
-pub(crate) fn plan_with<O: Operator>(
-    alloc: Global,
-    db: &Db<O>,
-    tree: &Tree,
-    made: Changing,
-    auxes: List<Numbered<SideChanges>>,
-    memories: List<Numbered<List<PairChange>>>,
-) -> Result<Plan, Memory>
-    ensures { IfOk result (IsPlanWith O.meaning db.now tree.now made auxes memories) }
-{
-    let numbers = kept_of(alloc, db.stored(), tree.tables.as_slice())?;
-    let stored = table_changes(alloc, made.tables.as_slice(), numbers.as_slice())?;
-    let changed = changed_tables(alloc, made.tables.as_slice(), tree.tables.as_slice())?;
-    Ok(Plan {
-        stored,
-        auxes,
-        memories,
-        ids: made.ids,
-        changed,
-        carried: made.tables,
-    })
-}
-
-// The plan of what was made of what is seen of the tree.
-fn plan_of<O: ByCells, L: Ledger>(
-    alloc: Global,
-    db: &Db<O>,
-    tree: &Tree,
-    making: Making,
-    sight: Sight<'_>,
-    steps: &mut Steps<L>,
-) -> Result<Plan, Memory>
-    requires ascends { Ascends sight }
-    requires sees { MaySee O.meaning db.now.graph.edges (state_for O.meaning db.now)
-        tree.now.operators sight }
-    requires may { MayChangeAuxes O.meaning db.now (passes sight) (names_of sight) making
-        tree.now.operators }
-    ensures plans { IfOk result (IsPlanOf O.meaning db.now tree.now (passes sight.entry) making) }
-    ensures steps { SeenWithin 8 sight.entry (length tree.now.operators) steps.old steps.new }
-{
-    let auxes = tree_aux_changes(alloc, db, tree, &making, sight, steps)?;
-    let Making { copies, made } = making;
-    let memories = memory_changes(
-        alloc,
-        copies.memories.as_slice(),
-        made.memories.as_slice(),
-        tree.operators.as_slice(),
-    )?;
-    let plan = plan_with(alloc, db, tree, made, auxes, memories)?;
-    Ok(plan)
-}
-
-// The plan of a write that is made of what is seen of its tree, for which the kept keys are made ready.
-fn plan_seen<O: ByCells, L: Ledger>(
-    alloc: Global,
-    db: &Db<O>,
-    keys: &mut Vec<Numbered<TableKeys>>,
-    tree: &Tree,
-    written: RowWrite,
-    sight: Sight<'_>,
-    steps: &mut Steps<L>,
-) -> Result<Plan, Fault<IdsSpent>>
-    requires may { MayPlan O.meaning db.now tree.now written }
-    requires sees { MayShow O.meaning db.now.graph.edges tree.now.operators sight }
-    requires named { AllPass (passes sight) written.changes }
-    requires rise { ChangesRise 0 written.changes }
-    requires right { AreKeysOf (state_for O.meaning db.now).tables keys.old.items }
-    ensures plans { Plans O.meaning db.now written.set written.table
-        (rows_written O.meaning db.now written) written.ids.next result }
-    ensures tells { IfOk result (TellsChanged O.meaning db.now written) }
-    ensures carried { IfOk result (TellsCarried O.meaning db.now written) }
-    ensures old { IfOk result (HasOld db.now) }
-    ensures keys { IfOk result (KeysLead O.meaning db.now keys.new.items) }
-    ensures kept { Both IsSameKeys keys.old.items keys.new.items }
-    ensures steps { SeenWithin 16 sight.entry (length tree.now.operators) steps.old steps.new }
-{
-    let making = make_write(alloc, db, tree, written, sight, steps)?;
-    let tables = tree.tables.as_slice();
-    prepare(alloc, keys, tables, making.made.tables.as_slice())?;
-    let plan = plan_of(alloc, db, tree, making, sight, steps)?;
-    Ok(plan)
-}
+use write_plans::{
+    Plan, RowWrite, Tree, make_room, plan_local, plan_of, plan_seen, prepare, tree_of,
+};
 
 // The plan of a write that was made of a part of its tree.
 fn plan_part<O: Seeks + ByCells, L: Ledger>(
@@ -229,64 +120,6 @@ fn plan_wide<O: Seeks + ByCells, L: Ledger>(
     }
 }
 
-// The plan of a write over operators that treat each identifier by itself: of the rows of the
-// identifiers that its changes name.
-fn plan_named<O: ByCells, L: Ledger>(
-    alloc: Global,
-    db: &Db<O>,
-    keys: &mut Vec<Numbered<TableKeys>>,
-    tree: &Tree,
-    written: RowWrite,
-    steps: &mut Steps<L>,
-) -> Result<Plan, Fault<IdsSpent>>
-    requires may { MayPlan O.meaning db.now tree.now written }
-    requires local { AreLocalAt O.meaning db.now.graph.edges tree.now.operators }
-    requires right { AreKeysOf (state_for O.meaning db.now).tables keys.old.items }
-    ensures plans { Plans O.meaning db.now written.set written.table
-        (rows_written O.meaning db.now written) written.ids.next result }
-    ensures tells { IfOk result (TellsChanged O.meaning db.now written) }
-    ensures carried { IfOk result (TellsCarried O.meaning db.now written) }
-    ensures old { IfOk result (HasOld db.now) }
-    ensures keys { IfOk result (KeysLead O.meaning db.now keys.new.items) }
-    ensures kept { Both IsSameKeys keys.old.items keys.new.items }
-    ensures steps { steps.new ≤ steps.old + 16
-        * (length written.changes * length tree.now.operators) }
-{
-    let ids = named_ids(alloc, &written.changes)?;
-    let sight = Sight::Of(ids.as_slice());
-    plan_seen(alloc, db, keys, tree, written, sight, steps)
-}
-
-// The plan of a write over operators that treat each identifier by itself: of its changes where its
-// table stands alone, and else of the rows of the identifiers that they name.
-fn plan_local<O: ByCells, L: Ledger>(
-    alloc: Global,
-    db: &Db<O>,
-    keys: &mut Vec<Numbered<TableKeys>>,
-    tree: &Tree,
-    written: RowWrite,
-    steps: &mut Steps<L>,
-) -> Result<Plan, Fault<IdsSpent>>
-    requires may { MayPlan O.meaning db.now tree.now written }
-    requires local { AreLocalAt O.meaning db.now.graph.edges tree.now.operators }
-    requires right { AreKeysOf (state_for O.meaning db.now).tables keys.old.items }
-    ensures plans { Plans O.meaning db.now written.set written.table
-        (rows_written O.meaning db.now written) written.ids.next result }
-    ensures tells { IfOk result (TellsChanged O.meaning db.now written) }
-    ensures carried { IfOk result (TellsCarried O.meaning db.now written) }
-    ensures old { IfOk result (HasOld db.now) }
-    ensures keys { IfOk result (KeysLead O.meaning db.now keys.new.items) }
-    ensures kept { Both IsSameKeys keys.old.items keys.new.items }
-    ensures steps { steps.new ≤ steps.old + 16
-        * (length written.changes * length tree.now.operators) }
-{
-    if is_alone(db, tree) {
-        plan_alone(alloc, db, keys, tree, written)
-    } else {
-        plan_named(alloc, db, keys, tree, written, steps)
-    }
-}
-
 // The plan of a write of a tree: of the rows that its changes name where each operator treats each
 // identifier by itself, and else of more.
 fn plan_tree<O: Seeks + ByCells, L: Ledger>(
@@ -327,10 +160,10 @@ fn plan_tree<O: Seeks + ByCells, L: Ledger>(
 /// sixteen steps for each operator and identifier two are for reading, six for the mapping, and eight
 /// for the auxiliary tables.
 ///
-/// Where the others among these operators are on foreign keys, and the changes are few beside the
-/// rows, it keeps the keys of their tables, if they aren't kept yet, and reads and makes the rows of
-/// the identifiers that these keys tie to the changed ones, again with those that turn out to be
-/// missing, sixty-four times at most. Else, and where that finds no part, it reads and copies these
+/// Where the others among these operators are on foreign keys or on conditions, and the changes are
+/// few beside the rows, it keeps the keys of their tables, if they aren't kept yet, and reads and makes
+/// the rows of the identifiers that these keys, and pairs, tie to the changed ones, again with those
+/// that turn out to be missing, sixty-four times at most. Else, and where that finds no part, it reads and copies these
 /// tables, near and far for each operator. Of the operators that aren't between these tables it looks
 /// at their numbers alone.
 pub fn plan<O: Seeks + ByCells + Drop, L: Ledger>(

@@ -1,17 +1,13 @@
 -- Each operator keeps the laws of seeking.
-use Rattle.std.proofs.Common.{◌≡◌, [], None, sym, subst, arith}
-use Rattle.id_memory.specs.Pairs.{Pairs}
+use Rattle.std.proofs.Common.{None}
 use Rattle.op_law.specs.Meaning.{Meaning}
 use Rattle.op_any.specs.Operators.{Built, joining_by, meaning_of, outer_by}
 use Rattle.op_any.specs.Operators.{CreateTable, DropTable, Rename, AddColumn, AddTracked, DropColumn, Split, Merge, DecomposeSingle, DecomposePk, OuterJoinPk, JoinPk, DecomposeFk, OuterJoinFk, JoinFk, JoinOn, DecomposeOn, OuterJoinOn}
 use Rattle.equal_columns.specs.Columns.{equal_in}
 use Rattle.op_seeks.specs.Places.{place_of}
-use Rattle.op_seeks.specs.Seeking.{IsMemory, SeekLaws}
+use Rattle.pair_parts.proofs.MemoryLaws.{none_stand}
+use Rattle.op_seeks.specs.Seeking.{SeekLaws}
 use Rattle.op_seeks.specs.inner.SplitsBy.{decompose_by, decompose_on_by, join_by, join_on_by, outer_by as outer_key_by, outer_on_by}
-
--- one without entries is a memory
-none_stand : (m : Pairs) → m ≡ [] → IsMemory m
-none_stand m none = subst (λ (x : Pairs). IsMemory x) (sym none) (record { rises = tt; one = λ s t. omega arith })
 
 -- an operator that seeks nothing promises nothing
 none_seeks : (m : Meaning) → SeekLaws m None

@@ -1,5 +1,5 @@
 -- Identifiers that are closed by what is known split a pair.
-use Rattle.std.proofs.Common.{◌≡◌, ℕ, ◌==◌, List, [], ◌∷◌, Bool, true, false, Option, Some, None, sym, subst}
+use Rattle.std.proofs.Common.{◌≡◌, ℕ, ◌==◌, List, [], ◌∷◌, Bool, true, false, Option, sym, subst}
 use Rattle.std.proofs.lemmas.Bool.{eqb-true, false≢true}
 use Rattle.id_memory.specs.Pairs.{Pairs, RiseFrom}
 use Rattle.op_law.specs.Identifiers.{has_id}
@@ -72,22 +72,19 @@ module _ (j : Joining) where
 
   pub join_on_by : (o : Option (ℕ × ℕ)) (known : Known) (ids : List ℕ) (P : ℕ → Bool) (hs ht : List Heading) (p : PairState) → AreKnown (condition_place false o) p known → AreClosedBy known ids → PassKnown P ids (condition_place false o) p
       → IsPair (join_on j) hs ht p → Splits (join_on j) p P
-  join_on_by None known ids P hs ht p are closing pass pair = absurd are
-  join_on_by (Some both) (Keys keys) ids P hs ht p are closing pass pair = absurd are
-  join_on_by (Some both) (Entries it) ids P hs ht p are closing pass pair = by_memory it.memory.now.entries ids P hs ht p are.memory closing.0 pass.rows.all pass.entries pair
+  join_on_by o (Keys keys) ids P hs ht p are closing pass pair = absurd are
+  join_on_by o (Entries it) ids P hs ht p are closing pass pair = by_memory it.memory.now.entries ids P hs ht p are.memory closing.0 pass.rows.all pass.entries pair
 
   pub decompose_on_by : (o : Option (ℕ × ℕ)) (known : Known) (ids : List ℕ) (P : ℕ → Bool) (hs ht : List Heading) (p : PairState) → AreKnown (condition_place true o) p known → AreClosedBy known ids → PassKnown P ids (condition_place true o) p
       → IsPair (flip (join_on j)) hs ht p → Splits (flip (join_on j)) p P
-  decompose_on_by None known ids P hs ht p are closing pass pair = absurd are
-  decompose_on_by (Some both) (Keys keys) ids P hs ht p are closing pass pair = absurd are
-  decompose_on_by (Some both) (Entries it) ids P hs ht p are closing pass pair =
+  decompose_on_by o (Keys keys) ids P hs ht p are closing pass pair = absurd are
+  decompose_on_by o (Entries it) ids P hs ht p are closing pass pair =
       splits_behind (join_on j) P (exchanged p) (by_memory it.memory.now.entries ids P ht hs (exchanged p) are.memory closing.0 pass.rows.all pass.entries (turned (flip (join_on j)) hs ht p pair))
 
   pub outer_on_by : (o : Option (ℕ × ℕ)) (known : Known) (ids : List ℕ) (P : ℕ → Bool) (hs ht : List Heading) (p : PairState) → AreKnown (condition_place false o) p known → AreClosedBy known ids → PassKnown P ids (condition_place false o) p
       → IsPair (outer_on j) hs ht p → Splits (outer_on j) p P
-  outer_on_by None known ids P hs ht p are closing pass pair = absurd are
-  outer_on_by (Some both) (Keys keys) ids P hs ht p are closing pass pair = absurd are
-  outer_on_by (Some both) (Entries it) ids P hs ht p are closing pass pair =
+  outer_on_by o (Keys keys) ids P hs ht p are closing pass pair = absurd are
+  outer_on_by o (Entries it) ids P hs ht p are closing pass pair =
       let closed = closed_under P ids p.memory pair.related.joined.rises pass.rows.all pass.entries (subst (λ (es : Pairs). IsClosedIn (has_id ids) es) are.memory closing.0) in
       outer_splits j P hs ht p pair
       (record { absent = pass.rows.all 0 closing.1; rows = closed.rows; first = λ q low own stand. closed.first q own stand; second = λ q low own stand. closed.second q own stand })

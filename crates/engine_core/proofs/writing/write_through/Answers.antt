@@ -11,12 +11,12 @@ use Rattle.kept_keys.specs.Changed.{Both, CommitsKeys, IsReadyOver}
 use Rattle.db_state.specs.Fields.{database_for, state_for}
 use Rattle.kept_keys.specs.Kept.{AreKeysOf}
 use Rattle.engine_state.specs.AnyDatabase.{AnyDatabase}
-use Rattle.write_propagation.specs.Plans.{rows_written}
+use Rattle.write_plans.specs.Plans.{rows_written}
 use Rattle.version_graph.specs.Edges.{is_in}
-use Rattle.write_propagation.specs.Told.{CarriedLead, TellsApart}
-use Rattle.write_propagation.proofs.HoldLaws.{holds_enough, holds_more}
-use Rattle.write_propagation.proofs.UndoLaws.{undoes_before}
-use Rattle.write_propagation.proofs.PlanLaws.{may_commit, puts_layout}
+use Rattle.write_plans.specs.Told.{CarriedLead, TellsApart}
+use Rattle.write_plans.proofs.HoldLaws.{holds_enough, holds_more}
+use Rattle.write_plans.proofs.UndoLaws.{undoes_before}
+use Rattle.write_plans.proofs.PlanLaws.{may_commit, puts_layout}
 use Rattle.engine_core.proofs.WriteLemmas.{plan_refused, plan_writes}
 use Rattle.engine_core.proofs.writing.write_through.Goals as goal
 

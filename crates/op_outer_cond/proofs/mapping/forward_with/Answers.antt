@@ -20,3 +20,9 @@ memory_of-requires-clause-one g c =
     (forward_entries (joining_of c.args.join.now) c.args.near.now (seen c.args.old.now) c.args.ids.now.next c.copy-drawn.result.next _ _ _ _ c.as_slice.result.now c.requires
     (ap (λ (counter : CounterState). counter.next) c.copy-drawn.ensures) c.table_in.ensures c.table_in-2.ensures c.table_in-3.ensures c.table_in-4.ensures
     (c.as_slice.ensures ∙ c.in_ok-made.ensures.1)).one
+
+pub shown-requires : goal.shown-requires
+shown-requires g c =
+    (forward_entries (joining_of c.args.join.now) c.args.near.now (seen c.args.old.now) c.args.ids.now.next c.copy-drawn.result.next _ _ _ _ c.as_slice-2.result.now c.requires
+    (ap (λ (counter : CounterState). counter.next) c.copy-drawn.ensures) c.table_in.ensures c.table_in-2.ensures c.table_in-3.ensures c.table_in-4.ensures
+    (c.as_slice-2.ensures ∙ c.in_ok-made.ensures.1)).rises

@@ -1,13 +1,14 @@
-use Rattle.std.proofs.Common.{ℕ, true, false, Option, refl, subst}
+use Rattle.std.proofs.Common.{ℕ, true, false, Option, Some, refl, subst}
 use Rattle.op_law.specs.Meaning.{flip}
 use Rattle.row_changes.specs.Changed.{TableChanges}
 use Rattle.op_cond_join.specs.Joinings.{joining}
 use Rattle.op_cond_join.specs.JoinOn.{join_on}
+use Rattle.cond_closing.specs.Keyed.{AreKeysOf}
 use Rattle.cond_closing.specs.declared.by_keys.ByKeys.{ByKeys}
 use Rattle.op_seeks.specs.Places.{condition_place}
 use Rattle.op_seeks.specs.Seeking.{ApartOver, FootprintOf}
 use Rattle.op_seeks.specs.declared.known.Known.TheVariants.{Entries}
-use Rattle.op_seeks.proofs.ConditionLemmas.{flipped_apart, flipped_foot, shown_apart, shown_foot}
+use Rattle.op_seeks.proofs.ConditionLemmas.{flipped_apart, flipped_foot, keyed, shown_apart, shown_foot}
 use Rattle.op_seeks.proofs.condition.shown_by.Goals as goal
 
 pub returns-clause-foot : goal.returns-clause-foot
@@ -18,7 +19,7 @@ returns-clause-foot g c =
     let ids = c.in_ok-ids.ids in
     let k : ByKeys = record { join = c.args.join; x = c.in-Some.x; y = c.in-Some.y; first = it.first; second = it.second } in
     subst (λ (o : Option (ℕ × ℕ)). FootprintOf (join_on j) (condition_place false o) false (Entries it) near ids) c.in-Some.ensures.value
-    (shown_foot j k it refl refl near ids c.in_ok-ids.ensures.foot)
+    (shown_foot j (AreKeysOf k) (Some (k.x, k.y)) it (keyed k it refl refl) near ids c.in_ok-ids.ensures.foot)
 
 pub returns-clause-flipped : goal.returns-clause-flipped
 returns-clause-flipped g c =
@@ -28,7 +29,7 @@ returns-clause-flipped g c =
     let ids = c.in_ok-ids.ids in
     let k : ByKeys = record { join = c.args.join; x = c.in-Some.x; y = c.in-Some.y; first = it.first; second = it.second } in
     subst (λ (o : Option (ℕ × ℕ)). FootprintOf (flip (join_on j)) (condition_place true o) true (Entries it) near ids) c.in-Some.ensures.value
-    (flipped_foot j k it refl refl near ids c.in_ok-ids.ensures.foot)
+    (flipped_foot j (AreKeysOf k) (Some (k.x, k.y)) it (keyed k it refl refl) near ids c.in_ok-ids.ensures.foot)
 
 pub returns-clause-apart : goal.returns-clause-apart
 returns-clause-apart g c =
@@ -38,7 +39,7 @@ returns-clause-apart g c =
     let ids = c.in_ok-ids.ids in
     let k : ByKeys = record { join = c.args.join; x = c.in-Some.x; y = c.in-Some.y; first = it.first; second = it.second } in
     subst (λ (o : Option (ℕ × ℕ)). (changes : TableChanges) → ApartOver (join_on j) (condition_place false o) false (Entries it) near changes ids) c.in-Some.ensures.value
-    (shown_apart j k it refl refl near ids c.in_ok-ids.ensures.apart)
+    (shown_apart j (AreKeysOf k) (Some (k.x, k.y)) it (keyed k it refl refl) near ids c.in_ok-ids.ensures.apart)
 
 pub returns-clause-flipped_apart : goal.returns-clause-flipped_apart
 returns-clause-flipped_apart g c =
@@ -48,4 +49,4 @@ returns-clause-flipped_apart g c =
     let ids = c.in_ok-ids.ids in
     let k : ByKeys = record { join = c.args.join; x = c.in-Some.x; y = c.in-Some.y; first = it.first; second = it.second } in
     subst (λ (o : Option (ℕ × ℕ)). (changes : TableChanges) → ApartOver (flip (join_on j)) (condition_place true o) true (Entries it) near changes ids) c.in-Some.ensures.value
-    (flipped_apart j k it refl refl near ids c.in_ok-ids.ensures.apart)
+    (flipped_apart j (AreKeysOf k) (Some (k.x, k.y)) it (keyed k it refl refl) near ids c.in_ok-ids.ensures.apart)

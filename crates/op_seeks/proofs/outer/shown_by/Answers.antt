@@ -1,11 +1,13 @@
-use Rattle.std.proofs.Common.{ℕ, false, Option, refl, subst}
+use Rattle.std.proofs.Common.{ℕ, false, Option, Some, refl, subst}
 use Rattle.row_changes.specs.Changed.{TableChanges}
 use Rattle.op_cond_join.specs.Joinings.{joining}
 use Rattle.outer_law.specs.OuterOn.{outer_on}
+use Rattle.cond_closing.specs.Keyed.{AreKeysOf}
 use Rattle.cond_closing.specs.declared.by_keys.ByKeys.{ByKeys}
 use Rattle.op_seeks.specs.Places.{condition_place}
 use Rattle.op_seeks.specs.Seeking.{ApartOver, FootprintOf}
 use Rattle.op_seeks.specs.declared.known.Known.TheVariants.{Entries}
+use Rattle.op_seeks.proofs.ConditionLemmas.{keyed}
 use Rattle.op_seeks.proofs.OuterLemmas.{shown_apart, shown_foot}
 use Rattle.op_seeks.proofs.outer.shown_by.Goals as goal
 
@@ -17,7 +19,7 @@ returns-clause-foot g c =
     let ids = c.in_ok-ids.ids in
     let k : ByKeys = record { join = c.args.join; x = c.in-Some.x; y = c.in-Some.y; first = it.first; second = it.second } in
     subst (λ (o : Option (ℕ × ℕ)). FootprintOf (outer_on j) (condition_place false o) false (Entries it) near ids) c.in-Some.ensures.value
-    (shown_foot j k it refl refl near ids c.in_ok-ids.ensures.foot)
+    (shown_foot j (AreKeysOf k) (Some (k.x, k.y)) it (keyed k it refl refl) near ids c.in_ok-ids.ensures.foot)
 
 pub returns-clause-apart : goal.returns-clause-apart
 returns-clause-apart g c =
@@ -27,4 +29,4 @@ returns-clause-apart g c =
     let ids = c.in_ok-ids.ids in
     let k : ByKeys = record { join = c.args.join; x = c.in-Some.x; y = c.in-Some.y; first = it.first; second = it.second } in
     subst (λ (o : Option (ℕ × ℕ)). (changes : TableChanges) → ApartOver (outer_on j) (condition_place false o) false (Entries it) near changes ids) c.in-Some.ensures.value
-    (shown_apart j k it refl refl near ids c.in_ok-ids.ensures.apart)
+    (shown_apart j (AreKeysOf k) (Some (k.x, k.y)) it (keyed k it refl refl) near ids c.in_ok-ids.ensures.apart)

@@ -3,18 +3,16 @@ use Rattle.std.proofs.lemmas.Result.{err_from_is_err_and}
 use Rattle.id_memory.specs.States.{CounterState}
 use Rattle.op_law.specs.Calls.{seen, IsMapped}
 use Rattle.op_law.specs.Premises.{SomeMap}
-use Rattle.op_law.specs.Tables.{Tables, contents}
+use Rattle.op_law.specs.Tables.{Tables}
 use Rattle.operator_changes.specs.Calls.{ahead, toward}
 use Rattle.row_changes.specs.Changed.{changed_tables}
 use Rattle.row_changes.specs.Picked.{PicksEach}
 use Rattle.operator_changes.specs.Footprint.{passes, with_drawn}
-use Rattle.op_rows.specs.inner.CellLemmas.{has_id, IdsRise}
+use Rattle.op_rows.specs.inner.CellLemmas.{has_id}
 use Rattle.operator_changes.proofs.DrawnLemmas.{with_passes}
 use Rattle.row_changes.proofs.PickLaws.{each_pass_of}
-use Rattle.pair_changes.specs.MemoryChanges.{IsMemoryDifference}
 use Rattle.operator_changes.proofs.FootLemmas.{answered, far_many, part_fits, part_may, part_next, part_rises, part_steps, spent, toward_laws}
-use Rattle.operator_changes.proofs.PartLemmas.{memory_either, part_ahead}
-use Rattle.operator_changes.proofs.LoopLemmas.{contents_long}
+use Rattle.operator_changes.proofs.PartLemmas.{part_ahead}
 use Rattle.operator_changes.proofs.mapping.changes_by.Goals as goal
 
 pub map_part-requires-clause-fit : goal.map_part-requires-clause-fit
@@ -71,24 +69,8 @@ returns-in_err-far-clause-steps g c =
     let is = part_ahead b c.args.foot.now (seen c.in_ok-part.part) (g.V.PairRead.pair c.args.old.now) c.in_ok-part.ensures.part in
     part_steps m laws near p n c.requires.may c.args.foot.now c.requires.foot x is c.args.steps.now c.map_part.new.steps c.in_err-far.ensures.steps
 
-pub differences_at-requires-clause-many : goal.differences_at-requires-clause-many
-differences_at-requires-clause-many g c =
-    let b = c.args.backward in
-    let o = g.O.Operator.meaning c.args.operator.now in
-    let m = toward b o in
-    let laws = toward_laws b o (g.met.O.Operator.laws c.args.operator.now) in
-    let near = c.args.near.now.tables in
-    let p = ahead b (g.V.PairRead.pair c.args.old.now) in
-    let n = c.args.ids.now.next in
-    let x = ahead b (seen c.in_ok-part.part) in
-    let is = part_ahead b c.args.foot.now (seen c.in_ok-part.part) (g.V.PairRead.pair c.args.old.now) c.in_ok-part.ensures.part in
-    let may = subst (λ (start : CounterState). SomeMap m (changed_tables x.source near) x start.next) (sym c.copy-drawn.ensures) (part_may m laws near p n c.requires.may c.args.foot.now c.requires.foot x is) in
-    sym (contents_long c.tables.result.now) ∙ ap (λ (ts : Tables). length ts) (c.tables.ensures.all ∙ c.far_of.ensures)
-    ∙ far_many m laws (changed_tables x.source near) x c.copy-drawn.result.next may
-    ∙ ap (λ (ts : Tables). length ts) (sym c.in_ok-far.ensures.answer.1.0 ∙ sym c.tables-2.ensures.all) ∙ contents_long c.tables-2.result.now
-
-pub returns-in_err-side-clause-steps : goal.returns-in_err-side-clause-steps
-returns-in_err-side-clause-steps g c =
+pub returns-clause-steps : goal.returns-clause-steps
+returns-clause-steps g c =
     let b = c.args.backward in
     let o = g.O.Operator.meaning c.args.operator.now in
     let m = toward b o in
@@ -100,8 +82,8 @@ returns-in_err-side-clause-steps g c =
     let is = part_ahead b c.args.foot.now (seen c.in_ok-part.part) (g.V.PairRead.pair c.args.old.now) c.in_ok-part.ensures.part in
     part_steps m laws near p n c.requires.may c.args.foot.now c.requires.foot x is c.args.steps.now c.map_part.new.steps c.in_ok-far.ensures.steps
 
-pub add_drawn-requires : goal.add_drawn-requires
-add_drawn-requires g c =
+pub far_changes-requires-clause-drawn : goal.far_changes-requires-clause-drawn
+far_changes-requires-clause-drawn g c =
     let b = c.args.backward in
     let o = g.O.Operator.meaning c.args.operator.now in
     let m = toward b o in
@@ -115,8 +97,22 @@ add_drawn-requires g c =
     let rises = part_rises m laws near p n c.requires.may c.args.foot.now c.requires.foot x is in
     omega (arith, rises, c.next.ensures.value, c.next-2.ensures.value, ap (λ (s : CounterState). s.next) mapped.2)
 
-pub returns-in_err-seen-clause-steps : goal.returns-in_err-seen-clause-steps
-returns-in_err-seen-clause-steps g c =
+pub far_changes-requires-clause-many : goal.far_changes-requires-clause-many
+far_changes-requires-clause-many g c =
+    let b = c.args.backward in
+    let o = g.O.Operator.meaning c.args.operator.now in
+    let m = toward b o in
+    let laws = toward_laws b o (g.met.O.Operator.laws c.args.operator.now) in
+    let near = c.args.near.now.tables in
+    let p = ahead b (g.V.PairRead.pair c.args.old.now) in
+    let n = c.args.ids.now.next in
+    let x = ahead b (seen c.in_ok-part.part) in
+    let is = part_ahead b c.args.foot.now (seen c.in_ok-part.part) (g.V.PairRead.pair c.args.old.now) c.in_ok-part.ensures.part in
+    let may = subst (λ (start : CounterState). SomeMap m (changed_tables x.source near) x start.next) (sym c.copy-drawn.ensures) (part_may m laws near p n c.requires.may c.args.foot.now c.requires.foot x is) in
+    far_many m laws (changed_tables x.source near) x c.copy-drawn.result.next may ∙ ap (λ (ts : Tables). length ts) (sym c.in_ok-far.ensures.answer.1.0)
+
+pub returns-in_err-changes-clause-steps : goal.returns-in_err-changes-clause-steps
+returns-in_err-changes-clause-steps g c =
     let b = c.args.backward in
     let o = g.O.Operator.meaning c.args.operator.now in
     let m = toward b o in
@@ -142,48 +138,16 @@ returns-clause-answer g c =
     let foot = c.args.foot.now in
     let mapped = subst (λ (start : CounterState). IsMapped (m.forward (changed_tables x.source near) x start.next) start c.map_part.new.ids (Ok c.in_ok-far.far)) c.copy-drawn.ensures c.in_ok-far.ensures.answer in
     let upto = c.next-2.ensures.value ∙ ap (λ (s : CounterState). s.next) mapped.2 ∙ part_next m laws near p n c.requires.may foot c.requires.foot x is in
-    let listed = c.as_slice.ensures ∙ c.in_ok-seen.ensures.value ∙ ap (λ (k : ℕ). with_drawn foot k c.next-2.result) c.next.ensures.value ∙ ap (λ (k : ℕ). with_drawn foot n k) upto in
-    let cs = c.in_ok-side.side.tables in
-    let ids = with_drawn foot n (m.forward (changed_tables p.source near) p n).next in
-    let picks = subst (λ (l : List ℕ). PicksEach l (contents c.tables.result.now) (contents c.tables-2.result.now) cs) listed c.in_ok-side.ensures in
-    let old = subst (λ (ts : Tables). PicksEach (with_drawn foot n (m.forward (changed_tables p.source near) p n).next) ts (contents c.tables-2.result.now) cs) (c.tables.ensures.all ∙ c.far_of.ensures) picks in
-    let both = subst (λ (ts : Tables). PicksEach (with_drawn foot n (m.forward (changed_tables p.source near) p n).next) x.target ts cs) c.tables-2.ensures.all old in
-    let differ : IsMemoryDifference x.memory c.in_ok-far.far.memory.entries c.in_ok-memory.memory = memory_either b (seen c.in_ok-part.part) c.in_ok-far.far.memory.entries c.in_ok-memory.memory c.in_ok-memory.ensures.lead.difference in
-    answered m laws near p n c.requires.may foot c.requires.foot x is c.args.ids.now c.map_part.new.ids c.in_ok-far.far cs c.in_ok-memory.memory mapped both differ
-
-pub returns-in_err-memory-clause-steps : goal.returns-in_err-memory-clause-steps
-returns-in_err-memory-clause-steps g c =
-    let b = c.args.backward in
-    let o = g.O.Operator.meaning c.args.operator.now in
-    let m = toward b o in
-    let laws = toward_laws b o (g.met.O.Operator.laws c.args.operator.now) in
-    let near = c.args.near.now.tables in
-    let p = ahead b (g.V.PairRead.pair c.args.old.now) in
-    let n = c.args.ids.now.next in
-    let x = ahead b (seen c.in_ok-part.part) in
-    let is = part_ahead b c.args.foot.now (seen c.in_ok-part.part) (g.V.PairRead.pair c.args.old.now) c.in_ok-part.ensures.part in
-    part_steps m laws near p n c.requires.may c.args.foot.now c.requires.foot x is c.args.steps.now c.map_part.new.steps c.in_ok-far.ensures.steps
-
-pub returns-clause-steps : goal.returns-clause-steps
-returns-clause-steps g c =
-    let b = c.args.backward in
-    let o = g.O.Operator.meaning c.args.operator.now in
-    let m = toward b o in
-    let laws = toward_laws b o (g.met.O.Operator.laws c.args.operator.now) in
-    let near = c.args.near.now.tables in
-    let p = ahead b (g.V.PairRead.pair c.args.old.now) in
-    let n = c.args.ids.now.next in
-    let x = ahead b (seen c.in_ok-part.part) in
-    let is = part_ahead b c.args.foot.now (seen c.in_ok-part.part) (g.V.PairRead.pair c.args.old.now) c.in_ok-part.ensures.part in
-    part_steps m laws near p n c.requires.may c.args.foot.now c.requires.foot x is c.args.steps.now c.map_part.new.steps c.in_ok-far.ensures.steps
+    let listed = ap (λ (k : ℕ). with_drawn foot k c.next-2.result) c.next.ensures.value ∙ ap (λ (k : ℕ). with_drawn foot n k) upto in
+    let changes = c.in_ok-changes.changes in
+    let both = subst (λ (l : List ℕ). PicksEach l x.target c.in_ok-far.far.side changes.side.tables) listed c.in_ok-changes.ensures.side in
+    answered m laws near p n c.requires.may foot c.requires.foot x is c.args.ids.now c.map_part.new.ids c.in_ok-far.far changes.side.tables changes.memory mapped both c.in_ok-changes.ensures.memory
 
 pub returns-clause-within : goal.returns-clause-within
 returns-clause-within g c =
     let foot = c.args.foot.now in
     let n = c.args.ids.now.next in
-    each_pass_of (passes foot n) c.as_slice.result.now (contents c.tables.result.now) (contents c.tables-2.result.now) c.in_ok-side.side.tables
-    (λ id has. with_passes foot n c.next-2.result id (subst (λ (l : List ℕ). has_id l id ≡ true) (c.as_slice.ensures ∙ c.in_ok-seen.ensures.value ∙ ap (λ (k : ℕ). with_drawn foot k c.next-2.result) c.next.ensures.value) has))
-    c.in_ok-side.ensures
-
-pub differences_at-requires-clause-rise : goal.differences_at-requires-clause-rise
-differences_at-requires-clause-rise g c = subst (λ (l : List ℕ). IdsRise 0 l) (sym c.as_slice.ensures) (c.in_ok-seen.ensures.rise c.requires.foot.rise)
+    let x = ahead c.args.backward (seen c.in_ok-part.part) in
+    each_pass_of (passes foot n) (with_drawn foot c.next.result c.next-2.result) x.target c.in_ok-far.far.side c.in_ok-changes.changes.side.tables
+    (λ id has. with_passes foot n c.next-2.result id (subst (λ (l : List ℕ). has_id l id ≡ true) (ap (λ (k : ℕ). with_drawn foot k c.next-2.result) c.next.ensures.value) has))
+    c.in_ok-changes.ensures.side

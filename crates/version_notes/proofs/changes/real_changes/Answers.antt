@@ -2,7 +2,7 @@
 use Rattle.std.proofs.Common.{ℕ, ◌<◌, List, filter, take, get_or, length, ap, sym, ◌∙◌, subst}
 use Rattle.row_store.specs.declared.change.Change.{Change}
 use Rattle.row_store.specs.Changes.{IsAbove}
-use Rattle.write_propagation.specs.Told.{is_change}
+use Rattle.write_plans.specs.Told.{is_change}
 use Rattle.version_notes.proofs.ListLemmas.{above_taken}
 use Rattle.version_notes.proofs.changes.real_changes.Goals as goal
 

@@ -1,5 +1,5 @@
 use Rattle.std.proofs.Common.{◌≡◌, filter, take}
-use Rattle.write_propagation.specs.Told.{is_change}
+use Rattle.write_plans.specs.Told.{is_change}
 use Rattle.version_notes.proofs.changes.real_changes.Given as goal
 
 abbrev pub invariant-loop-change : goal.invariant-loop-change

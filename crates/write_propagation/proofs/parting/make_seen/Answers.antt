@@ -3,8 +3,8 @@ use Rattle.std.proofs.Common.{sym, subst}
 use Rattle.row_store.specs.Changes.{ChangesRise}
 use Rattle.op_law.specs.Identifiers.{has_id}
 use Rattle.row_changes.specs.Touched.{AllPass}
-use Rattle.write_propagation.specs.Making.{IsMaking, MayPlan}
-use Rattle.write_propagation.specs.declared.plans.RowWrite.{RowWrite}
+use Rattle.write_plans.specs.Making.{IsMaking, MayPlan}
+use Rattle.write_plans.specs.declared.plans.RowWrite.{RowWrite}
 use Rattle.write_propagation.proofs.parting.make_seen.Goals as goal
 
 pub make_write-requires-clause-may : goal.make_write-requires-clause-may

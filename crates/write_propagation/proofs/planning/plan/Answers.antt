@@ -2,11 +2,11 @@ use Rattle.std.proofs.Common.{Ok, length, subst, sym}
 use Rattle.version_graph.specs.Edges.{Drawn}
 use Rattle.version_model.specs.Kept.{Database}
 use Rattle.kept_keys.specs.Kept.{AreKeysOf}
-use Rattle.write_propagation.specs.Plans.{rows_written}
-use Rattle.write_propagation.specs.Trees.{IsTree}
-use Rattle.write_propagation.proofs.WholeLemmas.{fewer_operators, path_few, tree_local}
-use Rattle.write_propagation.proofs.LeadLemmas.{changes_same, keys_same, plans_same, same_database, same_self}
-use Rattle.write_propagation.proofs.HoldLaws.{holds_self}
+use Rattle.write_plans.specs.Plans.{rows_written}
+use Rattle.write_plans.specs.Trees.{IsTree}
+use Rattle.write_plans.proofs.WholeLemmas.{fewer_operators, path_few, tree_local}
+use Rattle.write_plans.proofs.LeadLemmas.{changes_same, keys_same, plans_same, same_database, same_self}
+use Rattle.write_plans.proofs.HoldLaws.{holds_self}
 use Rattle.write_propagation.proofs.planning.plan.Goals as goal
 
 pub returns-in_err-tree-clause-same : goal.returns-in_err-tree-clause-same

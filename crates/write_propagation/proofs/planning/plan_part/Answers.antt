@@ -10,10 +10,10 @@ use Rattle.kept_keys.proofs.KeptLaws.{same_right}
 use Rattle.db_state.specs.Fields.{state_for}
 use Rattle.db_state.specs.Parts.{SplitsAt}
 use Rattle.db_state.specs.declared.sight.Sight.TheVariants.{Part}
-use Rattle.write_propagation.specs.Making.{IsMaking, IsPlanOf}
+use Rattle.write_plans.specs.Making.{IsMaking, IsPlanOf}
 use Rattle.write_propagation.proofs.PartFoundLemmas.{made_test, named_ids, part_found, plan_test, split_ids, test}
-use Rattle.write_propagation.proofs.PlanLemmas.{has_old, keys_lead, planned, tells_carried, tells_changed}
-use Rattle.write_propagation.proofs.SeenLemmas.{may_change_auxes}
+use Rattle.write_plans.proofs.PlanLemmas.{has_old, keys_lead, planned, tells_carried, tells_changed}
+use Rattle.write_plans.proofs.SeenLemmas.{may_change_auxes}
 use Rattle.write_propagation.proofs.planning.plan_part.Goals as goal
 
 pub plan_of-requires-clause-ascends : goal.plan_of-requires-clause-ascends

@@ -13,8 +13,8 @@ use Rattle.version_model.specs.Databases.{Writes}
 use Rattle.engine_statements.specs.Calls.{rows_after}
 use Rattle.write_propagation.specs.Bounds.{PlansWithin}
 use Rattle.engine_core.specs.Undo.{done_of}
-use Rattle.write_propagation.proofs.HoldLaws.{holds_self}
-use Rattle.write_propagation.proofs.UndoLaws.{same_again}
+use Rattle.write_plans.proofs.HoldLaws.{holds_self}
+use Rattle.write_plans.proofs.UndoLaws.{same_again}
 use Rattle.engine_core.proofs.LeftLemmas.{built_written}
 use Rattle.engine_core.proofs.WriteLemmas.{above_already, both_stay, ordinary_then, write_follows, written_then}
 use Rattle.engine_core.proofs.engine.Engine.write.Goals as goal

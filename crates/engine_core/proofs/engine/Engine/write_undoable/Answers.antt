@@ -2,8 +2,8 @@ use Rattle.std.proofs.Common.{refl}
 use Rattle.std.proofs.lemmas.Result.{err_from_is_err_and}
 use Rattle.statements.specs.Views.{statement_view}
 use Rattle.engine_core.specs.Kept.{data_of}
-use Rattle.write_propagation.proofs.HoldLaws.{holds_self}
-use Rattle.write_propagation.proofs.UndoLaws.{same_again}
+use Rattle.write_plans.proofs.HoldLaws.{holds_self}
+use Rattle.write_plans.proofs.UndoLaws.{same_again}
 use Rattle.engine_core.proofs.BoundLemmas.{plan_takes, write_takes}
 use Rattle.engine_core.proofs.WriteLemmas.{both_stay}
 use Rattle.engine_core.proofs.engine.Engine.write_undoable.Goals as goal

@@ -1,0 +1,19 @@
+use Rattle.std.proofs.Common.{None, ap}
+use Rattle.op_cond_join.specs.Joinings.{joining}
+use Rattle.cond_closing.specs.Tabled.{AreTables}
+use Rattle.cond_closing.specs.declared.by_rows.ByRows.{ByRows}
+use Rattle.op_seeks.proofs.ConditionLemmas.{tabled}
+use Rattle.op_seeks.proofs.OuterLemmas.{shown_apart, shown_foot}
+use Rattle.op_seeks.proofs.outer.shown_by_rows.Goals as goal
+
+pub returns-clause-foot : goal.returns-clause-foot
+returns-clause-foot g c =
+    let it = c.args.it.now in
+    let k : ByRows = record { join = c.args.join; first = c.rows-first.result; second = c.rows-second.result } in
+    shown_foot (joining c.args.join.now) (AreTables k) None it (tabled k it c.rows-first.ensures c.rows-second.ensures) c.args.near.now.tables c.in_ok-ids.ids c.in_ok-ids.ensures.foot
+
+pub returns-clause-apart : goal.returns-clause-apart
+returns-clause-apart g c =
+    let it = c.args.it.now in
+    let k : ByRows = record { join = c.args.join; first = c.rows-first.result; second = c.rows-second.result } in
+    shown_apart (joining c.args.join.now) (AreTables k) None it (tabled k it c.rows-first.ensures c.rows-second.ensures) c.args.near.now.tables c.in_ok-ids.ids c.in_ok-ids.ensures.apart

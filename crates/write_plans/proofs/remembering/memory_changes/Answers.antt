@@ -1,0 +1,14 @@
+use Rattle.std.proofs.Common.{◌+◌, List, take, sym, subst}
+use Rattle.pair_changes.specs.declared.change.PairChange.{PairChange}
+use Rattle.version_model.specs.Kept.{pairs_at, pairs_now}
+use Rattle.version_model.specs.declared.numbered.Numbered.{Numbered}
+use Rattle.write_plans.specs.Calls.{AreMemoryChangesNow, IsMemoryChange}
+use Rattle.write_plans.proofs.ItemLemmas.{one_more}
+use Rattle.write_plans.proofs.remembering.memory_changes.Goals as goal
+
+pub loop-number-preserved : goal.loop-number-preserved
+loop-number-preserved c =
+    let i = c.loop-number.number-index in
+    let inv = c.loop-number.invariant in
+    let more = one_more (λ n (cs : List PairChange). IsMemoryChange (pairs_at c.args.kept.now n) (pairs_now c.args.kept.now c.args.made.now n) cs) c.args.numbers.now i c.loop-number-test.true c.loop-number.changes c.in_ok-value.value (inv.listed, inv.values) c.in_ok-value.ensures in
+    subst (λ (l : List (Numbered (List PairChange))). AreMemoryChangesNow c.args.kept.now c.args.made.now (take (i + 1) c.args.numbers.now) l) (sym c.in_ok-push.ensures.ok) (record { listed = more.0; values = more.1 })

@@ -1,0 +1,10 @@
+pub mod Trees
+pub mod Plans
+pub mod Told
+pub mod Room
+pub mod Capacity
+pub mod Undo
+pub mod Calls
+pub mod Making
+pub mod Alone
+pub mod Keys
