@@ -146,15 +146,8 @@ fn aux_local<O: ByCells, D: StateRead, L: Ledger>(
     let near = side_of(alloc, made.tables.as_slice(), over.near)?;
     let far = side_of(alloc, made.tables.as_slice(), over.far)?;
     let mut old = read_over(rows, over);
-    over.operator.aux_differences(
-        alloc,
-        over.backward,
-        &near,
-        &far,
-        &mut old,
-        aux,
-        steps,
-    )
+    over.operator
+        .aux_differences(alloc, over.backward, &near, &far, &mut old, aux, steps)
 }
 
 /// Over any operator, from its old pair as a whole.

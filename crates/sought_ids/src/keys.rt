@@ -164,11 +164,7 @@ fn want(wanted: &mut List<WantedKeys>, table: u32, columns: KeyColumns) -> Resul
     wanted.push(WantedKeys { table, columns })
 }
 
-fn want_both(
-    wanted: &mut List<WantedKeys>,
-    table: u32,
-    columns: KeyColumns,
-) -> Result<(), Memory> {
+fn want_both(wanted: &mut List<WantedKeys>, table: u32, columns: KeyColumns) -> Result<(), Memory> {
     want(wanted, table, columns)?;
     want(wanted, table, KeyColumns::All)
 }
