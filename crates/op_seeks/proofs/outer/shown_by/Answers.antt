@@ -1,3 +1,4 @@
+use Rattle.std.specs.Prelude.{IfOk}
 use Rattle.std.proofs.Common.{ℕ, false, Option, Some, refl, subst}
 use Rattle.row_changes.specs.Changed.{TableChanges}
 use Rattle.op_cond_join.specs.Joinings.{joining}
@@ -30,3 +31,11 @@ returns-clause-apart g c =
     let k : ByKeys = record { join = c.args.join; x = c.in-Some.x; y = c.in-Some.y; first = it.first; second = it.second } in
     subst (λ (o : Option (ℕ × ℕ)). (changes : TableChanges) → ApartOver (outer_on j) (condition_place false o) false (Entries it) near changes ids) c.in-Some.ensures.value
     (shown_apart j (AreKeysOf k) (Some (k.x, k.y)) it (keyed k it refl refl) near ids c.in_ok-ids.ensures.apart)
+
+pub returns-in_default-clause-apart : goal.returns-in_default-clause-apart
+returns-in_default-clause-apart g c =
+    let j = joining c.args.join.now in
+    let it = c.args.it.now in
+    let near = c.args.near.now.tables in
+    subst (λ (o : Option (ℕ × ℕ)). IfOk c.shown_by_rows.result (λ ids. (changes : TableChanges) → ApartOver (outer_on j) (condition_place false o) false (Entries it) near changes ids)) c.in_default.ensures.value
+    c.shown_by_rows.ensures.apart
