@@ -67,12 +67,12 @@ fn shown_by_rows<L: Ledger>(
         (Entries it.now) near.now.tables changes ids) }
     ensures holds { IfOk result (AreAmong wanted.now) }
 {
-    let rows = ByRows {
+    let both = ByRows {
         join,
         first: it.first.rows(),
         second: it.second.rows(),
     };
-    let ids = met_ids(alloc, &rows, it.memory, near, wanted, steps)?;
+    let ids = met_ids(alloc, &both, it.memory, near, wanted, steps)?;
     Ok(ids)
 }
 

@@ -8,23 +8,23 @@ use Rattle.op_seeks.proofs.condition.shown_by_rows.Goals as goal
 pub returns-clause-foot : goal.returns-clause-foot
 returns-clause-foot g c =
     let it = c.args.it.now in
-    let k : ByRows = record { join = c.args.join; first = c.rows-1.result; second = c.rows-2.result } in
-    shown_foot (joining c.args.join.now) (AreTables k) None it (tabled k it c.rows-1.ensures c.rows-2.ensures) c.args.near.now.tables c.in_ok-ids.ids c.in_ok-ids.ensures.foot
+    let k : ByRows = record { join = c.args.join; first = c.rows.result; second = c.rows-2.result } in
+    shown_foot (joining c.args.join.now) (AreTables k) None it (tabled k it c.rows.ensures c.rows-2.ensures) c.args.near.now.tables c.in_ok-ids.ids c.in_ok-ids.ensures.foot
 
 pub returns-clause-flipped : goal.returns-clause-flipped
 returns-clause-flipped g c =
     let it = c.args.it.now in
-    let k : ByRows = record { join = c.args.join; first = c.rows-1.result; second = c.rows-2.result } in
-    flipped_foot (joining c.args.join.now) (AreTables k) None it (tabled k it c.rows-1.ensures c.rows-2.ensures) c.args.near.now.tables c.in_ok-ids.ids c.in_ok-ids.ensures.foot
+    let k : ByRows = record { join = c.args.join; first = c.rows.result; second = c.rows-2.result } in
+    flipped_foot (joining c.args.join.now) (AreTables k) None it (tabled k it c.rows.ensures c.rows-2.ensures) c.args.near.now.tables c.in_ok-ids.ids c.in_ok-ids.ensures.foot
 
 pub returns-clause-apart : goal.returns-clause-apart
 returns-clause-apart g c =
     let it = c.args.it.now in
-    let k : ByRows = record { join = c.args.join; first = c.rows-1.result; second = c.rows-2.result } in
-    shown_apart (joining c.args.join.now) (AreTables k) None it (tabled k it c.rows-1.ensures c.rows-2.ensures) c.args.near.now.tables c.in_ok-ids.ids c.in_ok-ids.ensures.apart
+    let k : ByRows = record { join = c.args.join; first = c.rows.result; second = c.rows-2.result } in
+    shown_apart (joining c.args.join.now) (AreTables k) None it (tabled k it c.rows.ensures c.rows-2.ensures) c.args.near.now.tables c.in_ok-ids.ids c.in_ok-ids.ensures.apart
 
 pub returns-clause-flipped_apart : goal.returns-clause-flipped_apart
 returns-clause-flipped_apart g c =
     let it = c.args.it.now in
-    let k : ByRows = record { join = c.args.join; first = c.rows-1.result; second = c.rows-2.result } in
-    flipped_apart (joining c.args.join.now) (AreTables k) None it (tabled k it c.rows-1.ensures c.rows-2.ensures) c.args.near.now.tables c.in_ok-ids.ids c.in_ok-ids.ensures.apart
+    let k : ByRows = record { join = c.args.join; first = c.rows.result; second = c.rows-2.result } in
+    flipped_apart (joining c.args.join.now) (AreTables k) None it (tabled k it c.rows.ensures c.rows-2.ensures) c.args.near.now.tables c.in_ok-ids.ids c.in_ok-ids.ensures.apart

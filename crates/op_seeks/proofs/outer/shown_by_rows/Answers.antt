@@ -9,11 +9,11 @@ use Rattle.op_seeks.proofs.outer.shown_by_rows.Goals as goal
 pub returns-clause-foot : goal.returns-clause-foot
 returns-clause-foot g c =
     let it = c.args.it.now in
-    let k : ByRows = record { join = c.args.join; first = c.rows-1.result; second = c.rows-2.result } in
-    shown_foot (joining c.args.join.now) (AreTables k) None it (tabled k it c.rows-1.ensures c.rows-2.ensures) c.args.near.now.tables c.in_ok-ids.ids c.in_ok-ids.ensures.foot
+    let k : ByRows = record { join = c.args.join; first = c.rows.result; second = c.rows-2.result } in
+    shown_foot (joining c.args.join.now) (AreTables k) None it (tabled k it c.rows.ensures c.rows-2.ensures) c.args.near.now.tables c.in_ok-ids.ids c.in_ok-ids.ensures.foot
 
 pub returns-clause-apart : goal.returns-clause-apart
 returns-clause-apart g c =
     let it = c.args.it.now in
-    let k : ByRows = record { join = c.args.join; first = c.rows-1.result; second = c.rows-2.result } in
-    shown_apart (joining c.args.join.now) (AreTables k) None it (tabled k it c.rows-1.ensures c.rows-2.ensures) c.args.near.now.tables c.in_ok-ids.ids c.in_ok-ids.ensures.apart
+    let k : ByRows = record { join = c.args.join; first = c.rows.result; second = c.rows-2.result } in
+    shown_apart (joining c.args.join.now) (AreTables k) None it (tabled k it c.rows.ensures c.rows-2.ensures) c.args.near.now.tables c.in_ok-ids.ids c.in_ok-ids.ensures.apart
