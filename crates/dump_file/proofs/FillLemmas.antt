@@ -1,10 +1,17 @@
 -- Entries that are filled in are those of which the lines tell, and no others.
 use Rattle.std.specs.Prelude.{◌==◌, Option, Some, None, filter, option_map, option_and_then}
-use Rattle.std.proofs.Common.{◌≡◌, ℕ, List, [], ◌∷◌, Bool, true, false, cond, map, inl, refl, sym, ap, ◌∙◌}
+use Rattle.std.proofs.Common.{◌≡◌, ℕ, ◌+◌, ◌<◌, List, [], ◌∷◌, ◌++◌, Bool, true, false, cond, length, get_or, drop, map, inl, refl, sym, ap, ◌∙◌, append_assoc}
+use Rattle.std.proofs.lemmas.List.{drop_more, map-append}
 use Rattle.std.proofs.lemmas.Bool.{cond-false, cond-true, eq-eqb, eqb-true, false≢true, ne_eqb}
+use Rattle.id_memory.specs.Pairs.{Pairs}
+use Rattle.id_memory.specs.States.{MemoryState}
 use Rattle.version_graph.specs.Sets.{Distinct, Each, In}
 use Rattle.version_graph.proofs.SetLaws.{in_map, origin}
 use Rattle.version_graph.proofs.TableLaws.{in_filter}
+use Rattle.op_law.proofs.OnlyLaws.{by_test}
+use Rattle.version_model.specs.declared.numbered.Numbered.{Numbered}
+use Rattle.dump_values.specs.Dumps.{memories_seen}
+use Rattle.dump_file.specs.Told.{memory_line}
 use Rattle.dump_file.specs.inner.Filled.{behind, filled, front, own_value}
 
 -- ---- what an option was made of
@@ -164,3 +171,35 @@ module _ {V : Type 0} (told : ℕ × V → Bool) (empty : V) where
     where
       some_is : (l k : List (ℕ × V)) → Some l ≡ Some k → l ≡ k
       some_is l k e = cc
+
+-- ---- the memories, one entry more
+
+front_seen : (n : ℕ) (ls : List (ℕ × MemoryState)) → front n (memories_seen ls) ≡ option_map (λ (m : MemoryState). m.entries) (front n ls)
+front_seen n [] = refl
+front_seen n (l ∷ ls) = by_test (n == l.0) (λ e. rw e refl) (λ e. rw e refl)
+
+behind_seen : (n : ℕ) (ls : List (ℕ × MemoryState)) → memories_seen (behind n ls) ≡ behind n (memories_seen ls)
+behind_seen n [] = refl
+behind_seen n (l ∷ ls) = by_test (n == l.0) (λ e. rw e refl) (λ e. rw e refl)
+
+joins : {X : Type 0} (made : List X) (x : X) (o : Option (List X)) → option_map (λ (r : List X). made ++ r) (option_map (λ (r : List X). x ∷ r) o) ≡ option_map (λ (r : List X). (made ++ x ∷ []) ++ r) o
+joins made x None = refl
+joins made x (Some r) = ap Some (sym (append_assoc made (x ∷ []) r))
+
+pub memory_more : (told : ℕ × Pairs → Bool) (ns : List ℕ) (i : ℕ) → i < length ns → (all : Option (List (ℕ × Pairs))) (made now : List (Numbered MemoryState)) (left after : List (ℕ × MemoryState)) (value : MemoryState)
+    → all ≡ option_map (λ (r : List (ℕ × Pairs)). map memory_line made ++ r) (filled told [] (drop i ns) (memories_seen left))
+    → Some value.entries ≡ own_value told [] (get_or ns i 0) (option_map (λ (m : MemoryState). m.entries) (front (get_or ns i 0) left))
+    → after ≡ behind (get_or ns i 0) left → now ≡ made ++ record { number = get_or ns i 0; value = value } ∷ []
+    → all ≡ option_map (λ (r : List (ℕ × Pairs)). map memory_line now ++ r) (filled told [] (drop (i + 1) ns) (memories_seen after))
+memory_more told ns i within all made now left after value so own gone more =
+    let n = get_or ns i 0 in
+    let lines = memories_seen left in
+    let rest : Option (List (ℕ × Pairs)) = filled told [] (drop (i + 1) ns) (behind n lines) in
+    let front_is : own_value told [] n (front n lines) ≡ Some value.entries = ap (λ (o : Option Pairs). own_value told [] n o) (front_seen n left) ∙ sym own in
+    let behind_is : behind n lines ≡ memories_seen after = sym (behind_seen n left) ∙ ap memories_seen (sym gone) in
+    let made_is : map memory_line made ++ (n, value.entries) ∷ [] ≡ map memory_line now = sym (map-append memory_line made (record { number = n; value = value } ∷ [])) ∙ ap (map memory_line) (sym more) in
+    so ∙ ap (λ (l : List ℕ). option_map (λ (r : List (ℕ × Pairs)). map memory_line made ++ r) (filled told [] l lines)) (drop_more ns i 0 within)
+    ∙ ap (λ (o : Option Pairs). option_map (λ (r : List (ℕ × Pairs)). map memory_line made ++ r) (option_and_then (λ (v : Pairs). option_map (λ (r : List (ℕ × Pairs)). (n, v) ∷ r) rest) o)) front_is
+    ∙ joins (map memory_line made) (n, value.entries) rest
+    ∙ ap (λ (l : List (ℕ × Pairs)). option_map (λ (r : List (ℕ × Pairs)). l ++ r) rest) made_is
+    ∙ ap (λ (l : List (ℕ × Pairs)). option_map (λ (r : List (ℕ × Pairs)). map memory_line now ++ r) (filled told [] (drop (i + 1) ns) l)) behind_is
