@@ -1,12 +1,27 @@
 //! Reading trees, with no more room in their lists than these need: most objects of a dump have one
-//! member, which `json` would give room for four.
-ghost use Rattle.std.specs.Prelude.{◌≡◌, ◌<◌, length, Some, None, IfOk, IfSome, MatchOption};
+//! member, which `json` would give room for four. A short list grows by one item at a time, since what
+//! is cut off a list when it is whole stays behind it as a piece that nothing fits.
+ghost use Rattle.std.specs.Prelude.{◌≡◌, ◌<◌, ◌∷◌, [], ◌++◌, length, Some, None, IfOk, IfSome, MatchOption, OnOk};
 ghost use Rattle.json.specs.Json.{items, members, value};
 ghost use Rattle.json.specs.Value.{items_view as tree_items, members_view as tree_members, value_view};
 
 use json::{Reader, Token, Value as Tree};
 use par_base::Memory;
 use std::alloc::Global;
+
+/// So many items grow one at a time.
+const SHORT: usize = 8;
+
+/// Adds an item. A short list takes just the room of its items.
+fn push_tight<T: Drop>(items: &mut Vec<T>, item: T) -> Result<(), Memory>
+    ensures { OnOk result (items.new.items ≡ items.old.items ++ item ∷ []) }
+{
+    if items.len() < SHORT {
+        items.reserve_exact(1)?;
+    }
+    items.push(item)?;
+    Ok(())
+}
 
 /// The next value of the reader. Arrays and objects nest no deeper than this.
 #[cycle(read)]
@@ -66,7 +81,7 @@ fn read_items<'a>(
         let Some(item) = next_tree(alloc, reader, depth)? else {
             return Ok(None);
         };
-        found.push(item)?;
+        push_tight(&mut found, item)?;
     }
     found.shrink_to_fit();
     Ok(Some(found))

@@ -97,7 +97,7 @@ read_items-loop-alloc-preserved t c =
     let done : p c.take_end_array.new.self ≡ Some (value_view v, r) = rw c.in-Some.is at c.in_ok-item.ensures.value in
     let shorter : length r < length c.take_end_array.new.self = rw c.in-Some.is at c.in_ok-item.ensures.shorter in
     let less : length r < length l.reader = rw (← going.1) shorter in
-    let pushed : c.push.new.self.items ≡ l.found.items ++ v ∷ [] = c.in_ok-push.ensures.items in
+    let pushed : c.push_tight.new.items.items ≡ l.found.items ++ v ∷ [] = c.in_ok-push_tight.ensures in
     let turn = items_more p n l.reader r (value_view v) (omega (arith, l.invariant.1)) going.0 (rw (← going.1) done) in (
       n - 1,
       omega (arith, l.invariant.1),
