@@ -29,9 +29,9 @@ impl<P: RowParts> MakesRow for Refs<'_, P> {
     fn at(&self, alloc: Global, id: u64) -> Result<Option<Row>, Memory> {
         match self.s.get(id) {
             Some(row) => {
-                let mut alone = List::new(alloc);
+                let mut alone = Vec::with_capacity(alloc, 1)?;
                 alone.push(self.parts.key(alloc, row)?)?;
-                Ok(Some(Row::from_list(alloc, alone)?))
+                Ok(Some(Row::from_list(alloc, List::from_vec(alone))?))
             }
             None => Ok(None),
         }

@@ -30,9 +30,9 @@ impl<P: RowParts> MakesRow for Keys<'_, P> {
     fn at(&self, alloc: Global, id: u64) -> Result<Option<Row>, Memory> {
         match (self.r.get(id), self.s.get(id)) {
             (Some(_), Some(row)) => {
-                let mut alone = List::new(alloc);
+                let mut alone = Vec::with_capacity(alloc, 1)?;
                 alone.push(self.parts.key(alloc, row)?)?;
-                Ok(Some(Row::from_list(alloc, alone)?))
+                Ok(Some(Row::from_list(alloc, List::from_vec(alone))?))
             }
             _ => Ok(None),
         }
