@@ -1,8 +1,6 @@
 -- A table that grows behind, identifier by identifier.
 use Rattle.std.proofs.Common.{◌≡◌, ℕ, zero, suc, ◌+◌, ◌<◌, ◌≤◌, List, [], ◌∷◌, ◌++◌, length, take, get_or, Some, None, refl, ap, sym, ◌∙◌, subst, arith}
 use Rattle.row_store.specs.Rows.{Rows, AreBelow}
-use Rattle.row_store.specs.States.{TableState}
-use Rattle.op_law.specs.Tables.{contents}
 use Rattle.op_rows.specs.Cells.{with_row, table_from}
 use Rattle.op_rows.specs.inner.CellLemmas.{IdsRise}
 use Rattle.row_parts.specs.RowCells.{Cell}
