@@ -47,6 +47,15 @@ fn read_format(alloc: Global, tree: Tree<'_>) -> Result<Option<ReadDump>, Memory
     }
 }
 
+/// The bytes, with no more room than they need: who read them from a file may have taken twice that.
+fn tight(bytes: Vec<u8>) -> Vec<u8>
+    ensures { result.items ≡ bytes.items }
+{
+    let mut bytes = bytes;
+    bytes.shrink_to_fit();
+    bytes
+}
+
 /// What the bytes tell. They are let go, and so is the tree that borrows from them.
 fn read_bytes(alloc: Global, bytes: Vec<u8>) -> Result<ReadDump, Fault<DumpRefused>>
     ensures { ReadsDump bytes.items result }
@@ -141,7 +150,7 @@ pub fn load<L: Ledger>(
 ) -> Result<Loaded, Fault<DumpRefused>>
     ensures { Loads bytes.items limits.max_id result }
 {
-    match read_bytes(alloc, bytes)? {
+    match read_bytes(alloc, tight(bytes))? {
         ReadDump::First(first) => load_first(alloc, first, limits, steps),
         ReadDump::Second(second) => load_second(alloc, second, limits, steps),
     }

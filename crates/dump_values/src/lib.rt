@@ -17,6 +17,7 @@ mod lists;
 mod members;
 mod numbers;
 mod pairs;
+mod reading;
 mod rows;
 mod tables;
 mod trees;

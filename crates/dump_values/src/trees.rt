@@ -8,22 +8,11 @@ ghost use Rattle.dump_values.specs.Trees.{FindsTree, are_read, entries_view, is_
 ghost use Rattle.dump_values.specs.inner.Calls.{is_end};
 
 use crate::numbers::{read_number, try_number};
-use json::{Error, Reader, Scratch, Value as Tree};
+use crate::reading::next_tree;
+use json::{Reader, Scratch, Value as Tree};
 use par_base::Memory;
 use serde_json::{Map, Value as Json};
 use std::alloc::Global;
-
-/// The next value of the reader. Arrays and objects nest no deeper than `serde_json` reads them.
-fn next_tree<'a>(alloc: Global, reader: &mut Reader<'a>) -> Result<Option<Tree<'a>>, Memory>
-    ensures { IfOk result (λ tree. MatchOption tree (value max_depth reader.old ≡ None)
-        (λ t. value max_depth reader.old ≡ Some (value_view t, reader.new))) }
-{
-    match Tree::read(alloc, reader, 127) {
-        Ok(tree) => Ok(Some(tree)),
-        Err(Error::Invalid) => Ok(None),
-        Err(error) => Err(Memory::meant_by(error)),
-    }
-}
 
 fn has_ended(reader: &mut Reader<'_>) -> bool
     ensures { result ≡ is_end reader.old }
@@ -40,7 +29,7 @@ fn read_text<'a>(
     ensures { IfOk result (λ tree. option_map tree_view tree ≡ read text.now) }
 {
     let mut reader = Reader::new(text, scratch)?;
-    let Some(tree) = next_tree(alloc, &mut reader)? else {
+    let Some(tree) = next_tree(alloc, &mut reader, 127)? else {
         return Ok(None);
     };
     if !has_ended(&mut reader) {

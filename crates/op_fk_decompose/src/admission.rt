@@ -6,13 +6,13 @@ ghost use Rattle.std.specs.Prelude.{IfOk};
 ghost use Rattle.op_law.specs.Calls.{tables_of};
 ghost use Rattle.op_fk_decompose.specs.inner.Admitted.{IsTold, IsToldBack};
 
-use crate::auxiliary::aux_of;
-use crate::backward::source_of;
+use crate::auxiliary::is_aux_of;
+use crate::backward::{is_source_of, source_of};
 use crate::reading::target_of;
 use foreign_keys::RowParts;
 use id_memory::PairMemory;
 use op_law::{Aux, Side};
-use op_tables::{is_same_tables, is_wide_side};
+use op_tables::is_wide_side;
 use par_base::Memory;
 use row_store::Table;
 use std::alloc::Global;
@@ -36,12 +36,10 @@ pub(crate) fn admitted<P: RowParts>(
     if !is_wide_side(far.tables(), widths, &Table::new(alloc)) {
         return Ok(None);
     }
-    let back = source_of(alloc, parts, &far)?;
-    if !is_same_tables(back.tables(), source.tables()) {
+    if !is_source_of(alloc, parts, &far, source)? {
         return Ok(None);
     }
-    let kept = aux_of(alloc, parts, &far)?;
-    if !is_same_tables(kept.tables.as_slice(), aux.tables.as_slice()) {
+    if !is_aux_of(alloc, parts, &far, aux)? {
         return Ok(None);
     }
     Ok(Some(far))

@@ -1,6 +1,7 @@
 //! DECOMPOSE ON FK: what a stored source keeps beside.
-ghost use Rattle.std.specs.Prelude.{◌≡◌, IfOk};
+ghost use Rattle.std.specs.Prelude.{◌≡◌, ◌↔◌, IfOk, IsTrue};
 ghost use Rattle.op_law.specs.Calls.{tables_of};
+ghost use Rattle.op_law.specs.Tables.{contents};
 ghost use Rattle.foreign_keys.specs.References.{dangles as leads_nowhere};
 ghost use Rattle.op_fk_decompose.specs.Decompose.{ref_at, dangling_at, kept_at};
 ghost use Rattle.op_fk_decompose.specs.Decompose.{refs, dangling, kept_rows, aux_from, decompose_aux};
@@ -8,7 +9,7 @@ ghost use Rattle.op_fk_decompose.specs.Decompose.{refs, dangling, kept_rows, aux
 use crate::target_rows::TargetRows;
 use foreign_keys::RowParts;
 use op_law::{Aux, Side};
-use op_tables::{MakesRow, first_of, second_of, table_over, with_ids};
+use op_tables::{MakesRow, first_of, is_table_over, second_of, table_over, third_of, with_ids};
 use par_base::{List, Memory, Row};
 use row_store::Table;
 use std::alloc::Global;
@@ -28,9 +29,9 @@ impl<P: RowParts> MakesRow for Refs<'_, P> {
     fn at(&self, alloc: Global, id: u64) -> Result<Option<Row>, Memory> {
         match self.s.get(id) {
             Some(row) => {
-                let mut alone = List::new(alloc);
+                let mut alone = Vec::with_capacity(alloc, 1)?;
                 alone.push(self.parts.key(alloc, row)?)?;
-                Ok(Some(Row::from_list(alloc, alone)?))
+                Ok(Some(Row::from_list(alloc, List::from_vec(alone))?))
             }
             None => Ok(None),
         }
@@ -132,6 +133,46 @@ fn kept_table<P: RowParts>(alloc: Global, target: &TargetRows<'_, P>) -> Result<
     Ok(table)
 }
 
+// Whether the first auxiliary table is this one.
+fn is_refs<P: RowParts>(alloc: Global, parts: &P, s: &Table, own: &Table) -> Result<bool, Memory>
+    ensures { let made = refs (P.parts parts.now) s.now.rows in
+        IfOk result (λ same. IsTrue same ↔ (made ≡ own.now.rows)) }
+{
+    let ids = with_ids(alloc, &List::new(alloc), s)?;
+    let same = is_table_over(alloc, ids.as_slice(), &Refs { parts, s }, own)?;
+    Ok(same)
+}
+
+// Whether the second auxiliary table is this one.
+fn is_dangling<P: RowParts>(
+    alloc: Global,
+    parts: &P,
+    s: &Table,
+    t: &Table,
+    own: &Table,
+) -> Result<bool, Memory>
+    ensures { let made = dangling (P.parts parts.now) s.now.rows t.now.rows in
+        IfOk result (λ same. IsTrue same ↔ (made ≡ own.now.rows)) }
+{
+    let ids = with_ids(alloc, &List::new(alloc), s)?;
+    let same = is_table_over(alloc, ids.as_slice(), &Dangling { parts, s, t }, own)?;
+    Ok(same)
+}
+
+// Whether the third auxiliary table is this one.
+fn is_kept<P: RowParts>(
+    alloc: Global,
+    target: &TargetRows<'_, P>,
+    own: &Table,
+) -> Result<bool, Memory>
+    ensures { let made = kept_rows (P.parts target.now.by) target.now.s target.now.t in
+        IfOk result (λ same. IsTrue same ↔ (made ≡ own.now.rows)) }
+{
+    let ids = with_ids(alloc, &List::new(alloc), target.t)?;
+    let same = is_table_over(alloc, ids.as_slice(), &Kept { target }, own)?;
+    Ok(same)
+}
+
 /// The three auxiliary tables, of S and T.
 fn aux_under<P: RowParts>(alloc: Global, parts: &P, s: &Table, t: &Table) -> Result<Aux, Memory>
     ensures { IfOk result (λ aux. tables_of aux ≡ aux_from (P.parts parts.now) s.now.rows t.now.rows) }
@@ -153,4 +194,48 @@ pub(crate) fn aux_of<P: RowParts>(alloc: Global, parts: &P, target: &Side) -> Re
     let s = first_of(target.tables(), &empty);
     let t = second_of(target.tables(), &empty);
     aux_under(alloc, parts, s, t)
+}
+
+// Whether these are the auxiliary tables of S and T.
+#[tactic(auto, using(op_tables::proofs::SideLaws::three_are, op_tables::proofs::SideLaws::are_three))]
+fn are_under<P: RowParts>(
+    alloc: Global,
+    parts: &P,
+    s: &Table,
+    t: &Table,
+    tables: &[Table],
+) -> Result<bool, Memory>
+    ensures { let made = aux_from (P.parts parts.now) s.now.rows t.now.rows in
+        IfOk result (λ same. IsTrue same ↔ (made ≡ contents tables.now)) }
+{
+    if tables.len() != 3 {
+        return Ok(false);
+    }
+    let empty = Table::new(alloc);
+    if !is_refs(alloc, parts, s, first_of(tables, &empty))? {
+        return Ok(false);
+    }
+    if !is_dangling(alloc, parts, s, t, second_of(tables, &empty))? {
+        return Ok(false);
+    }
+    let target = &TargetRows::new(alloc, parts, s, t)?;
+    let same = is_kept(alloc, target, third_of(tables, &empty))?;
+    Ok(same)
+}
+
+/// Whether the source of this target keeps these tables beside, told without making them.
+pub(crate) fn is_aux_of<P: RowParts>(
+    alloc: Global,
+    parts: &P,
+    target: &Side,
+    aux: &Aux,
+) -> Result<bool, Memory>
+    ensures { let made = decompose_aux (P.parts parts.now) target.now in
+        IfOk result (λ same. IsTrue same ↔ (made ≡ tables_of aux.now)) }
+{
+    let empty = Table::new(alloc);
+    let s = first_of(target.tables(), &empty);
+    let t = second_of(target.tables(), &empty);
+    let same = are_under(alloc, parts, s, t, aux.tables.as_slice())?;
+    Ok(same)
 }

@@ -1,6 +1,7 @@
 //! DECOMPOSE ON FK: the target from a source and what it keeps beside.
-ghost use Rattle.std.specs.Prelude.{◌≡◌, IfOk};
+ghost use Rattle.std.specs.Prelude.{◌≡◌, [], ◌∷◌, IfOk};
 ghost use Rattle.op_law.specs.Calls.{tables_of};
+ghost use Rattle.op_law.specs.Identifiers.{IdsRise, ids_over};
 ghost use Rattle.foreign_keys.specs.Seeking.{seek as sought, goals_in};
 ghost use Rattle.foreign_keys.specs.Shared.{second_part_at};
 ghost use Rattle.op_fk_decompose.specs.Decompose.{first_again, leads, get_at};
@@ -11,7 +12,7 @@ use foreign_keys::{Leads, RowParts, goals_of, leads_to, part_of};
 use op_law::{Aux, Side};
 use op_tables::{MakesRow, first_of, second_of, table_over, third_of, with_ids};
 use par_base::{List, Memory, Row};
-use row_map::{IdMap, IdSet};
+use row_map::IdMap;
 use row_parts::value_at;
 use row_store::Table;
 use std::alloc::Global;
@@ -115,28 +116,28 @@ fn first_table<P: RowParts>(alloc: Global, it: &First<'_, P>) -> Result<Table, M
     Ok(table)
 }
 
-/// T.
-fn second_table<P: RowParts>(
+/// The identifiers of T, ascending: those that rows of S lead to, those of R and the kept ones.
+fn second_ids<P: RowParts>(
     alloc: Global,
-    it: &Second<'_, P>,
-    goals: &IdSet,
-) -> Result<Table, Memory>
-    requires finds { let k = P.parts it.now.parts.now in
-        FindsLeads k it.now.dangling.now.rows it.now.s.now.rows it.now.led.now }
-    requires goals { let k = P.parts it.now.parts.now in
-        goals.now ≡ goals_in (leads k it.now.dangling.now.rows) it.now.s.now.rows }
-    ensures { let k = P.parts it.now.parts.now in let dangling = it.now.dangling.now.rows in
-        let made = get_second k it.now.r.now.rows it.now.s.now.rows dangling it.now.kept.now.rows in
-        IfOk result (λ table. table.rows ≡ made) }
+    live: &LiveKeys<'_, P>,
+    r: &Table,
+    s: &Table,
+    kept: &Table,
+) -> Result<List<u64>, Memory>
+    ensures value { let goal = leads (P.parts live.now.parts.now) live.now.dangling.now.rows in
+        IfOk result (λ ids. ids ≡ ids_over (r.now.rows ∷ kept.now.rows ∷ [])
+        (goals_in goal s.now.rows)) }
+    ensures rise { IfOk result (λ ids. IdsRise 0 ids) }
 {
+    let goals = goals_of(alloc, live, s)?;
     let led = goals.list(alloc)?;
-    let of_r = with_ids(alloc, &led, it.r)?;
-    let ids = with_ids(alloc, &of_r, it.kept)?;
-    let table = table_over(alloc, ids.as_slice(), it)?;
-    Ok(table)
+    let of_r = with_ids(alloc, &led, r)?;
+    let ids = with_ids(alloc, &of_r, kept)?;
+    Ok(ids)
 }
 
-/// T, where S was read.
+/// T, where S was read. The lists of identifiers from which the last one is made are let go before
+/// the rows are made.
 fn second_under<P: RowParts>(
     alloc: Global,
     parts: &P,
@@ -149,7 +150,7 @@ fn second_under<P: RowParts>(
         IfOk result (λ table. table.rows ≡ made) }
 {
     let live = LiveKeys { parts, dangling };
-    let goals = goals_of(alloc, &live, s)?;
+    let ids = second_ids(alloc, &live, r, s, kept)?;
     let led = &leads_to(alloc, &live, s)?;
     let it = Second {
         parts,
@@ -159,7 +160,8 @@ fn second_under<P: RowParts>(
         kept,
         led,
     };
-    second_table(alloc, &it, &goals)
+    let table = table_over(alloc, ids.as_slice(), &it)?;
+    Ok(table)
 }
 
 /// The target of R and the tables that are kept beside.

@@ -4,13 +4,13 @@ ghost use Rattle.std.specs.Prelude.{IfOk};
 ghost use Rattle.op_law.specs.Calls.{tables_of};
 ghost use Rattle.op_fk_join.specs.inner.Admitted.{IsJoinTold, IsJoinToldOn};
 
-use crate::auxiliary::aux_of;
-use crate::forward::target_of;
+use crate::auxiliary::is_aux_of;
+use crate::forward::{is_target_of, target_of};
 use crate::reading::source_of;
 use foreign_keys::RowParts;
 use id_memory::PairMemory;
 use op_law::{Aux, Side};
-use op_tables::{is_same_tables, is_wide_side};
+use op_tables::is_wide_side;
 use par_base::Memory;
 use row_store::Table;
 use std::alloc::Global;
@@ -34,12 +34,10 @@ pub(crate) fn admitted<P: RowParts>(
     if !is_wide_side(far.tables(), widths, &Table::new(alloc)) {
         return Ok(None);
     }
-    let back = target_of(alloc, parts, &far)?;
-    if !is_same_tables(back.tables(), target.tables()) {
+    if !is_target_of(alloc, parts, &far, target)? {
         return Ok(None);
     }
-    let kept = aux_of(alloc, parts, &far, target)?;
-    if !is_same_tables(kept.tables.as_slice(), aux.tables.as_slice()) {
+    if !is_aux_of(alloc, parts, &far, target, aux)? {
         return Ok(None);
     }
     Ok(Some(far))

@@ -1,13 +1,14 @@
 //! JOIN ON FK: what a stored target keeps beside.
-ghost use Rattle.std.specs.Prelude.{◌≡◌, IfOk};
+ghost use Rattle.std.specs.Prelude.{◌≡◌, ◌↔◌, IfOk, IsTrue};
 ghost use Rattle.op_law.specs.Calls.{tables_of};
+ghost use Rattle.op_law.specs.Tables.{contents};
 ghost use Rattle.foreign_keys.specs.References.{AreReferred};
 ghost use Rattle.op_fk_join.specs.Join.{key_here, join_refs, unjoined_here, unjoined};
 ghost use Rattle.op_fk_join.specs.Join.{unreferred_here, unreferred, aux_from, join_aux};
 
 use foreign_keys::{RowParts, referred_ids};
 use op_law::{Aux, Side, copy_of};
-use op_tables::{MakesRow, first_of, second_of, table_over, with_ids};
+use op_tables::{MakesRow, first_of, is_table_over, second_of, table_over, third_of, with_ids};
 use par_base::{List, Memory, Row};
 use row_map::IdSet;
 use row_store::Table;
@@ -29,9 +30,9 @@ impl<P: RowParts> MakesRow for Keys<'_, P> {
     fn at(&self, alloc: Global, id: u64) -> Result<Option<Row>, Memory> {
         match (self.r.get(id), self.s.get(id)) {
             (Some(_), Some(row)) => {
-                let mut alone = List::new(alloc);
+                let mut alone = Vec::with_capacity(alloc, 1)?;
                 alone.push(self.parts.key(alloc, row)?)?;
-                Ok(Some(Row::from_list(alloc, alone)?))
+                Ok(Some(Row::from_list(alloc, List::from_vec(alone))?))
             }
             _ => Ok(None),
         }
@@ -121,6 +122,55 @@ fn unreferred_table<P: RowParts>(
     Ok(table)
 }
 
+// Whether these are the identifiers of R with their foreign keys.
+fn are_keys<P: RowParts>(
+    alloc: Global,
+    parts: &P,
+    s: &Table,
+    r: &Table,
+    own: &Table,
+) -> Result<bool, Memory>
+    ensures { let made = join_refs (P.parts parts.now) s.now.rows r.now.rows in
+        IfOk result (λ same. IsTrue same ↔ (made ≡ own.now.rows)) }
+{
+    let ids = with_ids(alloc, &List::new(alloc), r)?;
+    let same = is_table_over(alloc, ids.as_slice(), &Keys { parts, s, r }, own)?;
+    Ok(same)
+}
+
+// Whether these are the rows of S that R lacks.
+fn are_unjoined(alloc: Global, s: &Table, r: &Table, own: &Table) -> Result<bool, Memory>
+    ensures { let made = unjoined s.now.rows r.now.rows in
+        IfOk result (λ same. IsTrue same ↔ (made ≡ own.now.rows)) }
+{
+    let ids = with_ids(alloc, &List::new(alloc), s)?;
+    let same = is_table_over(alloc, ids.as_slice(), &Unjoined { s, r }, own)?;
+    Ok(same)
+}
+
+// Whether these are the rows of T to which no row of S refers.
+fn are_unreferred<P: RowParts>(
+    alloc: Global,
+    parts: &P,
+    s: &Table,
+    t: &Table,
+    own: &Table,
+) -> Result<bool, Memory>
+    ensures { let made = unreferred (P.parts parts.now) s.now.rows t.now.rows in
+        IfOk result (λ same. IsTrue same ↔ (made ≡ own.now.rows)) }
+{
+    let ids = with_ids(alloc, &List::new(alloc), t)?;
+    let referred = &referred_ids(alloc, parts, s)?;
+    let each = Unreferred {
+        parts,
+        s,
+        t,
+        referred,
+    };
+    let same = is_table_over(alloc, ids.as_slice(), &each, own)?;
+    Ok(same)
+}
+
 /// The three auxiliary tables, of S, T and R.
 fn aux_under<P: RowParts>(
     alloc: Global,
@@ -155,4 +205,51 @@ pub(crate) fn aux_of<P: RowParts>(
     let t = second_of(source.tables(), &empty);
     let r = first_of(target.tables(), &empty);
     aux_under(alloc, parts, s, t, r)
+}
+
+// Whether these are the auxiliary tables of S, T and R.
+#[tactic(auto, using(op_tables::proofs::SideLaws::three_are, op_tables::proofs::SideLaws::are_three))]
+fn are_under<P: RowParts>(
+    alloc: Global,
+    parts: &P,
+    s: &Table,
+    t: &Table,
+    r: &Table,
+    tables: &[Table],
+) -> Result<bool, Memory>
+    ensures { let made = aux_from (P.parts parts.now) s.now.rows t.now.rows r.now.rows in
+        IfOk result (λ same. IsTrue same ↔ (made ≡ contents tables.now)) }
+{
+    if tables.len() != 3 {
+        return Ok(false);
+    }
+    let empty = Table::new(alloc);
+    if !are_keys(alloc, parts, s, r, first_of(tables, &empty))? {
+        return Ok(false);
+    }
+    if !are_unjoined(alloc, s, r, second_of(tables, &empty))? {
+        return Ok(false);
+    }
+    let same = are_unreferred(alloc, parts, s, t, third_of(tables, &empty))?;
+    Ok(same)
+}
+
+/// Whether the target keeps these tables beside, of this source and this target. It is told without
+/// making them.
+pub(crate) fn is_aux_of<P: RowParts>(
+    alloc: Global,
+    parts: &P,
+    source: &Side,
+    target: &Side,
+    aux: &Aux,
+) -> Result<bool, Memory>
+    ensures { let made = join_aux (P.parts parts.now) source.now target.now in
+        IfOk result (λ same. IsTrue same ↔ (made ≡ tables_of aux.now)) }
+{
+    let empty = Table::new(alloc);
+    let s = first_of(source.tables(), &empty);
+    let t = second_of(source.tables(), &empty);
+    let r = first_of(target.tables(), &empty);
+    let same = are_under(alloc, parts, s, t, r, aux.tables.as_slice())?;
+    Ok(same)
 }

@@ -15,15 +15,16 @@ pub struct JoinFk {
     pub place: usize,
 }
 
-/// Adds copies of these values at the end.
+/// Adds copies of these values at the end. The row has just the room of its values.
 fn add_copies(alloc: Global, row: List<Value>, values: &[Value]) -> Result<Row, Memory>
     ensures { IfOk result (λ all. all ≡ row ++ values.now) }
 {
-    let mut all = row;
+    let mut all = row.into_vec();
+    all.reserve_exact(values.len())?;
     for value in values {
         all.push(value.copy(alloc)?)?;
     }
-    Row::from_list(alloc, all)
+    Row::from_list(alloc, List::from_vec(all))
 }
 
 /// The first values of a row.

@@ -1,11 +1,12 @@
 //! JOIN ON FK: the target of a source.
-ghost use Rattle.std.specs.Prelude.{◌≡◌, IfOk};
+ghost use Rattle.std.specs.Prelude.{◌≡◌, ◌↔◌, [], ◌∷◌, IfOk, IsTrue};
 ghost use Rattle.std.specs.Option.{option_copied};
+ghost use Rattle.op_law.specs.Tables.{contents};
 ghost use Rattle.op_fk_join.specs.Join.{joined_row, joined_here, join_table, join_target};
 
 use foreign_keys::{RowParts, at_goal};
 use op_law::Side;
-use op_tables::{MakesRow, first_of, second_of, table_over, with_ids};
+use op_tables::{MakesRow, first_of, is_table_over, second_of, table_over, with_ids};
 use par_base::{List, Memory, Row};
 use row_store::Table;
 use std::alloc::Global;
@@ -60,6 +61,16 @@ fn table_of<P: RowParts>(alloc: Global, it: &Joined<'_, P>) -> Result<Table, Mem
     Ok(table)
 }
 
+// Whether R is this table.
+fn is_table_of<P: RowParts>(alloc: Global, it: &Joined<'_, P>, r: &Table) -> Result<bool, Memory>
+    ensures { let made = join_table (P.parts it.now.parts.now) it.now.s.now.rows it.now.t.now.rows in
+        IfOk result (λ same. IsTrue same ↔ (made ≡ r.now.rows)) }
+{
+    let ids = with_ids(alloc, &List::new(alloc), it.s)?;
+    let same = is_table_over(alloc, ids.as_slice(), it, r)?;
+    Ok(same)
+}
+
 /// The target of a source. It goes over S once, with a look-up in T for each row.
 pub(crate) fn target_of<P: RowParts>(
     alloc: Global,
@@ -73,4 +84,42 @@ pub(crate) fn target_of<P: RowParts>(
     let t = second_of(source.tables(), &empty);
     let table = table_of(alloc, &Joined { parts, s, t })?;
     Ok(Side::one(alloc, table)?)
+}
+
+// Whether the target of S and T has these tables.
+#[tactic(auto, using(op_tables::proofs::SideLaws::one_is, op_tables::proofs::SideLaws::is_one))]
+fn gives<P: RowParts>(
+    alloc: Global,
+    parts: &P,
+    s: &Table,
+    t: &Table,
+    tables: &[Table],
+) -> Result<bool, Memory>
+    ensures { let made = join_table (P.parts parts.now) s.now.rows t.now.rows in
+        IfOk result (λ same. IsTrue same ↔ (made ∷ [] ≡ contents tables.now)) }
+{
+    if tables.len() != 1 {
+        return Ok(false);
+    }
+    let empty = Table::new(alloc);
+    let r = first_of(tables, &empty);
+    let same = is_table_of(alloc, &Joined { parts, s, t }, r)?;
+    Ok(same)
+}
+
+/// Whether this is the target of the source, told without making it.
+pub(crate) fn is_target_of<P: RowParts>(
+    alloc: Global,
+    parts: &P,
+    source: &Side,
+    target: &Side,
+) -> Result<bool, Memory>
+    ensures { let made = join_target (P.parts parts.now) source.now in
+        IfOk result (λ same. IsTrue same ↔ (made ≡ target.now)) }
+{
+    let empty = Table::new(alloc);
+    let s = first_of(source.tables(), &empty);
+    let t = second_of(source.tables(), &empty);
+    let same = gives(alloc, parts, s, t, target.tables())?;
+    Ok(same)
 }

@@ -1,1 +1,3 @@
 mod PassLemmas
+mod OverLemmas
+pub mod SideLaws

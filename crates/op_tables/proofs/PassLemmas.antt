@@ -1,8 +1,6 @@
 -- A table that grows behind, identifier by identifier.
 use Rattle.std.proofs.Common.{◌≡◌, ℕ, zero, suc, ◌+◌, ◌<◌, ◌≤◌, List, [], ◌∷◌, ◌++◌, length, take, get_or, Some, None, refl, ap, sym, ◌∙◌, subst, arith}
 use Rattle.row_store.specs.Rows.{Rows, AreBelow}
-use Rattle.row_store.specs.States.{TableState}
-use Rattle.op_law.specs.Tables.{contents}
 use Rattle.op_rows.specs.Cells.{with_row, table_from}
 use Rattle.op_rows.specs.inner.CellLemmas.{IdsRise}
 use Rattle.row_parts.specs.RowCells.{Cell}
@@ -41,9 +39,3 @@ pass_below ids i f rows rise h made = subst (λ (rs : Rows). AreBelow rs (get_or
 pub pass_more : (ids : List ℕ) (i : ℕ) (f : ℕ → Cell) (before after : Rows) (cell : Cell) → i < length ids → before ≡ table_from (take i ids) f → cell ≡ f (get_or ids i 0) → after ≡ before ++ with_row (get_or ids i 0) cell [] → after ≡ table_from (take (i + 1) ids) f
 pass_more ids i f before after cell h made is pushed =
     pushed ∙ ap (λ (rows : Rows). rows ++ with_row (get_or ids i 0) cell []) made ∙ ap (λ (c : Cell). table_from (take i ids) f ++ with_row (get_or ids i 0) c []) is ∙ sym (table_next ids i 0 f h)
-
--- the rows of one of the tables
-pub rows_at : (tables : List TableState) (i : ℕ) (d : TableState) → i < length tables → get_or (contents tables) i [] ≡ (get_or tables i d).rows
-rows_at [] i d h = absurd (omega arith)
-rows_at (t ∷ ts) zero d h = refl
-rows_at (t ∷ ts) (suc i) d h = rows_at ts i d (omega arith)

@@ -1,5 +1,5 @@
-//! Tests of whole tables: how many values their rows have, and whether they are equal.
-ghost use Rattle.std.specs.Prelude.{◌≡◌, ◌↔◌, [], ◌&&◌, IsTrue};
+//! Tests of whole tables: how many values their rows have.
+ghost use Rattle.std.specs.Prelude.{◌≡◌, [], ◌&&◌};
 ghost use Rattle.op_law.specs.Tables.{contents};
 ghost use Rattle.op_tables.specs.Wide.{are_wide};
 ghost use Rattle.op_tables.specs.SideTables.{first_table, second_table};
@@ -13,21 +13,6 @@ pub fn is_wide(table: &Table, width: usize) -> bool
 {
     for row in table.iter() {
         if row.1.len() != width {
-            return false;
-        }
-    }
-    true
-}
-
-/// Whether both have the same rows in each table.
-pub fn is_same_tables(some: &[Table], other: &[Table]) -> bool
-    ensures { IsTrue result ↔ (contents some.now ≡ contents other.now) }
-{
-    if some.len() != other.len() {
-        return false;
-    }
-    for at in 0..some.len() {
-        if !some[at].is_same(&other[at]) {
             return false;
         }
     }
