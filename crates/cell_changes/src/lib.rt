@@ -10,8 +10,10 @@
 
 mod adding;
 mod auxiliary;
+mod by_cells;
 mod mapping;
 mod reading;
 
 pub use auxiliary::aux_by_cells;
+pub use by_cells::ByCells;
 pub use mapping::changes_by_cells;

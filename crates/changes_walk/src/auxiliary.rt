@@ -16,7 +16,7 @@ use crate::progress::Changing;
 use crate::reader::StateRead;
 use expr_lang::Steps;
 use id_memory::PairMemory;
-use op_cells::ByCells;
+use cell_changes::ByCells;
 use op_law::{Aux, Operator, Pair, Side};
 use par_base::{List, Memory};
 use row_changes::{SideChanges, changed_copies, differences};

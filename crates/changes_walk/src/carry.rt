@@ -10,7 +10,7 @@ use crate::progress::Changing;
 use crate::reader::StateRead;
 use expr_lang::Steps;
 use layout_rules::holds;
-use op_cells::ByCells;
+use cell_changes::ByCells;
 use par_base::{Fault, IdsSpent};
 use std::alloc::Global;
 use std::sync::ledger::Ledger;

@@ -11,7 +11,7 @@ use crate::progress::Changing;
 use crate::reader::StateRead;
 use crate::whole::whole_changes;
 use expr_lang::Steps;
-use op_cells::ByCells;
+use cell_changes::ByCells;
 use op_law::Operator;
 use par_base::{Fault, IdsSpent};
 use std::alloc::Global;

@@ -5,11 +5,14 @@ ghost use Rattle.op_kinds.specs.Operators.{any_meaning, any_laws};
 ghost use Rattle.op_kinds.specs.Views.{built_view};
 ghost use Rattle.op_any.specs.Build.{IsOf};
 
+use cell_changes::ByCells;
 use expr_lang::Steps;
 use id_memory::{IdCounter, PairMemory};
 use op_kinds::BuiltOp;
 use op_law::{Aux, Far, Operator, Pair, Side};
+use operator_changes::{FarChanges, PairRead};
 use par_base::{Fault, IdsSpent, Memory};
+use row_changes::SideChanges;
 use statements::OpText;
 use std::alloc::Global;
 use std::marker::Model;
@@ -156,4 +159,33 @@ impl Operator for AnyOp {
     }
 
     ghost laws = { any_laws };
+}
+
+impl ByCells for AnyOp {
+    fn far_changes<V: PairRead, L: Ledger>(
+        &self,
+        alloc: Global,
+        backward: bool,
+        near: &SideChanges,
+        old: &mut V,
+        ids: &mut IdCounter,
+        steps: &mut Steps<L>,
+    ) -> Result<FarChanges, Fault<IdsSpent>> {
+        self.operator
+            .far_changes(alloc, backward, near, old, ids, steps)
+    }
+
+    fn aux_differences<V: PairRead, L: Ledger>(
+        &self,
+        alloc: Global,
+        backward: bool,
+        near: &SideChanges,
+        far: &SideChanges,
+        old: &mut V,
+        aux: &Aux,
+        steps: &mut Steps<L>,
+    ) -> Result<SideChanges, Memory> {
+        let operator = &self.operator;
+        operator.aux_differences(alloc, backward, near, far, old, aux, steps)
+    }
 }

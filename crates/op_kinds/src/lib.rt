@@ -1,12 +1,14 @@
 //! The kinds of operators, as one type.
 //!
 //! It promises the crates above that a `BuiltOp` is an `Operator` that means what `specs/Operators.antt`
-//! says of what was built. It knows nothing of the texts that build operators, of names of tables, of
+//! says of what was built, and tells changes of one side as changes of the other (`ByCells`): identifier
+//! by identifier where it treats each by itself. It knows nothing of the texts that build operators, of names of tables, of
 //! working sets, or of why an operator is refused.
 #![tactic(auto)]
 
 mod built_calls;
 mod built_op;
+mod by_cells;
 
 pub use built_op::BuiltOp;
 pub use op_cond_join::JoinOn;

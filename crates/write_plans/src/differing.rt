@@ -13,7 +13,7 @@ use crate::tree::Tree;
 use changes_walk::{aux_changes, changes_now};
 use db_state::{Db, Sight, aux_seen, stored_way};
 use expr_lang::Steps;
-use op_cells::ByCells;
+use cell_changes::ByCells;
 use op_law::Aux;
 use par_base::{List, Memory};
 use row_changes::SideChanges;

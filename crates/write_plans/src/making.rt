@@ -15,7 +15,7 @@ use changes_walk::{Changing, StateRead, carry_changes};
 use db_state::{Db, Sight};
 use expr_lang::Steps;
 use id_memory::PairMemory;
-use op_cells::ByCells;
+use cell_changes::ByCells;
 use pair_parts::memory_part;
 use par_base::{Fault, IdsSpent, List, Memory, Row};
 use row_store::Table;

@@ -25,7 +25,7 @@ use crate::tree::Tree;
 use changes_walk::Changing;
 use db_state::{Db, Sight};
 use expr_lang::Steps;
-use op_cells::ByCells;
+use cell_changes::ByCells;
 use op_law::Operator;
 use pair_changes::PairChange;
 use par_base::{Fault, IdsSpent, List, Memory};

@@ -15,7 +15,7 @@ ghost use Rattle.write_propagation.specs.PartMade.{named_in, ClosesTree, IsPartM
 use db_state::{Db, Sight};
 use expr_lang::Steps;
 use layout_rules::holds;
-use op_cells::ByCells;
+use cell_changes::ByCells;
 use op_law::Operator;
 use operator_changes::add_drawn;
 use par_base::{Fault, List, Memory};

@@ -22,7 +22,7 @@ use crate::filling::fill_keys;
 use crate::parting::{PartMade, Writing, are_few, make_part};
 use db_state::{Db, Sight, are_local};
 use expr_lang::Steps;
-use op_cells::ByCells;
+use cell_changes::ByCells;
 use par_base::{Fault, IdsSpent, Memory};
 use sought_ids::{Seeks, seeks_all, wanted_keys};
 use std::alloc::Global;

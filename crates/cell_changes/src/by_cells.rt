@@ -5,10 +5,8 @@ ghost use Rattle.row_changes.specs.Differences.{AreDifferences};
 ghost use Rattle.operator_changes.specs.AuxCalls.{changed_pair, AuxWithin, MayChangePair};
 ghost use Rattle.operator_changes.specs.Calls.{ahead, toward, mapped_changes, ChangesWithin, IsChangedTo, MayChange};
 
-use crate::built::{built_aux_changes, built_changes};
 use expr_lang::Steps;
 use id_memory::IdCounter;
-use op_any::AnyOp;
 use op_law::{Aux, Operator};
 use operator_changes::{FarChanges, PairRead};
 use par_base::{Fault, IdsSpent, Memory};
@@ -67,32 +65,4 @@ pub trait ByCells: Operator {
             near.now.tables far.now.tables)) changes.tables) }
         ensures same { V.pair old.new ≡ V.pair old.old }
         ensures steps { AuxWithin near.now.tables far.now.tables steps.old steps.new };
-}
-
-impl ByCells for AnyOp {
-    fn far_changes<V: PairRead, L: Ledger>(
-        &self,
-        alloc: Global,
-        backward: bool,
-        near: &SideChanges,
-        old: &mut V,
-        ids: &mut IdCounter,
-        steps: &mut Steps<L>,
-    ) -> Result<FarChanges, Fault<IdsSpent>> {
-        built_changes(alloc, self.operator(), backward, near, old, ids, steps)
-    }
-
-    fn aux_differences<V: PairRead, L: Ledger>(
-        &self,
-        alloc: Global,
-        backward: bool,
-        near: &SideChanges,
-        far: &SideChanges,
-        old: &mut V,
-        aux: &Aux,
-        steps: &mut Steps<L>,
-    ) -> Result<SideChanges, Memory> {
-        let operator = self.operator();
-        built_aux_changes(alloc, operator, backward, near, far, old, aux, steps)
-    }
 }
