@@ -10,10 +10,10 @@ ghost use Rattle.write_plans.specs.Making.{AreAuxChanges, IsAuxChange, MayChange
 
 use crate::making::{Making, Seen};
 use crate::tree::Tree;
+use cell_changes::ByCells;
 use changes_walk::{aux_changes, changes_now};
 use db_state::{Db, Sight, aux_seen, stored_way};
 use expr_lang::Steps;
-use cell_changes::ByCells;
 use op_law::Aux;
 use par_base::{List, Memory};
 use row_changes::SideChanges;

@@ -11,11 +11,11 @@ ghost use Rattle.write_plans.specs.Making.{copied_state, first_changes, names_of
 use crate::copies::{Copies, copy_tree};
 use crate::plans::RowWrite;
 use crate::tree::Tree;
+use cell_changes::ByCells;
 use changes_walk::{Changing, StateRead, carry_changes};
 use db_state::{Db, Sight};
 use expr_lang::Steps;
 use id_memory::PairMemory;
-use cell_changes::ByCells;
 use pair_parts::memory_part;
 use par_base::{Fault, IdsSpent, List, Memory, Row};
 use row_store::Table;

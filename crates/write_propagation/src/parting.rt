@@ -12,10 +12,10 @@ ghost use Rattle.sought_ids.specs.Found.{AreAmong};
 ghost use Rattle.write_plans.specs.Making.{IsMaking, MayPlan};
 ghost use Rattle.write_propagation.specs.PartMade.{named_in, ClosesTree, IsPartMade, IsTried, SeesTree};
 
+use cell_changes::ByCells;
 use db_state::{Db, Sight};
 use expr_lang::Steps;
 use layout_rules::holds;
-use cell_changes::ByCells;
 use op_law::Operator;
 use operator_changes::add_drawn;
 use par_base::{Fault, List, Memory};

@@ -20,9 +20,9 @@ ghost use Rattle.write_plans.specs.Keys.{KeysLead};
 
 use crate::filling::fill_keys;
 use crate::parting::{PartMade, Writing, are_few, make_part};
+use cell_changes::ByCells;
 use db_state::{Db, Sight, are_local};
 use expr_lang::Steps;
-use cell_changes::ByCells;
 use par_base::{Fault, IdsSpent, Memory};
 use sought_ids::{Seeks, seeks_all, wanted_keys};
 use std::alloc::Global;
