@@ -1,6 +1,7 @@
 //! DECOMPOSE ON FK: what a stored source keeps beside.
-ghost use Rattle.std.specs.Prelude.{◌≡◌, ◌↔◌, IfOk, IsTrue};
+ghost use Rattle.std.specs.Prelude.{◌≡◌, ◌↔◌, [], IfOk, IsTrue};
 ghost use Rattle.op_law.specs.Calls.{tables_of};
+ghost use Rattle.op_law.specs.Identifiers.{IdsRise, ids_in};
 ghost use Rattle.op_law.specs.Tables.{contents};
 ghost use Rattle.foreign_keys.specs.References.{dangles as leads_nowhere};
 ghost use Rattle.op_fk_decompose.specs.Decompose.{ref_at, dangling_at, kept_at};
@@ -123,12 +124,23 @@ fn dangling_table<P: RowParts>(
     Ok(table)
 }
 
+// The identifiers of T.
+fn ids_of_second<P: RowParts>(
+    alloc: Global,
+    target: &TargetRows<'_, P>,
+) -> Result<List<u64>, Memory>
+    ensures value { IfOk result (λ ids. ids ≡ ids_in target.now.t []) }
+    ensures rise { IfOk result (λ ids. IdsRise 0 ids) }
+{
+    with_ids(alloc, &List::new(alloc), target.t)
+}
+
 /// The third auxiliary table.
 fn kept_table<P: RowParts>(alloc: Global, target: &TargetRows<'_, P>) -> Result<Table, Memory>
     ensures { let k = P.parts target.now.by in
         IfOk result (λ table. table.rows ≡ kept_rows k target.now.s target.now.t) }
 {
-    let ids = with_ids(alloc, &List::new(alloc), target.t)?;
+    let ids = ids_of_second(alloc, target)?;
     let table = table_over(alloc, ids.as_slice(), &Kept { target })?;
     Ok(table)
 }
@@ -168,7 +180,7 @@ fn is_kept<P: RowParts>(
     ensures { let made = kept_rows (P.parts target.now.by) target.now.s target.now.t in
         IfOk result (λ same. IsTrue same ↔ (made ≡ own.now.rows)) }
 {
-    let ids = with_ids(alloc, &List::new(alloc), target.t)?;
+    let ids = ids_of_second(alloc, target)?;
     let same = is_table_over(alloc, ids.as_slice(), &Kept { target }, own)?;
     Ok(same)
 }
