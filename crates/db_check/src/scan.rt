@@ -45,7 +45,7 @@ fn value_below(next: u64, value: &Value) -> bool
     match value {
         Value::Null => true,
         Value::Int(number) => is_int(*number),
-        Value::Text(text) => text_below(text),
+        Value::Text(text) => text_below(text.as_text()),
         Value::Reference(id) => id_below(next, *id),
     }
 }

@@ -32,7 +32,7 @@ fn value_fits(value: &Value) -> bool
 {
     match value {
         Value::Int(number) => integer_fits(*number),
-        Value::Text(text) => text_fits(text),
+        Value::Text(text) => text_fits(text.as_text()),
         _ => true,
     }
 }
