@@ -170,7 +170,10 @@ fn inner_candidate(alloc: Global, inner: &[u8]) -> Result<Option<Value>, Memory>
 {
     let bytes = without_doubling(alloc, inner)?;
     match String::from_utf8(bytes) {
-        Ok(text) => Ok(Some(Value::Text(SharedText::from_text(alloc, Text::from_string(text))?))),
+        Ok(text) => {
+            let shared = SharedText::from_text(alloc, Text::from_string(text))?;
+            Ok(Some(Value::Text(shared)))
+        }
         Err(_) => Ok(None),
     }
 }

@@ -1,5 +1,5 @@
 //! A text that its copies share.
-ghost use Rattle.std.specs.Prelude.{◌≡◌, length, IfOk};
+ghost use Rattle.std.specs.Prelude.{◌≡◌, IfOk};
 
 use crate::{Memory, Text};
 use std::alloc::Global;
@@ -21,7 +21,7 @@ impl Model for SharedText {
 }
 
 impl SharedText {
-    /// The text, to share. It takes memory for the count of its copies.
+    /// The text, to be shared. It takes memory for the count of its copies.
     pub fn from_text(alloc: Global, text: Text) -> Result<SharedText, Memory>
         ensures { IfOk result (λ made. made ≡ text) }
     {
@@ -29,7 +29,7 @@ impl SharedText {
         Ok(SharedText { text })
     }
 
-    /// The text of these characters, to share.
+    /// The text of these characters, to be shared.
     pub fn from_str(alloc: Global, text: &str) -> Result<SharedText, Memory>
         ensures { IfOk result (λ made. made ≡ text.now) }
     {
@@ -48,13 +48,6 @@ impl SharedText {
         ensures { result.now ≡ self.now }
     {
         self.text.as_ref().as_str()
-    }
-
-    /// The number of bytes.
-    pub fn len(&self) -> usize
-        ensures { result ≡ length self.now }
-    {
-        self.text.as_ref().len()
     }
 
     /// An equal text, which shares the characters. It takes no time for them.
