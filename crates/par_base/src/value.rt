@@ -20,7 +20,7 @@ pub enum Value {
 }
 
 impl Value {
-    /// An equal value.
+    /// An equal value, which shares its text. It takes no time for the characters.
     pub fn copy(&self, _alloc: Global) -> Result<Value, Memory>
         ensures { IfOk result (λ made. made ≡ self.now) }
     {
