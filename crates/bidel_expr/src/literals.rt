@@ -10,7 +10,7 @@ use crate::numbers::number_value;
 use crate::read_error::ReadError;
 use crate::terminals::{is_word, next_negative, next_sign, next_token};
 use bidel_lex::TokenKind;
-use par_base::{Text, Value, without_doubling};
+use par_base::{SharedText, Text, Value, without_doubling};
 use std::alloc::Global;
 
 /// The greatest integer without a sign.
@@ -62,7 +62,7 @@ fn unsigned_value(alloc: Global, next: Next<'_>) -> Result<Option<Value>, ReadEr
         TokenKind::Word if is_word(next.written, b"null") => Ok(Some(Value::Null)),
         TokenKind::Number => Ok(integer(next.written)),
         TokenKind::Text => match text_value(alloc, next.written)? {
-            Some(text) => Ok(Some(Value::Text(text))),
+            Some(text) => Ok(Some(Value::Text(SharedText::from_text(alloc, text)?))),
             None => Ok(None),
         },
         TokenKind::Reference => Ok(reference(next.written)),

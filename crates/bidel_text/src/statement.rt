@@ -8,7 +8,7 @@ ghost use Rattle.bidel_text.specs.StatementText.{table_text, target_text, tuple_
 use crate::expression::print_expression;
 use crate::operator::{print_operator, push_names};
 use expr_lang::ExprText;
-use par_base::{List, Memory, Name, Row, Target, Text, Value, literal_text};
+use par_base::{List, Memory, Name, Row, SharedText, Target, Text, Value, literal_text};
 use statements::{Assignment, OpText, Statement, TableName};
 use std::alloc::Global;
 
@@ -248,7 +248,7 @@ fn print_insert(alloc: Global, table: &TableName, rows: &[Row]) -> Result<String
 fn push_text(alloc: Global, made: &mut String, text: &Text) -> Result<(), Memory>
     ensures { OnOk result (string_bytes made.new ≡ string_bytes made.old ++ quoted text.now) }
 {
-    let value = Value::Text(text.copy(alloc)?);
+    let value = Value::Text(SharedText::from_str(alloc, text.as_str())?);
     let literal = literal_text(alloc, &value)?;
     made.push_str(literal.as_str())?;
     Ok(())

@@ -6,7 +6,7 @@ ghost use Rattle.csv.specs.Records.{AllText, fields_of};
 ghost use Rattle.csv_io.specs.Fields.{field_value, id_in, int_in, plain_value, reference_in, value_field};
 
 use csv::StringRecord;
-use par_base::{Memory, Text, Value};
+use par_base::{Memory, SharedText, Text, Value};
 use std::alloc::Global;
 
 /// Adds a field.
@@ -85,7 +85,7 @@ fn read_plain(alloc: Global, field: &str) -> Result<Value, Memory>
     if field.is_empty() {
         Ok(Value::Null)
     } else {
-        Ok(Value::Text(Text::from_str(alloc, field)?))
+        Ok(Value::Text(SharedText::from_str(alloc, field)?))
     }
 }
 

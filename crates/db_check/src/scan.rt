@@ -10,7 +10,7 @@ ghost use Rattle.version_model.specs.States.{headings};
 ghost use Rattle.db_check.specs.inner.Tests.{id_below as id_below_lem, may_remember, MayStand, Tells, pair_below as pair_below_lem, pairs_below as pairs_below_lem, row_below as row_below_lem, rows_below as rows_below_lem, rows_wide as rows_wide_lem, value_below as value_below_lem};
 
 use id_memory::PairMemory;
-use par_base::{Row, Text, Value};
+use par_base::{Row, SharedText, Value};
 use row_store::Table;
 use std::iter::Iterator;
 use version_graph::Graph;
@@ -33,7 +33,7 @@ fn is_int(_number: i64) -> bool
 
 // That it is UTF-8 is what its type says.
 #[tactic(auto, using(crate::proofs::TestLemmas::text_tested))]
-fn text_below(text: &Text) -> bool
+fn text_below(text: &SharedText) -> bool
     ensures { result ≡ (nat_le (length text.now) text_limit && is_utf8 text.now) }
 {
     text.as_str().len() <= TEXT_LIMIT

@@ -7,7 +7,7 @@ ghost use Rattle.version_graph.specs.Sets.{Each};
 ghost use Rattle.op_any.specs.Texts.{TermFits, TextsFit, ValueFits, key_expressions, second_condition};
 
 use expr_lang::ExprText;
-use par_base::{Text, Value};
+use par_base::{SharedText, Value};
 use statements::{Branch, KeyText, OpText};
 
 // The most bytes of a text.
@@ -21,7 +21,7 @@ fn integer_fits(_number: i64) -> bool
 }
 
 // That it is UTF-8 is what its type says.
-fn text_fits(text: &Text) -> bool
+fn text_fits(text: &SharedText) -> bool
     ensures { IsTrue result ↔ ValueFits (TextOf text.now) }
 {
     text.as_str().len() <= TEXT_LIMIT

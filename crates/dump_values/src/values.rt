@@ -7,7 +7,7 @@ ghost use Rattle.dump_values.specs.Values.{reference_of, value_json, value_of};
 use crate::members::{has_members, id_at};
 use crate::numbers::read_number;
 use json::Value as Tree;
-use par_base::{Memory, Text, Value};
+use par_base::{Memory, SharedText, Value};
 use serde_json::{Number, Value as Json, json};
 use std::alloc::Global;
 
@@ -28,7 +28,7 @@ pub(crate) fn read_value(alloc: Global, tree: &Tree<'_>) -> Result<Option<Value>
     match tree {
         Tree::Null => Ok(Some(Value::Null)),
         Tree::Number(text) => Ok(read_number(text).as_i64().map(Value::Int)),
-        Tree::String(text) => Ok(Some(Value::Text(Text::from_str(alloc, text)?))),
+        Tree::String(text) => Ok(Some(Value::Text(SharedText::from_str(alloc, text)?))),
         Tree::Object(_) => Ok(read_reference(tree)),
         _ => Ok(None),
     }

@@ -3,7 +3,7 @@ ghost use Rattle.std.specs.Prelude.{◌≡◌, ◌+ℤ◌, ◌-ℤ◌, ◌*ℤ�
 ghost use Rattle.expr_lang.specs.Operations.{truth, in_range, quotient, remainder, is_true, is_null, ints_of, on_ints, comparison_of, joined, unary_of, binary_of};
 
 use crate::{BinaryOp, UnaryOp};
-use par_base::{Memory, Text, Value};
+use par_base::{Memory, SharedText, Text, Value};
 use std::alloc::Global;
 use std::cmp::Ordering;
 
@@ -125,7 +125,7 @@ fn join(alloc: Global, left: &Value, right: &Value) -> Result<Value, Memory>
     ensures { IfOk result (λ made. made ≡ joined left.now right.now) }
 {
     match (left, right) {
-        (Value::Text(a), Value::Text(b)) => join_texts(alloc, a, b),
+        (Value::Text(a), Value::Text(b)) => join_texts(alloc, a.as_text(), b.as_text()),
         _ => Ok(Value::Null),
     }
 }
@@ -138,7 +138,7 @@ fn join_texts(alloc: Global, left: &Text, right: &Text) -> Result<Value, Memory>
     }
     let mut text = String::from_str(alloc, left.as_str())?;
     text.push_str(right.as_str())?;
-    Ok(Value::Text(Text::from_string(text)))
+    Ok(Value::Text(SharedText::from_text(alloc, Text::from_string(text))?))
 }
 
 /// The value of an operator at one value.

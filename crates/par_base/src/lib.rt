@@ -18,6 +18,7 @@ mod name;
 mod refusal;
 mod row;
 mod same;
+mod shared;
 mod text;
 mod value;
 
@@ -30,5 +31,6 @@ pub use name::{Name, copy_names, folded_byte, is_reserved_word, read_name};
 pub use refusal::{IdsSpent, Refusal};
 pub use row::Row;
 pub use same::{compare_values, is_same_row, is_same_values};
+pub use shared::SharedText;
 pub use text::Text;
 pub use value::Value;

@@ -8,7 +8,7 @@ ghost use Rattle.std.specs.Int.{w64};
 ghost use Rattle.par_base.specs.Literals.{literal_of, doubled, undoubled, quoted, IsValue, IsCandidate};
 ghost use Rattle.par_base.specs.declared.value.Value.{Value};
 
-use crate::{Memory, Text, Value};
+use crate::{Memory, SharedText, Text, Value};
 use std::alloc::Global;
 
 /// The literal text of a value: `null`, `-12`, `'it''s'` or `#7`.
@@ -170,7 +170,10 @@ fn inner_candidate(alloc: Global, inner: &[u8]) -> Result<Option<Value>, Memory>
 {
     let bytes = without_doubling(alloc, inner)?;
     match String::from_utf8(bytes) {
-        Ok(text) => Ok(Some(Value::Text(Text::from_string(text)))),
+        Ok(text) => {
+            let shared = SharedText::from_text(alloc, Text::from_string(text))?;
+            Ok(Some(Value::Text(shared)))
+        }
         Err(_) => Ok(None),
     }
 }

@@ -1,5 +1,5 @@
 //! Names, always in lower case.
-ghost use Rattle.std.specs.Prelude.{◌≡◌, ◌↔◌, true, false, nat_eq, string_bytes, map, MatchOption, IfOk, IsTrue};
+ghost use Rattle.std.specs.Prelude.{◌≡◌, ◌↔◌, ◌∷◌, ℕ, List, true, false, nat_eq, string_bytes, map, MatchOption, IfOk, IsTrue};
 ghost use Rattle.std.specs.List.{list_all, list_any};
 ghost use Rattle.std.specs.Str.{bytes_eq};
 ghost use Rattle.std.specs.Cmp.Lexicographic.{pointwise, nat_list_eq_equiv};
@@ -16,64 +16,6 @@ use std::marker::Model;
 
 // The most bytes of a name.
 const MOST_BYTES: usize = 64;
-
-// The words of the language that are no names.
-const RESERVED: [&str; 54] = [
-    "add",
-    "advise",
-    "and",
-    "as",
-    "begin",
-    "column",
-    "commit",
-    "create",
-    "csv",
-    "decompose",
-    "default",
-    "delete",
-    "drop",
-    "fk",
-    "foreign",
-    "from",
-    "import",
-    "in",
-    "insert",
-    "into",
-    "is",
-    "join",
-    "key",
-    "layout",
-    "materialize",
-    "merge",
-    "not",
-    "null",
-    "on",
-    "or",
-    "outer",
-    "pk",
-    "primary",
-    "rename",
-    "rollback",
-    "schema",
-    "select",
-    "session",
-    "set",
-    "show",
-    "split",
-    "step",
-    "steps",
-    "table",
-    "to",
-    "tracked",
-    "unwatch",
-    "update",
-    "use",
-    "values",
-    "version",
-    "watch",
-    "where",
-    "with",
-];
 
 /// The name of a version, a table or a column: 1 to 64 ASCII letters, digits, `_` or `!`, of which
 /// the first is no digit, in lower case, and no reserved word.
@@ -172,7 +114,42 @@ pub fn read_name(alloc: Global, bytes: &[u8]) -> Result<Option<Name>, Memory>
 pub fn is_reserved_word(bytes: &[u8]) -> bool
     ensures { result ≡ is_reserved bytes.now }
 {
-    is_among(RESERVED.as_slice(), bytes)
+    match bytes {
+        [first, ..] => is_among(reserved_words(*first), bytes),
+        [] => false,
+    }
+}
+
+// The words of the language that are no names and begin with this letter.
+#[tactic(auto, unfolding(crate::specs::Names::is_reserved))]
+fn reserved_words(letter: u8) -> &'static [&'static str]
+    ensures { (bytes : List ℕ) → list_any (λ word. bytes_eq word.now (letter ∷ bytes)) result.now
+        ≡ is_reserved (letter ∷ bytes) }
+{
+    match letter {
+        b'a' => &["add", "advise", "and", "as"],
+        b'b' => &["begin"],
+        b'c' => &["column", "commit", "create", "csv"],
+        b'd' => &["decompose", "default", "delete", "drop"],
+        b'f' => &["fk", "foreign", "from"],
+        b'i' => &["import", "in", "insert", "into", "is"],
+        b'j' => &["join"],
+        b'k' => &["key"],
+        b'l' => &["layout"],
+        b'm' => &["materialize", "merge"],
+        b'n' => &["not", "null"],
+        b'o' => &["on", "or", "outer"],
+        b'p' => &["pk", "primary"],
+        b'r' => &["rename", "rollback"],
+        b's' => &[
+            "schema", "select", "session", "set", "show", "split", "step", "steps",
+        ],
+        b't' => &["table", "to", "tracked"],
+        b'u' => &["unwatch", "update", "use"],
+        b'v' => &["values", "version"],
+        b'w' => &["watch", "where", "with"],
+        _ => &[],
+    }
 }
 
 fn folded_bytes(alloc: Global, bytes: &[u8]) -> Result<Vec<u8>, Memory>

@@ -48,11 +48,4 @@ impl Text {
     {
         self.text.len()
     }
-
-    /// An equal text.
-    pub fn copy(&self, alloc: Global) -> Result<Text, Memory>
-        ensures { IfOk result (λ made. made ≡ self.now) }
-    {
-        Text::from_str(alloc, self.text.as_str())
-    }
 }

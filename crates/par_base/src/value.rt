@@ -5,7 +5,7 @@ ghost use Rattle.par_base.specs.SameRows.{same_value};
 ghost use Rattle.par_base.specs.RowOrder.{kind_of, value_cmp};
 ghost use Rattle.par_base.specs.inner.OrderLaws.{value_equality, value_order, value_total, value_ties};
 
-use crate::{Memory, Text};
+use crate::{Memory, SharedText};
 use std::alloc::Global;
 use std::cmp::Ordering;
 
@@ -14,20 +14,20 @@ use std::cmp::Ordering;
 pub enum Value {
     Null,
     Int(i64),
-    Text(Text),
+    Text(SharedText),
     /// A reference to a row's identifier.
     Reference(u64),
 }
 
 impl Value {
-    /// An equal value.
-    pub fn copy(&self, alloc: Global) -> Result<Value, Memory>
+    /// An equal value, which shares its text. It takes no time for the characters.
+    pub fn copy(&self, _alloc: Global) -> Result<Value, Memory>
         ensures { IfOk result (λ made. made ≡ self.now) }
     {
         match self {
             Value::Null => Ok(Value::Null),
             Value::Int(number) => Ok(Value::Int(*number)),
-            Value::Text(text) => Ok(Value::Text(text.copy(alloc)?)),
+            Value::Text(text) => Ok(Value::Text(text.copy()?)),
             Value::Reference(id) => Ok(Value::Reference(*id)),
         }
     }

@@ -7,7 +7,7 @@ ghost use Rattle.script_generator.specs.inner.Names.{IsName};
 use crate::operators::{create_task, decompose_task, drop_prio, rename_author, split_task};
 use crate::parts::{column_is, name_of, table_of};
 use expr_lang::ExprText;
-use par_base::{List, Memory, Target, Text, Value};
+use par_base::{List, Memory, SharedText, Target, Value};
 use statements::{Assignment, Statement};
 use std::alloc::Global;
 
@@ -82,8 +82,8 @@ fn delete_tasks(alloc: Global) -> Result<Statement, Memory>
 fn rename_authors(alloc: Global) -> Result<Statement, Memory>
     ensures { IfOk result (λ statement. statement_view statement ≡ rename_authors) }
 {
-    let new_name = Value::Text(Text::from_str(alloc, "c")?);
-    let old_name = Value::Text(Text::from_str(alloc, "b0")?);
+    let new_name = Value::Text(SharedText::from_str(alloc, "c")?);
+    let old_name = Value::Text(SharedText::from_str(alloc, "b0")?);
     let mut assignments = List::new(alloc);
     assignments.push(Assignment {
         column: name_of(alloc, "name")?,

@@ -6,7 +6,7 @@ ghost use Rattle.script_generator.specs.Generated.{table_of, column_is, lettered
 ghost use Rattle.script_generator.specs.inner.Names.{IsName};
 
 use expr_lang::{BinaryOp, ExprText};
-use par_base::{Memory, Name, Text, Value, read_name};
+use par_base::{Memory, Name, SharedText, Text, Value, read_name};
 use statements::TableName;
 use std::alloc::Global;
 
@@ -38,7 +38,7 @@ pub fn lettered(alloc: Global, letter: &str, number: u64) -> Result<Value, Memor
     ensures { IfOk result (λ value. value ≡ lettered letter.now number) }
 {
     let text = format!(in alloc; "{letter}{number}")?;
-    Ok(Value::Text(Text::from_string(text)))
+    Ok(Value::Text(SharedText::from_text(alloc, Text::from_string(text))?))
 }
 
 /// The condition that a column has a value.

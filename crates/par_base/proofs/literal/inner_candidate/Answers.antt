@@ -8,7 +8,7 @@ use Rattle.par_base.proofs.literal.inner_candidate.Goals as goal
 pub returns-in-Ok : goal.returns-in-Ok
 returns-in-Ok c = λ text utf8 e.
     let made : c.in_ok-bytes.bytes.items ≡ text = c.in_ok-bytes.ensures ∙ ap (undoubled false) e ∙ undoubled-doubled text in
-    ap (λ (bytes : List ℕ). Some (Text bytes)) (c.from_string.ensures ∙ ap (λ (v : Vec ℕ Global). v.items) c.in-Ok.ensures.ok ∙ made)
+    ap (λ (bytes : List ℕ). Some (Text bytes)) (c.in_ok-shared-in-Ok.ensures ∙ c.from_string.ensures ∙ ap (λ (v : Vec ℕ Global). v.items) c.in-Ok.ensures.ok ∙ made)
 
 pub returns : goal.returns
 returns c = λ text utf8 e.
