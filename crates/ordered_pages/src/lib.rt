@@ -15,6 +15,7 @@ mod edit;
 mod entry;
 mod entry_items;
 mod find;
+mod hint;
 mod laws;
 mod page;
 mod pages;
