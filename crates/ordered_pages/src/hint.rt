@@ -81,7 +81,8 @@ fn found_from<'a, E: Entry, P: Probe<E>>(
     ensures { option_map (λ entry. entry.now) result
         ≡ entry_of E.order (all_entries pages.now) (P.key probe.now) }
 {
-    let entry = &pages[page].as_slice()[place];
+    let entries = pages[page].as_slice();
+    let entry = &entries[place];
     match probe.compare(entry) {
         Ordering::Less => None,
         Ordering::Equal => {
@@ -108,13 +109,16 @@ fn found_behind<'a, E: Entry, P: Probe<E>>(
     ensures { option_map (λ entry. entry.now) result
         ≡ entry_of E.order (all_entries pages.now) (P.key probe.now) }
 {
-    if place + 1 < pages[page].len() {
-        found_from(pages, probe, hint, page, place + 1)
-    } else if page + 1 < pages.len() {
-        found_from(pages, probe, hint, page + 1, 0)
-    } else {
-        None
+    let entries = pages[page].len();
+    let next = place + 1;
+    if next < entries {
+        return found_from(pages, probe, hint, page, next);
     }
+    let behind = page + 1;
+    if behind < pages.len() {
+        return found_from(pages, probe, hint, behind, 0);
+    }
+    None
 }
 
 /// The entry of a key that is looked up where there is a place.
@@ -131,7 +135,8 @@ fn found_near<'a, E: Entry, P: Probe<E>>(
     ensures { option_map (λ entry. entry.now) result
         ≡ entry_of E.order (all_entries pages.now) (P.key probe.now) }
 {
-    let entry = &pages[page].as_slice()[place];
+    let entries = pages[page].as_slice();
+    let entry = &entries[place];
     match probe.compare(entry) {
         Ordering::Equal => Some(entry),
         Ordering::Greater => found_behind(pages, probe, hint, page, place),
@@ -157,8 +162,11 @@ pub(crate) fn found<'a, E: Entry, P: Probe<E>>(
 {
     let page = hint.page.get();
     let place = hint.place.get();
-    if page < pages.len() && place < pages[page].len() {
-        return found_near(pages, probe, hint, page, place);
+    if page < pages.len() {
+        let entries = pages[page].len();
+        if place < entries {
+            return found_near(pages, probe, hint, page, place);
+        }
     }
     found_anywhere(pages, probe, hint)
 }
