@@ -1,4 +1,4 @@
-use Rattle.std.proofs.Common.{◌≡◌, ◌+◌, ◌≤◌, ◌∙◌, [], suc, length, get_or, refl, ap, sym, subst, arith}
+use Rattle.std.proofs.Common.{◌≡◌, ◌+◌, ◌≤◌, ◌∙◌, [], suc, length, get_or, refl, ap, subst, arith}
 use Rattle.ordered_pages.specs.Entries.{AreBefore}
 use Rattle.ordered_pages.specs.inner.Pages.{all_entries}
 use Rattle.ordered_pages.proofs.PlaceLemmas.{read_page, next_page, last_page, first_place, not_behind}
