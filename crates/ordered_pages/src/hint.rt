@@ -141,6 +141,7 @@ fn found_near<'a, E: Entry, P: Probe<E>>(
         Ordering::Equal => Some(entry),
         Ordering::Greater => found_behind(pages, probe, hint, page, place),
         Ordering::Less => {
+            // No entry comes before the first of all.
             if page == 0 && place == 0 {
                 return None;
             }
