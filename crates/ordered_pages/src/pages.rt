@@ -86,7 +86,8 @@ impl<E: Entry> Pages<E> {
     /// The entry of a key. It takes no memory.
     ///
     /// It takes constant time where the key is the one that was looked up last, that of the next
-    /// entry, or one between them. Else it takes two binary searches.
+    /// entry, or one between them, and no entry was put or taken since. Else it takes two binary
+    /// searches.
     pub fn get<P: Probe<E>>(&self, probe: &P) -> Option<&E>
         ensures { option_map (λ entry. entry.now) result
             ≡ entry_of E.order self.now.entries (P.key probe.now) }

@@ -60,7 +60,8 @@ impl Table {
     /// The row of an identifier. It takes no memory.
     ///
     /// It takes constant time where the identifier is the one that was looked up last, that of the
-    /// next row, or one between them. Else it takes two binary searches.
+    /// next row, or one between them, and the rows are the same since. Else it takes two binary
+    /// searches.
     pub fn get(&self, id: u64) -> Option<&Row>
         ensures value { option_map (λ row. row.now) result ≡ row_of self.now.rows id }
         ensures rise { RiseFrom 0 self.now.rows }
