@@ -121,7 +121,7 @@ fn found_behind<'a, E: Entry, P: Probe<E>>(
     None
 }
 
-/// The entry of a key that is looked up where there is a place.
+/// The entry of the key, looked for at this place and the next one before anywhere else.
 fn found_near<'a, E: Entry, P: Probe<E>>(
     pages: &'a [Page<E>],
     probe: &P,
@@ -150,7 +150,7 @@ fn found_near<'a, E: Entry, P: Probe<E>>(
     }
 }
 
-/// The entry of the key, looked for where the hint is before anywhere else.
+/// The entry of the key, looked for where the last look-up ended before anywhere else.
 pub(crate) fn found<'a, E: Entry, P: Probe<E>>(
     pages: &'a [Page<E>],
     probe: &P,
