@@ -4,3 +4,4 @@ mod EntryItemLemmas
 mod FindLemmas
 pub mod OrderLaws
 mod PagesLemmas
+mod PlaceLemmas

@@ -10,13 +10,13 @@ ghost use Rattle.ordered_pages.specs.LookUps.{WithinDigits};
 
 use crate::edit::{push_entry, put_entry, take_entry};
 use crate::find::find_in;
+use crate::hint::{Hint, found};
 use crate::page::{HALF, Page, copied_page};
-use crate::place::{behind, found};
+use crate::place::behind;
 use crate::{CopyEntry, Entry, EntryItems, Probe};
 use expr_lang::Steps;
 use par_base::{Memory, add_counts};
 use std::alloc::Global;
-use std::cell::Cell;
 use std::marker::Model;
 use std::sync::ledger::Ledger;
 
@@ -26,8 +26,7 @@ pub struct Pages<E: Entry> {
     pages: Vec<Page<E>>,
     spare: Vec<Page<E>>,
     count: usize,
-    // The page in which an entry was found last. Wherever that is, the answers are the same.
-    hint: Cell<usize>,
+    hint: Hint,
 }
 
 impl<E: Entry> Model for Pages<E> {
@@ -60,7 +59,7 @@ impl<E: Entry> Pages<E> {
             pages: Vec::new(alloc),
             spare: Vec::new(alloc),
             count: 0,
-            hint: Cell::new(0),
+            hint: Hint::new(),
         }
     }
 
@@ -84,7 +83,11 @@ impl<E: Entry> Pages<E> {
         let _ = &self.pages;
     }
 
-    /// The entry of a key, found by two binary searches. It takes no memory.
+    /// The entry of a key. It takes no memory.
+    ///
+    /// It takes constant time where the key is the one that was looked up last, that of the next
+    /// entry, or one between them, and no entry was put or taken since. Else it takes two binary
+    /// searches.
     pub fn get<P: Probe<E>>(&self, probe: &P) -> Option<&E>
         ensures { option_map (λ entry. entry.now) result
             ≡ entry_of E.order self.now.entries (P.key probe.now) }
@@ -195,7 +198,7 @@ impl<E: CopyEntry> Pages<E> {
             pages,
             spare,
             count: self.count,
-            hint: Cell::new(0),
+            hint: Hint::new(),
         })
     }
 }

@@ -1,13 +1,11 @@
 //! Where a key stands among entries that rise, and in which page.
 ghost use Rattle.std.specs.Prelude.{◌≡◌, ◌<◌, suc, length, take, drop, MatchResult, IsTrue};
-ghost use Rattle.std.specs.Option.{option_map};
-ghost use Rattle.ordered_pages.specs.Entries.{Rise, AreBefore, AreBehind, entry_of, entries_from};
+ghost use Rattle.ordered_pages.specs.Entries.{Rise, AreBefore, AreBehind, entries_from};
 ghost use Rattle.ordered_pages.specs.inner.Places.{StandsAt, IsGap};
 ghost use Rattle.ordered_pages.specs.inner.Pages.{all_entries, AreSized, IsPageOf};
 
 use crate::page::Page;
 use crate::{Entry, EntryItems, Probe};
-use std::cell::Cell;
 use std::cmp::Ordering;
 
 /// The place of the key's entry, or the place at which one would stand.
@@ -27,18 +25,6 @@ pub(crate) fn place_of<E: Entry, P: Probe<E>>(entries: &[E], probe: &P) -> Resul
         }
     }
     Err(low)
-}
-
-/// The entry of the key.
-fn entry_in<'a, E: Entry, P: Probe<E>>(entries: &'a [E], probe: &P) -> Option<&'a E>
-    requires { Rise E.order entries.now }
-    ensures { option_map (λ entry. entry.now) result
-        ≡ entry_of E.order entries.now (P.key probe.now) }
-{
-    match place_of(entries, probe) {
-        Ok(at) => Some(&entries[at]),
-        Err(_) => None,
-    }
 }
 
 /// The entries that don't come before the key.
@@ -134,26 +120,6 @@ pub(crate) fn page_near<E: Entry, P: Probe<E>>(pages: &[Page<E>], probe: &P, fir
         }
     }
     page_of(pages, probe)
-}
-
-/// The entry of the key, in whatever page.
-pub(crate) fn found<'a, E: Entry, P: Probe<E>>(
-    pages: &'a [Page<E>],
-    probe: &P,
-    hint: &Cell<usize>,
-) -> Option<&'a E>
-    requires rise { Rise E.order (all_entries pages.now) }
-    requires sized { AreSized pages.now }
-    ensures { option_map (λ entry. entry.now) result
-        ≡ entry_of E.order (all_entries pages.now) (P.key probe.now) }
-{
-    if pages.is_empty() {
-        return None;
-    }
-    let at = page_near(pages, probe, hint.get());
-    hint.set(at);
-    let page = &pages[at];
-    entry_in(page.as_slice(), probe)
 }
 
 /// The entries that don't come before the key, in all pages.

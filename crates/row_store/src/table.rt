@@ -57,7 +57,11 @@ impl Table {
         self.pages.len()
     }
 
-    /// The row of an identifier, found by two binary searches. It takes no memory.
+    /// The row of an identifier. It takes no memory.
+    ///
+    /// It takes constant time where the identifier is the one that was looked up last, that of the
+    /// next row, or one between them, and the rows are the same since. Else it takes two binary
+    /// searches.
     pub fn get(&self, id: u64) -> Option<&Row>
         ensures value { option_map (λ row. row.now) result ≡ row_of self.now.rows id }
         ensures rise { RiseFrom 0 self.now.rows }
