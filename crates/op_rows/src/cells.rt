@@ -12,8 +12,7 @@ use par_base::{List, Memory, Row};
 use row_store::Table;
 use std::alloc::Global;
 use std::marker::Model;
-use std::mem;
-use std::slice;
+use std::{mem, slice};
 
 /// Where the cells stand.
 #[derive(Drop)]
@@ -138,11 +137,7 @@ fn take_last(held: &mut Held) -> Option<Option<Row>>
     }
 }
 
-fn three_cells(
-    alloc: Global,
-    cells: [Option<Row>; 2],
-    third: Option<Row>,
-) -> Result<Cells, Memory>
+fn three_cells(alloc: Global, cells: [Option<Row>; 2], third: Option<Row>) -> Result<Cells, Memory>
     ensures { IfOk result (λ made. made ≡ cells ++ third ∷ []) }
 {
     let (first, second) = cells.into();
