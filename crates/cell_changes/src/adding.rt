@@ -2,11 +2,11 @@
 ghost use Rattle.std.specs.Prelude.{◌≡◌, ◌↔◌, IfOk, IsTrue, OnOk};
 ghost use Rattle.std.specs.Option.{option_copied};
 ghost use Rattle.row_store.specs.Changes.{IsAbove};
-ghost use Rattle.op_rows.specs.Cells.{nth_cell};
 ghost use Rattle.cell_changes.specs.Growing.{no_changes as no_changes_lem, AddsCell, AddsCells, AllAbove};
 
 use op_law::copied;
-use par_base::{List, Memory, Row, is_same_values};
+use op_rows::{CellsAt, row_at};
+use par_base::{Memory, Row, is_same_values};
 use row_store::{Change, Changes};
 use std::alloc::Global;
 
@@ -29,16 +29,6 @@ fn is_same_cell(some: Option<&Row>, other: Option<&Row>) -> bool
         (Some(some), Some(other)) => is_same_values(some.as_slice(), other.as_slice()),
         (None, None) => true,
         _ => false,
-    }
-}
-
-// The cell at a place, from 0 on; past the last one there is nothing.
-fn cell_at(cells: &[Option<Row>], at: usize) -> Option<&Row>
-    ensures { option_copied result ≡ nth_cell at cells.now }
-{
-    match cells.get(at) {
-        Some(Some(row)) => Some(row),
-        _ => None,
     }
 }
 
@@ -69,8 +59,8 @@ pub(crate) fn add_changes(
     alloc: Global,
     tables: &mut [Changes],
     id: u64,
-    old: &[Option<Row>],
-    new: &[Option<Row>],
+    old: &CellsAt<'_>,
+    new: &CellsAt<'_>,
 ) -> Result<(), Memory>
     requires { AllAbove tables.old id }
     ensures { OnOk result (AddsCells id old.now new.now tables.old tables.new) }
@@ -80,8 +70,8 @@ pub(crate) fn add_changes(
             alloc,
             &mut tables[which],
             id,
-            cell_at(old, which),
-            cell_at(new, which),
+            row_at(old, which),
+            row_at(new, which),
         )?;
     }
     Ok(())

@@ -15,7 +15,7 @@ ghost use Rattle.cell_changes.specs.Growing.{PicksCells};
 
 use crate::adding::{add_changes, no_changes};
 use crate::mapping::near_side;
-use crate::reading::{cells_after, cells_of};
+use crate::reading::cells_after;
 use expr_lang::Steps;
 use op_law::Aux;
 use op_rows::{Cells, CellsAt, RowOperator};
@@ -96,8 +96,9 @@ fn keep_all<R: RowOperator, V: PairRead, L: Ledger>(
     let mut tables = no_changes(alloc, aux.len())?;
     for id in ids {
         let new = keep_at(alloc, operator, backward, changes, old, *id, steps)?;
-        let before = cells_of(alloc, aux, *id)?;
-        add_changes(alloc, &mut tables, *id, before.as_slice(), new.as_slice())?;
+        let before = CellsAt::stored(aux, *id);
+        let now = CellsAt::made(&new);
+        add_changes(alloc, &mut tables, *id, &before, &now)?;
     }
     Ok(tables)
 }

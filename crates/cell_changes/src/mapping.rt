@@ -93,13 +93,9 @@ fn map_all<R: RowOperator, V: PairRead, L: Ledger>(
     let mut tables = no_changes(alloc, old.tables(!backward))?;
     for id in ids {
         let far = map_at(alloc, operator, backward, near, old, *id, steps)?;
-        add_changes(
-            alloc,
-            &mut tables,
-            *id,
-            far.old.as_slice(),
-            far.new.as_slice(),
-        )?;
+        let before = CellsAt::made(&far.old);
+        let now = CellsAt::made(&far.new);
+        add_changes(alloc, &mut tables, *id, &before, &now)?;
     }
     Ok(tables)
 }

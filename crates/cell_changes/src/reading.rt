@@ -1,31 +1,20 @@
-//! What stands at one identifier: in a side of an old pair, before and after changes, and in tables.
+//! What stands at one identifier in a side of an old pair, before and after changes.
 ghost use Rattle.std.specs.Prelude.{◌≡◌, slice_get, IfOk};
 ghost use Rattle.std.specs.Option.{option_copied};
 ghost use Rattle.row_store.specs.Rows.{row_of};
 ghost use Rattle.row_store.specs.Changes.{after, ChangesRise};
-ghost use Rattle.op_law.specs.Tables.{contents, AllRise};
+ghost use Rattle.op_law.specs.Tables.{AllRise};
 ghost use Rattle.op_rows.specs.Cells.{cells_at};
 ghost use Rattle.row_changes.specs.Changed.{changed_tables, AreChangesOf};
 ghost use Rattle.operator_changes.specs.Pairs.{side_at, table_at};
 ghost use Rattle.cell_changes.specs.Places.{change_of, IsPlaceOf};
 
-use op_law::{copied, copy_of};
+use op_law::copied;
 use op_rows::Cells;
 use operator_changes::PairRead;
-use par_base::{List, Memory, Row};
-use row_store::{Change, Changes, Table};
+use par_base::{Memory, Row};
+use row_store::{Change, Changes};
 use std::alloc::Global;
-
-/// What each of the tables has at the identifier. A table takes a binary search.
-pub(crate) fn cells_of(alloc: Global, tables: &[Table], id: u64) -> Result<Cells, Memory>
-    ensures { IfOk result (λ cells. cells ≡ cells_at (contents tables.now) id) }
-{
-    let mut cells = List::new(alloc);
-    for table in tables {
-        cells.push(copy_of(alloc, table, id)?)?;
-    }
-    Ok(cells)
-}
 
 /// What each table of a side of the old pair has at the identifier.
 pub(crate) fn cells_before<V: PairRead>(
@@ -38,9 +27,9 @@ pub(crate) fn cells_before<V: PairRead>(
     ensures same { V.pair old.new ≡ V.pair old.old }
 {
     let count = old.tables(target);
-    let mut cells = List::new(alloc);
+    let mut cells = Cells::none();
     for which in 0..count {
-        cells.push(old.row(alloc, target, which, id)?)?;
+        cells = cells.with(alloc, old.row(alloc, target, which, id)?)?;
     }
     Ok(cells)
 }
@@ -105,9 +94,10 @@ pub(crate) fn cells_after<V: PairRead>(
         ≡ cells_at (changed_tables (side_at target (V.pair old.old)) changes.now) id) }
     ensures same { V.pair old.new ≡ V.pair old.old }
 {
-    let mut cells = List::new(alloc);
+    let mut cells = Cells::none();
     for which in 0..changes.len() {
-        cells.push(cell_after(alloc, old, target, which, &changes[which], id)?)?;
+        let cell = cell_after(alloc, old, target, which, &changes[which], id)?;
+        cells = cells.with(alloc, cell)?;
     }
     Ok(cells)
 }

@@ -8,7 +8,7 @@ ghost use Rattle.op_column.specs.inner.AddColumnLaws.{add_column_laws};
 use crate::column::{alone, is_kept_beside, with_kept, with_new, without};
 use expr_lang::{Expr, Steps};
 use op_rows::{Cells, CellsAt, NearSide, OldRows, RowOperator, copy_cells};
-use par_base::{List, Memory};
+use par_base::Memory;
 use std::alloc::Global;
 use std::sync::ledger::Ledger;
 
@@ -59,7 +59,7 @@ impl RowOperator for AddColumn {
     ) -> Result<Cells, Memory> {
         match side {
             NearSide::Source => alone(alloc, self.place, far),
-            NearSide::Target => Ok(List::new(alloc)),
+            NearSide::Target => Ok(Cells::none()),
         }
     }
 

@@ -11,8 +11,8 @@ use crate::column::without;
 use crate::rows::first_row;
 use crate::tracked::{deviating, last_place, with_tracked};
 use expr_lang::{Expr, Steps};
-use op_rows::{Cells, CellsAt, NearSide, OldRows, RowOperator, copy_cells, one_cell};
-use par_base::{List, Memory};
+use op_rows::{Cells, CellsAt, NearSide, OldRows, RowOperator, copy_cells};
+use par_base::Memory;
 use row_parts::is_same_cells;
 use std::alloc::Global;
 use std::sync::ledger::Ledger;
@@ -62,7 +62,7 @@ impl RowOperator for AddTracked {
     ) -> Result<Cells, Memory> {
         match side {
             NearSide::Source => self.kept_beside(alloc, near, far, steps),
-            NearSide::Target => Ok(List::new(alloc)),
+            NearSide::Target => Ok(Cells::none()),
         }
     }
 
@@ -131,7 +131,7 @@ impl AddTracked {
         ensures steps { steps.new ≤ steps.old + 1 }
     {
         let kept = deviating(alloc, &self.value, near, far, steps)?;
-        Ok(one_cell(alloc, kept)?)
+        Ok(Cells::one(kept))
     }
 
     /// The target that is read back, where just these values are kept beside its source.

@@ -9,7 +9,7 @@ ghost use Rattle.op_column.specs.inner.Calls.{HasPlace, MayAdd, TakesPlace, is_b
 
 use crate::rows::{first_row, one_value};
 use expr_lang::{Expr, Steps, eval};
-use op_rows::{Cells, CellsAt, one_cell};
+use op_rows::{Cells, CellsAt};
 use par_base::{Memory, Row, Value};
 use row_parts::{value_at, with_value, without_value};
 use std::alloc::Global;
@@ -53,9 +53,9 @@ pub(crate) fn with_new<L: Ledger>(
         Some(row) => {
             let value = new_value(alloc, place, value, row, first_row(old), steps)?;
             let made = with_value(row.copy(alloc)?, place, value)?;
-            Ok(one_cell(alloc, Some(made))?)
+            Ok(Cells::one(Some(made)))
         }
-        None => Ok(one_cell(alloc, None)?),
+        None => Ok(Cells::one(None)),
     }
 }
 
@@ -84,9 +84,9 @@ pub(crate) fn with_kept(
         Some(row) => {
             let value = kept_value(alloc, first_row(aux))?;
             let made = with_value(row.copy(alloc)?, place, value)?;
-            Ok(one_cell(alloc, Some(made))?)
+            Ok(Cells::one(Some(made)))
         }
-        None => Ok(one_cell(alloc, None)?),
+        None => Ok(Cells::one(None)),
     }
 }
 
@@ -98,9 +98,9 @@ pub(crate) fn without(alloc: Global, place: usize, target: &CellsAt<'_>) -> Resu
     match first_row(target) {
         Some(row) => {
             let made = without_value(alloc, row, place)?;
-            Ok(one_cell(alloc, Some(made))?)
+            Ok(Cells::one(Some(made)))
         }
-        None => Ok(one_cell(alloc, None)?),
+        None => Ok(Cells::one(None)),
     }
 }
 
@@ -111,9 +111,9 @@ pub(crate) fn alone(alloc: Global, place: usize, target: &CellsAt<'_>) -> Result
     match first_row(target) {
         Some(row) => {
             let value = value_at(alloc, row, place)?;
-            Ok(one_cell(alloc, Some(one_value(alloc, value)?))?)
+            Ok(Cells::one(Some(one_value(alloc, value)?)))
         }
-        None => Ok(one_cell(alloc, None)?),
+        None => Ok(Cells::one(None)),
     }
 }
 

@@ -2,8 +2,8 @@
 ghost use Rattle.op_column.specs.CreateTable.{create_table, create_table_laws};
 
 use expr_lang::Steps;
-use op_rows::{Cells, CellsAt, NearSide, OldRows, RowOperator, copy_cells, one_cell};
-use par_base::{List, Memory};
+use op_rows::{Cells, CellsAt, NearSide, OldRows, RowOperator, copy_cells};
+use par_base::Memory;
 use std::alloc::Global;
 use std::sync::ledger::Ledger;
 
@@ -35,38 +35,38 @@ impl RowOperator for CreateTable {
     ) -> Result<Cells, Memory> {
         match side {
             NearSide::Source => copy_cells(alloc, old.far),
-            NearSide::Target => Ok(List::new(alloc)),
+            NearSide::Target => Ok(Cells::none()),
         }
     }
 
     fn aux_row<L: Ledger>(
         &self,
-        alloc: Global,
+        _alloc: Global,
         _side: NearSide,
         _near: &CellsAt<'_>,
         _far: &CellsAt<'_>,
         _steps: &mut Steps<L>,
     ) -> Result<Cells, Memory> {
-        Ok(List::new(alloc))
+        Ok(Cells::none())
     }
 
     fn read_row<L: Ledger>(
         &self,
-        alloc: Global,
+        _alloc: Global,
         side: NearSide,
         _near: &CellsAt<'_>,
         _aux: &CellsAt<'_>,
         _steps: &mut Steps<L>,
     ) -> Result<Cells, Memory> {
         match side {
-            NearSide::Source => one_cell(alloc, None),
-            NearSide::Target => Ok(List::new(alloc)),
+            NearSide::Source => Ok(Cells::one(None)),
+            NearSide::Target => Ok(Cells::none()),
         }
     }
 
     fn admit_row<L: Ledger>(
         &self,
-        alloc: Global,
+        _alloc: Global,
         side: NearSide,
         _near: &CellsAt<'_>,
         aux: &CellsAt<'_>,
@@ -76,8 +76,8 @@ impl RowOperator for CreateTable {
             return Ok(None);
         }
         match side {
-            NearSide::Source => Ok(Some(one_cell(alloc, None)?)),
-            NearSide::Target => Ok(Some(List::new(alloc))),
+            NearSide::Source => Ok(Some(Cells::one(None))),
+            NearSide::Target => Ok(Some(Cells::none())),
         }
     }
 

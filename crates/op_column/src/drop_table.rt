@@ -7,7 +7,7 @@ ghost use Rattle.op_column.specs.inner.Calls.{is_one_cell};
 
 use expr_lang::Steps;
 use op_rows::{Cells, CellsAt, NearSide, OldRows, RowOperator, copy_cells};
-use par_base::{List, Memory};
+use par_base::Memory;
 use std::alloc::Global;
 use std::sync::ledger::Ledger;
 
@@ -44,7 +44,7 @@ impl RowOperator for DropTable {
         _steps: &mut Steps<L>,
     ) -> Result<Cells, Memory> {
         match side {
-            NearSide::Source => Ok(List::new(alloc)),
+            NearSide::Source => Ok(Cells::none()),
             NearSide::Target => copy_cells(alloc, old.far),
         }
     }
@@ -58,7 +58,7 @@ impl RowOperator for DropTable {
         _steps: &mut Steps<L>,
     ) -> Result<Cells, Memory> {
         match side {
-            NearSide::Source => Ok(List::new(alloc)),
+            NearSide::Source => Ok(Cells::none()),
             NearSide::Target => copy_cells(alloc, far),
         }
     }
@@ -72,7 +72,7 @@ impl RowOperator for DropTable {
         _steps: &mut Steps<L>,
     ) -> Result<Cells, Memory> {
         match side {
-            NearSide::Source => Ok(List::new(alloc)),
+            NearSide::Source => Ok(Cells::none()),
             NearSide::Target => copy_cells(alloc, aux),
         }
     }
@@ -87,7 +87,7 @@ impl RowOperator for DropTable {
     ) -> Result<Option<Cells>, Memory> {
         match side {
             NearSide::Source if aux.len() != 0 => Ok(None),
-            NearSide::Source => Ok(Some(List::new(alloc))),
+            NearSide::Source => Ok(Some(Cells::none())),
             NearSide::Target => self.admit_source(alloc, near, aux),
         }
     }

@@ -3,7 +3,7 @@ ghost use Rattle.op_column.specs.Rename.{rename, rename_laws};
 
 use expr_lang::Steps;
 use op_rows::{Cells, CellsAt, NearSide, OldRows, RowOperator, copy_cells};
-use par_base::{List, Memory};
+use par_base::Memory;
 use std::alloc::Global;
 use std::sync::ledger::Ledger;
 
@@ -35,13 +35,13 @@ impl RowOperator for Rename {
 
     fn aux_row<L: Ledger>(
         &self,
-        alloc: Global,
+        _alloc: Global,
         _side: NearSide,
         _near: &CellsAt<'_>,
         _far: &CellsAt<'_>,
         _steps: &mut Steps<L>,
     ) -> Result<Cells, Memory> {
-        Ok(List::new(alloc))
+        Ok(Cells::none())
     }
 
     fn read_row<L: Ledger>(

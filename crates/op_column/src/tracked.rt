@@ -11,7 +11,7 @@ ghost use Rattle.op_column.specs.inner.Calls.{MayFollow};
 use crate::column::new_value;
 use crate::rows::{first_row, one_value};
 use expr_lang::{Expr, Steps, eval};
-use op_rows::{Cells, CellsAt, one_cell};
+use op_rows::{Cells, CellsAt};
 use par_base::{Memory, Row, Value, is_same_values};
 use row_parts::{value_at, with_value};
 use std::alloc::Global;
@@ -105,8 +105,8 @@ pub(crate) fn with_tracked<L: Ledger>(
         Some(row) => {
             let value = new_value(alloc, 0, value, row, kept, steps)?;
             let made = with_value(row.copy(alloc)?, row.len(), value)?;
-            Ok(one_cell(alloc, Some(made))?)
+            Ok(Cells::one(Some(made)))
         }
-        None => Ok(one_cell(alloc, None)?),
+        None => Ok(Cells::one(None)),
     }
 }

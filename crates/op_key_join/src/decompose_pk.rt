@@ -7,9 +7,7 @@ ghost use Rattle.op_key_join.specs.inner.DecomposePkLaws.{decompose_pk_laws};
 use crate::parts::{joined_parts, may_be_of_neither, null_row, row_of_neither, shown_parts};
 use expr_lang::Steps;
 use op_law::copied;
-use op_rows::{
-    Cells, CellsAt, NearSide, OldRows, RowOperator, copy_cells, one_cell, row_at, two_cells,
-};
+use op_rows::{Cells, CellsAt, NearSide, OldRows, RowOperator, copy_cells, row_at};
 use par_base::{List, Memory};
 use row_parts::is_same_cells;
 use std::alloc::Global;
@@ -31,7 +29,7 @@ fn null_rows(alloc: Global, target: &CellsAt<'_>) -> Result<Cells, Memory>
 {
     let first = copied(alloc, null_row(row_at(target, 0)))?;
     let second = copied(alloc, null_row(row_at(target, 1)))?;
-    two_cells(alloc, first, second)
+    Ok(Cells::two(first, second))
 }
 
 /// The source's row where both targets lack the identifier.
@@ -39,7 +37,7 @@ fn rest(alloc: Global, source: &CellsAt<'_>, target: &CellsAt<'_>) -> Result<Cel
     ensures { IfOk result (λ aux. aux ≡ rows_of_neither source.now target.now) }
 {
     let kept = row_of_neither(row_at(source, 0), row_at(target, 0), row_at(target, 1));
-    one_cell(alloc, copied(alloc, kept)?)
+    Ok(Cells::one(copied(alloc, kept)?))
 }
 
 impl DecomposePk {

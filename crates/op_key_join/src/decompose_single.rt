@@ -36,7 +36,7 @@ impl DecomposeSingle {
     {
         let columns = self.columns.as_slice();
         match side {
-            NearSide::Source => Ok(List::new(alloc)),
+            NearSide::Source => Ok(Cells::none()),
             NearSide::Target => rest_of(alloc, columns, self.width, row_at(far, 0)),
         }
     }

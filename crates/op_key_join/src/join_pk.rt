@@ -7,8 +7,8 @@ ghost use Rattle.op_key_join.specs.inner.JoinPkLaws.{join_pk_laws};
 use crate::joins::{joined, may_stand_alone, row_alone, sources_of};
 use expr_lang::Steps;
 use op_law::copied;
-use op_rows::{Cells, CellsAt, NearSide, OldRows, RowOperator, copy_cells, row_at, two_cells};
-use par_base::{List, Memory};
+use op_rows::{Cells, CellsAt, NearSide, OldRows, RowOperator, copy_cells, row_at};
+use par_base::Memory;
 use row_parts::is_same_cells;
 use std::alloc::Global;
 use std::sync::ledger::Ledger;
@@ -30,7 +30,7 @@ fn rows_alone(alloc: Global, source: &CellsAt<'_>, target: &CellsAt<'_>) -> Resu
     let row = row_at(target, 0);
     let first = copied(alloc, row_alone(row, row_at(source, 0)))?;
     let second = copied(alloc, row_alone(row, row_at(source, 1)))?;
-    two_cells(alloc, first, second)
+    Ok(Cells::two(first, second))
 }
 
 impl JoinPk {
@@ -46,7 +46,7 @@ impl JoinPk {
             IfOk result (λ aux. aux ≡ seen.aux_at_source near.now far.now) }
     {
         match side {
-            NearSide::Source => Ok(List::new(alloc)),
+            NearSide::Source => Ok(Cells::none()),
             NearSide::Target => rows_alone(alloc, far, near),
         }
     }

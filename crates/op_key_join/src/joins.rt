@@ -6,7 +6,7 @@ ghost use Rattle.op_key_join.specs.inner.Calls.{MayStandAlone};
 
 use crate::cells::is_wide;
 use op_law::copied;
-use op_rows::{Cells, one_cell, two_cells};
+use op_rows::Cells;
 use par_base::{List, Memory, Row, Value};
 use row_parts::{has_row, row_if};
 use std::alloc::Global;
@@ -54,9 +54,9 @@ pub(crate) fn joined(
     match (first, second) {
         (Some(first), Some(second)) => {
             let made = with_values(alloc, first.to_list(alloc)?, second.as_slice())?;
-            Ok(one_cell(alloc, Some(made))?)
+            Ok(Cells::one(Some(made)))
         }
-        _ => Ok(one_cell(alloc, None)?),
+        _ => Ok(Cells::one(None)),
     }
 }
 
@@ -83,12 +83,12 @@ pub(crate) fn sources_of(
         Some(row) => {
             let first = front(alloc, count, row)?;
             let second = back(alloc, count, row)?;
-            Ok(two_cells(alloc, Some(first), Some(second))?)
+            Ok(Cells::two(Some(first), Some(second)))
         }
         None => {
             let first = copied(alloc, alone_first)?;
             let second = copied(alloc, alone_second)?;
-            Ok(two_cells(alloc, first, second)?)
+            Ok(Cells::two(first, second))
         }
     }
 }

@@ -6,7 +6,7 @@ ghost use Rattle.op_key_join.specs.inner.Calls.{MayBeOfNeither};
 
 use crate::null_rows::{has_null_row, is_null, row_or_nulls};
 use op_law::copied;
-use op_rows::{Cells, one_cell, two_cells};
+use op_rows::Cells;
 use par_base::{Memory, Row};
 use row_parts::{has_row, pick, row_if, row_of_both};
 use std::alloc::Global;
@@ -46,7 +46,7 @@ pub(crate) fn shown_parts(
 {
     let first = shown_part(alloc, first_places, source, has_row(null_first))?;
     let second = shown_part(alloc, second_places, source, has_row(null_second))?;
-    Ok(two_cells(alloc, first, second)?)
+    Ok(Cells::two(first, second))
 }
 
 /// A null row of a target.
@@ -113,11 +113,11 @@ pub(crate) fn joined_parts(
     match (first, second) {
         (None, None) => {
             let row = copied(alloc, neither)?;
-            Ok(one_cell(alloc, row)?)
+            Ok(Cells::one(row))
         }
         _ => {
             let row = row_of_parts(alloc, first_places, second_places, first, second)?;
-            Ok(one_cell(alloc, Some(row))?)
+            Ok(Cells::one(Some(row)))
         }
     }
 }

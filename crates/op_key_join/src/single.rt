@@ -5,7 +5,7 @@ ghost use Rattle.op_key_join.specs.DecomposeSingle.{part_of as the_part, rest_of
 
 use crate::null_rows::row_or_nulls;
 use crate::other_places::others;
-use op_rows::{Cells, one_cell};
+use op_rows::Cells;
 use par_base::{Memory, Row};
 use row_parts::{pick, row_of_both};
 use std::alloc::Global;
@@ -17,9 +17,9 @@ pub(crate) fn part_of(alloc: Global, columns: &[usize], cell: Option<&Row>) -> R
     match cell {
         Some(row) => {
             let part = pick(alloc, columns, row)?;
-            Ok(one_cell(alloc, Some(part))?)
+            Ok(Cells::one(Some(part)))
         }
-        None => Ok(one_cell(alloc, None)?),
+        None => Ok(Cells::one(None)),
     }
 }
 
@@ -37,9 +37,9 @@ pub(crate) fn rest_of(
         Some(row) => {
             let rest = others(alloc, columns, width)?;
             let part = pick(alloc, rest.as_slice(), row)?;
-            Ok(one_cell(alloc, Some(part))?)
+            Ok(Cells::one(Some(part)))
         }
-        None => Ok(one_cell(alloc, None)?),
+        None => Ok(Cells::one(None)),
     }
 }
 
@@ -60,8 +60,8 @@ pub(crate) fn with_rest(
             let rest = others(alloc, columns, width)?;
             let kept = row_or_nulls(alloc, rest.len(), kept)?;
             let made = row_of_both(alloc, columns, rest.as_slice(), row, &kept)?;
-            Ok(one_cell(alloc, Some(made))?)
+            Ok(Cells::one(Some(made)))
         }
-        None => Ok(one_cell(alloc, None)?),
+        None => Ok(Cells::one(None)),
     }
 }

@@ -117,3 +117,13 @@ pub merge_more : (ids all now : List ℕ) (before rows left : Rows) (row : ℕ �
 merge_more ids all now before rows left row from to step rise adds so_far =
     let rest : RiseFrom 0 (row ∷ left) = subst (λ (t : Rows). RiseFrom 0 t) step rise in
     so_far ∙ ap (λ (t : Rows). all ++ ids_in t (drop from ids)) step ∙ adds.1 left rest.1
+
+-- a row more of a table, beside no others
+pub listed_more : (all now : List ℕ) (before rows left : Rows) (row : ℕ × List Value) → before ≡ row ∷ left → RiseFrom 0 before → now ≡ all ++ row.0 ∷ [] → ids_in rows [] ≡ all ++ ids_in before [] → ids_in rows [] ≡ now ++ ids_in left []
+listed_more all now before rows left row step rise is so_far =
+    let rest : RiseFrom 0 (row ∷ left) = subst (λ (t : Rows). RiseFrom 0 t) step rise in
+    so_far
+    ∙ ap (λ (t : Rows). all ++ ids_in t []) step
+    ∙ ap (λ (ids : List ℕ). all ++ ids) (put_first row.0 [] left tt rest.1)
+    ∙ append_one all (ids_in left []) row.0
+    ∙ ap (λ (t : List ℕ). t ++ ids_in left []) (sym is)

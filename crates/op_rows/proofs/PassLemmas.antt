@@ -10,7 +10,7 @@ use Rattle.op_rows.specs.Cells.{Cells, cells_at, first_cell, other_cells, with_r
 use Rattle.op_rows.specs.inner.CellLemmas.{IdsRise, AllRise, has_id}
 use Rattle.op_rows.specs.RowMeaning.{RowMeaning}
 use Rattle.op_rows.specs.RowCalls.{AdmitsRows}
-use Rattle.op_rows.specs.inner.Passes.{AllBelow, without_rows, with_cells, read_at}
+use Rattle.op_rows.specs.inner.Passes.{AllBelow, PutsCell, without_rows, with_cells, read_at}
 
 append_none : (rows : Rows) → rows ++ [] ≡ rows
 append_none [] = refl
@@ -26,14 +26,14 @@ pub with_no_cells : (ts : Tables) (id : ℕ) → with_cells ts id [] ≡ ts
 with_no_cells [] id = refl
 with_no_cells (t ∷ ts) id = ap (λ (rows : Rows). rows ∷ with_cells ts id []) (append_none t) ∙ ap (λ (rest : Tables). t ∷ rest) (with_no_cells ts id)
 
--- cells that have no table change nothing
-pub with_first_cells : (tables : List TableState) (id : ℕ) (cells : Cells) → with_cells (contents tables) id (take (length tables) cells) ≡ with_cells (contents tables) id cells
-with_first_cells [] id cells = refl
-with_first_cells (t ∷ ts) id [] = refl
-with_first_cells (t ∷ ts) id (c ∷ cs) = ap (λ (rest : Tables). (t.rows ++ with_row id c []) ∷ rest) (with_first_cells ts id cs)
+-- a cell that has no table changes nothing
+with_extra_cell : (tables : List TableState) (id : ℕ) (cells : Cells) (cell : Option (List Value)) → length tables ≤ length cells → with_cells (contents tables) id cells ≡ with_cells (contents tables) id (cells ++ cell ∷ [])
+with_extra_cell [] id cells cell h = refl
+with_extra_cell (t ∷ ts) id [] cell h = absurd (omega arith)
+with_extra_cell (t ∷ ts) id (c ∷ cs) cell h = ap (λ (rest : Tables). (t.rows ++ with_row id c []) ∷ rest) (with_extra_cell ts id cs cell (omega arith))
 
 -- the last cell behind its table, and then the others behind theirs
-pub with_last_cell : (tables : List TableState) (id : ℕ) (cells : Cells) (cell : Option (List Value)) (t d : TableState) → length cells < length tables → t.rows ≡ (get_or tables (length cells) d).rows ++ with_row id cell [] → with_cells (contents (set tables (length cells) t)) id cells ≡ with_cells (contents tables) id (cells ++ cell ∷ [])
+with_last_cell : (tables : List TableState) (id : ℕ) (cells : Cells) (cell : Option (List Value)) (t d : TableState) → length cells < length tables → t.rows ≡ (get_or tables (length cells) d).rows ++ with_row id cell [] → with_cells (contents (set tables (length cells) t)) id cells ≡ with_cells (contents tables) id (cells ++ cell ∷ [])
 with_last_cell [] id cells cell t d h e = absurd (omega arith)
 with_last_cell (u ∷ us) id [] cell t d h e = ap (λ (rows : Rows). rows ∷ with_cells (contents us) id []) (append_none t.rows ∙ e)
 with_last_cell (u ∷ us) id (c ∷ cs) cell t d h e = ap (λ (rest : Tables). (u.rows ++ with_row id c []) ∷ rest) (with_last_cell us id cs cell t d (omega arith) e)
@@ -44,7 +44,7 @@ below_at (t ∷ ts) id zero d below h = below.0
 below_at (t ∷ ts) id (suc k) d below h = below_at ts id k d below.1 (omega arith)
 
 -- a table that is set leaves those before it
-pub set_before : (tables : List TableState) (n k : ℕ) (t d : TableState) → k < n → get_or (set tables n t) k d ≡ get_or tables k d
+set_before : (tables : List TableState) (n k : ℕ) (t d : TableState) → k < n → get_or (set tables n t) k d ≡ get_or tables k d
 set_before [] n k t d h = refl
 set_before (u ∷ us) zero k t d h = absurd (omega arith)
 set_before (u ∷ us) (suc n) zero t d h = refl
@@ -123,31 +123,27 @@ has_next (x ∷ xs) (suc i) d id P h before next has =
     ] in
     both before (rw e at has)
 
-pub take_within : (n : ℕ) (cells : Cells) → length (take n cells) ≤ n
-take_within zero [] = omega arith
-take_within zero (c ∷ cs) = omega arith
-take_within (suc n) [] = omega arith
-take_within (suc n) (c ∷ cs) = omega (arith, take_within n cs)
-
--- the last cell is moved behind its table
-pub last_moved : (tables : List TableState) (id : ℕ) (left rest : Cells) (cell : Option (List Value)) (n : ℕ) (t d : TableState) → left ≡ rest ++ cell ∷ [] → n ≡ length rest → n < length tables → t.rows ≡ (get_or tables n d).rows ++ with_row id cell [] → with_cells (contents (set tables n t)) id rest ≡ with_cells (contents tables) id left
-last_moved tables id left rest cell n t d split e h made =
-    let made_at = made ∙ ap (λ (k : ℕ). (get_or tables k d).rows ++ with_row id cell []) e in
-    ap (λ (k : ℕ). with_cells (contents (set tables k t)) id rest) e
-    ∙ with_last_cell tables id rest cell t d (omega (arith, e)) made_at
-    ∙ ap (λ (cells : Cells). with_cells (contents tables) id cells) (sym split)
-
-more_long : (rest : Cells) (cell : Option (List Value)) → length (rest ++ cell ∷ []) ≡ suc (length rest)
-more_long [] cell = refl
-more_long (c ∷ cs) cell = ap suc (more_long cs cell)
-
-pub one_shorter : (left rest : Cells) (cell : Option (List Value)) → left ≡ rest ++ cell ∷ [] → length left ≡ suc (length rest)
-one_shorter left rest cell split = ap length split ∙ more_long rest cell
-
-pub set_long : (tables : List TableState) (n : ℕ) (t : TableState) → length (set tables n t) ≡ length tables
+set_long : (tables : List TableState) (n : ℕ) (t : TableState) → length (set tables n t) ≡ length tables
 set_long [] n t = refl
 set_long (u ∷ us) zero t = refl
 set_long (u ∷ us) (suc n) t = ap suc (set_long us n t)
+
+-- a cell behind the table at its place
+pub puts_there : (tables : List TableState) (at id : ℕ) (cell : Option (List Value)) (t d : TableState) → at < length tables → t.rows ≡ (get_or tables at d).rows ++ with_row id cell [] → PutsCell tables at id cell (set tables at t)
+puts_there tables at id cell t d h made = record {
+  puts = λ cells e.
+      ap (λ (k : ℕ). with_cells (contents (set tables k t)) id cells) (sym e)
+      ∙ with_last_cell tables id cells cell t d (omega (arith, e)) (made ∙ ap (λ (k : ℕ). (get_or tables k d).rows ++ with_row id cell []) (sym e));
+  stays = λ k d h. set_before tables at k t d h;
+  many = set_long tables at t;
+}
+
+pub puts_nothing : (tables : List TableState) (at id : ℕ) (cell : Option (List Value)) → length tables ≤ at → PutsCell tables at id cell tables
+puts_nothing tables at id cell h = record {
+  puts = λ cells e. with_extra_cell tables id cells cell (omega (arith, e));
+  stays = λ k d h. refl;
+  many = refl;
+}
 
 -- a slice that was written takes the place of what it was taken from
 pub written_back : {A : Type 0} (n : ℕ) (new old : List A) → length new ≡ n → length old ≡ n → take n (new ++ drop (length new) old) ≡ new

@@ -1,4 +1,5 @@
 pub mod Cells
+pub mod Held
 pub mod Lent
 pub mod RowMeaning
 pub mod NearSides

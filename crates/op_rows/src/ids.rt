@@ -79,19 +79,46 @@ fn add_rest(all: &mut List<u64>, rest: &[u64]) -> Result<(), Memory>
     Ok(())
 }
 
+/// The identifiers of a table.
+fn ids_of(alloc: Global, table: &Table) -> Result<List<u64>, Memory>
+    ensures value { IfOk result (λ ids. ids ≡ ids_in table.now.rows []) }
+    ensures rise { IfOk result (λ _. RiseFrom 0 table.now.rows) }
+{
+    let mut ids = Vec::with_capacity(alloc, table.len())?;
+    for row in table.iter() {
+        ids.push_reserved(row.0);
+    }
+    Ok(List::from_vec(ids))
+}
+
 /// The identifiers of the list and of the rows. It takes time in the number of both.
 pub fn merge_ids(alloc: Global, ids: &[u64], table: &Table) -> Result<List<u64>, Memory>
     requires { IdsRise 0 ids.now }
     ensures value { IfOk result (λ all. all ≡ ids_in table.now.rows ids.now) }
     ensures rise { IfOk result (λ _. RiseFrom 0 table.now.rows) }
 {
-    let mut all = List::new(alloc);
+    if ids.is_empty() {
+        return ids_of(alloc, table);
+    }
+    let mut all = List::from_vec(Vec::with_capacity(alloc, ids.len().max(table.len()))?);
     let mut from = 0;
     for row in table.iter() {
         from = add_row(ids, &mut all, from, row.0)?;
     }
     add_rest(&mut all, &ids[from..])?;
     Ok(all)
+}
+
+/// The identifiers of the list and of one table more. A table without rows takes constant time.
+fn add_table(alloc: Global, ids: List<u64>, table: &Table) -> Result<List<u64>, Memory>
+    requires { IdsRise 0 ids }
+    ensures value { IfOk result (λ all. all ≡ ids_in table.now.rows ids) }
+    ensures rise { IfOk result (λ _. RiseFrom 0 table.now.rows) }
+{
+    if table.len() == 0 {
+        return Ok(ids);
+    }
+    merge_ids(alloc, ids.as_slice(), table)
 }
 
 /// The identifiers of the list and of the tables.
@@ -103,7 +130,7 @@ fn add_ids(alloc: Global, ids: List<u64>, tables: &[Table]) -> Result<List<u64>,
 {
     let mut all = ids;
     for table in tables {
-        all = merge_ids(alloc, all.as_slice(), table)?;
+        all = add_table(alloc, all, table)?;
     }
     Ok(all)
 }

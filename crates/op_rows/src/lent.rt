@@ -37,7 +37,7 @@ impl<'a> Model for CellsAt<'a> {
 
 impl<'a> CellsAt<'a> {
     /// What these tables have. It takes constant time.
-    pub(crate) fn stored(tables: &'a [Table], id: u64) -> CellsAt<'a>
+    pub fn stored(tables: &'a [Table], id: u64) -> CellsAt<'a>
         ensures { result ≡ cells_at (contents tables.now) id }
     {
         CellsAt {

@@ -18,11 +18,11 @@ mod row_operator;
 mod rowwise;
 mod tables;
 
-pub use cells::{one_cell, two_cells};
+pub use cells::Cells;
 pub use flip_row::FlipRow;
 pub use ids::merge_ids;
 pub use laws::{rowwise_is_local, rowwise_keeps_the_laws};
 pub use lent::{CellsAt, copy_cells, row_at};
 pub use near_side::NearSide;
-pub use row_operator::{Cells, OldRows, RowOperator};
+pub use row_operator::{OldRows, RowOperator};
 pub use rowwise::Rowwise;

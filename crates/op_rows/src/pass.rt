@@ -4,7 +4,7 @@ ghost use Rattle.row_store.specs.Rows.{AreBelow};
 ghost use Rattle.op_law.specs.Tables.{Tables, contents};
 ghost use Rattle.op_rows.specs.Cells.{Cells, cells_at, with_row, tables_from};
 ghost use Rattle.op_rows.specs.inner.CellLemmas.{IdsRise};
-ghost use Rattle.op_rows.specs.inner.Passes.{AllBelow, without_rows, with_cells, AdmitsAt, AdmitsEach};
+ghost use Rattle.op_rows.specs.inner.Passes.{AllBelow, IsBelowAt, PutsCell, without_rows, with_cells, AdmitsAt, AdmitsEach};
 ghost use Rattle.op_rows.specs.RowMeaning.{RowMeaning};
 ghost use Rattle.op_rows.specs.RowCalls.{NearRows};
 
@@ -70,6 +70,18 @@ fn push_cell(table: &mut Table, id: u64, cell: Option<Row>) -> Result<(), Memory
     }
 }
 
+/// Puts a cell of a greater identifier behind its table. A cell that has no table is let go.
+#[tactic(auto, using(crate::proofs::PassLemmas::puts_there))]
+fn push_at(tables: &mut [Table], at: usize, id: u64, cell: Option<Row>) -> Result<(), Memory>
+    requires { IsBelowAt tables.old at id }
+    ensures { OnOk result (PutsCell tables.old at id cell tables.new) }
+{
+    if at >= tables.len() {
+        return Ok(());
+    }
+    push_cell(&mut tables[at], id, cell)
+}
+
 /// Puts the cells of a greater identifier behind the tables, each behind its own. Cells that have
 /// no table are let go.
 fn push_cells(tables: &mut [Table], id: u64, cells: Cells) -> Result<(), Memory>
@@ -77,10 +89,9 @@ fn push_cells(tables: &mut [Table], id: u64, cells: Cells) -> Result<(), Memory>
     ensures { OnOk result (contents tables.new ≡ with_cells (contents tables.old) id cells) }
 {
     let mut left = cells;
-    left.truncate(tables.len());
     // The last cell comes first, since it can be moved out without a gap.
     while let Some(cell) = left.pop() {
-        push_cell(&mut tables[left.len()], id, cell)?;
+        push_at(tables, left.len(), id, cell)?;
     }
     Ok(())
 }

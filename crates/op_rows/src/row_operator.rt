@@ -4,14 +4,11 @@ ghost use Rattle.op_rows.specs.NearSides.{seen_from};
 ghost use Rattle.op_rows.specs.RowMeaning.{RowMeaning, RowLaws};
 ghost use Rattle.op_rows.specs.RowCalls.{SomeRows, MayRows, StoredRows, NearRows, AdmitsRows};
 
-use crate::{CellsAt, NearSide};
+use crate::{Cells, CellsAt, NearSide};
 use expr_lang::Steps;
-use par_base::{List, Memory, Row};
+use par_base::Memory;
 use std::alloc::Global;
 use std::sync::ledger::Ledger;
-
-/// What each table of a side has at one identifier: a row, or none.
-pub type Cells = List<Option<Row>>;
 
 /// The rows of both sides before a change, at one identifier.
 #[derive(Clone, Copy)]

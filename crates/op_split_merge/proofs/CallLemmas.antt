@@ -1,11 +1,13 @@
 -- What the calls of SPLIT suppose, and which rows it admits.
-use Rattle.std.proofs.Common.{◌≡◌, ℕ, List, true, Option, Some, None, refl, sym, ◌∙◌, ap, subst}
+use Rattle.std.proofs.Common.{◌≡◌, ℕ, List, Bool, true, not, ◌&&◌, ◌||◌, if◌then◌else◌, Option, Some, None, refl, sym, ◌∙◌, ap, subst}
+use Rattle.par_base.specs.declared.value.Value.{Value}
 use Rattle.expr_lang.specs.Terms.{Term}
 use Rattle.op_law.specs.Tables.{Heading, widths}
 use Rattle.op_rows.specs.Cells.{Cells, nth_cell, CellWide, AreCellsOf}
 use Rattle.op_rows.specs.RowMeaning.{flip_row}
 use Rattle.op_rows.specs.RowCalls.{NearRows, SomeRows, MayRows, StoredRows, AdmitsRows}
-use Rattle.row_parts.specs.RowCells.{Cell}
+use Rattle.row_parts.specs.RowCells.{Cell, kept_if}
+use Rattle.op_split_merge.specs.Twins.{Test, meets, wants, are_separated, first_to, second_to}
 use Rattle.op_split_merge.specs.Sides.{targets_of, source_wide, target_wide}
 use Rattle.op_split_merge.specs.Split.{reads_within, SplitFits, split_read_target, split_read_source, split}
 use Rattle.op_split_merge.specs.inner.SplitLaws.{source_of, target_of, split_laws}
@@ -124,3 +126,11 @@ module _ (width : ℕ) (first : Term ℕ) (second : Option (Term ℕ)) where
       let is : far ≡ other = made ∙ read in
       none (subst (λ (cs : Cells). SourceBelongs width first second near aux cs) (sym is)
       (record { wide = cells.wide; related = belongs.pair.related; aux_is = belongs.aux_is }))
+
+-- the targets' new rows, from what is found of a new row of the source and the targets' old rows
+pub targets_made : (condition : Option (Term ℕ)) (p q : Test) (new r s : Cell) (row : List Value) (meets_first meets_second wants_first wants_second goes_first goes_second : Bool) (new_first new_own new_second : Cell) (made : Cells)
+    → new ≡ Some row → meets_first ≡ meets p new → meets_second ≡ meets q new → wants_first ≡ wants p r s meets_first → wants_second ≡ wants q s r meets_second
+    → goes_first ≡ (wants_first || (meets_first && not wants_second)) → goes_second ≡ (wants_second || (meets_second && not wants_first))
+    → new_first ≡ kept_if goes_first new → new_own ≡ kept_if goes_second new → new_second ≡ (if are_separated r s && goes_first then s else new_own)
+    → made ≡ targets_of condition new_first new_second → made ≡ targets_of condition (first_to p q new r s) (second_to p q new r s)
+targets_made condition p q new r s row meets_p meets_q wants_p wants_q goes_p goes_q shown_p own shown_q made is e_mf e_ms e_wf e_ws e_gf e_gs e_nf e_no e_ns e = rw (e, e_ns, e_no, e_nf, e_gs, e_gf, e_ws, e_wf, e_ms, e_mf, is) refl

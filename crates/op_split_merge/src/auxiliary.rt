@@ -13,7 +13,7 @@ use crate::cells::noted;
 use crate::twins::{fails, is_separated, meets};
 use expr_lang::{Expr, Steps};
 use op_law::copied;
-use op_rows::{Cells, one_cell};
+use op_rows::Cells;
 use par_base::{List, Memory, Row};
 use row_parts::{has_row, row_if};
 use std::alloc::Global;
@@ -76,18 +76,20 @@ pub(crate) fn aux_at_source<L: Ledger>(
         (option_copied source.entry) (option_copied first.entry) (option_copied second.entry)) }
     ensures steps { steps.new ≤ steps.old + 4 }
 {
-    let mut aux = List::new(alloc);
-    aux.push(lost(alloc, Some(&split.first), source, first, steps)?)?;
-    let against = fails(alloc, Some(&split.first), first, steps)?;
-    aux.push(noted(alloc, against)?)?;
+    let lost_first = lost(alloc, Some(&split.first), source, first, steps)?;
+    let fails_first = fails(alloc, Some(&split.first), first, steps)?;
+    let against_first = noted(alloc, fails_first)?;
     let Some(condition) = &split.second else {
-        return Ok(aux);
+        return Ok(Cells::two(lost_first, against_first));
     };
+    let mut aux = Vec::with_capacity(alloc, 5)?;
+    aux.push(lost_first)?;
+    aux.push(against_first)?;
     aux.push(lost(alloc, Some(condition), source, second, steps)?)?;
     aux.push(against_second(alloc, Some(condition), first, second, steps)?)?;
     let separated = row_if(is_separated(first, second), second);
     aux.push(copied(alloc, separated)?)?;
-    Ok(aux)
+    Ok(Cells::from_list(List::from_vec(aux)))
 }
 
 /// The source's row where both targets lack the identifier.
@@ -116,5 +118,5 @@ pub(crate) fn aux_at_target(
         (option_copied first.entry) (option_copied second.entry) ∷ []) }
 {
     let kept = copied(alloc, rest(source, first, second))?;
-    Ok(one_cell(alloc, kept)?)
+    Ok(Cells::one(kept))
 }

@@ -13,8 +13,8 @@ use crate::cells::or_other;
 use crate::twins::{is_separated, meets, wants};
 use expr_lang::{Expr, Steps};
 use op_law::copied;
-use op_rows::{Cells, one_cell};
-use par_base::{List, Memory, Row};
+use op_rows::Cells;
+use par_base::{Memory, Row};
 use row_parts::row_if;
 use std::alloc::Global;
 use std::sync::ledger::Ledger;
@@ -29,13 +29,11 @@ pub(crate) fn targets(
     ensures { IfOk result (λ cells. cells ≡ targets_of (option_map expr_term
         (option_copied condition.entry)) (option_copied first.entry) (option_copied second.entry)) }
 {
-    let mut cells = List::new(alloc);
-    cells.push(copied(alloc, first)?)?;
+    let first = copied(alloc, first)?;
     match condition {
-        Some(_) => cells.push(copied(alloc, second)?)?,
-        None => (),
+        Some(_) => Ok(Cells::two(first, copied(alloc, second)?)),
+        None => Ok(Cells::one(first)),
     }
-    Ok(cells)
 }
 
 /// Whether a target takes the new row: it wants it, or the row meets its condition and the other
@@ -115,5 +113,5 @@ pub(crate) fn source_of(
         (option_copied second.entry) (option_copied rest.entry) ∷ []) }
 {
     let row = copied(alloc, or_other(first, or_other(second, rest)))?;
-    Ok(one_cell(alloc, row)?)
+    Ok(Cells::one(row))
 }

@@ -1,5 +1,6 @@
 -- What a pass over identifiers ensures.
-use Rattle.std.specs.Prelude.{◌≡◌, ℕ, zero, suc, true, List, [], ◌∷◌, ◌++◌, Option, Some, None}
+use Rattle.std.specs.Prelude.{◌≡◌, ℕ, zero, suc, ◌<◌, true, List, [], ◌∷◌, ◌++◌, length, slice_index_or, Option, Some, None}
+use Rattle.par_base.specs.declared.value.Value.{Value}
 use Rattle.row_store.specs.Rows.{AreBelow}
 use Rattle.row_store.specs.States.{TableState}
 use Rattle.op_law.specs.Tables.{Tables, contents}
@@ -22,6 +23,16 @@ without_rows (suc k) = [] ∷ without_rows k
 abbrev pub with_cells : Tables → ℕ → Cells → Tables
 with_cells [] id cells = []
 with_cells (t ∷ ts) id cells = (t ++ with_row id (first_cell cells) []) ∷ with_cells ts id (other_cells cells)
+
+-- every identifier of the table at a place, if there is one, is below this one
+abbrev pub IsBelowAt : List TableState → ℕ → ℕ → Type 0
+IsBelowAt tables at id = (d : TableState) → at < length tables → AreBelow (slice_index_or tables at d).rows id
+
+-- a cell stands behind the table at a place, if there is one, and the tables before it are as they were
+pub record PutsCell (before : List TableState) (at id : ℕ) (cell : Option (List Value)) (now : List TableState) : Type 0 where
+  pub puts : (cells : Cells) → length cells ≡ at → with_cells (contents now) id cells ≡ with_cells (contents before) id (cells ++ cell ∷ [])
+  pub stays : (k : ℕ) (d : TableState) → k < at → slice_index_or now k d ≡ slice_index_or before k d
+  pub many : length now ≡ length before
 
 -- the target that is read back at an identifier
 abbrev pub read_at : RowMeaning → Tables → Tables → ℕ → Cells

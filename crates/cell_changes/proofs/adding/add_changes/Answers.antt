@@ -24,8 +24,8 @@ loop-which-preserved c =
     let now = c.loop-which.tables in
     let d = c.index-tables-which.result in
     let x = c.add_change.new.changes in
-    let one = subst (λ (o : Option (List Value)). AddsCell id o (nth_cell i c.args.new.now) (get_or now i d) x) c.cell_at.ensures
-    (subst (λ (w : Option (List Value)). AddsCell id (option_copied c.cell_at.result) w (get_or now i d) x) c.cell_at-in-loop-which.ensures c.in_ok-add_change.ensures) in
+    let one = subst (λ (o : Option (List Value)). AddsCell id o (nth_cell i c.args.new.now) (get_or now i d) x) c.row_at.ensures
+    (subst (λ (w : Option (List Value)). AddsCell id (option_copied c.row_at.result) w (get_or now i d) x) c.row_at-in-loop-which.ensures c.in_ok-add_change.ensures) in
     record {
       adds = adds_next i id c.args.old.now c.args.new.now c.args.tables.now now d x (omega (arith, c.loop-which-test.true, inv.many)) inv.adds one;
       many = length-set now i x ∙ inv.many;

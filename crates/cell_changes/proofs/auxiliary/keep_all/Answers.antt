@@ -53,8 +53,8 @@ loop-id-preserved g c =
     let long : length c.add_changes.new.tables ≡ tables.len = omega (arith, c.add_changes.auto.tables, c.deref_mut.ensures.len) in
     let many : length tables.items ≡ tables.len = omega (arith, ap length c.deref_mut.ensures.value, c.deref_mut.ensures.len) in
     record {
-      picks = pass_more (cells_at (contents c.args.aux.now)) (aux_cells r near far p) c.args.ids.now i tables.len tables.items c.deref_mut.result.now c.add_changes.new.tables c.as_slice.result.now c.as_slice-in-loop-id.result.now
-          c.loop-id-test.true c.deref_mut.ensures.value inv.picks long many (c.as_slice.ensures ∙ c.in_ok-before.ensures) (c.as_slice-in-loop-id.ensures ∙ made) c.in_ok-add_changes.ensures;
+      picks = pass_more (cells_at (contents c.args.aux.now)) (aux_cells r near far p) c.args.ids.now i tables.len tables.items c.deref_mut.result.now c.add_changes.new.tables c.stored-before.result c.made-now.result
+          c.loop-id-test.true c.deref_mut.ensures.value inv.picks long many c.stored-before.ensures (c.made-now.ensures ∙ made) c.in_ok-add_changes.ensures;
       many = pass_long tables.len c.add_changes.new.tables tables.items long many ∙ inv.many;
       same = c.in_ok-new.ensures.same ∙ inv.same;
       steps = omega (arith, c.in_ok-new.ensures.steps, inv.steps);

@@ -20,12 +20,12 @@ loop-which-preserved g c =
     let ts = side_at c.args.target (g.V.PairRead.pair c.args.old.now) in
     let before = c.loop-which.invariant in
     record {
-      cells = c.in_ok-push.ensures.ok ∙ ap (λ (l : Cells). l ++ c.in_ok-cell_after.field-0 ∷ []) before.cells
+      cells = c.in_ok-cells.ensures ∙ ap (λ (l : Cells). l ++ c.in_ok-cell.cell ∷ []) before.cells
           ∙ ap (λ (row : Option (List Value)). cells_at (changed_tables (take i ts) (take i cs)) id ++ row ∷ [])
-          (c.in_ok-cell_after.ensures.cell ∙ ap (λ (p : PairState). after one id (row_of (table_at (side_at c.args.target p) i) id)) before.same
+          (c.in_ok-cell.ensures.cell ∙ ap (λ (p : PairState). after one id (row_of (table_at (side_at c.args.target p) i) id)) before.same
           ∙ ap (λ (l : List Change). after l id (row_of (table_at ts i) id)) c.index-changes-which.is)
           ∙ sym (after_next ts cs id i one c.loop-which-test.true c.requires.fit c.requires.rise);
-      same = c.in_ok-cell_after.ensures.same ∙ before.same;
+      same = c.in_ok-cell.ensures.same ∙ before.same;
     }
 
 pub returns-clause-cells : goal.returns-clause-cells

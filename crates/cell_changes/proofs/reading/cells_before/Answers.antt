@@ -14,7 +14,7 @@ loop-which-preserved g c =
     let ts = side_at c.args.target (g.V.PairRead.pair c.args.old.now) in
     let before = c.loop-which.invariant in
     record {
-      cells = c.in_ok-push.ensures.ok ∙ ap (λ (cs : Cells). cs ++ c.in_ok-row.field-0 ∷ []) before.cells
+      cells = c.in_ok-cells.ensures ∙ ap (λ (cs : Cells). cs ++ c.in_ok-row.field-0 ∷ []) before.cells
           ∙ ap (λ (row : Option (List Value)). cells_at (take i ts) id ++ row ∷ []) (c.in_ok-row.ensures.value ∙ ap (λ (p : PairState). row_of (table_at (side_at c.args.target p) i) id) before.same)
           ∙ sym (cells_next ts id i (subst (λ (k : ℕ). i < k) c.tables-count.ensures.many c.loop-which-test.true));
       same = c.in_ok-row.ensures.same ∙ before.same;

@@ -12,12 +12,11 @@ loop-table-preserved c =
     let i = c.loop-table.table-index in
     let table = c.table-item.result in
     let merged = c.in_ok-all.ensures in
-    let listed = subst (IdsRise 0) (sym c.as_slice.ensures) before.rise in
     let own : RiseFrom 0 (get_or c.args.tables.now i table).rows = subst (λ (t : TableState). RiseFrom 0 t.rows) c.table-item.is merged.rise in
     record {
-      rise = subst (IdsRise 0) (sym merged.value) (rise_in 0 table.rows c.as_slice.result.now merged.rise listed);
-      so_far = merged.value ∙ ap (λ (t : TableState). ids_in t.rows c.as_slice.result.now) c.table-item.is
-          ∙ ap (λ (ids : List ℕ). ids_in (get_or c.args.tables.now i table).rows ids) (c.as_slice.ensures ∙ before.so_far)
+      rise = subst (IdsRise 0) (sym merged.value) (rise_in 0 table.rows c.loop-table.all merged.rise before.rise);
+      so_far = merged.value ∙ ap (λ (t : TableState). ids_in t.rows c.loop-table.all) c.table-item.is
+          ∙ ap (λ (ids : List ℕ). ids_in (get_or c.args.tables.now i table).rows ids) before.so_far
           ∙ sym (ids_next c.args.tables.now i table c.args.ids c.loop-table-test.true);
       tables = rise_next c.args.tables.now i table c.loop-table-test.true before.tables own;
     }

@@ -6,8 +6,8 @@ use Rattle.op_column.specs.CreateTable.{create_table}
 use Rattle.op_column.proofs.TableLemmas.{admits_none}
 use Rattle.op_column.proofs.create_table.CreateTableRowOperator.admit_row.Goals as goal
 
-pub returns-in_ok-one_cell-in-Source : goal.returns-in_ok-one_cell-in-Source
-returns-in_ok-one_cell-in-Source g c =
+pub returns-in-Source : goal.returns-in-Source
+returns-in-Source g c =
     let none : length c.args.aux.now ≡ 0 = omega (arith, c.len.ensures, c.if-len-ne0.false) in
-    subst (λ (side : NearSide). AdmitsRows (seen_from side create_table) c.args._near.now c.args.aux.now (Some c.in_ok-one_cell-in-Source.field-0)) (sym c.in-Source.is)
-    (admits_none c.args._near.now c.in_ok-one_cell-in-Source.field-0 c.args.aux.now c.in_ok-one_cell-in-Source.ensures none)
+    subst (λ (side : NearSide). AdmitsRows (seen_from side create_table) c.args._near.now c.args.aux.now (Some c.one.result)) (sym c.in-Source.is)
+    (admits_none c.args._near.now c.one.result c.args.aux.now c.one.ensures none)
