@@ -16,8 +16,8 @@ use Rattle.bidel_parser.proofs.ScriptLaws.{front_stays, front_leads, front_prece
 use Rattle.bidel_script.specs.declared.tokens.Tail.{Tail}
 use Rattle.bidel_script.specs.Tails.{earlier, is_over}
 use Rattle.bidel_script.specs.Lengths.{IsLong}
-use Rattle.bidel_script.specs.Script.{Leads, Comes, Outcome, Over, Fault, Long, Open, IsFaulty, StandsBehind, OneScript, OverIsScript}
-use Rattle.bidel_script.proofs.TokenLaws.{tokens_are_one, lexemes-drop, are_tokens_drop, start_within, wants_none, ends_not, more_open}
+use Rattle.bidel_script.specs.Script.{Leads, Outcome, Over, Fault, Long, Open, IsFaulty, StandsBehind, OneScript, OverIsScript}
+use Rattle.bidel_script.proofs.TokenLaws.{tokens_are_one, lexemes-drop, are_tokens_drop, start_within, more_open}
 
 -- a statement has tokens
 pub front_some : (over : Bool) (ts : List Lexeme) (statement : StatementView) (used : ℕ) → IsFront over ts statement used → 0 < used
@@ -200,11 +200,3 @@ pub at_within : (bytes : List ℕ) (tail : Tail) (tokens : List Token) (used at 
 at_within bytes tail tokens used at are f =
     let start = start_of (length bytes) (drop f.token tokens) in
     omega (arith, f.place, earlier_within tail.last start, start_within bytes (drop f.token tokens) (are_tokens_drop bytes f.token tokens are))
-
--- bytes that have come to their end leave no statement open
-pub ended_not_open : (bytes : List ℕ) (statements : List StatementView) → Comes bytes true statements Open → ⊥
-ended_not_open bytes statements c = wants_none bytes 0 c.tokens c.tail.last c.all.found c.behind.more
-
--- bytes that may go on are never over
-pub open_not_over : (bytes : List ℕ) (statements : List StatementView) → Comes bytes false statements Over → ⊥
-open_not_over bytes statements c = ends_not bytes 0 c.tokens c.tail.last c.all.found c.behind.1

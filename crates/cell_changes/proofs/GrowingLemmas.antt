@@ -107,13 +107,6 @@ cells_more f g ids i (c ∷ cs) (d ∷ ds) h p adds = (
   cells_more (λ id. other_cells (f id)) (λ id. other_cells (g id)) ids i cs ds h p.1 adds.1,
 )
 
--- as many tables
-pub adds_long : (id : ℕ) (old new : Cells) (cs ds : TableChanges) → AddsCells id old new cs ds → length ds ≡ length cs
-adds_long id old new [] [] adds = refl
-adds_long id old new [] (d ∷ ds) adds = absurd adds
-adds_long id old new (c ∷ cs) [] adds = absurd adds
-adds_long id old new (c ∷ cs) (d ∷ ds) adds = ap suc (adds_long id (other_cells old) (other_cells new) cs ds adds.1)
-
 -- a slice that was written takes the place of what it was taken from
 pub written_back : {A : Type 0} (n : ℕ) (new old : List A) → length new ≡ n → length old ≡ n → take n (new ++ drop (length new) old) ≡ new
 written_back {A = A} n [] old e h = let k : n ≡ zero = omega (arith, e) in rw k refl

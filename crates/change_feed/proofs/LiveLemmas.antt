@@ -322,9 +322,6 @@ all_taken : (v : List ℕ) (xs : List WatchState) → take (length xs) xs ++ wit
 all_taken v [] = refl
 all_taken v (x ∷ xs) = ap (λ ys. x ∷ ys) (all_taken v xs)
 
-pub before_dropping : (v : List ℕ) (xs : List WatchState) (n : ℕ) → n ≡ length xs → xs ≡ take n xs ++ without_version v (drop n xs)
-before_dropping v xs n e = sym (ap (λ m. take m xs ++ without_version v (drop m xs)) e ∙ all_taken v xs)
-
 part_get : (xs ys : List WatchState) (a : ℕ) (d : WatchState) → a < length xs → slice_get (take (suc a) xs ++ ys) a ≡ Some (get_or xs a d)
 part_get [] ys a d h = absurd (omega arith)
 part_get (x ∷ xs) ys zero d h = refl
@@ -339,11 +336,6 @@ part_take : (xs ys : List WatchState) (a : ℕ) (d : WatchState) → a < length 
 part_take [] ys a d h = absurd (omega arith)
 part_take (x ∷ xs) ys zero d h = refl
 part_take (x ∷ xs) ys (suc a) d h = ap (λ zs. x ∷ zs) (part_take xs ys a d (omega arith))
-
-pub part_len : (xs ys : List WatchState) (a : ℕ) → a < length xs → a < length (take (suc a) xs ++ ys)
-part_len [] ys a h = absurd (omega arith)
-part_len (x ∷ xs) ys zero h = omega arith
-part_len (x ∷ xs) ys (suc a) h = omega (arith, part_len xs ys a (omega arith))
 
 -- one step of dropping, from behind
 pub drop_step : (v : List ℕ) (xs : List WatchState) (a : ℕ) → a < length xs → dropped_at v a (take (suc a) xs ++ without_version v (drop (suc a) xs)) ≡ take a xs ++ without_version v (drop a xs)

@@ -72,24 +72,6 @@ module _ (it : ByRows) (j : Joining) where
   others_are First s t are = are.second
   others_are Second s t are = are.first
 
-  owns_are : (half : Half) (s t : Rows) → AreTables it s t → own_of half it.first.now.rows it.second.now.rows ≡ own_of half s t
-  owns_are First s t are = are.first
-  owns_are Second s t are = are.second
-
-  pub rows_find : (half : Half) (row : List Value) (ids : List ℕ) → HasMatches j half (others_of half it.first.now.rows it.second.now.rows) ids row → FindsMatches j (AreTables it) half ids row
-  rows_find half row ids has s t known = subst (λ (rows : Rows). HasMatches j half rows ids row) (others_are half s t known) has
-
-  pub rows_find_at : (half : Half) (id : ℕ) (row : List Value) (ids : List ℕ) → row_of (own_of half it.first.now.rows it.second.now.rows) id ≡ Some row → FindsMatches j (AreTables it) half ids row → FindsMatchesAt j (AreTables it) half ids id
-  rows_find_at half id row ids at has s t other known is =
-      let some : Some row ≡ Some other = sym at ∙ ap (λ (rows : Rows). row_of rows id) (owns_are half s t known) ∙ is in
-      let same : row ≡ other = cc in
-      subst (λ (v : List Value). HasMatches j half (others_of half s t) ids v) same (has s t known)
-
-  pub rows_find_none : (half : Half) (id : ℕ) (ids : List ℕ) → row_of (own_of half it.first.now.rows it.second.now.rows) id ≡ None → FindsMatchesAt j (AreTables it) half ids id
-  rows_find_none half id ids none s t other known is =
-      let bad : None ≡ Some other = sym none ∙ ap (λ (rows : Rows). row_of rows id) (owns_are half s t known) ∙ is in
-      absurd (cc)
-
 -- one key more of those up to the next
 pub keyed_more : (rows : Rows) (key : List Value) (from : ℕ) (ids : List ℕ) (next : ℕ) (found : Option ℕ) → found ≡ Some next → IsLeastFrom rows key from found
     → ((b : ℕ) → b < from → row_of rows b ≡ Some key → has_id ids b ≡ true) → (b : ℕ) → b < next + 1 → row_of rows b ≡ Some key → has_id (ids ++ next ∷ []) b ≡ true
@@ -101,14 +83,6 @@ keyed_more rows key from ids next found some least has b low at =
           let up = f.2 b h at in
           let same : next ≡ b = omega (arith, up, low) in
           subst (λ (x : ℕ). has_id (ids ++ next ∷ []) x ≡ true) same (end_has ids next)
-    ]
-
-pub keyed_all : (rows : Rows) (key : List Value) (from : ℕ) (ids : List ℕ) (found : Option ℕ) → found ≡ None → IsLeastFrom rows key from found
-    → ((b : ℕ) → b < from → row_of rows b ≡ Some key → has_id ids b ≡ true) → HasKeyed rows key ids
-keyed_all rows key from ids found none least has b at =
-    elim (cases_lt b from) [
-      | inl h ↦ has b h at
-      | inr h ↦ absurd (subst (λ (o : Option ℕ). IsLeastFrom rows key from o) none least b h at)
     ]
 
 -- by keys

@@ -25,10 +25,6 @@ both_added m q a b ids at x y is =
       subst (λ (k : ℕ). has_id ((ids ++ a ∷ []) ++ b ∷ []) k ≡ true) second (end_has (ids ++ a ∷ []) b),
     )
 
--- the one that brought it
-pub by_is : (half : Half) (it : ChangingMemory) (q p : ℕ) (pair : ℕ × ℕ) → pair_of it.entries p ≡ Some pair → pick_of half (p, pair.0, pair.1) ≡ q → stays it (p, pair.0, pair.1) ≡ true → IsStill half it q 0 p
-by_is half it q p pair at own still = record { entry = (p, pair.0, pair.1); own = refl; is = at; has = own; behind = omega arith; still = still }
-
 -- the next entry that isn't changed, where those before it are
 module _ (half : Half) (it : ChangingMemory) (q start from : ℕ) (passed : (d : Triple) → IsEntry it.entries d → pick_of half d ≡ q → start ≤ other_of half d → other_of half d < from → stays it d ≡ false) where
   pub passed_more : (e : Triple) (found : Option Triple) → found ≡ Some e → IsNextWith half it.entries q from found → stays it e ≡ false

@@ -50,11 +50,6 @@ part_may m P hs ht near p n may pair = record {
   };
 }
 
--- what is touched and what isn't
-not_not : (a : Bool) → not (not a) ≡ true → a ≡ true
-not_not true e = refl
-not_not false e = absurd (false≢true e)
-
 not_false : (a : Bool) → not a ≡ true → a ≡ false
 not_false true e = absurd (false≢true e)
 not_false false e = refl

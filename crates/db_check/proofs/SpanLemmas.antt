@@ -1,7 +1,7 @@
 -- One span more, and one table or operator more of a part.
-use Rattle.std.specs.Prelude.{◌<◌, ◌≤◌, nat_le, nat_lt, Result, Ok, Err}
-use Rattle.std.proofs.Common.{◌≡◌, ℕ, zero, suc, ◌+◌, List, [], ◌∷◌, ◌++◌, Bool, true, map, Some, None, length, take, get_or, inl, inr, refl, sym, ap, ◌∙◌, subst, arith}
-use Rattle.std.proofs.lemmas.Bool.{and_from, cases_lt, le-leb, lt-ltb}
+use Rattle.std.specs.Prelude.{◌<◌, ◌≤◌, nat_le, Result, Ok, Err}
+use Rattle.std.proofs.Common.{◌≡◌, ℕ, zero, suc, ◌+◌, List, [], ◌∷◌, ◌++◌, Bool, true, map, None, length, take, get_or, inl, inr, refl, sym, ap, ◌∙◌, subst, arith}
+use Rattle.std.proofs.lemmas.Bool.{and_from, cases_lt, le-leb}
 use Rattle.std.proofs.lemmas.List.{map-append, take_more}
 use mathlib.Core.List.{reverse}
 use Rattle.par_base.specs.declared.fault.Fault.{Fault}
@@ -70,13 +70,6 @@ all_local meaning p live is locals e at =
 -- ---- spans
 
 module _ {O : Type 0} (meaning : O → Meaning) (p : Parts O) (low : ℕ) (before : (id : ℕ) → id < low → IsGoodAt meaning p id) where
-  -- the part of one span more is a database
-  pub good_more : (high : ℕ) → IsGood meaning p (in_span (record { low = low; high = Some high })) → (id : ℕ) → id < high → IsGoodAt meaning p id
-  good_more high good id h = elim (cases_lt id low) as (λ _. IsGoodAt meaning p id) [
-    | inl under ↦ before id under
-    | inr above ↦ record { test = in_span (record { low = low; high = Some high }); among = and_from (nat_le low id) (nat_lt id high) (le-leb low id above) (lt-ltb id high h); good = good }
-  ]
-
   -- and that of the last one
   pub good_all : IsGood meaning p (in_span (record { low = low; high = None })) → (id : ℕ) → IsGoodAt meaning p id
   good_all good id = elim (cases_lt id low) as (λ _. IsGoodAt meaning p id) [

@@ -33,10 +33,6 @@ for_tables counts [] = refl
 for_tables counts (t ∷ ts) = ap (λ (l : List ℕ). t ∷ l) (for_tables counts ts)
 
 module _ {O : Type 0} (es : List (Placed O)) where
-  -- counts are an array
-  pub counts_other : (d : Data) → as_array d ≡ None → FindsCounts es d None
-  counts_other d none counts are same = let clash : None ≡ Some (items_of (map count_json (counts_told es counts))) = sym none ∙ ap as_array same in cc
-
   module _ (edges : AreEdges es) (d : Data) (xs : List Json) (is : as_array d ≡ Some (items_view xs)) (tables : List ℕ) (up : tables ≡ tables_up es) where
     told_items : (counts : List TableCount) → d ≡ counts_json (counts_told es counts) → items_view xs ≡ items_of (map count_json (counts_told es counts))
     told_items counts same = some_is (items_view xs) (items_of (map count_json (counts_told es counts))) (sym is ∙ ap as_array same)

@@ -1,10 +1,10 @@
 -- The goal to which pending operators lead, and what JSON spells of it.
-use Rattle.std.specs.Prelude.{◌==◌, ◌<◌, ◌≤◌, ◌^◌, Option, Some, None, is_some, Result, Ok, Err, IfOk}
+use Rattle.std.specs.Prelude.{◌==◌, ◌<◌, ◌≤◌, ◌^◌, Option, Some, None, Result, Ok, Err, IfOk}
 use Rattle.std.proofs.Common.{◌≡◌, ℕ, suc, List, [], ◌∷◌, Bool, true, false, cond, filter, length, map, refl, sym, ap, ◌∙◌, subst, arith}
 use Rattle.std.proofs.lemmas.Bool.{eqb-true}
 use Rattle.std.proofs.lemmas.List.{reverse-reverse}
 use Rattle.serde_json.specs.Data.{Data, array, Items}
-use Rattle.serde_json.specs.Find.{as_array, as_null}
+use Rattle.serde_json.specs.Find.{as_array}
 use Rattle.serde_json.specs.View.{items_of, items_view}
 use Rattle.serde_json.specs.declared.value.Value.{Value as Json}
 use Rattle.version_graph.specs.Edges.{AreEdges, Rises, numbers}
@@ -34,11 +34,6 @@ some_is a b e = cc
 spelled_goal : (d : Data) (ds : Items) → as_array d ≡ Some ds → (o : Option (List ℕ)) → d ≡ goal_json o → (g : List ℕ) × (o ≡ Some g) × (ds ≡ items_of (map number_json g))
 spelled_goal d ds is None same = absurd (let clash : None ≡ Some ds = sym (ap as_array same) ∙ is in let no : ⊥ = cc in no)
 spelled_goal d ds is (Some g) same = (g, refl, some_is ds (items_of (map number_json g)) (sym is ∙ ap as_array same))
-
--- it is an array, or null
-spelled_none : (d : Data) → as_array d ≡ None → is_some (as_null d) ≡ false → (o : Option (List ℕ)) → d ≡ goal_json o → ⊥
-spelled_none d none some None same = let clash : true ≡ false = sym (ap (λ (e : Data). is_some (as_null e)) same) ∙ some in cc
-spelled_none d none some (Some g) same = let clash : None ≡ Some (items_of (map number_json g)) = sym none ∙ ap as_array same in cc
 
 fewer : (test : ℕ → Bool) (xs : List ℕ) → length (filter test xs) ≤ length xs
 fewer test [] = omega arith
@@ -85,10 +80,6 @@ module _ {O : Type 0} (es : List (Placed O)) (edges : AreEdges es) (layout : Lis
     -- nothing leads to what doesn't ascend
     pub none_rises : (Rises 0 goal → ⊥) → LeadsTo es layout goal None
     none_rises none pending p told = none (subst (λ (l : List ℕ). Rises 0 l) (goal_is pending goal told) (rises_filter (changes_side layout pending) 0 (numbers_up es) (numbers_rise es edges)))
-
-    -- nor to what isn't valid
-    pub none_valid : (IsValid (forest es) goal → ⊥) → LeadsTo es layout goal None
-    none_valid none pending p told = none (subst (λ (l : List ℕ). IsValid (forest es) l) (goal_is pending goal told) p.goal)
 
     -- nor to the layout itself
     pub none_changes : changing es layout goal ≡ [] → LeadsTo es layout goal None
@@ -140,6 +131,3 @@ module _ {O : Type 0} (es : List (Placed O)) (edges : AreEdges es) (layout : Lis
       where
         lives : (n : ℕ) → In n (numbers_up es) → In n (numbers es)
         lives n i = subst (λ (l : List ℕ). In n l) (reverse-reverse (numbers es)) (in_reverse n (numbers_up es) i)
-
-  pub goal_other : (d : Data) → as_array d ≡ None → is_some (as_null d) ≡ false → FindsPending es layout d None
-  goal_other d none some pending p spelled = spelled_none d none some (goal_told es layout pending) spelled

@@ -28,7 +28,7 @@ use Rattle.dump_file.specs.States.{state_json, state_told}
 use Rattle.dump_formats.specs.Formats.{counts_json, first_of, goal_json, goal_told, is_second, run_json}
 use Rattle.dump_formats.specs.Laws.{DumpsAreOfOneRun}
 use Rattle.dump_formats.specs.Stands.{IsDumpOf, Loads, Spells, StandsFor}
-use Rattle.dump_formats.specs.inner.Read.{AreBeside, AreParts, FindsBeside, FindsCounts, FindsDump, FindsParts, FindsPending, LoadsJson, LoadsRead, ReadsDump}
+use Rattle.dump_formats.specs.inner.Read.{AreBeside, AreParts, FindsBeside, LoadsJson, LoadsRead, ReadsDump}
 use Rattle.dump_formats.specs.declared.loaded.Loaded.{Loaded}
 use Rattle.dump_formats.specs.declared.loading.ReadDump.{ReadDump}
 use Rattle.dump_formats.specs.declared.loading.ReadDump.TheVariants.{First, Second}
@@ -71,13 +71,6 @@ module _ (d : Data) (limit : ℕ) where
   first_refused (Memory memory) off none = tt
 
   module _ (second : is_second d ≡ true) where
-    -- a member is missing
-    pub no_parts : FindsParts d None → (l : Loaded) → StandsFor d l → ⊥
-    no_parts missing l (inl first) = not_first d l.database second first.database
-    no_parts (inl none) l (inr is) = let counts = is.counts in let clash : None ≡ Some _ = sym none ∙ counts in cc
-    no_parts (inr (inl none)) l (inr is) = let goal = is.goal in let clash : None ≡ Some _ = sym none ∙ goal in cc
-    no_parts (inr (inr none)) l (inr is) = let told = is.database.told in let clash : None ≡ Some _ = sym none ∙ told in cc
-
     module _ (s : Members) (parts : AreParts d s) where
       -- what is left is no dump of the first format
       pub second_refused : (fault : Fault DumpRefused) → LoadsDatabase (first_of d) limit (Err fault) → LoadsJson d limit (Err fault)
@@ -113,11 +106,6 @@ module _ (d : Data) (limit : ℕ) where
             let there : P (p.graph, p.layout.operators) = subst P (λ i. (same.graph i, same.layout i)) (is.counted, counts, is.leads, goal) in
             none l.counts l.pending (record { counted = there.0; counts_are = there.1; leads = there.2; goal_is = there.3 })
 
--- nothing was read, so nothing stands for it
-pub first_unread : (d : Data) → is_second d ≡ false → dump_of d ≡ None → (l : Loaded) → StandsFor d l → ⊥
-first_unread d off none l (inl first) = let told = first.database.told in let clash : None ≡ Some _ = sym none ∙ told in cc
-first_unread d off none l (inr second) = false≢true (sym off ∙ second.format)
-
 -- ---- loading what was read
 
 module _ (limit : ℕ) where
@@ -148,11 +136,6 @@ module _ (limit : ℕ) where
   pub waits : (r : ReadDump) (memory : NoMemory) → LoadsRead r limit (Err (Memory memory))
   unfolding LoadsRead
   waits r memory = λ d is. tt
-
--- what one of the members doesn't spell
-pub beside_none : (p : Parts AnyView) (c g : Data) → FindsCounts p.graph.edges c None ⊎ FindsPending p.graph.edges p.layout.operators g None → FindsBeside p c g None
-beside_none p c g (inl none) counts pending are = none counts are.counted are.counts_are
-beside_none p c g (inr none) counts pending are = none pending are.leads are.goal_is
 
 -- ---- dumping
 
@@ -189,16 +172,9 @@ pub bytes_read : (bytes : List ℕ) (r : ReadDump) (limit : ℕ) (loaded : Resul
 unfolding LoadsRead
 bytes_read bytes r limit loaded reads loads = bytes_load bytes reads.0 limit loaded reads.1 (loads reads.0 reads.2)
 
-pub bytes_unread : (bytes : List ℕ) (limit : ℕ) (fault : Fault DumpRefused) → ReadsDump bytes (Err fault) → Loads bytes limit (Err fault)
-bytes_unread bytes limit (Refused r) none = none
-bytes_unread bytes limit (Memory memory) none = tt
-
 -- bytes that spell nothing, or nothing that stands for anything, are no dump
 pub none_spelled : (bytes : List ℕ) → FindsTree bytes None → (l : Loaded) → IsDumpOf bytes l → ⊥
 none_spelled bytes none l is = let spells = is.1 in let clash : None ≡ Some _ = sym (none spells.0) ∙ spells.1 in cc
-
-pub none_stands : (bytes : List ℕ) (d : Data) → FindsTree bytes (Some d) → FindsDump d None → (l : Loaded) → IsDumpOf bytes l → ⊥
-none_stands bytes d spells none l is = none l (subst (λ (e : Data). StandsFor e l) (some_is is.0 d (sym is.1.1 ∙ spells.1)) is.2)
 
 -- ---- a dump is of one run
 

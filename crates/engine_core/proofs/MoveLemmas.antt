@@ -1,5 +1,5 @@
 -- What moves leave.
-use Rattle.std.specs.Prelude.{Ok, Err, Result}
+use Rattle.std.specs.Prelude.{Ok, Err}
 use Rattle.std.proofs.Common.{◌≡◌, ℕ, List, [], ◌∷◌, refl, sym, ap, ◌∙◌, subst}
 use Rattle.par_base.specs.declared.limits.Target.{Target}
 use Rattle.version_graph.specs.Sets.{Each}
@@ -8,17 +8,9 @@ use Rattle.op_any.specs.Operators.{AnyView, any_meaning}
 use Rattle.layout_rules.specs.Closed.{IsClosing, closing}
 use Rattle.layout_rules.specs.Closing.{StoresTarget}
 use Rattle.layout_rules.specs.Laws.{ClosingIsRight}
-use Rattle.par_base.specs.declared.fault.Fault.{Fault}
-use Rattle.par_base.specs.declared.fault.Fault.TheVariants.{Memory, Refused}
-use Rattle.par_base.specs.declared.refusal.Refusal.{Refusal}
-use Rattle.version_model.specs.declared.numbered.Numbered.{Numbered}
-use Rattle.table_keys.specs.States.{KeysState}
-use Rattle.kept_keys.specs.Kept.{AreKeysOf}
-use Rattle.db_state.specs.Fields.{database_for, state_for}
+use Rattle.db_state.specs.Fields.{database_for}
 use Rattle.db_state.specs.Laws.{StoredOnce}
-use Rattle.db_state.specs.declared.parts.Parts.{Parts}
-use Rattle.engine_state.specs.AnyDatabase.{AnyDatabase}
-use Rattle.engine_layouts.specs.Laid.{Laid, Materializes, laid_of, materialized, moved_count}
+use Rattle.engine_layouts.specs.Laid.{Laid, laid_of, materialized, moved_count}
 use Rattle.engine_core.specs.Laws.{MovesRestore, MovesStoreTargets, laid_after, moved_by}
 
 -- what a move leaves, where its closing gives this
@@ -45,22 +37,6 @@ unfolding moved_by
 moves_leave_data s [] = refl
 moves_leave_data s (named ∷ moves) =
     moves_leave_data (laid_after s (materialized s named)) moves ∙ data_stays s named (closing s.database.graph s.layout named)
-
--- nor does a call that moves, or an error
-made_stays : (s : Laid) (closed : Checked (List ℕ)) (answer : ℕ × Laid) → (closed then λ new. Ok (moved_count s new, record s { layout = new })) ≡ Ok answer → answer.1.database ≡ s.database
-made_stays s (Err refusal) answer e = absurd cc
-made_stays s (Ok new) answer e =
-    let same : (moved_count s new, record s { layout = new }) ≡ answer = cc in
-    sym (ap (λ (a : ℕ × Laid). a.1.database) same)
-
-pub moved_stays : (old new : Laid) (named : List Target) (r : Result ℕ (Fault Refusal)) → Materializes old named r new → new.database ≡ old.database
-moved_stays old new named (Ok count) moves = made_stays old (closing old.database.graph old.layout named) (count, new) moves
-moved_stays old new named (Err (Refused told)) moves = ap (λ (l : Laid). l.database) moves.1
-moved_stays old new named (Err (Memory memory)) moves = ap (λ (l : Laid). l.database) moves
-
--- so keys that are right stay right
-pub keys_stay : (old new : Parts AnyView) (items : List (Numbered KeysState)) → database_for any_meaning new ≡ database_for any_meaning old → AreKeysOf (state_for any_meaning old).tables items → AreKeysOf (state_for any_meaning new).tables items
-keys_stay old new items same right = subst (λ (d : AnyDatabase). AreKeysOf d.state.tables items) (sym same) right
 
 pub restores : StoredOnce any_meaning → MovesRestore
 restores once old new moves was is led layouts =

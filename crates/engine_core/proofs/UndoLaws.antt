@@ -22,6 +22,3 @@ module _ (now again : Parts AnyView) (undo : Undo) (some : IsRevertible any_mean
 
   pub again_layout : again.layout ≡ now.layout
   again_layout = (restores some.0 some.1).same.layout ∙ sym some.1.leads.layout
-
-  pub again_ids : again.ids ≡ undo.ids
-  again_ids = (restores some.0 some.1).same.ids ∙ sym some.1.leads.ids

@@ -1,12 +1,12 @@
 -- What WATCH and UNWATCH answer and leave.
-use Rattle.std.specs.Prelude.{Option, Some, None, IsSome, Result, Ok, Err, if◌then◌else◌}
+use Rattle.std.specs.Prelude.{Option, Some, None, IsSome, Ok, Err, if◌then◌else◌}
 use Rattle.std.specs.Option.{option_map}
 use Rattle.std.proofs.Common.{◌≡◌, ◌<◌, ◌==◌, ◌+◌, ◌&&◌, nat_lt, ℕ, Bool, true, false, List, [], ◌∷◌, length, refl, sym, ap, ◌∙◌, subst, arith}
 use Rattle.std.proofs.lemmas.Bool.{false≢true}
 use Rattle.std.proofs.lemmas.Bool.Decides.{nat_tests}
-use Rattle.par_base.specs.Checked.{Checked, Gives, ◌then◌}
+use Rattle.par_base.specs.Checked.{Checked, ◌then◌}
 use Rattle.par_base.specs.declared.fault.Fault.{Fault}
-use Rattle.par_base.specs.declared.fault.Fault.TheVariants.{Refused, Memory as OutOfMemory}
+use Rattle.par_base.specs.declared.fault.Fault.TheVariants.{Refused}
 use Rattle.par_base.specs.declared.refusal.Refusal.{Refusal}
 use Rattle.par_base.specs.declared.refusal.Refusal.TheVariants.{NoWatcherLeft, UnknownWatch}
 use Rattle.statements.specs.Views.{StatementView, Watch, Unwatch}
@@ -30,7 +30,6 @@ use Rattle.engine_state.specs.SharedChecks.{known_version}
 use Rattle.engine_state.specs.declared.reply.Reply.TheVariants.{Unwatched, Watching}
 use Rattle.engine_transactions.specs.Spoken.{operators_in}
 use Rattle.engine_transactions.specs.KeptTexts.{texts_of}
-use Rattle.engine_transactions.proofs.ChainLaws.{then_fails, then_is}
 use Rattle.engine_transactions.specs.EngineSessionsCalls.{IsAnswer}
 use Rattle.engine_transactions.specs.EngineSessionsStanding.{kept_in as kept_beside}
 use Rattle.engine_transactions.specs.Answer.{Answer}
@@ -38,7 +37,7 @@ use Rattle.engine_transactions.specs.Answer.TheVariants.{Plain}
 use Rattle.engine_transactions.specs.Calls.{standing_of as standing_beneath, Keeps}
 use Rattle.engine_transactions.specs.declared.executing.Executing.{Executing}
 use Rattle.engine_transactions.specs.declared.kept.Kept.{Kept as Transactions}
-use Rattle.engine_feeds.specs.Act.{can_watch, ended_at, ended_by, taken_for, watched_by, Answers}
+use Rattle.engine_feeds.specs.Act.{can_watch, ended_at, ended_by, taken_for, Answers}
 use Rattle.engine_feeds.specs.Calls.{standing_with, Carries}
 use Rattle.engine_feeds.specs.Kept.{AreKept}
 use Rattle.engine_feeds.specs.Standing.{Standing}
@@ -72,17 +71,6 @@ may_watch w may = ap (λ (b : Bool). b && nat_lt w.last 18446744073709551615) (l
 both_less : (a b c d : ℕ) → nat_lt a b && nat_lt c d ≡ true → (a < b) × (c < d)
 both_less a b c d h = grind (arith, nat_tests, h)
 
-may_not : (w : WatchesState) (b : Bool) → can_watch w ≡ b → (CanWatch w → ⊥) → can_watch w ≡ false
-may_not w false is no_watch = is
-may_not w true is no_watch = absurd (no_watch (both_less 0 (length w.waiting) w.last 18446744073709551615 is))
-
-pub take_refused : (kept : Transactions) (w : WatchesState) (name : List ℕ) (set : ℕ) → (CanWatch w → ⊥) → AreKept kept w → Carries (taken_for (standing_with kept w) name set) (Watch name) kept w (Err (Refused NoWatcherLeft)) kept w
-take_refused kept w name set none is =
-    let s = standing_with kept w in
-    ask_failed (taken_for s name set) (Watch name) kept w w (Refused NoWatcherLeft)
-    (ap (λ (b : Bool). if b then Ok (Plain (Watching (w.last + 1)), record s { watches = watched name (first_note (data_at kept) set) w }) else Err NoWatcherLeft) (may_not w (can_watch w) refl none))
-    refl is
-
 pub take_done : (kept : Transactions) (w v : WatchesState) (name : List ℕ) (set number : ℕ) (first : Note) → CanWatch w → IsOrdered (data_at kept) → set_named (data_at kept).graph.versions name ≡ Some set → first ≡ first_note (data_at kept) set → number ≡ w.last + 1 → v ≡ watched name first w → AreKept kept w
     → Carries (taken_for (standing_with kept w) name set) (Watch name) kept w (Ok (Plain (Watching number))) kept v
 take_done kept w v name set number first can ordered named first_is number_is v_is is =
@@ -96,20 +84,6 @@ take_done kept w v name set number first can ordered named first_is number_is v_
 version_is : (name : List ℕ) (o : Option ℕ) (set : ℕ) → known_version name o ≡ Ok set → o ≡ Some set
 version_is name (Some n) set e = let same : n ≡ set = cc in ap (λ (k : ℕ). Some k) same
 version_is name None set e = absurd (let no : ⊥ = cc in no)
-
--- of a version that lives
-pub known_named : (kept : Transactions) (name : List ℕ) (set : ℕ) → known_version name (set_named (data_at kept).graph.versions name) ≡ Ok set → set_named (data_at kept).graph.versions name ≡ Some set
-known_named kept name set known = version_is name (set_named (data_at kept).graph.versions name) set known
-
-pub watch_known : (kept : Transactions) (w v : WatchesState) (name : List ℕ) (set : ℕ) (result : Result Answer (Fault Refusal)) → known_version name (set_named (data_at kept).graph.versions name) ≡ Ok set → Carries (taken_for (standing_with kept w) name set) (Watch name) kept w result kept v
-    → Carries (watched_by (standing_with kept w) name) (Watch name) kept w result kept v
-watch_known kept w v name set result known carries =
-    subst (λ (m : Checked (Answer × Standing)). Carries m (Watch name) kept w result kept v) (sym (then_is (known_version name (set_named (data_at kept).graph.versions name)) (λ set. taken_for (standing_with kept w) name set) set known)) carries
-
-pub watch_unknown : (kept : Transactions) (w : WatchesState) (name : List ℕ) (fault : Fault Refusal) → Gives {X = ℕ} {Y = ℕ} (λ set. set) (Err fault) (known_version name (set_named (data_at kept).graph.versions name)) → AreKept kept w → Carries (watched_by (standing_with kept w) name) (Watch name) kept w (Err fault) kept w
-watch_unknown kept w name (Refused r) gives is =
-    ask_failed (watched_by (standing_with kept w) name) (Watch name) kept w w (Refused r) (then_fails (known_version name (set_named (data_at kept).graph.versions name)) (λ set. taken_for (standing_with kept w) name set) r gives) refl is
-watch_unknown kept w name (OutOfMemory memory) gives is = ask_failed (watched_by (standing_with kept w) name) (Watch name) kept w w (OutOfMemory memory) tt refl is
 
 -- ---- UNWATCH
 

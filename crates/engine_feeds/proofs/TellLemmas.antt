@@ -32,7 +32,7 @@ use Rattle.engine_transactions.specs.EngineSessionsCalls.{IsAnswer}
 use Rattle.engine_transactions.specs.Answer.{Answer}
 use Rattle.engine_transactions.specs.Act.{act, Answers as AnswersBeneath}
 use Rattle.engine_transactions.specs.Calls.{standing_of as standing_beneath, IsIdle, Keeps}
-use Rattle.engine_transactions.specs.Held.{Holds, HoldsAs, IsBack, Settles, answer_in}
+use Rattle.engine_transactions.specs.Held.{Holds, IsBack, Settles, answer_in}
 use Rattle.engine_transactions.specs.Kept.{kept_in as kept_beneath}
 use Rattle.engine_transactions.specs.Kinds.{kind_in, writes_rows_in}
 use Rattle.engine_transactions.specs.Leads.{LeadAlong, data_behind, data_left}
@@ -269,12 +269,6 @@ module _ (x : StatementView) (old now : Transactions) (w : WatchesState) (held :
 pub back_carries : (x : StatementView) (old new : Transactions) (w v : WatchesState) (memory : _) → IsBack old new → AreKept old w → v ≡ all_cleared w → Carries (acted_by (standing_with old w) x) x old w (Err (OutOfMemory memory)) new v
 back_carries x old new w v memory back kept cleared =
     failed_with x old new w v (OutOfMemory memory) tt back.same (cleared ∙ cleared_along (data_at old) w kept.quiet) (back.keeps x) back.idle kept
-
--- it is refused
-pub hold_fails : (x : StatementView) (old new : Transactions) (w : WatchesState) (fault : Fault Refusal) → HoldsAs (act (standing_beneath old) x) (data_behind (standing_beneath old) x) old (Err fault) new → standing_beneath new ≡ standing_beneath old → Keeps x old.executing new.executing → IsIdle new.executing → AreKept old w
-    → Carries (acted_by (standing_with old w) x) x old w (Err fault) new w
-hold_fails x old new w (Refused r) holds same keeps idle kept = failed_with x old new w w (Refused r) holds same refl keeps idle kept
-hold_fails x old new w (OutOfMemory memory) holds same keeps idle kept = failed_with x old new w w (OutOfMemory memory) holds same refl keeps idle kept
 
 -- ---- a drop
 

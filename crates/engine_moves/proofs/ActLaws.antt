@@ -1,45 +1,19 @@
 -- Which statements are carried out at once, and what moves leave of the data.
 use Rattle.std.specs.Prelude.{◌⊎◌, length, Option, Some, None, Ok, Err}
-use Rattle.std.proofs.Common.{◌≡◌, ℕ, Bool, true, false, List, inl, inr, refl, sym, ap, subst}
+use Rattle.std.proofs.Common.{◌≡◌, ℕ, Bool, true, false, List, inl, inr, refl, sym, ap}
 use Rattle.par_base.specs.declared.limits.Target.{Target}
 use Rattle.par_base.specs.Checked.{Checked, ◌then◌}
-use Rattle.statements.specs.declared.statement.Statement.{Statement}
 use Rattle.statements.specs.declared.statement.Statement.TheVariants as statement
-use Rattle.statements.specs.Views.{statement_view, StatementView, CreateVersion, DropVersion, Insert, Import, Update, Delete, Select, Materialize, Step, ShowLayout, Use, Session, Advise, Watch, Unwatch, Begin, Commit, Rollback}
-use Rattle.version_graph.specs.declared.parts.Placed.{Placed}
-use Rattle.version_graph.proofs.SetLaws.{in_right}
-use Rattle.op_any.specs.Operators.{AnyView}
+use Rattle.statements.specs.Views.{StatementView, CreateVersion, DropVersion, Insert, Import, Update, Delete, Select, Materialize, Step, ShowLayout, Use, Session, Advise, Watch, Unwatch, Begin, Commit, Rollback}
 use Rattle.engine_state.specs.declared.reply.Reply.{Reply}
 use Rattle.engine_state.specs.declared.reply.Reply.TheVariants.{Pending}
 use Rattle.migration.specs.Pending.{next_flip, pending_for}
 use Rattle.engine_core.proofs.ChainLaws.{both_give, ok_is}
 use Rattle.engine_core.specs.Act.{act as act_at_once}
-use Rattle.engine_core.specs.KeptTexts.{texts_of}
 use Rattle.engine_core.specs.Laid.{Laid}
-use Rattle.engine_core.specs.Spoken.{TextsCome, operators_in}
 use Rattle.engine_moves.specs.Act.{act, at_once, flipped_by, is_materialize, pending_behind, started, stepped, stepped_at}
 use Rattle.engine_moves.specs.Laws.{SameLaid, is_step}
 use Rattle.engine_moves.specs.Moving.{Moving}
-
-pub goes_at_once : (s : Moving) (st : Statement) → ((named : List Target) (in_steps : Bool) → st ≡ statement.Materialize named in_steps → ⊥) → (st ≡ statement.Step → ⊥) → act s (statement_view st) ≡ at_once s (statement_view st)
-goes_at_once s (statement.CreateVersion name origin operators) a b = refl
-goes_at_once s (statement.DropVersion name) a b = refl
-goes_at_once s (statement.Insert table rows) a b = refl
-goes_at_once s (statement.Import table text) a b = refl
-goes_at_once s (statement.Update table assignments filter) a b = refl
-goes_at_once s (statement.Delete table filter) a b = refl
-goes_at_once s (statement.Select table items filter csv) a b = refl
-goes_at_once s (statement.Materialize named in_steps) a b = absurd (a named in_steps refl)
-goes_at_once s statement.Step a b = absurd (b refl)
-goes_at_once s statement.ShowLayout a b = refl
-goes_at_once s (statement.Use name) a b = refl
-goes_at_once s (statement.Session number) a b = refl
-goes_at_once s (statement.Advise name) a b = refl
-goes_at_once s (statement.Watch name) a b = refl
-goes_at_once s (statement.Unwatch number) a b = refl
-goes_at_once s statement.Begin a b = refl
-goes_at_once s statement.Commit a b = refl
-goes_at_once s statement.Rollback a b = refl
 
 -- ---- what is pending is seen by STEP alone
 
@@ -123,7 +97,3 @@ stepped_stays s r h = go (next_flip s.laid.layout s.pending) h
     go : (o : Option ℕ) → stepped_at s o ≡ Ok r → r.1.laid.database ≡ s.laid.database
     go None h = absurd (let no : ⊥ = cc in no)
     go (Some n) h = ap (λ (r : Reply × Moving). r.1.laid.database) (sym (ok_is (_, flipped_by s n) r h))
-
--- where the operators stay, they come from anywhere
-pub still_come : (x : StatementView) (old new : List (Placed AnyView)) → new ≡ old → TextsCome x old new
-still_come x old new same = subst (λ (es : List (Placed AnyView)). TextsCome x old es) (sym same) (λ o i. in_right o (operators_in x) (texts_of old) i)

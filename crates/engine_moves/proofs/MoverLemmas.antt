@@ -22,7 +22,7 @@ use Rattle.engine_core.proofs.ChainLaws.{then_is}
 use Rattle.engine_core.specs.Act.{act as act_at_once}
 use Rattle.engine_core.specs.Kept.{Answers, MayFlip, state_of}
 use Rattle.engine_core.specs.Laid.{Laid, flipped_laid}
-use Rattle.engine_moves.specs.Act.{at_once, is_materialize, pending_behind, started, stepped, stepped_at}
+use Rattle.engine_moves.specs.Act.{is_materialize, pending_behind, started, stepped, stepped_at}
 use Rattle.engine_moves.specs.Moving.{Moving}
 use Rattle.engine_moves.proofs.GoalLemmas.{Leads, leads_behind}
 
@@ -74,13 +74,3 @@ pub step_made : (s n : Moving) (operator : ℕ) → next_flip s.laid.layout s.pe
 step_made s n operator is flips left =
     ap (stepped_at s) is
     ∙ (λ i. Ok (Flipped operator (length (sym left i)), record { laid = sym flips i; pending = sym left i }))
-
-pub once_made : (s : Moving) (x : StatementView) (b : Bool) (reply : Reply) (n : Moving) → is_materialize x ≡ b → act_at_once s.laid x ≡ Ok (reply, n.laid) → n.pending ≡ pending_behind b n.laid s.pending → at_once s x ≡ Ok (reply, n)
-once_made s x b reply n kind h left =
-    then_is (act_at_once s.laid x) (λ answer. Ok (answer.0, record { laid = answer.1; pending = pending_behind (is_materialize x) answer.1 s.pending })) (reply, n.laid) h
-    ∙ ap (λ (c : Bool). Ok (reply, record { laid = n.laid; pending = pending_behind c n.laid s.pending })) kind
-    ∙ ap (λ (p : List ℕ). Ok (reply, record { laid = n.laid; pending = p })) (sym left)
-
-pub once_refused : (s n : Moving) (l : Laid) (x : StatementView) (fault : Fault Refusal) → Answers (act_at_once s.laid x) (Err fault) l → Answers (at_once s x) (Err fault) n
-once_refused s n l x (Refused r) h = ap (λ (m : Checked (Reply × Laid)). m then λ answer. Ok (answer.0, record { laid = answer.1; pending = pending_behind (is_materialize x) answer.1 s.pending })) h
-once_refused s n l x (Memory memory) h = tt

@@ -11,10 +11,6 @@ pub record Moving : Type 0 where
   -- the operators whose data are still to go to their other side, ascending; where there are none, no move is pending
   pub pending : List ℕ
 
--- no move is pending
-abbrev pub at_rest : Laid → Moving
-at_rest laid = record { laid = laid; pending = [] }
-
 -- the database that is kept, and what is pending
 pub record KeptMove : Type 0 where
   pub database : Parts AnyView

@@ -25,11 +25,6 @@ given_at_once s x behind (Ok answer) next h given is =
 given_at_once s x behind (Err (Refused r)) next h given is = ap (λ (m : Checked (Answer × SessionsStanding)). m then λ a. Ok (a.0, record s { sessions = a.1; history = behind a.1 })) given
 given_at_once s x behind (Err (OutOfMemory memory)) next h given is = tt
 
--- a refusal needs no history
-pub failed_at_once : (s : Standing) (x : StatementView) (behind : SessionsStanding → History) (fault : Fault Refusal) (next : SessionsStanding) (end : Standing) → AnswersBeside (act_beside s.sessions x) (Err fault) next → Answers (at_once_with s x behind) (Err fault) end
-failed_at_once s x behind (Refused r) next end given = ap (λ (m : Checked (Answer × SessionsStanding)). m then λ a. Ok (a.0, record s { sessions = a.1; history = behind a.1 })) given
-failed_at_once s x behind (OutOfMemory memory) next end given = tt
-
 -- a statement that changes no graph
 pub plain_behind : (s : Standing) (st : Statement) → ((name : List ℕ) (from : Option (List ℕ)) (operators : List OpText) → st ≡ statement.CreateVersion name from operators → ⊥) → ((name : List ℕ) → st ≡ statement.DropVersion name → ⊥) → graph_behind s (statement_view st) ≡ (λ next. s.history)
 plain_behind s (statement.CreateVersion name origin operators) a b = absurd (a name origin operators refl)

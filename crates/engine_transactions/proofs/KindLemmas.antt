@@ -13,7 +13,6 @@ use Rattle.engine_sessions.specs.Laid.{Laid}
 use Rattle.engine_sessions.specs.EngineMovesAct.{pending_behind}
 use Rattle.engine_sessions.specs.Act.{answer_of}
 use Rattle.engine_sessions.specs.Moving.{Moving}
-use Rattle.engine_sessions.specs.InFull.{in_full}
 use Rattle.engine_sessions.specs.declared.answer.Answer.{Answer}
 use Rattle.engine_transactions.specs.Act.{act, at_hand, at_once, kept_by, named_at, noted, read_of, selected_by, written_by}
 use Rattle.engine_transactions.specs.Kinds.{acted_by, at_once_with, full_at, graph_behind, kind_in, selected_in, version_told, written_at, written_full}
@@ -127,24 +126,3 @@ once_written s (Unwatch number) is = absurd is
 once_written s Begin is = absurd is
 once_written s Commit is = absurd is
 once_written s Rollback is = absurd is
-
--- it is one in full too
-pub full_write : (used : Option (List ℕ)) (x : StatementView) → kind_in x ≡ kind.Write → kind_in (in_full used x) ≡ kind.Write
-full_write used (CreateVersion name from operators) is = is
-full_write used (DropVersion name) is = is
-full_write used (Insert name rows) is = refl
-full_write used (Import name text) is = refl
-full_write used (Update name assignments filter) is = refl
-full_write used (Delete name filter) is = refl
-full_write used (Select name items filter csv) is = is
-full_write used (Materialize named in_steps) is = is
-full_write used Step is = is
-full_write used ShowLayout is = is
-full_write used (Use name) is = is
-full_write used (Session number) is = is
-full_write used (Advise name) is = is
-full_write used (Watch name) is = is
-full_write used (Unwatch number) is = is
-full_write used Begin is = is
-full_write used Commit is = is
-full_write used Rollback is = is

@@ -109,10 +109,6 @@ pub all_there : (cs : List TableChange) (s : Named) → AllThere cs (with_names 
 all_there [] s = tt
 all_there (c ∷ cs) s = (has_names cs c.table (with_name c.table s) (has_new c.table s), all_there cs (with_name c.table s))
 
-pub there_both : (ls bs : List TableChange) (s : Named) → AllThere ls s → AllThere bs s → AllThere (ls ++ bs) s
-there_both [] bs s a b = b
-there_both (c ∷ ls) bs s a b = (a.0, there_both ls bs s a.1 b)
-
 pub there_first : (ls bs : List TableChange) (s : Named) → AllThere (ls ++ bs) s → AllThere ls s
 there_first [] bs s h = tt
 there_first (c ∷ ls) bs s h = (h.0, there_first ls bs s h.1)

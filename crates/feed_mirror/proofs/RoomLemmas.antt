@@ -163,9 +163,6 @@ none_so_far name ts i x h e other none = ap (λ (n : ℕ). has_name name (named 
 pub none_at_all : (name : List ℕ) (ts : List Shown) (n : ℕ) → length ts ≤ n → has_name name (named (take n ts)) ≡ false → has_name name (named ts) ≡ false
 none_at_all name ts n h none = ap (λ (us : List Shown). has_name name (named us)) (sym (all_taken ts n h)) ∙ none
 
-pub for_all : (cs : List TableChange) (due : ℕ) (ts : List Shown) (n : ℕ) → length ts ≤ n → RoomsFor cs due (take n ts) → RoomsFor cs due ts
-for_all cs due ts n h for = subst (λ (us : List Shown). RoomsFor cs due us) (all_taken ts n h) for
-
 pub place_has : (name : List ℕ) (ts : List Shown) (at : ℕ) → IsPlace name ts at → has_name name (named ts) ≡ true
 place_has name ts at is = found ts at is.which is.stands is.has
   where
@@ -205,9 +202,6 @@ place_changed c (t ∷ ts) (suc at) x y e h none name rows =
 
 -- ---- how many rows the first changes name
 
-pub total_none : (due all : ℕ) → all ≡ due → all ≡ due + 0
-total_none due all e = omega (arith, e)
-
 pub total_next : (cs : List TableChange) (i : ℕ) (c : TableChange) (due all next : ℕ) → i < length cs → c ≡ get_or cs i c → all ≡ due + total (take i cs) → next ≡ all + length c.changes → next ≡ due + total (take (i + 1) cs)
 total_next cs i c due all next less is before sum =
     let k : i + 1 ≡ suc i = omega arith in
@@ -219,12 +213,6 @@ total_next cs i c due all next less is before sum =
     one_more [] i c less is = absurd (omega arith)
     one_more (d ∷ ds) zero c less is = let e = ap (λ (x : TableChange). length x.changes) is in omega (arith, e)
     one_more (d ∷ ds) (suc i) c less is = let h = one_more ds i c (omega arith) is in omega (arith, h)
-
-pub total_whole : (cs : List TableChange) (n : ℕ) → length cs ≤ n → total (take n cs) ≡ total cs
-total_whole [] zero h = refl
-total_whole [] (suc n) h = refl
-total_whole (c ∷ cs) zero h = absurd (omega arith)
-total_whole (c ∷ cs) (suc n) h = let k = total_whole cs n (omega arith) in omega (arith, k)
 
 -- ---- tables for names, one after the other
 

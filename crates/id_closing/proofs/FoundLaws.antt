@@ -128,7 +128,3 @@ added_stays ids (Some i) q h = end_stays ids i q h
 pub added_has : (ids : List ℕ) (o : Option ℕ) (g : ℕ) → o ≡ Some g → has_id (added ids o) g ≡ true
 added_has ids None g e = absurd (cc)
 added_has ids (Some i) g e = let same : i ≡ g = cc in subst (λ (x : ℕ). has_id (ids ++ i ∷ []) x ≡ true) same (end_has ids i)
-
--- one after another
-pub among_both : (a b c : List ℕ) → AreAmong a b → AreAmong b c → AreAmong a c
-among_both a b c f g q h = g q (f q h)

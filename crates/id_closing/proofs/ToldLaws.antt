@@ -1,7 +1,7 @@
 -- What an identifier has after changes, from what they tell.
 use Rattle.std.proofs.Common.{◌≡◌, ℕ, zero, suc, ◌+◌, ◌<◌, ◌≤◌, ◌==◌, ◌⊎◌, List, [], ◌∷◌, ◌++◌, Bool, true, false, cond, take, get_or, slice_get, Option, Some, None, length, refl, sym, subst}
 use Rattle.std.proofs.lemmas.Bool.{eqb-true, false≢true}
-use Rattle.std.proofs.lemmas.List.{take_more, take_all}
+use Rattle.std.proofs.lemmas.List.{take_more}
 use mathlib.Core.Logic.{inl, inr}
 use Rattle.par_base.specs.declared.value.Value.{Value}
 use Rattle.row_store.specs.declared.change.Change.{Change}
@@ -83,6 +83,3 @@ changes_none (d ∷ ds) (suc which) e = changes_none ds which e
 -- one change more is one that is taken
 pub all_next : (P : Change → Type 0) (cs : List Change) (i : ℕ) (d : Change) → i < length cs → AllOf P (take i cs) → P (get_or cs i d) → AllOf P (take (i + 1) cs)
 all_next P cs i d h all one = rw (take_more cs i d h) (all_more P (take i cs) (get_or cs i d) all one)
-
-pub all_end : (P : Change → Type 0) (cs : List Change) (n : ℕ) → length cs ≤ n → AllOf P (take n cs) → AllOf P cs
-all_end P cs n h all = subst (λ (xs : List Change). AllOf P xs) (take_all n cs h) all

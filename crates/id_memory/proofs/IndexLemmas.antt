@@ -5,12 +5,10 @@ use Rattle.std.specs.Ordering.{is_eq, nat_cmp}
 use Rattle.std.proofs.Common.{◌≡◌, ℕ, ◌+◌, ◌<◌, ◌≤◌, ◌==◌, List, [], ◌∷◌, Bool, true, false, Option, Some, None, if◌then◌else◌, refl, sym, ap, ◌∙◌, subst, arith}
 use Rattle.std.proofs.lemmas.Bool.{and_parts, eq-eqb, eqb-true}
 use Rattle.ordered_pages.specs.Entries.{Rise, entry_of}
-use Rattle.ordered_pages.specs.States.{PagesState}
 use Rattle.ordered_pages.proofs.OrderLaws.{entry_key}
 use Rattle.id_memory.specs.Pairs.{Pairs, RiseFrom, IsOneToOne, pair_of, id_of, has_pair}
 use Rattle.id_memory.specs.Found.{IsLeastFrom}
 use Rattle.id_memory.specs.inner.Orders.{Triple, id_order, id_total, pair_order, pair_total}
-use Rattle.id_memory.specs.inner.Calls.{HasMore}
 use Rattle.id_memory.specs.inner.Indexed.{IsIndexed, Lists, by_pair, by_turned_pair}
 use Rattle.id_memory.proofs.CountLemmas.{count_cons, count_no, count_some, count_yes, most_one, some_count}
 use Rattle.id_memory.proofs.IdLemmas.{pair_in, pair_is, rises, some_entry, they_rise}
@@ -156,31 +154,5 @@ module _ (m : Pairs) (first second : List Triple) (it : IsIndexed m first second
   pub absent_second : (s t : ℕ) → id_of m s t ≡ None → entry_of pair_order second (t, s) ≡ None
   absent_second s t none = absent t s second (entry_of pair_order second (t, s)) refl (λ p is. absent_by s t p none (of_second p s t is))
 
--- an entry more in all three lists
-pub put_indexed : (es first second es_now first_now second_now : PagesState Triple) (p s t : ℕ) → IsIndexed es.entries first.entries second.entries
-    → HasMore id_order (p, s, t) es es_now → HasMore pair_order (s, t, p) first first_now → HasMore pair_order (t, s, p) second second_now
-    → IsIndexed es_now.entries first_now.entries second_now.entries
-put_indexed es first second es_now first_now second_now p s t is more more_first more_second =
-    record {
-      rises = more.more_rises;
-      first_rises = more_first.more_rises;
-      first_lists = λ test. more_first.counts test ∙ ap (λ (n : ℕ). n + (if test (s, t, p) then 1 else 0)) (is.first_lists test) ∙ sym (more.counts (λ e. test (by_pair e)));
-      second_rises = more_second.more_rises;
-      second_lists = λ test. more_second.counts test ∙ ap (λ (n : ℕ). n + (if test (t, s, p) then 1 else 0)) (is.second_lists test) ∙ sym (more.counts (λ e. test (by_turned_pair e)));
-    }
-
 fewer : (a b c d x : ℕ) → b ≡ a + x → d ≡ c + x → b ≡ d → a ≡ c
 fewer a b c d x e f g = omega (arith, e, f, g)
-
--- an entry less in all three lists
-pub taken_indexed : (es first second es_now first_now second_now : PagesState Triple) (p s t : ℕ) → IsIndexed es.entries first.entries second.entries
-    → HasMore id_order (p, s, t) es_now es → HasMore pair_order (s, t, p) first_now first → HasMore pair_order (t, s, p) second_now second
-    → IsIndexed es_now.entries first_now.entries second_now.entries
-taken_indexed es first second es_now first_now second_now p s t is more more_first more_second =
-    record {
-      rises = more.less_rises;
-      first_rises = more_first.less_rises;
-      first_lists = λ test. fewer (count_by test first_now.entries) (count_by test first.entries) (count_by (λ e. test (by_pair e)) es_now.entries) (count_by (λ e. test (by_pair e)) es.entries) (if test (s, t, p) then 1 else 0) (more_first.counts test) (more.counts (λ e. test (by_pair e))) (is.first_lists test);
-      second_rises = more_second.less_rises;
-      second_lists = λ test. fewer (count_by test second_now.entries) (count_by test second.entries) (count_by (λ e. test (by_turned_pair e)) es_now.entries) (count_by (λ e. test (by_turned_pair e)) es.entries) (if test (t, s, p) then 1 else 0) (more_second.counts test) (more.counts (λ e. test (by_turned_pair e))) (is.second_lists test);
-    }

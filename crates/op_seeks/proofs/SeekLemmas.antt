@@ -1,11 +1,11 @@
 -- Calls by what isn't known of an operator promise nothing.
 use Rattle.std.specs.Prelude.{IfOk, Result, Ok, Err}
-use Rattle.std.proofs.Common.{◌≡◌, ℕ, List, Bool, Option, None, sym, subst}
+use Rattle.std.proofs.Common.{◌≡◌, ℕ, List, Bool, Option, sym, subst}
 use Rattle.op_law.specs.Meaning.{Meaning, PairState}
 use Rattle.row_changes.specs.Changed.{TableChanges}
 use Rattle.fk_closing.specs.Keys.{KeyRows}
 use Rattle.op_seeks.specs.Places.{AreKnown, condition_place, key_place}
-use Rattle.op_seeks.specs.Seeking.{ApartOver, FootprintOf}
+use Rattle.op_seeks.specs.Seeking.{ApartOver}
 use Rattle.op_seeks.specs.declared.known.CondKeys.{CondKeys}
 use Rattle.op_seeks.specs.declared.known.Known.{Known}
 use Rattle.op_seeks.specs.declared.known.Known.TheVariants.{Keys, Entries}
@@ -15,22 +15,11 @@ use Rattle.op_seeks.specs.declared.place.SeekPlace.{SeekPlace}
 abbrev pub Never : Option SeekPlace → Known → Type 0
 Never place known = (p : PairState) → AreKnown place p known → ⊥
 
-pub never_sought : (place : Option SeekPlace) (known : Known) → place ≡ None → Never place known
-never_sought place known none p are = subst (λ (o : Option SeekPlace). AreKnown o p known) none are
-
 pub no_keys : (t : Bool) (o : Option (ℕ × ℕ)) (keys : KeyRows) → Never (condition_place t o) (Keys keys)
 no_keys t o keys p are = are
 
 pub no_entries : (t : Bool) (place : ℕ) (it : CondKeys) → Never (key_place t place) (Entries it)
 no_entries t place it p are = are
-
-pub never_foot : {E : Type 0} (r : Result (List ℕ) E) (m : Meaning) (place : Option SeekPlace) (known : Known) → Never place known → (backward : Bool) (near : TableChanges) → IfOk r (FootprintOf m place backward known near)
-never_foot (Ok ids) m place known never backward near = λ p n are may. absurd (never p are)
-never_foot (Err e) m place known never backward near = tt
-
-pub never_apart : {E : Type 0} (r : Result (List ℕ) E) (m : Meaning) (place : Option SeekPlace) (known : Known) → Never place known → (backward : Bool) (near changes : TableChanges) → IfOk r (ApartOver m place backward known near changes)
-never_apart (Ok ids) m place known never backward near changes = λ old new n are is mapped elsewhere. absurd (never old are)
-never_apart (Err e) m place known never backward near changes = tt
 
 -- whatever S and T change by
 pub at_changes : {E : Type 0} (r : Result (List ℕ) E) (m : Meaning) (place : Option SeekPlace) (way backward : Bool) (known : Known) (near changes : TableChanges) → backward ≡ way

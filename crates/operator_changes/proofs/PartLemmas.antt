@@ -3,9 +3,6 @@ use Rattle.std.proofs.Common.{◌≡◌, ℕ, List, [], ◌∷◌, Bool, true, f
 use Rattle.par_base.specs.declared.value.Value.{Value}
 use Rattle.row_store.specs.Rows.{Rows, RiseFrom, row_of}
 use Rattle.row_store.proofs.UndoLaws.{ext}
-use Rattle.id_memory.specs.Pairs.{Pairs}
-use Rattle.pair_changes.specs.declared.change.PairChange.{PairChange}
-use Rattle.pair_changes.specs.MemoryChanges.{IsMemoryDifference}
 use Rattle.op_law.specs.Tables.{Tables}
 use Rattle.op_law.specs.Sound.{RowsSound, TablesSound}
 use Rattle.op_law.specs.Local.{rows_only, only}
@@ -52,11 +49,6 @@ tables_sound P n (t ∷ ts) h = (rows_sound P n t h.0, tables_sound P n ts h.1)
 pub ahead_part : (b : Bool) (ids : List ℕ) (p : PairState) → ahead b (pair_part ids p) ≡ pair_part ids (ahead b p)
 ahead_part false ids p = refl
 ahead_part true ids p = refl
-
--- so is a difference of its memory
-pub memory_either : (b : Bool) (x : PairState) (now : Pairs) (cs : List PairChange) → IsMemoryDifference x.memory now cs → IsMemoryDifference (ahead b x).memory now cs
-memory_either false x now cs is = is
-memory_either true x now cs is = is
 
 -- a part that was read, as it is seen from the side from which the operator is crossed
 pub part_ahead : (b : Bool) (ids : List ℕ) (x p : PairState) → x ≡ pair_part ids p → ahead b x ≡ pair_part ids (ahead b p)

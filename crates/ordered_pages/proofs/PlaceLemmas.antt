@@ -17,9 +17,6 @@ module _ {E : Type 0} where
   pub read_page : (ps : List (List E)) (i : ℕ) (d es : List E) → i < length ps → d ≡ get_or ps i d → es ≡ d → es ≡ get_or ps i []
   read_page ps i d es h is same = same ∙ is ∙ get_same ps i d [] h
 
-  pub is_place : (ps : List (List E)) (i j : ℕ) (d : List E) → i < length ps → d ≡ get_or ps i d → j < length d → IsPlace ps i j
-  is_place ps i j d h is within = (h, subst (λ (p : List E). j < length p) (is ∙ get_same ps i d [] h) within)
-
   inside : (ps : List (List E)) (i j : ℕ) (d : List E) → IsPlace ps i j → d ≡ get_or ps i [] → j < length d
   inside ps i j d here is = subst (λ (p : List E). j < length p) (sym is) here.1
 

@@ -14,12 +14,6 @@ drop_at [] k d h = absurd (omega arith)
 drop_at (x ∷ xs) zero d h = refl
 drop_at (x ∷ xs) (suc k) d h = drop_at xs k d (omega arith)
 
-pub drop_end : {X : Type 0} (xs : List X) (k : ℕ) → length xs ≤ k → drop k xs ≡ []
-drop_end [] zero h = refl
-drop_end [] (suc k) h = refl
-drop_end (x ∷ xs) zero h = absurd (omega arith)
-drop_end (x ∷ xs) (suc k) h = drop_end xs k (omega arith)
-
 -- the change at a place has the old pair, and those behind it have greater identifiers
 pub fit_at : (n : ℕ) (bs : Pairs) (cs : List PairChange) (k : ℕ) (d : PairChange) → k < length cs → ArePairChanges n bs cs
     → ((slice_index_or cs k d).old ≡ pair_of bs (slice_index_or cs k d).id) × ChangesRise ((slice_index_or cs k d).id + 1) (drop (suc k) cs)

@@ -17,7 +17,7 @@ use Rattle.engine_feeds.specs.Standing.{Standing}
 use Rattle.engine_feeds.specs.Replies.{out}
 use Rattle.script_run.specs.Statuses as statuses
 use Rattle.script_run.specs.Statuses.{limit, Taken, whole, early, fault_line, last_line, WritesScript, Had, PutsFront, AnswersScript, Begun, CutShort}
-use Rattle.script_run.specs.Calls.{RunsTo, RunsFront, RunStays, PutsLine, last_text, end_of, Ends, EndStays}
+use Rattle.script_run.specs.Calls.{RunsTo, RunsFront, PutsLine, last_text, end_of, Ends}
 use Rattle.script_run.specs.declared.turn.Last.{Last}
 use Rattle.script_run.specs.declared.turn.Last.TheVariants as last
 use Rattle.script_run.specs.declared.run.Ran.{Ran}
@@ -183,16 +183,6 @@ module _ (from to : Standing) where
   ends_line left left' read read' held mid held' was between is l ran.Memory h stays p = cut_line left left' read read' held mid held' l h (puts_none mid held' (last_text l) p)
   ends_line left left' read read' held mid held' was between is l ran.Unwritten h stays p =
       (subst (λ (n : ℕ). Rose n is) stays p.0, cut_line left left' read read' held mid held' l h p.1)
-
-  -- the count stays as the turns leave it
-  pub ends_stay : (was is : ℕ) (r : Ran) → RunStays was is r → EndStays was is (end_of r)
-  ends_stay was is (ran.Stops last.Over) h = h
-  ends_stay was is (ran.Stops (last.Fault a b)) h = h
-  ends_stay was is (ran.Stops last.Long) h = h
-  ends_stay was is (ran.Stops last.Unread) h = h
-  ends_stay was is (ran.Stops last.TooMany) h = h
-  ends_stay was is ran.Memory h = h
-  ends_stay was is ran.Unwritten h = tt
 
   -- ---- what the source told decides the status
 

@@ -91,10 +91,6 @@ module _ {W : Type 0} (from : Standing) (fed : List ℕ) (answered : List Statem
       standing = h.standing;
     }
 
-  -- the end was told
-  pub stands_ended : Stands from fed answered (record s { ended = true })
-  stands_ended = record { holds = h.holds; passed = h.passed; ends = λ e. (refl, (h.ends e).1); standing = h.standing }
-
 -- ---- what the input gives
 
 module _ (fed : List ℕ) (answered : List StatementView) where

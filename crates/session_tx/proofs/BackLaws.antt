@@ -3,14 +3,10 @@ use Rattle.std.proofs.Common.{◌≡◌, ◌+◌, ◌≤◌, ℕ, List, length, 
 use Rattle.session_tx.specs.Meaning.{Meaning, Standing}
 use Rattle.session_tx.specs.Transactions.{TransactionState}
 use Rattle.session_tx.specs.Commits.{taken_back_times, WasRunAll}
-use Rattle.session_tx.proofs.CommitLemmas.{led_back, many_left}
+use Rattle.session_tx.proofs.CommitLemmas.{led_back}
 use Rattle.session_tx.proofs.RunLemmas.{counted, results_length}
 
 module _ {S W M D : Type 0} (m : Meaning S W M D) (t : TransactionState W M) (old new : Standing S M) (dones : List D) (ran : WasRunAll m t old new dones) where
-  -- there are as many as results
-  pub runs_there : length dones ≤ length new.unsettled
-  runs_there = many_left old new dones (record { runs = ran.runs; gives = ran.gives; leaves = ran.leaves })
-
   -- each of these, and those of before
   pub runs_counted : length new.unsettled ≡ length dones + length old.unsettled
   runs_counted =

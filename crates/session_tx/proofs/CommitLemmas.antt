@@ -1,5 +1,5 @@
 -- What a commit gives, from what its parts gave.
-use Rattle.std.proofs.Common.{◌≡◌, ◌≤◌, [], ℕ, List, length, Result, Ok, Err, Option, Some, None, ap, sym, ◌∙◌, subst, append-nil, arith}
+use Rattle.std.proofs.Common.{◌≡◌, ◌≤◌, [], ℕ, List, length, Result, Ok, Err, Option, None, ap, sym, ◌∙◌, subst, append-nil, arith}
 use Rattle.par_base.specs.declared.refusal.Refusal.{Refusal}
 use Rattle.par_base.specs.declared.fault.Fault.{Fault}
 use Rattle.par_base.specs.declared.fault.Fault.TheVariants.{Refused, Memory as OutOfMemory}
@@ -28,10 +28,6 @@ module _ {S M D : Type 0} where
       ∙ back_after old some.runs
 
 module _ {S W M D : Type 0} where
-  -- the reads refuse it
-  pub read_refuses : (m : Meaning S W M D) (s : Standing S M) (t : TransactionState W M) (fault : CommitFault) → read_fault s t.reads ≡ Some fault → commit m s t ≡ Err fault
-  read_refuses m s t fault h = ap (λ (f : Option CommitFault). unless f (runs_of m s.state t.writes)) h
-
   -- a write refuses it
   pub write_refuses : (m : Meaning S W M D) (s : Standing S M) (t : TransactionState W M) (refusal : Refusal) → read_fault s t.reads ≡ None → runs_of m s.state t.writes ≡ Err refusal → commit m s t ≡ Err (Write refusal)
   write_refuses m s t refusal h k = ap (λ (f : Option CommitFault). unless f (runs_of m s.state t.writes)) h ∙ ap (λ (r : Result (List (Ran S M D)) Refusal). written r) k
@@ -90,7 +86,3 @@ module _ {S W M D : Type 0} where
   pub same_error : (Stands : Standing S M → Type 0) (m : Meaning S W M D) (t : TransactionState W M) (old : Standing S M) (fault : Fault CommitFault) → LeadsRuns {D = D} Stands m t old (Err fault) → LeadsCommit {D = D} Stands m t old (Err fault)
   same_error Stands m t old (Refused fault) h = h
   same_error Stands m t old (OutOfMemory memory) h = h
-
-  -- the reads refused it
-  pub read_refused : (Stands : Standing S M → Type 0) (m : Meaning S W M D) (t : TransactionState W M) (old : Standing S M) (reads : List (M × ℕ)) (fault : CommitFault) → reads ≡ t.reads → Some fault ≡ read_fault old reads → Stands old → LeadsRuns {D = D} Stands m t old (Err (Refused fault))
-  read_refused Stands m t old reads fault seen is here = (read_refuses m old t fault (ap (λ (rs : List (M × ℕ)). read_fault old rs) (sym seen) ∙ sym is), here)

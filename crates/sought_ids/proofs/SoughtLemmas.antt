@@ -1,11 +1,10 @@
 -- Kept keys of an operator's tables, operators that are closed one after another, and crossings that are seen.
-use Rattle.std.specs.Prelude.{if◌then◌else◌, cond}
+use Rattle.std.specs.Prelude.{if◌then◌else◌}
 use Rattle.std.proofs.Common.{◌≡◌, ℕ, ◌+◌, ◌<◌, ◌≤◌, ◌++◌, List, [], ◌∷◌, Bool, true, false, length, take, get_or, map, Some, inl, inr, refl, sym, ap, ◌∙◌, subst}
 use Rattle.std.proofs.lemmas.Bool.{false≢true}
 use Rattle.std.proofs.lemmas.List.{take_all, take_more}
 use Rattle.std.specs.Prelude.{Option}
 use Rattle.row_store.specs.Rows.{Rows}
-use Rattle.id_memory.specs.Pairs.{Pairs}
 use Rattle.version_graph.specs.Sets.{Each, In}
 use Rattle.version_graph.specs.Edges.{AreEdges}
 use Rattle.version_graph.specs.Forest.{Crossing, Link, crossing, forest, step_told, walk}
@@ -15,29 +14,19 @@ use Rattle.version_graph.specs.Edges.{is_in}
 use Rattle.version_graph.proofs.SetLaws.{each_append, each_at, each_of, in_append, in_of_test, is_in_true}
 use Rattle.changes_walk.specs.Reach.{reached}
 use Rattle.op_law.specs.Identifiers.{IdsRise}
-use Rattle.op_law.specs.Tables.{RowsWide, Tables}
-use Rattle.op_law.specs.Meaning.{Meaning, PairState}
-use Rattle.version_model.specs.States.{State}
-use Rattle.operator_changes.specs.Calls.{ahead}
+use Rattle.op_law.specs.Tables.{RowsWide}
+use Rattle.op_law.specs.Meaning.{Meaning}
 use Rattle.version_model.specs.Calls.{IsCrossing, IsTold}
-use Rattle.version_model.specs.Steps.{pair_in}
 use Rattle.version_model.specs.declared.numbered.Numbered.{Numbered}
 use Rattle.version_model.proofs.CrossingLaws.{GoesOver, crossings_live, walk_goes_over}
 use Rattle.version_model.proofs.ToldLaws.{told_is}
 use Rattle.table_keys.specs.Keys.{keys_by}
 use Rattle.table_keys.specs.States.{KeysState}
 use Rattle.table_keys.specs.declared.columns.KeyColumns.TheVariants.{One}
-use Rattle.kept_keys.specs.Kept.{AreKeysAt, AreKeysOf}
-use Rattle.op_seeks.specs.Keys.{AreFkKeys, KeyRows}
-use Rattle.op_seeks.specs.Places.{AreCondKeys, side_at}
-use Rattle.op_seeks.specs.declared.known.CondKeys.{CondKeys}
-use Rattle.op_seeks.specs.declared.known.Known.TheVariants.{Keys, Entries}
-use Rattle.op_seeks.specs.declared.place.CondPlace.{CondPlace}
-use Rattle.op_seeks.specs.declared.place.FkPlace.{FkPlace}
+use Rattle.kept_keys.specs.Kept.{AreKeysAt}
 use Rattle.op_seeks.specs.declared.place.SeekPlace.{SeekPlace}
-use Rattle.op_seeks.specs.declared.place.SeekPlace.TheVariants.{ForeignKey, Condition}
 use Rattle.operator_changes.proofs.DrawnLemmas.{append_assoc, append_none}
-use Rattle.sought_ids.specs.Sought.{AreKeptOf, AreSomeKeys, ClosesAt, ClosesOver, IsKnownAt, KeptState, SeesStep, key_side}
+use Rattle.sought_ids.specs.Sought.{AreSomeKeys, ClosesAt, ClosesOver, KeptState, SeesStep}
 
 -- ---- keys
 
@@ -48,29 +37,6 @@ one_wide place (r ∷ rs) = (refl, one_wide place rs)
 
 pub keys_wide : (items : List (Numbered KeysState)) (table place : ℕ) (rows : Rows) → AreSomeKeys items → AreKeysAt items table (One place) rows → RowsWide 1 rows
 keys_wide items table place rows some at = subst (λ (l : Rows). RowsWide 1 l) (sym (at some.0 some.1)) (one_wide place (some.0 table))
-
--- the tables of S and T, on a crossing either way
-side_rows : (f : ℕ → Rows) (near far : List ℕ) (m : Pairs) (on back : Bool)
-    → (if on then (ahead back (record { source = map f near; target = map f far; memory = m })).target else (ahead back (record { source = map f near; target = map f far; memory = m })).source)
-    ≡ map f (if on then cond back near far else cond back far near)
-side_rows f near far m true true = refl
-side_rows f near far m true false = refl
-side_rows f near far m false true = refl
-side_rows f near far m false false = refl
-
--- what is known by keys, and by a memory
-pub known_keys : {O : Type 0} (kept : KeptState) (p : Crossing O) (fk : FkPlace) (keys : KeyRows) → ((s : ℕ → Rows) → AreKeysOf s kept.keys → AreFkKeys fk.place (map s (key_side fk.on_target p)) keys) → IsKnownAt (ForeignKey fk) kept p (Keys keys)
-known_keys kept p fk keys are s right =
-    subst (λ (ts : Tables). AreFkKeys fk.place ts keys) (sym (side_rows s.tables p.near p.far (s.memory p.number) fk.on_target p.backward)) (are s.tables right.keys)
-
-memory_ahead : (back : Bool) (p : PairState) → (ahead back p).memory ≡ p.memory
-memory_ahead false p = refl
-memory_ahead true p = refl
-
-pub known_entries : {O : Type 0} (kept : KeptState) (p : Crossing O) (c : CondPlace) (it : CondKeys) → ((s : State) → AreKeptOf s kept → AreCondKeys c (map s.tables (key_side c.on_target p)) (s.memory p.number) it) → IsKnownAt (Condition c) kept p (Entries it)
-known_entries kept p c it are s right =
-    subst (λ (m : Pairs). AreCondKeys c (side_at (Some (Condition c)) (ahead p.backward (pair_in s p))) m it) (sym (memory_ahead p.backward (pair_in s p)))
-    (subst (λ (ts : Tables). AreCondKeys c ts (s.memory p.number) it) (sym (side_rows s.tables p.near p.far (s.memory p.number) c.on_target p.backward)) (are s right))
 
 -- ---- identifiers
 

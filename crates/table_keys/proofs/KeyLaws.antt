@@ -4,7 +4,7 @@ use Rattle.std.proofs.Common.{◌≡◌, ℕ, ◌+◌, ◌==◌, List, [], ◌�
 use Rattle.par_base.specs.declared.value.Value.{Value}
 use Rattle.row_store.specs.declared.change.Change.{Change}
 use Rattle.row_store.specs.Rows.{Rows, RiseFrom, row_of}
-use Rattle.row_store.specs.Changes.{AreOld, ChangesRise, IsAbove}
+use Rattle.row_store.specs.Changes.{AreOld, IsAbove}
 use Rattle.op_rows.specs.Cells.{with_row}
 use Rattle.row_changes.specs.Changed.{changed, put_row}
 use Rattle.table_keys.specs.declared.columns.KeyColumns.{KeyColumns}
@@ -51,11 +51,6 @@ module _ (c : KeyColumns) where
   pub keys_changed : (rows : Rows) (cs : List Change) → keys_by c (changed rows cs) ≡ changed (keys_by c rows) (keyed_changes c cs)
   keys_changed rows [] = refl
   keys_changed rows (d ∷ ds) = keys_put d.id d.new (changed rows ds) ∙ ap (put_row d.id (option_map (key_by c) d.new)) (keys_changed rows ds)
-
-  -- changes of keys are in order where those of rows are
-  pub keyed_rise : (n : ℕ) (cs : List Change) → ChangesRise n cs → ChangesRise n (keyed_changes c cs)
-  keyed_rise n [] rise = tt
-  keyed_rise n (d ∷ ds) rise = (rise.0, keyed_rise (d.id + 1) ds rise.1)
 
   pub keyed_above : (cs : List Change) (id : ℕ) → IsAbove cs id → IsAbove (keyed_changes c cs) id
   keyed_above [] id above = tt

@@ -42,8 +42,3 @@ both_among ids a b h k = map-append (rows_only (has_id ids)) a b ∙ ap (λ (x :
 
 pub few_in_two : (ids : List ℕ) (a b : Tables) → IdsRise 0 ids → AreAmong ids a → AreAmong ids b → length (ids_over a (ids_over b [])) ≤ length ids
 few_in_two ids a b rise h k = subst (λ (l : List ℕ). length l ≤ length ids) (ids_behind b a []) (few ids (b ++ a) rise (both_among ids b a k h))
-
-pub few_in_three : (ids : List ℕ) (a b c : Tables) → IdsRise 0 ids → AreAmong ids a → AreAmong ids b → AreAmong ids c → length (ids_over a (ids_over b (ids_over c []))) ≤ length ids
-few_in_three ids a b c rise h k l =
-    subst (λ (m : List ℕ). length (ids_over a m) ≤ length ids) (ids_behind c b [])
-    (subst (λ (m : List ℕ). length m ≤ length ids) (ids_behind (c ++ b) a []) (few ids ((c ++ b) ++ a) rise (both_among ids (c ++ b) a (both_among ids c b l k) h)))

@@ -116,9 +116,6 @@ adds_more a b old mid new x y first second = record {
 
 -- ---- a crossing's tables are added
 
-pub spreads_past : {O : Type 0} (p : Crossing O) (old : List ℕ) → touches old p ≡ false → SpreadsOver p old old false
-spreads_past p old other = record { stay = λ n i. i; only = λ n i. inl i; same = λ e. refl; closed = λ e own. absurd (false≢true (sym other ∙ own)); less = λ e. absurd (false≢true e) }
-
 pub spreads_both : {O : Type 0} (p : Crossing O) (old mid new : List ℕ) (x y : Bool) → Adds p.near old mid x → Adds p.far mid new y → SpreadsOver p old new (x || y)
 spreads_both p old mid new x y near far =
     let both = adds_more p.near p.far old mid new x y near far in
