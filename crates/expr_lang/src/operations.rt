@@ -125,12 +125,12 @@ fn join(alloc: Global, left: &Value, right: &Value) -> Result<Value, Memory>
     ensures { IfOk result (λ made. made ≡ joined left.now right.now) }
 {
     match (left, right) {
-        (Value::Text(a), Value::Text(b)) => join_texts(alloc, a.as_text(), b.as_text()),
+        (Value::Text(a), Value::Text(b)) => join_texts(alloc, a, b),
         _ => Ok(Value::Null),
     }
 }
 
-fn join_texts(alloc: Global, left: &Text, right: &Text) -> Result<Value, Memory>
+fn join_texts(alloc: Global, left: &SharedText, right: &SharedText) -> Result<Value, Memory>
     ensures { IfOk result (λ made. made ≡ joined (Value.Text left.now) (Value.Text right.now)) }
 {
     if left.len() > TEXT_LIMIT || right.len() > TEXT_LIMIT - left.len() {

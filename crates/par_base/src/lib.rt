@@ -11,6 +11,7 @@
 
 mod counts;
 mod fault;
+mod inline;
 mod limits;
 mod list;
 mod literal;
