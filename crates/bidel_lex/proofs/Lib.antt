@@ -10,6 +10,7 @@ pub mod ListedLaws
 pub mod MovedLaws
 pub mod ReadBackLaws
 mod Runs
+mod SkipLemmas
 pub mod StableLaws
 mod TextRuns
 mod Turns

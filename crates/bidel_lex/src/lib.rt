@@ -19,6 +19,7 @@
 mod classes;
 pub mod laws;
 mod next;
+mod skips;
 mod symbols;
 mod texts;
 mod tokens;

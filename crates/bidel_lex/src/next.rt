@@ -1,9 +1,10 @@
 //! The next token: what each byte makes of those before it, from a place on.
 
-ghost use Rattle.std.specs.Prelude.{◌≡◌, ◌≤◌, ◌<◌, ◌^◌, length};
-ghost use Rattle.bidel_lex.specs.Next.{IsWithin, answer_at_end, first_of, first_turn, next_of, opened_by, over_at, step_of, step_turn, turn_at};
+ghost use Rattle.std.specs.Prelude.{◌≡◌, ◌≤◌, ◌<◌, ◌^◌, drop, length};
+ghost use Rattle.bidel_lex.specs.Next.{IsWithin, answer_at_end, first_of, first_turn, lexed_at, next_of, opened_by, over_at, step_of, step_turn, turn_at};
 
 use crate::classes::{begins_word, is_digit_byte, is_lone, is_space_byte};
+use crate::skips::{blank_end, plain_end, word_end};
 use crate::texts::Wanted;
 use crate::tokens::{Lexed, Token, TokenKind};
 use crate::unfinished::{Step, Unfinished, read_step, whole_kind};
@@ -144,14 +145,13 @@ fn finish(part: Part, at: usize) -> Lexed
     }
 }
 
-/// The next token from a place on, where `ended` says that no bytes come after these.
-#[tactic(auto, using(crate::proofs::Turns::turns), unfolding(crate::specs::Next::next_of))]
-pub fn next_token(bytes: &[u8], from: usize, ended: bool) -> Lexed
+/// The answer where the bytes before a place come to a part.
+#[tactic(auto, using(crate::proofs::Turns::turns))]
+fn read_on(bytes: &[u8], first: Part, from: usize, ended: bool) -> Lexed
     requires { from ≤ length bytes.now }
-    ensures value { result ≡ next_of bytes.now from ended }
-    ensures within { IsWithin (length bytes.now) from ended result }
+    ensures { result ≡ lexed_at ended first from (drop from bytes.now) }
 {
-    let mut part = Part::Blank;
+    let mut part = first;
     for at in from..bytes.len() {
         match make_turn(part, bytes[at], at) {
             Turn::Go(next) => part = next,
@@ -162,5 +162,48 @@ pub fn next_token(bytes: &[u8], from: usize, ended: bool) -> Lexed
         finish(part, bytes.len())
     } else {
         Lexed::More
+    }
+}
+
+/// The answer where the bytes before a place come to a part: the bytes of a word and the plain
+/// characters of a text are passed by at once.
+fn read_run(bytes: &[u8], part: Part, at: usize, ended: bool) -> Lexed
+    requires { at ≤ length bytes.now }
+    ensures { result ≡ lexed_at ended part at (drop at bytes.now) }
+{
+    match part {
+        Part::Open {
+            start,
+            token: Unfinished::Word { length },
+        } => {
+            let end = word_end(bytes, at, length);
+            let length = length + (end - at) as u8;
+            let token = Unfinished::Word { length };
+            read_on(bytes, Part::Open { start, token }, end, ended)
+        }
+        Part::Open {
+            token: Unfinished::Text {
+                wanted: Wanted::Character,
+            },
+            ..
+        } => read_on(bytes, part, plain_end(bytes, at), ended),
+        _ => read_on(bytes, part, at, ended),
+    }
+}
+
+/// The next token from a place on, where `ended` says that no bytes come after these.
+#[tactic(auto, unfolding(crate::specs::Next::next_of))]
+pub fn next_token(bytes: &[u8], from: usize, ended: bool) -> Lexed
+    requires { from ≤ length bytes.now }
+    ensures value { result ≡ next_of bytes.now from ended }
+    ensures within { IsWithin (length bytes.now) from ended result }
+{
+    let at = blank_end(bytes, from);
+    if at == bytes.len() {
+        return read_on(bytes, Part::Blank, at, ended);
+    }
+    match turn_of_first(bytes[at], at) {
+        Turn::Go(part) => read_run(bytes, part, at + 1, ended),
+        Turn::Stop(answer) => answer,
     }
 }

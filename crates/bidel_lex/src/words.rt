@@ -8,7 +8,7 @@ use crate::classes::{continues_word, is_digit_byte};
 use crate::unfinished::{Step, Unfinished};
 
 /// The greatest number of bytes of a word.
-const LONGEST_WORD: u8 = 64;
+pub const LONGEST_WORD: u8 = 64;
 
 /// The greatest value of a number, which only a minus sign before it makes an `i64`.
 const GREATEST_NUMBER: u64 = 1 << 63;
