@@ -8,7 +8,7 @@ use Rattle.row_store.specs.States.{TableState}
 use Rattle.id_memory.specs.States.{MemoryState}
 use Rattle.op_law.specs.Tables.{Tables, contents}
 use Rattle.version_model.specs.Put.{put}
-use Rattle.version_model.specs.Kept.{value_of, latest_of, rows_at, rows_now, newer_rows, pairs_at, pairs_now}
+use Rattle.version_model.specs.Kept.{value_of, latest_of, rows_at, rows_now, newer_rows, pairs_at, pairs_now, newer_pairs}
 use Rattle.version_model.specs.declared.numbered.Numbered.{Numbered}
 use Rattle.version_model.proofs.NumberedLaws.{looked, value_of_first}
 
@@ -20,6 +20,12 @@ rows_push kept made c = fun_ext (λ n.
     let M : Bool → Type 0 = λ b. newer_rows (looked b c (latest_of made n)) (rows_at kept n) ≡ (if b then c.value.rows else rows_now kept made n) in
     let both : M (n == c.number) = elim (n == c.number) as (λ b. M b) [ true ↦ refl | false ↦ refl ] in
     ap (λ (o : Option TableState). newer_rows o (rows_at kept n)) (latest_push made c n) ∙ both)
+
+pub pairs_push : (kept made : List (Numbered MemoryState)) (c : Numbered MemoryState) → pairs_now kept (made ++ c ∷ []) ≡ put (pairs_now kept made) (c.number ∷ []) (c.value.entries ∷ [])
+pairs_push kept made c = fun_ext (λ n.
+    let M : Bool → Type 0 = λ b. newer_pairs (looked b c (latest_of made n)) (pairs_at kept n) ≡ (if b then c.value.entries else pairs_now kept made n) in
+    let both : M (n == c.number) = elim (n == c.number) as (λ b. M b) [ true ↦ refl | false ↦ refl ] in
+    ap (λ (o : Option MemoryState). newer_pairs o (pairs_at kept n)) (latest_push made c n) ∙ both)
 
 -- a table put in front of those that were put
 put_front : (f : ℕ → Rows) (k : ℕ) (ks : List ℕ) (v : Rows) (vs : Tables) → put (put f ks vs) (k ∷ []) (v ∷ []) ≡ put f (k ∷ ks) (v ∷ vs)
