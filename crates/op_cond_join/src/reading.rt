@@ -109,6 +109,16 @@ pub(crate) fn read_source(
     Ok(Side::two(alloc, read.first, read.second)?)
 }
 
+// These two as auxiliary tables.
+fn both(alloc: Global, first: Table, second: Table) -> Result<Aux, Memory>
+    ensures { IfOk result (λ aux. tables_of aux ≡ first.rows ∷ second.rows ∷ []) }
+{
+    let mut tables = List::new(alloc);
+    tables.push(first)?;
+    tables.push(second)?;
+    Ok(Aux { tables })
+}
+
 /// The rows of the source in no pair.
 pub(crate) fn aux_at_target(alloc: Global, pair: &Pair) -> Result<Aux, Memory>
     ensures { IfOk result (λ aux. tables_of aux ≡
@@ -128,8 +138,5 @@ pub(crate) fn aux_at_target(alloc: Global, pair: &Pair) -> Result<Aux, Memory>
         &pair.memory,
         table_in(&pair.source, 1, &none),
     )?;
-    let mut tables = List::new(alloc);
-    tables.push(first)?;
-    tables.push(second)?;
-    Ok(Aux { tables })
+    both(alloc, first, second)
 }
