@@ -42,12 +42,6 @@ pub lexing_ends : (ended : Bool) (part : Part) (at : ℕ) (bytes : List ℕ) →
 unfolding lexed_at
 lexing_ends ended part at bytes h = ap (lexed_at ended part at) (drop_all at bytes h)
 
--- no byte is left, nor comes any
-pub lexing_finishes : (ended : Bool) (part : Part) (at : ℕ) (bytes : List ℕ) → ended ≡ true → at ≡ length bytes
-    → lexed_at ended part at (drop at bytes) ≡ answer_at_end part (length bytes)
-lexing_finishes ended part at bytes e h =
-    lexing_ends ended part at bytes (omega arith) ∙ ap (λ c. cond c (answer_at_end part at) lexed.More) e ∙ ap (answer_at_end part) h
-
 pub ruleset turns = (lexing_goes, lexing_stops, lexing_ends)
 
 -- what the bytes before a place come to can be the beginning of a token that starts there

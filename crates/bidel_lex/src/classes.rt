@@ -3,12 +3,14 @@
 ghost use Rattle.std.specs.Prelude.{◌≡◌};
 ghost use Rattle.bidel_lex.specs.Classes.{is_between, is_digit, is_lone_symbol, is_space, is_word_byte, is_word_start};
 
+/// Whether the byte is white space.
 pub fn is_space_byte(byte: u8) -> bool
     ensures { result ≡ is_space byte }
 {
     matches!(byte, b' ' | b'\t' | b'\r' | b'\n')
 }
 
+/// Whether the byte is a decimal digit.
 pub fn is_digit_byte(byte: u8) -> bool
     ensures { result ≡ is_digit byte }
 {
@@ -39,6 +41,7 @@ pub fn is_lone(byte: u8) -> bool
     )
 }
 
+/// Whether the byte lies between these two, both included.
 pub fn is_within(byte: u8, low: u8, high: u8) -> bool
     ensures { result ≡ is_between low high byte }
 {

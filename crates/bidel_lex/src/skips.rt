@@ -30,7 +30,8 @@ pub fn word_end(bytes: &[u8], from: usize, count: u8) -> usize
     ensures from { from ≤ result }
     ensures within { result ≤ length bytes.now }
     ensures short { count + (result - from) ≤ 255 }
-    ensures same { (ended : Bool) (start : ℕ) → lexed_at ended (Open start (Word (count + (result - from)))) result (drop result bytes.now)
+    ensures same { (ended : Bool) (start : ℕ) → lexed_at ended
+        (Open start (Word (count + (result - from)))) result (drop result bytes.now)
         ≡ lexed_at ended (Open start (Word count)) from (drop from bytes.now) }
 {
     let room = usize::from(LONGEST_WORD.saturating_sub(count));
@@ -47,7 +48,8 @@ pub fn word_end(bytes: &[u8], from: usize, count: u8) -> usize
 pub fn plain_end(bytes: &[u8], from: usize) -> usize
     requires { from ≤ length bytes.now }
     ensures within { result ≤ length bytes.now }
-    ensures same { (ended : Bool) (start : ℕ) → lexed_at ended (Open start (Text Character)) result (drop result bytes.now)
+    ensures same { (ended : Bool) (start : ℕ) → lexed_at ended (Open start (Text Character))
+        result (drop result bytes.now)
         ≡ lexed_at ended (Open start (Text Character)) from (drop from bytes.now) }
 {
     for at in from..bytes.len() {

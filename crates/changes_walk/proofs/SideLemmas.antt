@@ -8,20 +8,18 @@ use Rattle.std.proofs.lemmas.List.{take_at, take_more, drop_more, length-append,
 use Rattle.row_store.specs.declared.change.Change.{Change}
 use Rattle.row_store.specs.Changes.{ChangesRise, AreOld}
 use Rattle.row_store.specs.Rows.{Rows}
-use Rattle.id_memory.specs.Pairs.{Pairs}
-use Rattle.id_memory.specs.States.{MemoryState}
 use Rattle.op_law.specs.Tables.{Tables}
 use Rattle.row_changes.specs.Changed.{TableChanges, AreChangesOf, changed, changed_tables}
 use Rattle.row_changes.specs.Differences.{AreDifferences}
 use Rattle.operator_changes.specs.Pairs.{table_at}
-use Rattle.version_model.specs.Kept.{latest_of, newer_pairs}
+use Rattle.version_model.specs.Kept.{latest_of}
 use Rattle.version_model.specs.Put.{put}
 use Rattle.version_model.specs.States.{State}
 use Rattle.version_model.specs.declared.numbered.Numbered.{Numbered}
 use Rattle.version_model.proofs.NowLaws.{latest_push}
 use Rattle.version_model.proofs.NumberedLaws.{looked}
 use Rattle.version_model.proofs.PutLaws.{EachAt, put_holds}
-use Rattle.changes_walk.specs.Changing.{AreOfState, latest_changes, latest_pairs}
+use Rattle.changes_walk.specs.Changing.{AreOfState, latest_changes}
 
 -- a side changed table by table
 pub changed_map : (f : ℕ → Rows) (g : ℕ → List Change) (ns : List ℕ) → changed_tables (map f ns) (map g ns) ≡ map (λ t. changed (f t) (g t)) ns
@@ -50,12 +48,6 @@ changes_push items c = fun_ext (λ n.
     let M : Bool → Type 0 = λ b. option_map_or (λ (cs : List Change). cs) (looked b c (latest_of items n)) [] ≡ (if b then c.value else latest_changes items n) in
     let both : M (n == c.number) = elim (n == c.number) as (λ b. M b) [ true ↦ refl | false ↦ refl ] in
     ap (λ (o : Option (List Change)). option_map_or (λ (cs : List Change). cs) o []) (latest_push items c n) ∙ both)
-
-pub pairs_push : (old : ℕ → Pairs) (made : List (Numbered MemoryState)) (c : Numbered MemoryState) → latest_pairs old (made ++ c ∷ []) ≡ put (latest_pairs old made) (c.number ∷ []) (c.value.entries ∷ [])
-pairs_push old made c = fun_ext (λ n.
-    let M : Bool → Type 0 = λ b. newer_pairs (looked b c (latest_of made n)) (old n) ≡ (if b then c.value.entries else latest_pairs old made n) in
-    let both : M (n == c.number) = elim (n == c.number) as (λ b. M b) [ true ↦ refl | false ↦ refl ] in
-    ap (λ (o : Option MemoryState). newer_pairs o (old n)) (latest_push made c n) ∙ both)
 
 put_front : (f : ℕ → List Change) (k : ℕ) (ks : List ℕ) (v : List Change) (vs : TableChanges) → put (put f ks vs) (k ∷ []) (v ∷ []) ≡ put f (k ∷ ks) (v ∷ vs)
 put_front f k ks v vs = fun_ext (λ n.

@@ -15,7 +15,8 @@ use par_base::{List, Memory};
 
 /// The least second half of a pair of `s`, or the least behind another, and the pair's identifier.
 fn found_first(memory: &PairMemory, s: u64, after: Option<u64>) -> Option<(u64, u64)>
-    ensures { IsLeastFrom (λ t p. pair_of memory.now.entries p ≡ Some (s, t)) (behind after) result }
+    ensures { IsLeastFrom (λ t p. pair_of memory.now.entries p ≡ Some (s, t))
+        (behind after) result }
 {
     match after {
         Some(t) => memory.next_of_first(s, t),
@@ -25,7 +26,8 @@ fn found_first(memory: &PairMemory, s: u64, after: Option<u64>) -> Option<(u64, 
 
 /// The least first half of a pair of `t`, or the least behind another, and the pair's identifier.
 fn found_second(memory: &PairMemory, t: u64, after: Option<u64>) -> Option<(u64, u64)>
-    ensures { IsLeastFrom (λ s p. pair_of memory.now.entries p ≡ Some (s, t)) (behind after) result }
+    ensures { IsLeastFrom (λ s p. pair_of memory.now.entries p ≡ Some (s, t))
+        (behind after) result }
 {
     match after {
         Some(s) => memory.next_of_second(t, s),

@@ -109,9 +109,7 @@ pub fn auxes_for(alloc: Global, numbers: &[u32]) -> Result<List<Numbered<Aux>>, 
     for number in numbers {
         made.push(Numbered {
             number: *number,
-            value: Aux {
-                tables: List::new(alloc),
-            },
+            value: Aux::none(alloc),
         })?;
     }
     Ok(made)

@@ -89,7 +89,8 @@ fn cross<O: Operator, L: Ledger>(
 }
 
 fn is_passed(layout: &[u32], pass: Pass<'_>, number: u32) -> bool
-    ensures { result ≡ is_passed_lem layout.now pass.entry.operators.now pass.entry.backward number }
+    ensures { result ≡ is_passed_lem layout.now pass.entry.operators.now
+        pass.entry.backward number }
 {
     holds(pass.operators, number)
         && if pass.backward {
@@ -131,7 +132,8 @@ fn pass_down<O: Operator, L: Ledger>(
     sight: Sight<'_>,
     steps: &mut Steps<L>,
 ) -> Result<List<Numbered<Table>>, Memory>
-    requires covers { CoversItself (forest db.now.graph.edges) db.now.layout.operators operators.now }
+    requires covers { CoversItself (forest db.now.graph.edges) db.now.layout.operators
+        operators.now }
     requires may { MaySee O.meaning db.now.graph.edges (state_for O.meaning db.now)
         operators.now sight }
     ensures down { IfOk result (IsDown O.meaning db.now operators.now sight.entry) }
@@ -160,7 +162,8 @@ fn pass_up<O: Operator, L: Ledger>(
     made: &mut List<Numbered<Table>>,
     steps: &mut Steps<L>,
 ) -> Result<(), Memory>
-    requires covers { CoversItself (forest db.now.graph.edges) db.now.layout.operators operators.now }
+    requires covers { CoversItself (forest db.now.graph.edges) db.now.layout.operators
+        operators.now }
     requires may { MaySee O.meaning db.now.graph.edges (state_for O.meaning db.now)
         operators.now sight }
     requires down { IsDown O.meaning db.now operators.now sight made.old }
@@ -191,7 +194,8 @@ pub fn read_over<O: Operator, L: Ledger>(
     sight: Sight<'_>,
     steps: &mut Steps<L>,
 ) -> Result<List<Numbered<Table>>, Memory>
-    requires covers { CoversItself (forest db.now.graph.edges) db.now.layout.operators operators.now }
+    requires covers { CoversItself (forest db.now.graph.edges) db.now.layout.operators
+        operators.now }
     requires may { MaySee O.meaning db.now.graph.edges (state_for O.meaning db.now)
         operators.now sight }
     ensures read { IfOk result (λ read. (t : ℕ)

@@ -75,7 +75,8 @@ fn has_other_key(entry: &(&str, Tree<'_>), key: &str) -> bool
 
 // Lets the members of a key go.
 fn let_go<'a>(members: &mut Vec<(&'a str, Tree<'a>)>, key: &str)
-    ensures { entries_view members.new.items ≡ without_lem key.now (entries_view members.old.items) }
+    ensures { entries_view members.new.items ≡ without_lem key.now
+        (entries_view members.old.items) }
 {
     members.retain(|entry| has_other_key(entry, key));
 }

@@ -74,7 +74,8 @@ fn is_text_of(alloc: Global, operator: &OpText, text: &str) -> Result<bool, Memo
 
 /// The operator, where this is its canonical text.
 fn keep(alloc: Global, operator: OpText, text: &str) -> Result<Option<OpText>, Memory>
-    ensures { IfOk result (λ found. KeepsText text.now (op_view operator) (option_map op_view found)) }
+    ensures { IfOk result (λ found. KeepsText text.now (op_view operator)
+        (option_map op_view found)) }
 {
     match is_text_of(alloc, &operator, text) {
         Ok(true) => Ok(Some(operator)),

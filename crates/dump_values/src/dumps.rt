@@ -193,7 +193,8 @@ fn take_lists(tree: Tree<'_>) -> Option<(Vec<Tree<'_>>, Vec<Tree<'_>>, Vec<Tree<
 }
 
 fn read_kept(alloc: Global, tree: Tree<'_>) -> Result<Option<KeptLines>, Memory>
-    ensures value { IfOk result (λ kept. option_map kept_seen kept ≡ kept_of (tree_view tree.entry)) }
+    ensures value { IfOk result (λ kept. option_map kept_seen kept
+        ≡ kept_of (tree_view tree.entry)) }
     ensures within { IfOk result (λ kept. IfSome kept (λ k. (1 ≤ k.next) × (k.next ≤ 2 ^ 63))) }
 {
     let Some((layout, next)) = layout_and_next(alloc, &tree)? else {
@@ -220,7 +221,8 @@ fn read_kept(alloc: Global, tree: Tree<'_>) -> Result<Option<KeptLines>, Memory>
 /// What the JSON tells, where it spells a dump. The next identifier is from 1 to 2^63. The JSON of a
 /// row is let go once the row was read, so that both are never in memory at once.
 pub fn read_dump(alloc: Global, tree: Tree<'_>) -> Result<Option<DumpLines>, Memory>
-    ensures value { IfOk result (λ dump. option_map dump_seen dump ≡ dump_of (tree_view tree.entry)) }
+    ensures value { IfOk result (λ dump. option_map dump_seen dump
+        ≡ dump_of (tree_view tree.entry)) }
     ensures within { IfOk result
         (λ dump. IfSome dump (λ d. (1 ≤ d.kept.next) × (d.kept.next ≤ 2 ^ 63))) }
 {

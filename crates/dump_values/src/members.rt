@@ -201,7 +201,8 @@ pub(crate) fn items_at<'v, 'a>(tree: &'v Tree<'a>, key: &str) -> Option<&'v [Tre
 
 /// The items of an array.
 pub(crate) fn into_items<'a>(tree: Tree<'a>) -> Option<Vec<Tree<'a>>>
-    ensures { option_map (λ items. trees_view items.items) result ≡ as_array (tree_view tree.entry) }
+    ensures { option_map (λ items. trees_view items.items) result
+        ≡ as_array (tree_view tree.entry) }
 {
     match tree {
         Tree::Array(items) => Some(items),
@@ -211,7 +212,8 @@ pub(crate) fn into_items<'a>(tree: Tree<'a>) -> Option<Vec<Tree<'a>>>
 
 /// Takes out what stands under this key. What stands under another one stays.
 fn take_member<'a>(members: &mut Vec<(&'a str, Tree<'a>)>, key: &str) -> Option<Tree<'a>>
-    ensures value { option_map tree_view result ≡ get_member key.now (entries_view members.old.items) }
+    ensures value { option_map tree_view result
+        ≡ get_member key.now (entries_view members.old.items) }
     ensures others { LeavesOthers key.now (entries_view members.old.items)
         (entries_view members.new.items) }
 {

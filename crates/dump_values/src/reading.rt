@@ -32,7 +32,8 @@ pub(crate) fn next_tree<'a>(
 ) -> Result<Option<Tree<'a>>, Memory>
     ensures value { IfOk result (λ tree. MatchOption tree (value depth reader.old ≡ None)
         (λ t. value depth reader.old ≡ Some (value_view t, reader.new))) }
-    ensures shorter { IfOk result (λ tree. IfSome tree (λ t. length reader.new < length reader.old)) }
+    ensures shorter { IfOk result (λ tree. IfSome tree
+        (λ t. length reader.new < length reader.old)) }
 {
     let Some(token) = reader.next() else {
         return Ok(None);
@@ -74,7 +75,8 @@ fn read_items<'a>(
         (items (value depth) (length reader.old) reader.old ≡ None)
         (λ v. items (value depth) (length reader.old) reader.old
         ≡ Some (tree_items v.items, reader.new))) }
-    ensures shorter { IfOk result (λ found. IfSome found (λ v. length reader.new < length reader.old)) }
+    ensures shorter { IfOk result (λ found. IfSome found
+        (λ v. length reader.new < length reader.old)) }
 {
     let mut found = Vec::new(alloc);
     while !reader.take_end_array() {
@@ -97,7 +99,8 @@ fn read_members<'a>(
         (members (value depth) (length reader.old) reader.old ≡ None)
         (λ v. members (value depth) (length reader.old) reader.old
         ≡ Some (tree_members v.items, reader.new))) }
-    ensures shorter { IfOk result (λ found. IfSome found (λ v. length reader.new < length reader.old)) }
+    ensures shorter { IfOk result (λ found. IfSome found
+        (λ v. length reader.new < length reader.old)) }
 {
     let mut found = Vec::with_capacity(alloc, 1)?;
     loop {

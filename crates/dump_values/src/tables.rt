@@ -35,7 +35,8 @@ fn read_rows(alloc: Global, items: Vec<Tree<'_>>) -> Result<Option<Table>, Memor
 
 /// The table that the tree spells, where it spells one.
 fn read_table(alloc: Global, tree: Tree<'_>) -> Result<Option<Table>, Memory>
-    ensures { IfOk result (λ table. option_map (λ t. t.rows) table ≡ table_of (tree_view tree.entry)) }
+    ensures { IfOk result (λ table. option_map (λ t. t.rows) table
+        ≡ table_of (tree_view tree.entry)) }
 {
     match into_items(tree) {
         Some(items) => read_rows(alloc, items),

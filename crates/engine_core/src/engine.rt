@@ -190,7 +190,8 @@ impl Engine {
         steps: &mut Steps<L>,
     ) -> Result<(), Memory>
         requires { MayFlip self.old operator }
-        ensures flips { OnOk result (state_of self.new ≡ flipped_laid (state_of self.old) operator) }
+        ensures flips { OnOk result (state_of self.new
+            ≡ flipped_laid (state_of self.old) operator) }
         ensures same { OnErr result (self.new ≡ self.old) }
     {
         flip_operator(alloc, &mut self.database, operator, steps)

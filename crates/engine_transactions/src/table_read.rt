@@ -24,7 +24,8 @@ pub struct TableRead {
 
 // The table under a number, by the name by which it was found.
 fn read_at(alloc: Global, name: &TableName, table: u32) -> Result<Option<TableRead>, Memory>
-    ensures { IfOk result (λ read. read ≡ option_map_or (λ version. Some (record { version = version; name = name.now.table; table = table }))
+    ensures { IfOk result (λ read. read ≡ option_map_or
+        (λ version. Some (record { version = version; name = name.now.table; table = table }))
         name.now.version None) }
 {
     match &name.version {

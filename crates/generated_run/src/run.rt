@@ -44,7 +44,8 @@ fn count_refusals<L: Ledger>(
     requires { TextsWithin text_limit (statement_view statement) }
     ensures count { IfOk result (λ count. count
         ≡ refusals (act (standing_of transactions.old) (statement_view statement))) }
-    ensures next { OnOk result (standing_of transactions.new ≡ next_state (standing_of transactions.old)
+    ensures next { OnOk result (standing_of transactions.new
+        ≡ next_state (standing_of transactions.old)
         (act (standing_of transactions.old) (statement_view statement))) }
     ensures texts { TextsCome (statement_view statement) (kept_in transactions.old).graph.edges
         (kept_in transactions.new).graph.edges }

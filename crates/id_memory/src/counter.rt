@@ -53,6 +53,7 @@ impl IdCounter {
         self.limit
     }
 
+    /// An equal counter.
     pub fn copy(&self) -> IdCounter
         ensures { result ≡ self.now }
     {

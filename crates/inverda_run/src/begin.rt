@@ -35,7 +35,8 @@ pub enum NotBegun {
 // The beginning over what was loaded.
 fn resumed(alloc: Global, loaded: Loaded) -> Transactions
     requires built { AreBuiltOn loaded.database.ids.next loaded.database.graph.edges }
-    requires leads { IsPending loaded.database.graph.edges loaded.database.layout.operators loaded.pending }
+    requires leads { IsPending loaded.database.graph.edges loaded.database.layout.operators
+        loaded.pending }
     ensures standing { standing_of result ≡ begun_from loaded }
     ensures kept { kept_in result ≡ loaded.database }
 {

@@ -42,7 +42,8 @@ pub fn generate<K: Sink, F: Files>(
 ) -> End
     requires spelled { AreSpelled (kept_in transactions.old).graph.edges }
     requires counted { HasCounts (standing_of transactions.old).sessions }
-    ensures ends { EndsGenerated (standing_of transactions.old) n (option_map (λ s. s.now) dump.entry)
+    ensures ends { EndsGenerated (standing_of transactions.old) n
+        (option_map (λ s. s.now) dump.entry)
         (F.told files.new) (K.held out.old) (K.held out.new) (K.faults out.old)
         (K.faults out.new) (F.faults files.old) (F.faults files.new) result }
     ensures stays { EndStays (K.faults out.old) (K.faults out.new) result }

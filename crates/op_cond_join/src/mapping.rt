@@ -150,7 +150,8 @@ fn assigning_from(
 ) -> Result<Assigning, Memory>
     ensures first { IfOk result (λ it. it.first.table.rows ≡ first.now.rows) }
     ensures second { IfOk result (λ it. it.second.table.rows ≡ second.now.rows) }
-    ensures taken { IfOk result (λ it. it.taken.entries ≡ kept_entries before.now.rows.now.rows before.now.memory.now.entries new.now.rows) }
+    ensures taken { IfOk result (λ it. it.taken.entries
+        ≡ kept_entries before.now.rows.now.rows before.now.memory.now.entries new.now.rows) }
     ensures knows { IfOk result Knows }
 {
     let first = growing_from(alloc, first)?;

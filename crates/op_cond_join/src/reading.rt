@@ -14,7 +14,7 @@ use crate::joining::joined_table;
 use id_memory::PairMemory;
 use op_law::{Aux, Pair, Side};
 use pair_rows::{Half, alone, aux_in, entries_of, side_read, table_in};
-use par_base::{List, Memory};
+use par_base::Memory;
 use row_store::Table;
 use std::alloc::Global;
 
@@ -109,16 +109,6 @@ pub(crate) fn read_source(
     Ok(Side::two(alloc, read.first, read.second)?)
 }
 
-// These two as auxiliary tables.
-fn both(alloc: Global, first: Table, second: Table) -> Result<Aux, Memory>
-    ensures { IfOk result (λ aux. tables_of aux ≡ first.rows ∷ second.rows ∷ []) }
-{
-    let mut tables = List::new(alloc);
-    tables.push(first)?;
-    tables.push(second)?;
-    Ok(Aux { tables })
-}
-
 /// The rows of the source in no pair.
 pub(crate) fn aux_at_target(alloc: Global, pair: &Pair) -> Result<Aux, Memory>
     ensures { IfOk result (λ aux. tables_of aux ≡
@@ -138,5 +128,5 @@ pub(crate) fn aux_at_target(alloc: Global, pair: &Pair) -> Result<Aux, Memory>
         &pair.memory,
         table_in(&pair.source, 1, &none),
     )?;
-    both(alloc, first, second)
+    Aux::two(alloc, first, second)
 }

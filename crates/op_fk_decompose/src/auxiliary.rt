@@ -187,7 +187,8 @@ fn is_kept<P: RowParts>(
 
 /// The three auxiliary tables, of S and T.
 fn aux_under<P: RowParts>(alloc: Global, parts: &P, s: &Table, t: &Table) -> Result<Aux, Memory>
-    ensures { IfOk result (λ aux. tables_of aux ≡ aux_from (P.parts parts.now) s.now.rows t.now.rows) }
+    ensures { IfOk result (λ aux. tables_of aux ≡ aux_from
+        (P.parts parts.now) s.now.rows t.now.rows) }
 {
     let target = &TargetRows::new(alloc, parts, s, t)?;
     let mut tables = List::new(alloc);

@@ -77,7 +77,8 @@ fn source_under<P: RowParts>(
     s: &Table,
     t: &Table,
 ) -> Result<Table, Memory>
-    ensures { IfOk result (λ table. table.rows ≡ joined_table (P.parts parts.now) s.now.rows t.now.rows) }
+    ensures { IfOk result (λ table. table.rows ≡ joined_table
+        (P.parts parts.now) s.now.rows t.now.rows) }
 {
     table_of(alloc, &TargetRows::new(alloc, parts, s, t)?)
 }

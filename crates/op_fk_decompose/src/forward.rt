@@ -45,7 +45,8 @@ fn new_first_table<P: RowParts>(
     next: u64,
 ) -> Result<Table, Memory>
     requires { next + length values.now ≤ 2 ^ 63 }
-    ensures { IfOk result (λ made. made.rows ≡ new_s (P.parts old.now.by) old.now.s old.now.t next values.now near.now.rows) }
+    ensures { IfOk result (λ made. made.rows ≡ new_s
+        (P.parts old.now.by) old.now.s old.now.t next values.now near.now.rows) }
 {
     let it = NewFirst {
         old,
@@ -65,7 +66,8 @@ fn new_second_table<P: RowParts>(
     referred: &IdSet,
 ) -> Result<Table, Memory>
     requires { AreReferred (P.parts old.now.by) new.now.rows referred.now }
-    ensures { IfOk result (λ made. made.rows ≡ t_from (P.parts old.now.by) old.now.s old.now.t drawn.now.rows near.now.rows new.now.rows) }
+    ensures { IfOk result (λ made. made.rows ≡ t_from
+        (P.parts old.now.by) old.now.s old.now.t drawn.now.rows near.now.rows new.now.rows) }
 {
     let it = NewSecond {
         old,

@@ -38,7 +38,8 @@ impl<'a, P: RowParts> OldTarget<'a, P> {
         s: &'a Table,
         t: &'a Table,
     ) -> Result<OldTarget<'a, P>, Memory>
-        ensures { IfOk result (λ it. it ≡ record { by = parts.now; s = s.now.rows; t = t.now.rows }) }
+        ensures { IfOk result (λ it. it
+            ≡ record { by = parts.now; s = s.now.rows; t = t.now.rows }) }
     {
         let rows = TargetRows::new(alloc, parts, s, t)?;
         let shared = least_rows(alloc, &rows, t)?;

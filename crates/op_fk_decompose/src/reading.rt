@@ -146,7 +146,8 @@ fn second_under<P: RowParts>(
     dangling: &Table,
     kept: &Table,
 ) -> Result<Table, Memory>
-    ensures { let made = get_second (P.parts parts.now) r.now.rows s.now.rows dangling.now.rows kept.now.rows in
+    ensures { let made = get_second
+        (P.parts parts.now) r.now.rows s.now.rows dangling.now.rows kept.now.rows in
         IfOk result (λ table. table.rows ≡ made) }
 {
     let live = LiveKeys { parts, dangling };
@@ -173,7 +174,8 @@ fn target_under<P: RowParts>(
     dangling: &Table,
     kept: &Table,
 ) -> Result<Side, Memory>
-    ensures { let read = read_under (P.parts parts.now) r.now.rows keys.now.rows dangling.now.rows kept.now.rows in
+    ensures { let read = read_under
+        (P.parts parts.now) r.now.rows keys.now.rows dangling.now.rows kept.now.rows in
         IfOk result (λ side. side ≡ read) }
 {
     let s = first_table(alloc, &First { parts, r, keys })?;

@@ -38,7 +38,8 @@ impl<'a, P: RowParts> TargetRows<'a, P> {
         s: &'a Table,
         t: &'a Table,
     ) -> Result<TargetRows<'a, P>, Memory>
-        ensures { IfOk result (λ it. it ≡ record { by = parts.now; s = s.now.rows; t = t.now.rows }) }
+        ensures { IfOk result (λ it. it
+            ≡ record { by = parts.now; s = s.now.rows; t = t.now.rows }) }
     {
         let referred = referred_ids(alloc, parts, s)?;
         Ok(TargetRows {

@@ -63,7 +63,8 @@ fn table_of<P: RowParts>(alloc: Global, it: &Joined<'_, P>) -> Result<Table, Mem
 
 // Whether R is this table.
 fn is_table_of<P: RowParts>(alloc: Global, it: &Joined<'_, P>, r: &Table) -> Result<bool, Memory>
-    ensures { let made = join_table (P.parts it.now.parts.now) it.now.s.now.rows it.now.t.now.rows in
+    ensures { let made = join_table
+        (P.parts it.now.parts.now) it.now.s.now.rows it.now.t.now.rows in
         IfOk result (λ same. IsTrue same ↔ (made ≡ r.now.rows)) }
 {
     let ids = with_ids(alloc, &List::new(alloc), it.s)?;

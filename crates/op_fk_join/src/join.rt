@@ -11,7 +11,7 @@ use crate::reading::source_of;
 use expr_lang::Steps;
 use id_memory::{IdCounter, PairMemory};
 use op_law::{Aux, Far, Operator, Pair, Side};
-use par_base::{Fault, IdsSpent, List, Memory};
+use par_base::{Fault, IdsSpent, Memory};
 use std::alloc::Global;
 use std::sync::ledger::Ledger;
 
@@ -71,9 +71,7 @@ impl Operator for JoinFk {
         _pair: &Pair,
         _steps: &mut Steps<L>,
     ) -> Result<Aux, Memory> {
-        Ok(Aux {
-            tables: List::new(alloc),
-        })
+        Ok(Aux::none(alloc))
     }
 
     fn aux_at_target<L: Ledger>(

@@ -1,5 +1,6 @@
 //! The tables of an operator's side, and the auxiliary tables that are kept beside a stored side.
 ghost use Rattle.std.specs.Prelude.{◌≡◌, ◌≤◌, [], ◌∷◌, length, IfOk};
+ghost use Rattle.op_law.specs.Calls.{tables_of};
 ghost use Rattle.op_law.specs.Tables.{contents};
 
 use par_base::{List, Memory};
@@ -61,6 +62,7 @@ impl Side {
         Ok(Side { tables })
     }
 
+    /// The tables, in the order of the operator's numbers.
     pub fn tables(&self) -> &[Table]
         ensures all { contents result.now ≡ self.now }
         ensures few { length result.now ≤ 2 }
@@ -90,6 +92,27 @@ impl Side {
 #[derive(Drop)]
 pub struct Aux {
     pub tables: List<Table>,
+}
+
+impl Aux {
+    /// No auxiliary tables. It takes no memory.
+    pub fn none(alloc: Global) -> Aux
+        ensures { tables_of result ≡ [] }
+    {
+        Aux {
+            tables: List::new(alloc),
+        }
+    }
+
+    /// Two auxiliary tables.
+    pub fn two(alloc: Global, first: Table, second: Table) -> Result<Aux, Memory>
+        ensures { IfOk result (λ aux. tables_of aux ≡ first.rows ∷ second.rows ∷ []) }
+    {
+        let mut tables = List::new(alloc);
+        tables.push(first)?;
+        tables.push(second)?;
+        Ok(Aux { tables })
+    }
 }
 
 fn copy_tables(alloc: Global, tables: &[Table]) -> Result<List<Table>, Memory>

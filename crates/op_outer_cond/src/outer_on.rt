@@ -1,6 +1,4 @@
 //! The operator: each call hands on to one module.
-ghost use Rattle.std.specs.Prelude.{◌≡◌, []};
-ghost use Rattle.op_law.specs.Calls.{tables_of};
 ghost use Rattle.outer_law.specs.OuterOn.{outer_on};
 ghost use Rattle.outer_law.proofs.BackwardLaws.{outer_on_laws};
 ghost use Rattle.op_outer_cond.specs.Outerings.{joining};
@@ -10,18 +8,9 @@ use crate::{admission, mapping, reading};
 use expr_lang::Steps;
 use id_memory::{IdCounter, PairMemory};
 use op_law::{Aux, Far, Operator, Pair, Side};
-use par_base::{Fault, IdsSpent, List, Memory};
+use par_base::{Fault, IdsSpent, Memory};
 use std::alloc::Global;
 use std::sync::ledger::Ledger;
-
-/// No auxiliary tables. It takes no memory.
-fn no_tables(alloc: Global) -> Aux
-    ensures { tables_of result ≡ [] }
-{
-    Aux {
-        tables: List::new(alloc),
-    }
-}
 
 impl Operator for OuterOn {
     ghost meaning = { λ it. outer_on (joining it) };
@@ -76,7 +65,7 @@ impl Operator for OuterOn {
         _pair: &Pair,
         _steps: &mut Steps<L>,
     ) -> Result<Aux, Memory> {
-        Ok(no_tables(alloc))
+        Ok(Aux::none(alloc))
     }
 
     fn aux_at_target<L: Ledger>(
@@ -85,7 +74,7 @@ impl Operator for OuterOn {
         _pair: &Pair,
         _steps: &mut Steps<L>,
     ) -> Result<Aux, Memory> {
-        Ok(no_tables(alloc))
+        Ok(Aux::none(alloc))
     }
 
     fn admit_target<L: Ledger>(

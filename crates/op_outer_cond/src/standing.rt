@@ -52,7 +52,8 @@ pub(crate) fn standing(
     memory: &PairMemory,
     rows: &Table,
 ) -> Result<Table, Memory>
-    ensures { IfOk result (λ made. made.rows ≡ standing (pick_of half) memory.now.entries rows.now.rows) }
+    ensures { IfOk result (λ made. made.rows ≡ standing
+        (pick_of half) memory.now.entries rows.now.rows) }
 {
     let mut made = Table::new(alloc);
     for row in rows.iter() {

@@ -133,10 +133,12 @@ pub(crate) fn apart_of_decompose(
     crossed: Crossed<'_>,
     wanted: &[u64],
 ) -> Result<List<u64>, Memory>
-    ensures apart { let it = operator.now in IfOk result (ApartOver (decompose_columns it.first it.second it.place)
+    ensures apart { let it = operator.now in IfOk result
+        (ApartOver (decompose_columns it.first it.second it.place)
         (key_place true it.place) crossed.entry.backward
         (Keys keys.now) crossed.entry.near.now.tables crossed.entry.changes.now.tables) }
-    ensures outer { let it = operator.now in IfOk result (ApartOver (flip (decompose_columns it.first it.second it.place))
+    ensures outer { let it = operator.now in IfOk result
+        (ApartOver (flip (decompose_columns it.first it.second it.place))
         (key_place false it.place) crossed.entry.backward
         (Keys keys.now) crossed.entry.near.now.tables crossed.entry.changes.now.tables) }
     ensures holds { IfOk result (AreAmong wanted.now) }

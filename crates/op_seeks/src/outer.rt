@@ -37,7 +37,8 @@ fn met_ids<L: Ledger>(
     wanted: &[u64],
     steps: &mut Steps<L>,
 ) -> Result<List<u64>, Memory>
-    ensures foot { IfOk result (AreOuterFootprint (joining_on rows.now.join.now) (AreTables rows.now)
+    ensures foot { IfOk result (AreOuterFootprint (joining_on rows.now.join.now)
+        (AreTables rows.now)
         memory.now.entries near.now.tables) }
     ensures apart { IfOk result (AreOuterApart (joining_on rows.now.join.now) (AreTables rows.now)
         memory.now.entries near.now.tables) }

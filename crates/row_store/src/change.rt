@@ -48,6 +48,7 @@ impl Changes {
         }
     }
 
+    /// How many changes these are.
     pub fn len(&self) -> usize
         ensures { result ≡ length self.now }
     {

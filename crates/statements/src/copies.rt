@@ -117,7 +117,8 @@ fn copy_decompose_single(
     target: &Name,
     columns: &List<Name>,
 ) -> Result<OpText, Memory>
-    ensures { IfOk result (λ made. op_view made ≡ DecomposeSingle table.now target.now columns.now) }
+    ensures { IfOk result (λ made. op_view made
+        ≡ DecomposeSingle table.now target.now columns.now) }
 {
     Ok(OpText::DecomposeSingle {
         table: table.copy(alloc)?,

@@ -5,6 +5,7 @@ use Rattle.std.proofs.lemmas.List.{reverse-append, take_at, take_more, drop_more
 use mathlib.Core.List.{reverse}
 use Rattle.row_store.specs.Rows.{Rows}
 use Rattle.row_store.specs.States.{TableState}
+use Rattle.id_memory.specs.Pairs.{Pairs}
 use Rattle.id_memory.specs.States.{MemoryState}
 use Rattle.op_law.specs.Tables.{Tables, contents}
 use Rattle.version_model.specs.Put.{put}
@@ -21,11 +22,13 @@ rows_push kept made c = fun_ext (λ n.
     let both : M (n == c.number) = elim (n == c.number) as (λ b. M b) [ true ↦ refl | false ↦ refl ] in
     ap (λ (o : Option TableState). newer_rows o (rows_at kept n)) (latest_push made c n) ∙ both)
 
-pub pairs_push : (kept made : List (Numbered MemoryState)) (c : Numbered MemoryState) → pairs_now kept (made ++ c ∷ []) ≡ put (pairs_now kept made) (c.number ∷ []) (c.value.entries ∷ [])
-pairs_push kept made c = fun_ext (λ n.
-    let M : Bool → Type 0 = λ b. newer_pairs (looked b c (latest_of made n)) (pairs_at kept n) ≡ (if b then c.value.entries else pairs_now kept made n) in
+-- a memory that is put behind those that were made, over any that were before
+pub pairs_push : (old : ℕ → Pairs) (made : List (Numbered MemoryState)) (c : Numbered MemoryState)
+    → (λ n. newer_pairs (latest_of (made ++ c ∷ []) n) (old n)) ≡ put (λ n. newer_pairs (latest_of made n) (old n)) (c.number ∷ []) (c.value.entries ∷ [])
+pairs_push old made c = fun_ext (λ n.
+    let M : Bool → Type 0 = λ b. newer_pairs (looked b c (latest_of made n)) (old n) ≡ (if b then c.value.entries else newer_pairs (latest_of made n) (old n)) in
     let both : M (n == c.number) = elim (n == c.number) as (λ b. M b) [ true ↦ refl | false ↦ refl ] in
-    ap (λ (o : Option MemoryState). newer_pairs o (pairs_at kept n)) (latest_push made c n) ∙ both)
+    ap (λ (o : Option MemoryState). newer_pairs o (old n)) (latest_push made c n) ∙ both)
 
 -- a table put in front of those that were put
 put_front : (f : ℕ → Rows) (k : ℕ) (ks : List ℕ) (v : Rows) (vs : Tables) → put (put f ks vs) (k ∷ []) (v ∷ []) ≡ put f (k ∷ ks) (v ∷ vs)

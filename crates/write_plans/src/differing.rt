@@ -53,9 +53,7 @@ fn aux_before(
 {
     match value_of(kept, number) {
         Some(aux) => aux_seen(alloc, aux, sight),
-        None => Ok(Aux {
-            tables: List::new(alloc),
-        }),
+        None => Ok(Aux::none(alloc)),
     }
 }
 

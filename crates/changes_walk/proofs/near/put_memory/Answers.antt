@@ -5,7 +5,7 @@ use Rattle.id_memory.specs.States.{MemoryState}
 use Rattle.version_model.specs.Put.{put}
 use Rattle.version_model.specs.declared.numbered.Numbered.{Numbered}
 use Rattle.changes_walk.specs.Changing.{latest_pairs}
-use Rattle.changes_walk.proofs.SideLemmas.{pairs_push}
+use Rattle.version_model.proofs.NowLaws.{pairs_push}
 use Rattle.changes_walk.proofs.near.put_memory.Goals as goal
 
 pushed : {R : Type 0} {E : Type 0} (r : Result R E) (made now : List (Numbered MemoryState)) (c : Numbered MemoryState) → OnOk r (now ≡ made ++ c ∷ [])
