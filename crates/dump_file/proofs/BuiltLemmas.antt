@@ -15,9 +15,9 @@ use Rattle.version_model.specs.States.{as_seen, headings}
 use Rattle.version_model.proofs.HeadingLaws.{seen_as}
 use Rattle.op_any.specs.Operators.{AnyView, any_meaning}
 use Rattle.op_any.specs.BuiltOn.{AreBuiltOn, IsBuiltOn}
-use Rattle.op_any.specs.Laws.{headings_taken}
-use Rattle.op_any.proofs.BuiltLaws.{built_suits}
-use Rattle.op_any.proofs.TableListsLaws.{headings_taken-of}
+use Rattle.op_build.specs.Laws.{headings_taken}
+use Rattle.op_build.proofs.BuiltLaws.{built_suits}
+use Rattle.op_build.proofs.TableListsLaws.{headings_taken-of}
 
 -- an operator is built for its tables in a graph, and closed
 pub record IsBuiltFor (next : ℕ) (all : List (Placed AnyView)) (e : Link AnyView) : Type 0 where

@@ -13,7 +13,7 @@ use Rattle.version_graph.proofs.HeadingLaws.{headings_well}
 use Rattle.op_any.specs.Operators.{AnyView}
 use Rattle.op_any.specs.Build.{built}
 use Rattle.op_any.specs.Texts.{TextsFit}
-use Rattle.op_any.proofs.BuiltLaws.{built_suits}
+use Rattle.op_build.proofs.BuiltLaws.{built_suits}
 use Rattle.dump_values.specs.declared.lines.OperatorLine.{OperatorLine}
 use Rattle.dump_graph.specs.Texts.{IsFromText, IsSpelled}
 use Rattle.dump_graph.specs.inner.Texts.{ReadsText}

@@ -19,10 +19,10 @@ use Rattle.version_model.specs.States.{as_seen, headings}
 use Rattle.version_model.specs.Evolving.{AreBuilt}
 use Rattle.version_model.proofs.HeadingLaws.{made_more, seen_as}
 use Rattle.op_any.specs.Operators.{AnyView, any_meaning}
-use Rattle.op_any.specs.Laws.{headings_taken}
+use Rattle.op_build.specs.Laws.{headings_taken}
 use Rattle.op_any.specs.Texts.{TextsFit}
-use Rattle.op_any.proofs.BuiltLaws.{built_suits}
-use Rattle.op_any.proofs.TableListsLaws.{headings_taken-of}
+use Rattle.op_build.proofs.BuiltLaws.{built_suits}
+use Rattle.op_build.proofs.TableListsLaws.{headings_taken-of}
 use Rattle.engine_versions.specs.declared.edges.Counts.{Counts}
 use Rattle.engine_versions.specs.Evolve.{edges_on, target_count, with_one}
 use Rattle.engine_versions.proofs.EdgeLemmas.{none_built, splits}

@@ -14,7 +14,7 @@ use Rattle.version_graph.proofs.HeadingLaws.{headings_stay}
 use Rattle.par_base.specs.Checked.{Checked, ◌then◌}
 use Rattle.op_any.specs.Operators.{AnyView}
 use Rattle.op_any.specs.Build.{built}
-use Rattle.op_any.proofs.BuiltLaws.{built_suits}
+use Rattle.op_build.proofs.BuiltLaws.{built_suits}
 use Rattle.version_model.specs.Evolving.{HasFewTables}
 use Rattle.engine_versions.specs.declared.edges.Counts.{Counts}
 use Rattle.engine_versions.specs.Evolve.{edges_on, room_for, target_count, with_one}

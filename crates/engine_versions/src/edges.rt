@@ -7,7 +7,8 @@ ghost use Rattle.version_graph.specs.Edges.{working};
 ghost use Rattle.par_base.specs.Checked.{Gives};
 ghost use Rattle.engine_versions.specs.Evolve.{counts_of, edges_on, room_for, target_count as target_count_lem, with_one as with_one_lem};
 
-use op_any::{AnyOp, build_op};
+use op_any::AnyOp;
+use op_build::build_op;
 use par_base::{Fault, List, Memory, Name, Refusal};
 use statements::OpText;
 use std::alloc::Global;

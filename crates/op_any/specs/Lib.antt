@@ -3,9 +3,6 @@ pub mod BuildJoins
 pub mod Build
 pub mod Texts
 pub mod BuiltOn
-pub mod Laws
-pub mod Refusals
-pub mod inner
 pub use Rattle.op_kinds.specs.Operators
 pub use Rattle.op_kinds.specs.Codes
 pub use Rattle.op_kinds.specs.Views

@@ -18,7 +18,7 @@ use std::alloc::Global;
 use std::marker::Model;
 use std::sync::ledger::Ledger;
 
-/// An operator of any kind, with the text that built it. Only `build_op` makes one.
+/// An operator of any kind, with the text that built it.
 #[derive(Drop)]
 pub struct AnyOp {
     text: OpText,
@@ -43,7 +43,7 @@ impl Model for AnyOp {
 
 impl AnyOp {
     /// The operator that was built from this text. It takes no memory.
-    pub(crate) fn new(text: OpText, operator: BuiltOp) -> AnyOp
+    pub fn new(text: OpText, operator: BuiltOp) -> AnyOp
         requires { IsOf (op_view text) (built_view operator) }
         ensures { result ≡ record { text = op_view text; operator = built_view operator } }
     {

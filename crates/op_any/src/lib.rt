@@ -1,30 +1,14 @@
-//! How an operator's text builds it.
+//! Any operator, with the text that it was built from.
 //!
-//! It promises the crates above that an operator's text builds exactly what `specs/Build.antt` and
-//! `specs/BuildJoins.antt` say on a working set, or is refused by the first check that it fails; that
-//! an edge which is built fits the working set, and its operator its tables; and that every `AnyOp`
-//! keeps the text that built it on some working set (`IsOf`), and keeps the laws. `specs/Refusals.antt`
-//! says in words of the text in which one order all operators are checked, and which tables with which
-//! columns a built edge has. It knows nothing of versions, of limits on operators, or of stored tables.
+//! It promises the crates above that every `AnyOp` keeps the text that built it on some working set
+//! (`IsOf`), and keeps the laws. What a text builds on a working set, or which check refuses it, is
+//! defined here, in `specs/Build.antt` and `specs/BuildJoins.antt`; `op_build` carries it out. It knows
+//! nothing of versions, of limits on operators, or of stored tables.
 //!
-//! Lemmas that crates above may use stand in proofs/: `TableListsLaws`, `SoundTextsLaws` and
-//! `BuiltLaws`.
+//! Lemmas on the texts in an operator that crates above may use stand in proofs/`SoundTextsLaws`.
 #![tactic(auto)]
 
 mod any_op;
-mod build;
-mod edges;
-mod laws;
-mod plan;
-mod plan_decompose;
-mod plan_joins;
-mod plan_two;
 
 pub use any_op::AnyOp;
-pub use build::build_op;
-pub use laws::{
-    built_edges_fit, built_edges_have_their_tables, built_edges_keep_their_form,
-    built_operators_are_closed, first_failed_check_refuses, first_misdivided_column_is_refused,
-    first_missing_name_is_refused, first_repeated_column_is_refused,
-};
 pub use op_kinds::{BuiltOp, DecomposeFk, JoinFk};

@@ -22,10 +22,10 @@ use Rattle.version_model.proofs.HeadingLaws.{made_more}
 use Rattle.op_law.specs.Tables.{Heading as SeenHeading}
 use Rattle.op_any.specs.Build.{built}
 use Rattle.op_any.specs.Operators.{AnyView, any_meaning}
-use Rattle.op_any.specs.Laws.{headings_taken}
+use Rattle.op_build.specs.Laws.{headings_taken}
 use Rattle.op_any.specs.Texts.{TextsFit}
-use Rattle.op_any.proofs.BuiltLaws.{built_suits}
-use Rattle.op_any.proofs.TableListsLaws.{headings_taken-of}
+use Rattle.op_build.proofs.BuiltLaws.{built_suits}
+use Rattle.op_build.proofs.TableListsLaws.{headings_taken-of}
 use Rattle.engine_sessions.specs.Counts.{Counts}
 use Rattle.engine_sessions.specs.Evolve.{edges_on, room_for, target_count, with_one}
 use Rattle.engine_sessions.proofs.ChainLaws.{both_give, ok_is}

@@ -1,5 +1,0 @@
-use Rattle.op_any.proofs.MadeTables.{built_tables}
-use Rattle.op_any.proofs.laws.built_edges_have_their_tables.Goals as goal
-
-pub returns : goal.returns
-returns c = built_tables

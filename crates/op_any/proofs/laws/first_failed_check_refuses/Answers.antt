@@ -1,8 +1,0 @@
-use Rattle.op_any.proofs.RefusedForms.{caused, first_failed}
-use Rattle.op_any.proofs.laws.first_failed_check_refuses.Goals as goal
-
-pub returns-clause-order : goal.returns-clause-order
-returns-clause-order c = first_failed
-
-pub returns-clause-causes : goal.returns-clause-causes
-returns-clause-causes c = caused

@@ -1,5 +1,0 @@
-use Rattle.op_any.proofs.Placed.{misdivided-first}
-use Rattle.op_any.proofs.laws.first_misdivided_column_is_refused.Goals as goal
-
-pub returns : goal.returns
-returns c = misdivided-first

@@ -1,5 +1,0 @@
-use Rattle.op_any.proofs.Placed.{left_out-first}
-use Rattle.op_any.proofs.laws.first_missing_name_is_refused.Goals as goal
-
-pub returns : goal.returns
-returns c = left_out-first

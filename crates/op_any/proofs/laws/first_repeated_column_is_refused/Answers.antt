@@ -1,5 +1,0 @@
-use Rattle.op_any.proofs.NameLists.{repeated-first}
-use Rattle.op_any.proofs.laws.first_repeated_column_is_refused.Goals as goal
-
-pub returns : goal.returns
-returns c = repeated-first
