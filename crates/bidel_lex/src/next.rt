@@ -1,9 +1,12 @@
 //! The next token: what each byte makes of those before it, from a place on.
 
 ghost use Rattle.std.specs.Prelude.{◌≡◌, ◌≤◌, ◌<◌, ◌^◌, drop, length};
+ghost use Rattle.bidel_lex.specs.declared.next.Part.TheVariants.{Open};
+ghost use Rattle.bidel_lex.specs.declared.texts.Wanted.TheVariants.{Character};
+ghost use Rattle.bidel_lex.specs.declared.unfinished.Unfinished.TheVariants.{Text, Word};
 ghost use Rattle.bidel_lex.specs.Next.{IsWithin, answer_at_end, first_of, first_turn, lexed_at, next_of, opened_by, over_at, step_of, step_turn, turn_at};
 
-use crate::classes::{begins_word, is_digit_byte, is_lone, is_space_byte};
+use crate::classes::{begins_word, continues_word, is_digit_byte, is_lone, is_space_byte};
 use crate::skips::{blank_end, plain_end, word_end};
 use crate::texts::Wanted;
 use crate::tokens::{Lexed, Token, TokenKind};
@@ -165,6 +168,44 @@ fn read_on(bytes: &[u8], first: Part, from: usize, ended: bool) -> Lexed
     }
 }
 
+/// The answer where a word of so many bytes stands before a place.
+fn read_word(bytes: &[u8], start: usize, count: u8, at: usize, ended: bool) -> Lexed
+    requires { at ≤ length bytes.now }
+    ensures { result ≡ lexed_at ended (Open start (Word count)) at (drop at bytes.now) }
+{
+    let end = word_end(bytes, at, count);
+    if end < bytes.len() && !continues_word(bytes[end]) {
+        return Lexed::Token(Token {
+            kind: TokenKind::Word,
+            start,
+            end,
+        });
+    }
+    let length = count + (end - at) as u8;
+    let token = Unfinished::Word { length };
+    read_on(bytes, Part::Open { start, token }, end, ended)
+}
+
+/// The answer where whole characters of a text stand before a place.
+fn read_text(bytes: &[u8], start: usize, at: usize, ended: bool) -> Lexed
+    requires { at ≤ length bytes.now }
+    ensures { result ≡ lexed_at ended (Open start (Text Character)) at (drop at bytes.now) }
+{
+    let quote = plain_end(bytes, at);
+    let end = quote + 1;
+    if end < bytes.len() && bytes[quote] == b'\'' && bytes[end] != b'\'' {
+        return Lexed::Token(Token {
+            kind: TokenKind::Text,
+            start,
+            end,
+        });
+    }
+    let token = Unfinished::Text {
+        wanted: Wanted::Character,
+    };
+    read_on(bytes, Part::Open { start, token }, quote, ended)
+}
+
 /// The answer where the bytes before a place come to a part: the bytes of a word and the plain
 /// characters of a text are passed by at once.
 fn read_run(bytes: &[u8], part: Part, at: usize, ended: bool) -> Lexed
@@ -175,18 +216,13 @@ fn read_run(bytes: &[u8], part: Part, at: usize, ended: bool) -> Lexed
         Part::Open {
             start,
             token: Unfinished::Word { length },
-        } => {
-            let end = word_end(bytes, at, length);
-            let length = length + (end - at) as u8;
-            let token = Unfinished::Word { length };
-            read_on(bytes, Part::Open { start, token }, end, ended)
-        }
+        } => read_word(bytes, start, length, at, ended),
         Part::Open {
+            start,
             token: Unfinished::Text {
                 wanted: Wanted::Character,
             },
-            ..
-        } => read_on(bytes, part, plain_end(bytes, at), ended),
+        } => read_text(bytes, start, at, ended),
         _ => read_on(bytes, part, at, ended),
     }
 }
