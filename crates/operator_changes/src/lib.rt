@@ -23,7 +23,7 @@ pub use auxiliary::aux_changes_over;
 pub use change::FarChanges;
 pub use drawn::add_drawn;
 pub use laws::all_identifiers_are_a_footprint;
-pub use local::{changes_backward, changes_forward, changes_over};
+pub use local::changes_over;
 pub use mapping::changes_by;
 pub use over::{SidesRead, sides_read};
 pub use reader::PairRead;

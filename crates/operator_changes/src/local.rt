@@ -1,7 +1,6 @@
 //! The changes of the far side of an operator that treats each identifier by itself: the
 //! identifiers that the changes name are a footprint of them.
 ghost use Rattle.std.specs.Prelude.{◌≡◌, true};
-ghost use Rattle.op_law.specs.Meaning.{exchanged, flip};
 ghost use Rattle.operator_changes.specs.Calls.{ahead, toward, mapped_changes, ChangesWithin, IsChangedTo, MayChange};
 
 use crate::mapping::changes_by;
@@ -47,51 +46,4 @@ pub fn changes_over<O: Operator, V: PairRead, L: Ledger>(
         ids,
         steps,
     )
-}
-
-/// Exactly the difference between the old target and memory and those that `forward` gives of the
-/// changed source. It is refused exactly where `forward` is, and takes at most six steps for each
-/// identifier that the changes name.
-pub fn changes_forward<O: Operator, V: PairRead, L: Ledger>(
-    alloc: Global,
-    operator: &O,
-    near: &SideChanges,
-    old: &mut V,
-    ids: &mut IdCounter,
-    steps: &mut Steps<L>,
-) -> Result<FarChanges, Fault<IdsSpent>>
-    requires local { (O.meaning operator.now).is_local ≡ true }
-    requires may { MayChange (O.meaning operator.now) near.now.tables (V.pair old.old)
-        ids.old.next }
-
-    ensures answer { IsChangedTo (V.pair old.old) (mapped_changes (O.meaning operator.now)
-        near.now.tables (V.pair old.old) ids.old.next) ids.old ids.new result }
-    ensures same { V.pair old.new ≡ V.pair old.old }
-    ensures steps { ChangesWithin (O.meaning operator.now) near.now.tables steps.old steps.new }
-{
-    changes_over(alloc, operator, false, near, old, ids, steps)
-}
-
-/// Exactly the difference between the old source and memory and those that `backward` gives of the
-/// changed target, likewise.
-pub fn changes_backward<O: Operator, V: PairRead, L: Ledger>(
-    alloc: Global,
-    operator: &O,
-    near: &SideChanges,
-    old: &mut V,
-    ids: &mut IdCounter,
-    steps: &mut Steps<L>,
-) -> Result<FarChanges, Fault<IdsSpent>>
-    requires local { (O.meaning operator.now).is_local ≡ true }
-    requires may { MayChange (flip (O.meaning operator.now)) near.now.tables
-        (exchanged (V.pair old.old)) ids.old.next }
-
-    ensures answer { let p = exchanged (V.pair old.old) in
-        IsChangedTo p (mapped_changes (flip (O.meaning operator.now)) near.now.tables p
-        ids.old.next) ids.old ids.new result }
-    ensures same { V.pair old.new ≡ V.pair old.old }
-    ensures steps { ChangesWithin (flip (O.meaning operator.now)) near.now.tables steps.old
-        steps.new }
-{
-    changes_over(alloc, operator, true, near, old, ids, steps)
 }
