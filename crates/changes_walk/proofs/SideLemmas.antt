@@ -8,6 +8,7 @@ use Rattle.std.proofs.lemmas.List.{take_at, take_more, drop_more, length-append,
 use Rattle.row_store.specs.declared.change.Change.{Change}
 use Rattle.row_store.specs.Changes.{ChangesRise, AreOld}
 use Rattle.row_store.specs.Rows.{Rows}
+use Rattle.id_memory.specs.Pairs.{Pairs}
 use Rattle.op_law.specs.Tables.{Tables}
 use Rattle.row_changes.specs.Changed.{TableChanges, AreChangesOf, changed, changed_tables}
 use Rattle.row_changes.specs.Differences.{AreDifferences}
