@@ -17,7 +17,6 @@ pub use Rattle.engine_transactions.specs.Act as TransactionsAct
 pub use Rattle.engine_transactions.specs.declared.kept.Kept as Transactions
 pub use Rattle.engine_transactions.specs.EngineSessionsStanding as SessionsStanding
 pub use Rattle.engine_transactions.specs.Answer
-pub use Rattle.engine_transactions.specs.EngineSessionsLaws as SessionsLaws
 pub use Rattle.engine_transactions.specs.EngineSessionsTexts as Texts
 pub use Rattle.engine_transactions.specs.Spoken
 pub use Rattle.engine_transactions.specs.EngineCoreKept

@@ -16,8 +16,8 @@ mod watched;
 
 pub use change_feed::{Note, Watcher};
 pub use engine_transactions::{
-    Engine, FoundTable, Sessions, Transactions, answer_text, counts_stay_beside_the_graph,
-    find_table, named_statements_need_no_session, refusal_text, replies_are_lines,
+    Engine, FoundTable, Sessions, Transactions, answer_text, find_table, refusal_text,
+    replies_are_lines,
 };
 pub use laws::{rows_are_counted, watches_are_told};
 pub use watched::Watched;

@@ -1,9 +1,4 @@
 pub mod TextLaws
-mod UseLemmas
-mod AloneLemmas
-mod SessionLemmas
-mod CountLemmas
-pub mod CountLaws
 mod FullLemmas
 mod WriteLemmas
 pub use Rattle.engine_moves.proofs.TextLaws as EngineCoreTextLaws

@@ -4,7 +4,6 @@ pub mod Accesses
 pub mod Act
 pub mod Texts
 pub mod Calls
-pub mod Laws
 pub use Rattle.engine_moves.specs.Spoken
 pub use Rattle.engine_moves.specs.EngineCoreTexts
 pub use Rattle.engine_moves.specs.EngineCoreAct

@@ -7,11 +7,8 @@
 //! SESSION set what is in use, a table without a version is one of the version in use, an IMPORT
 //! inserts the rows of its text and a SELECT .. AS CSV gives its rows as CSV (`specs/InFull.antt`),
 //! each accepted statement on a table counts one access of it (`specs/Accesses.antt`), and ADVISE
-//! tells the cost of each version of a tree by these counts. By the laws of `specs/Laws.antt` a
-//! statement that names its version is answered by the data alone, whatever is in use, is pending
-//! and was counted, sessions change nothing else of what stands, and what is counted are tables that
-//! live. `Sessions::resume` goes on from counts and a pending move that were kept. `answer_text` gives
-//! the lines of answers. For transactions, `Sessions::in_full` tells a statement in full,
+//! tells the cost of each version of a tree by these counts. `Sessions::resume` goes on from counts
+//! and a pending move that were kept. `answer_text` gives the lines of answers. For transactions, `Sessions::in_full` tells a statement in full,
 //! `Sessions::read` answers a SELECT and counts no access, `Sessions::write_undoable` writes what
 //! `Sessions::take_back` takes back, and accesses are counted in advance and put in afterwards. The
 //! crate must not know how statements are written, how data is stored, or where lines go.
@@ -21,7 +18,6 @@ mod answer;
 mod answer_lines;
 mod counts;
 mod in_full;
-mod laws;
 mod sessions;
 mod uses;
 
@@ -33,9 +29,5 @@ pub use engine_moves::{
     replies_are_lines, writes_are_by_identifier, writes_stay_undoable,
 };
 pub use in_full::wants_csv;
-pub use laws::{
-    counts_stay_beside_the_graph, full_statements_need_the_data_alone,
-    named_statements_need_no_session, uses_are_each_sessions_own,
-};
 pub use sessions::Sessions;
 pub use uses::VersionInUse;

@@ -17,7 +17,6 @@ mod HoldLemmas
 mod AtOnceLemmas
 mod KeptLemmas
 pub use Rattle.engine_sessions.proofs.TextLaws
-pub use Rattle.engine_sessions.proofs.CountLaws
 mod AccessLemmas
 mod LeftLemmas
 pub use Rattle.engine_sessions.proofs.ChainLaws

@@ -19,7 +19,6 @@ pub use Rattle.engine_sessions.specs.KeptTexts
 pub use Rattle.engine_sessions.specs.Texts as EngineSessionsTexts
 pub use Rattle.engine_sessions.specs.declared.answer.Answer
 pub use Rattle.engine_sessions.specs.Standing as EngineSessionsStanding
-pub use Rattle.engine_sessions.specs.Laws as EngineSessionsLaws
 pub use Rattle.engine_sessions.specs.Laid
 pub use Rattle.engine_sessions.specs.Act as EngineSessionsAct
 pub use Rattle.engine_sessions.specs.AnyDatabase

@@ -28,8 +28,7 @@ mod table_read;
 mod transactions;
 
 pub use engine_sessions::{
-    Answer, Engine, FoundTable, Sessions, answer_text, counts_stay_beside_the_graph, find_table,
-    named_statements_need_no_session, refusal_text, replies_are_lines,
+    Answer, Engine, FoundTable, Sessions, answer_text, find_table, refusal_text, replies_are_lines,
 };
 pub use executing::Executing;
 pub use held::{Held, HeldRuns};

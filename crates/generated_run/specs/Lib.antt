@@ -16,7 +16,6 @@ pub use Rattle.script_run.specs.TransactionsKept
 pub use Rattle.script_run.specs.TransactionsCalls
 pub use Rattle.script_run.specs.Transactions
 pub use Rattle.script_run.specs.SessionsStanding
-pub use Rattle.script_run.specs.SessionsLaws as Laws
 pub use Rattle.script_run.specs.TransactionsAct as Act
 pub use Rattle.script_run.specs.EngineSessionsTexts as Texts
 pub use Rattle.script_run.specs.Answer

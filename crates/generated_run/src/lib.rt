@@ -10,7 +10,4 @@ mod counting;
 mod run;
 
 pub use run::run_generated;
-pub use script_run::{
-    End, Engine, Sessions, Stream, Transactions, Watched, named_statements_need_no_session,
-    run_source,
-};
+pub use script_run::{End, Engine, Sessions, Stream, Transactions, Watched, run_source};

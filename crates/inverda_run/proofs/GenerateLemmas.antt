@@ -3,7 +3,7 @@ use Rattle.std.specs.Prelude.{Option}
 use Rattle.std.specs.Io.KnownBytes.{Appends}
 use Rattle.std.proofs.Common.{◌≡◌, ℕ, List, take, sym, ap, subst, ◌∙◌, refl, inl, inr}
 use Rattle.outside.specs.Causes.{Rose}
-use Rattle.generated_run.specs.Laws.{HasCounts}
+use Rattle.watch_laws.specs.SessionLawsSessions.{HasCounts}
 use Rattle.generated_run.specs.Standing.{Standing}
 use Rattle.watch_laws.specs.ScriptLawsKept.{ScriptsKeepCounts}
 use Rattle.script_generator.specs.Generated.{generated_script}

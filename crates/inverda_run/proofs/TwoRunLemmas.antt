@@ -18,7 +18,7 @@ use Rattle.generated_run.specs.WatchedAct.{act}
 use Rattle.watch_laws.specs.EngineSessionsAct.{act as act_beside}
 use Rattle.watch_laws.specs.ScriptLawsBeside.{next_state as next_beside, replies as replies_beside, state_after as state_beside, text_of as text_beside}
 use Rattle.watch_laws.proofs.SaidLemmas.{all_beside, differ_at}
-use Rattle.generated_run.specs.Laws.{IsNamed, NeedNoSession, SameButSessions}
+use Rattle.watch_laws.specs.SessionLawsSessions.{IsNamed, NeedNoSession, SameButSessions}
 use Rattle.generated_run.specs.Texts.{answer_bytes}
 use Rattle.generated_run.specs.Answer.{Answer}
 use Rattle.generated_run.specs.Output.{replies as replies_unwatched, state_after as state_unwatched}

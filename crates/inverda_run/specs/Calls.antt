@@ -4,7 +4,7 @@ use Rattle.std.specs.Io.KnownBytes.{Appends}
 use Rattle.outside.specs.Causes.{Rose}
 use Rattle.outside.specs.FileTold.{IsMissing, ToldAs}
 use Rattle.change_feed.specs.Watchers.{WatcherState}
-use Rattle.generated_run.specs.Laws.{HasCounts}
+use Rattle.watch_laws.specs.SessionLawsSessions.{HasCounts}
 use Rattle.generated_run.specs.Transactions.{Kept as Transactions}
 use Rattle.generated_run.specs.Standing.{Standing}
 use Rattle.generated_run.specs.TransactionsKept.{kept_in}

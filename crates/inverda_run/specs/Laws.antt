@@ -9,7 +9,7 @@ use Rattle.change_feed.specs.Watches.{WatchesState}
 use Rattle.generated_run.specs.Standing.{Standing}
 use Rattle.generated_run.specs.WatchedStanding.{Standing as WatchedStanding}
 use Rattle.generated_run.specs.Begun.{DifferInSessions, begun_again}
-use Rattle.generated_run.specs.Laws.{IsNamed}
+use Rattle.watch_laws.specs.SessionLawsSessions.{IsNamed}
 use Rattle.generated_run.specs.WatchedOutput.{out, state_after}
 use Rattle.generated_run.specs.Statuses.{Done, limit}
 use Rattle.inverda_run.specs.Starts.{IsDumpText, Loaded, Told}

@@ -1,7 +1,7 @@
 //! The dump at the end of a run.
 ghost use Rattle.std.specs.Prelude.{◌≡◌, ◌≤◌, ℕ, List, option_map};
 ghost use Rattle.dump_formats.specs.Texts.{AreSpelled};
-ghost use Rattle.generated_run.specs.Laws.{HasCounts};
+ghost use Rattle.watch_laws.specs.SessionLawsSessions.{HasCounts};
 ghost use Rattle.generated_run.specs.SessionsStanding.{kept_in, standing_of};
 ghost use Rattle.generated_run.specs.Standing.{Standing};
 ghost use Rattle.inverda_run.specs.Calls.{DumpsTo, Finishes, WritesBut, WritesTo};

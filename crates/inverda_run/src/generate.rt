@@ -1,7 +1,7 @@
 //! The generated script in place of the source's.
 ghost use Rattle.std.specs.Prelude.{◌≡◌, ◌≤◌, ℕ, List, option_map, IfOk, OnOk};
 ghost use Rattle.dump_formats.specs.Texts.{AreSpelled};
-ghost use Rattle.generated_run.specs.Laws.{HasCounts};
+ghost use Rattle.watch_laws.specs.SessionLawsSessions.{HasCounts};
 ghost use Rattle.generated_run.specs.TransactionsKept.{kept_in};
 ghost use Rattle.generated_run.specs.TransactionsCalls.{standing_of};
 ghost use Rattle.script_generator.specs.Summary.{summary_lines};

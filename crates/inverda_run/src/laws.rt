@@ -2,8 +2,7 @@
 ghost use Rattle.inverda_run.specs.Laws.{BeginsAgain, EachStateHasADump, LoadsTheDumped, OneStart, RunsAreOne, TwoRuns};
 
 use dump_formats::dumps_are_of_one_run;
-use generated_run::named_statements_need_no_session;
-use watch_laws::watches_are_beside;
+use watch_laws::{named_statements_need_no_session, watches_are_beside};
 
 /// A run that loads what another one dumped goes on where that one ended, where both have the same
 /// greatest identifier: together they put what one run of both scripts puts, where the statements of

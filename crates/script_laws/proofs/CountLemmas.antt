@@ -15,8 +15,8 @@ use Rattle.engine_transactions.specs.Moving.{Moving}
 use Rattle.engine_transactions.specs.Answer.{Answer}
 use Rattle.engine_transactions.specs.EngineSessionsStanding.{Standing as SessionsStanding}
 use Rattle.engine_transactions.specs.EngineSessionsAct.{act as act_beside, answer_of}
-use Rattle.engine_transactions.specs.EngineSessionsLaws.{CountsStay, HasCounts}
-use Rattle.engine_transactions.proofs.CountLaws.{AreRaised, counted_raised, living_counted, raised_more}
+use Rattle.session_laws.specs.Sessions.{CountsStay, HasCounts}
+use Rattle.session_laws.proofs.CountLaws.{AreRaised, counted_raised, living_counted, raised_more}
 use Rattle.engine_transactions.specs.declared.table_read.TableRead.{TableRead}
 use Rattle.engine_transactions.specs.Standing.{OpenView, Standing, TransactionView}
 use Rattle.engine_transactions.specs.Meaning.{executing, means}

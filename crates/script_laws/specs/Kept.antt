@@ -6,7 +6,7 @@ use Rattle.statements.specs.Views.{StatementView}
 use Rattle.statements.specs.Texts.{TextsWithin}
 use Rattle.version_graph.specs.Sets.{Each}
 use Rattle.session_laws.specs.Kept.{IsKept}
-use Rattle.engine_transactions.specs.EngineSessionsLaws.{HasCounts}
+use Rattle.session_laws.specs.Sessions.{HasCounts}
 use Rattle.engine_transactions.specs.Act.{act}
 use Rattle.engine_transactions.specs.Standing.{OpenView, Standing}
 use Rattle.engine_transactions.specs.Replies.{next_state, state_after}

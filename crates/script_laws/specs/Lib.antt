@@ -7,6 +7,7 @@ pub mod Written
 pub mod Scripts
 pub use Rattle.session_laws.specs.Kept as SessionLawsKept
 pub use Rattle.session_laws.specs.Said as SessionLawsSaid
+pub use Rattle.session_laws.specs.Sessions as SessionLawsSessions
 pub use Rattle.session_laws.specs.Beside
 pub use Rattle.session_laws.specs.Lines as SessionLawsLines
 pub use Rattle.engine_transactions.specs.Sessions

@@ -7,10 +7,11 @@ ghost use Rattle.script_laws.specs.Scripts.{ScriptsAreOrdinary, ScriptsFit, Scri
 ghost use Rattle.script_laws.specs.Stored.{MovesStoreNamed, StartsLeadToNamed};
 ghost use Rattle.script_laws.specs.Written.{StatementsAreOrdinary};
 
-use engine_transactions::{counts_stay_beside_the_graph, replies_are_lines};
+use engine_transactions::replies_are_lines;
 use session_laws::{
-    answers_are_lines, each_write_is_ordinary, moves_store_what_they_name as moves_store_at_once,
-    said_statements_need_no_session, statements_keep_states,
+    answers_are_lines, counts_stay_beside_the_graph, each_write_is_ordinary,
+    moves_store_what_they_name as moves_store_at_once, said_statements_need_no_session,
+    statements_keep_states,
 };
 
 /// With every MATERIALIZE and every STEP struck out of a script, all other statements but SHOW LAYOUT

@@ -19,4 +19,6 @@ pub use laws::{
     moves_change_no_reply, moves_store_what_they_name, said_scripts_need_no_session,
     scripts_are_ordinary, scripts_keep_counts, scripts_keep_states, statements_are_answered,
 };
-pub use session_laws::{answers_are_lines, statements_keep_states};
+pub use session_laws::{
+    answers_are_lines, named_statements_need_no_session, statements_keep_states,
+};

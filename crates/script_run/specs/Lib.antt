@@ -21,7 +21,6 @@ pub use Rattle.engine_feeds.specs.AnyDatabase
 pub use Rattle.engine_feeds.specs.Begun
 pub use Rattle.engine_feeds.specs.Transactions
 pub use Rattle.engine_feeds.specs.SessionsStanding
-pub use Rattle.engine_feeds.specs.SessionsLaws
 pub use Rattle.engine_feeds.specs.Texts as EngineSessionsTexts
 pub use Rattle.engine_feeds.specs.EngineCoreKept
 pub use Rattle.engine_feeds.specs.Laid

@@ -30,10 +30,7 @@ mod taking;
 mod turn;
 
 pub use end::End;
-pub use engine_feeds::{
-    Engine, FoundTable, Sessions, Transactions, Watched, find_table,
-    named_statements_need_no_session,
-};
+pub use engine_feeds::{Engine, FoundTable, Sessions, Transactions, Watched, find_table};
 pub use laws::text_is_one;
 pub use source::run_source;
 pub use stream::{Next, Stop, Stream};

@@ -1,3 +1,8 @@
+mod UseLemmas
+mod AloneLemmas
+mod SessionLemmas
+mod CountLemmas
+pub mod CountLaws
 mod LineLemmas
 mod MoveLemmas
 mod SaidLemmas

@@ -23,7 +23,7 @@ use Rattle.engine_sessions.specs.Standing.{DifferInSessions, Standing, begun_aga
 use Rattle.engine_sessions.specs.InFull.{in_full, name_in_full, version_of}
 use Rattle.engine_sessions.specs.Accesses.{accessed, is_move}
 use Rattle.engine_sessions.specs.Act.{act, advice_on, answer_of, behind, counted}
-use Rattle.engine_sessions.specs.Laws.{UsesAreOwn}
+use Rattle.session_laws.specs.Sessions.{UsesAreOwn}
 use Rattle.session_laws.specs.Beside.{next_state, replies, state_after, text_of}
 use Rattle.session_laws.specs.Said.{AreSaid, IsKnown, IsSaid, Said, SaidNeedNoSession, nothing_said, said_after, said_use}
 

@@ -1,3 +1,4 @@
+pub mod Sessions
 pub mod Beside
 pub mod Lines
 pub mod Moves

@@ -3,11 +3,32 @@ ghost use Rattle.session_laws.specs.Kept.{DatabasesAreKept, EmptyIsKept, Stateme
 ghost use Rattle.session_laws.specs.Lines.{AnswersAreLines};
 ghost use Rattle.session_laws.specs.Moves.{MovesStoreNamed, StartsLeadToNamed};
 ghost use Rattle.session_laws.specs.Said.{SaidNeedNoSession};
+ghost use Rattle.session_laws.specs.Sessions.{CountsStay, NeedNoSession, NeedTheDataAlone, UsesAreOwn};
 ghost use Rattle.session_laws.specs.Written.{WritesAreOrdinary, WritesInFullAreOrdinary};
 
-use engine_sessions::{
-    moves_store_targets, replies_are_lines, uses_are_each_sessions_own, writes_are_by_identifier,
-};
+use engine_sessions::{moves_store_targets, replies_are_lines, writes_are_by_identifier};
+
+/// A USE sets the version in use of its own session, and no other.
+pub fn uses_are_each_sessions_own()
+    ensures { UsesAreOwn }
+{}
+
+/// A statement that names the version of its table, asks for no advice and is no STEP is answered by
+/// the data alone, whatever is in use, is pending and was counted.
+pub fn full_statements_need_the_data_alone()
+    ensures { NeedTheDataAlone }
+{}
+
+/// A statement that names the version of its table, where it is on one, is answered the same and leaves
+/// the same but for sessions, whatever is in use and whichever session is at hand.
+pub fn named_statements_need_no_session()
+    ensures { NeedNoSession }
+{}
+
+/// What is counted is always counted of tables that live, each once and ascending.
+pub fn counts_stay_beside_the_graph()
+    ensures { CountsStay }
+{}
 
 /// Each answer has one line at least, and its last line ends too, be it rows as CSV or advice.
 pub fn answers_are_lines()

@@ -7,6 +7,7 @@ pub use Rattle.script_laws.specs.Kept as ScriptLawsKept
 pub use Rattle.script_laws.specs.Sessions
 pub use Rattle.script_laws.specs.SessionLawsKept
 pub use Rattle.script_laws.specs.SessionLawsSaid
+pub use Rattle.script_laws.specs.SessionLawsSessions
 pub use Rattle.script_laws.specs.EngineSessionsAct
 pub use Rattle.script_laws.specs.Beside as ScriptLawsBeside
 pub use Rattle.script_laws.specs.Said as ScriptLawsSaid

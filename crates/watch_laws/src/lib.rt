@@ -17,5 +17,6 @@ pub use laws::{
     statements_are_answered, watches_are_beside,
 };
 pub use script_laws::{
-    moves_store_what_they_name, scripts_keep_counts, scripts_keep_states, statements_keep_states,
+    moves_store_what_they_name, named_statements_need_no_session, scripts_keep_counts,
+    scripts_keep_states, statements_keep_states,
 };

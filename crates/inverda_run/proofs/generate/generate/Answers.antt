@@ -1,5 +1,5 @@
 use Rattle.std.proofs.Common.{◌∙◌, ap, subst, sym}
-use Rattle.generated_run.specs.Laws.{HasCounts}
+use Rattle.watch_laws.specs.SessionLawsSessions.{HasCounts}
 use Rattle.generated_run.specs.SessionsStanding.{standing_of as standing_beside}
 use Rattle.generated_run.specs.TransactionsCalls.{standing_of}
 use Rattle.inverda_run.proofs.FinishLemmas.{finish_stays}

@@ -4,7 +4,7 @@ use Rattle.std.proofs.Common.{◌≡◌, ◌⊎◌, inr, map, string_bytes, ℕ,
 use Rattle.op_any.specs.Operators.{AnyView}
 use Rattle.db_state.specs.declared.parts.Parts.{Parts}
 use Rattle.dump_formats.specs.Texts.{AreSpelled}
-use Rattle.generated_run.specs.Laws.{HasCounts}
+use Rattle.watch_laws.specs.SessionLawsSessions.{HasCounts}
 use Rattle.generated_run.specs.Standing.{Standing}
 use Rattle.generated_run.specs.TransactionsCalls.{standing_of as standing_beneath}
 use Rattle.generated_run.specs.WatchedStanding.{Standing as WatchedStanding}

@@ -19,8 +19,8 @@ use Rattle.engine_sessions.specs.Standing.{DifferInSessions, Standing, moving_in
 use Rattle.engine_sessions.specs.InFull.{in_full}
 use Rattle.engine_sessions.specs.Accesses.{accessed, is_move}
 use Rattle.engine_sessions.specs.Act.{act, advice_on, answer_of, behind, counted}
-use Rattle.engine_sessions.specs.Laws.{IsNamed, NeedNoSession, SameButSessions}
-use Rattle.engine_sessions.proofs.AloneLemmas.{same_name}
+use Rattle.session_laws.specs.Sessions.{IsNamed, NeedNoSession, SameButSessions}
+use Rattle.session_laws.proofs.AloneLemmas.{same_name}
 
 module _ (s t : Standing) (is : DifferInSessions s t) where
   -- one answer of the engine

@@ -19,7 +19,7 @@ use Rattle.engine_sessions.specs.Standing.{Standing, moving_in, used_by, with_us
 use Rattle.engine_sessions.specs.InFull.{in_full, name_in_full, version_of}
 use Rattle.engine_sessions.specs.Accesses.{accessed, is_move}
 use Rattle.engine_sessions.specs.Act.{act, answer_of, behind, counted}
-use Rattle.engine_sessions.specs.Laws.{IsFull, NeedTheDataAlone, SameBehind}
+use Rattle.session_laws.specs.Sessions.{IsFull, NeedTheDataAlone, SameBehind}
 
 -- the name of a table with its version says the same whatever is in use
 same_version : (used other named : Option (List ℕ)) → IsSome named → version_of used named ≡ version_of other named

@@ -31,7 +31,7 @@ use Rattle.engine_sessions.specs.Standing.{Standing, moving_in, used_by, with_us
 use Rattle.engine_sessions.specs.InFull.{in_full}
 use Rattle.engine_sessions.specs.Accesses.{accessed, greatest_count, is_move, kept_behind, one_more, raised, raised_by}
 use Rattle.engine_sessions.specs.Act.{advice_on, answer_of, behind, counted}
-use Rattle.engine_sessions.specs.Laws.{CountsStay, HasCounts}
+use Rattle.session_laws.specs.Sessions.{CountsStay, HasCounts}
 
 -- ---- lists of counts that ascend
 

@@ -10,7 +10,7 @@ use Rattle.layout_planner.specs.Counts.{AreCounts, Ascends, counts_in, is_living
 use Rattle.layout_planner.specs.declared.planning.TableCount.{TableCount}
 use Rattle.op_any.specs.Operators.{AnyView}
 use Rattle.engine_sessions.specs.Accesses.{one_more, raised}
-use Rattle.engine_sessions.proofs.CountLemmas.{ascends_kept, ascends_put, each_raised}
+use Rattle.session_laws.proofs.CountLemmas.{ascends_kept, ascends_put, each_raised}
 
 -- each table stands once, ascending, and was accessed
 pub record AreRaised (counts : List TableCount) : Type 0 where

@@ -5,7 +5,7 @@ use Rattle.std.specs.Option.{option_map}
 use Rattle.std.proofs.Common.{◌≡◌, ◌==◌, ℕ, List, [], ◌∷◌, ◌++◌, Bool, true, false, not, cond, filter, refl, sym, ap, ◌∙◌}
 use Rattle.std.proofs.lemmas.Bool.{eq-eqb, eqb-true, false_from_ne_true}
 use Rattle.engine_sessions.specs.declared.uses.VersionInUse.{VersionInUse}
-use Rattle.engine_sessions.specs.Laws.{UsesAreOwn}
+use Rattle.session_laws.specs.Sessions.{UsesAreOwn}
 
 module _ (p : VersionInUse → Bool) (new : VersionInUse) where
   -- without those that meet p

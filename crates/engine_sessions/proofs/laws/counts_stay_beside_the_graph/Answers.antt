@@ -1,5 +1,0 @@
-use Rattle.engine_sessions.proofs.CountLemmas.{counts_stay}
-use Rattle.engine_sessions.proofs.laws.counts_stay_beside_the_graph.Goals as goal
-
-pub returns : goal.returns
-returns c = counts_stay
