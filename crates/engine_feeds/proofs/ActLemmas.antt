@@ -34,9 +34,10 @@ use Rattle.engine_transactions.specs.EngineSessionsStanding.{Standing as Session
 use Rattle.engine_transactions.specs.Answer.{Answer}
 use Rattle.engine_transactions.specs.Answer.TheVariants.{Plain}
 use Rattle.engine_transactions.specs.Act.{act, at_hand, at_once, begun_by, history_behind, named_at, noted, read_of, rolled_back, selected_by}
-use Rattle.engine_transactions.specs.Kinds.{kind_in, writes_rows_in}
-use Rattle.engine_transactions.specs.Standing.{OpenView, Standing, TransactionView}
-use Rattle.engine_transactions.specs.declared.table_read.TableRead.{TableRead}
+use Rattle.tx_history.specs.Kinds.{kind_in, writes_rows_in}
+use Rattle.tx_history.specs.Views.{OpenView, TransactionView}
+use Rattle.engine_transactions.specs.Standing.{Standing}
+use Rattle.tx_history.specs.declared.table_read.TableRead.{TableRead}
 use Rattle.engine_feeds.specs.Plain.{is_plain}
 use Rattle.engine_feeds.proofs.StayLemmas.{Stays, dropped_stays, grown_stays, still}
 

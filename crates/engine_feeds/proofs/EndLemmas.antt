@@ -16,11 +16,12 @@ use Rattle.engine_transactions.specs.EngineSessionsStanding.{Standing as Session
 use Rattle.engine_transactions.specs.Answer.{Answer}
 use Rattle.engine_transactions.specs.Answer.TheVariants.{Plain}
 use Rattle.engine_transactions.specs.Act.{act, at_hand, behind_commit, committed, committed_as, kept_by, named_at, with_transaction, written_by}
-use Rattle.engine_transactions.specs.Kinds.{kind_in, writes_rows_in}
+use Rattle.tx_history.specs.Kinds.{kind_in, writes_rows_in}
 use Rattle.engine_transactions.specs.Leads.{committed_data, data_after, data_behind, open_data, written_data}
 use Rattle.engine_transactions.specs.Meaning.{executing, means}
-use Rattle.engine_transactions.specs.Standing.{OpenView, Standing, TransactionView, with_write}
-use Rattle.engine_transactions.specs.declared.table_read.TableRead.{TableRead}
+use Rattle.tx_history.specs.Views.{OpenView, TransactionView, with_write}
+use Rattle.engine_transactions.specs.Standing.{Standing}
+use Rattle.tx_history.specs.declared.table_read.TableRead.{TableRead}
 use Rattle.version_notes.specs.Runs.{last_of}
 
 -- the data behind the last of some states

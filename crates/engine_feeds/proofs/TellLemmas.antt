@@ -34,13 +34,13 @@ use Rattle.engine_transactions.specs.Act.{act, Answers as AnswersBeneath}
 use Rattle.engine_transactions.specs.Calls.{standing_of as standing_beneath, IsIdle, Keeps}
 use Rattle.engine_transactions.specs.Held.{Holds, IsBack, Settles, answer_in}
 use Rattle.engine_transactions.specs.Kept.{kept_in as kept_beneath}
-use Rattle.engine_transactions.specs.Kinds.{kind_in, writes_rows_in}
+use Rattle.tx_history.specs.Kinds.{kind_in, writes_rows_in}
 use Rattle.engine_transactions.specs.Leads.{LeadAlong, data_behind, data_left}
 use Rattle.engine_transactions.specs.Standing.{Standing as TransactionsStanding}
 use Rattle.engine_transactions.specs.declared.held.Held.{Held}
 use Rattle.engine_transactions.specs.declared.kept.Kept.{Kept as Transactions}
-use Rattle.engine_transactions.specs.declared.statement_kind.StatementKind.{StatementKind}
-use Rattle.engine_transactions.specs.declared.statement_kind.StatementKind.TheVariants as kind
+use Rattle.tx_history.specs.declared.statement_kind.StatementKind.{StatementKind}
+use Rattle.tx_history.specs.declared.statement_kind.StatementKind.TheVariants as kind
 use Rattle.engine_feeds.specs.Act.{acted_by, told_of, watches_behind, Answers}
 use Rattle.engine_feeds.specs.Calls.{standing_with, Carries}
 use Rattle.engine_feeds.specs.Kept.{AreKept}

@@ -26,8 +26,6 @@ pub use Rattle.engine_transactions.specs.EngineSessionsAct
 pub use Rattle.engine_transactions.specs.AnyDatabase
 pub use Rattle.engine_transactions.specs.EngineCoreUndo
 pub use Rattle.engine_transactions.specs.Reply
-pub use Rattle.engine_transactions.specs.declared.table_read.TableRead
-pub use Rattle.engine_transactions.specs.History
 pub use Rattle.engine_transactions.specs.Meaning
 pub use Rattle.engine_transactions.specs.EngineMovesAct
 pub use Rattle.engine_transactions.specs.Moving
@@ -44,9 +42,7 @@ pub use Rattle.version_notes.specs.Notes as VersionNotes
 pub use Rattle.engine_transactions.specs.Told
 pub use Rattle.version_notes.specs.Differences
 pub use Rattle.version_notes.specs.Versions
-pub use Rattle.engine_transactions.specs.Kinds
 pub use Rattle.engine_transactions.specs.Leads
-pub use Rattle.engine_transactions.specs.declared.statement_kind.StatementKind
 pub use Rattle.engine_transactions.specs.KeptTexts
 pub use Rattle.engine_transactions.specs.EngineStatementsCalls
 pub use Rattle.engine_transactions.specs.Found

@@ -2,7 +2,7 @@
 use Rattle.std.specs.Prelude.{◌≡◌, ◌⊎◌, Bool, true, false, []}
 use Rattle.change_feed.specs.Watches.{WatchesState}
 use Rattle.statements.specs.Views.{StatementView, DropVersion}
-use Rattle.engine_transactions.specs.Kinds.{kind_in, writes_rows_in}
+use Rattle.tx_history.specs.Kinds.{kind_in, writes_rows_in}
 
 -- it is no DROP SCHEMA VERSION, with which watches go
 abbrev pub is_plain : StatementView → Bool

@@ -8,19 +8,20 @@ ghost use Rattle.change_feed.specs.Watches.{all_cleared, WatchesState};
 ghost use Rattle.version_notes.specs.Runs.{runs_notes, MayHearAlong};
 ghost use Rattle.engine_transactions.specs.Calls.{IsIdle};
 ghost use Rattle.engine_transactions.specs.Kept.{kept_in as kept_beneath};
-ghost use Rattle.engine_transactions.specs.Kinds.{kind_in, writes_rows_in};
+ghost use Rattle.tx_history.specs.Kinds.{kind_in, writes_rows_in};
 ghost use Rattle.engine_feeds.specs.Act.{acted_by};
 ghost use Rattle.engine_feeds.specs.Calls.{standing_with, Carries};
 ghost use Rattle.engine_feeds.specs.Kept.{AreKept};
 ghost use Rattle.engine_feeds.specs.Plain.{is_plain, HearNothing};
 
 use change_feed::{Watcher, Watches};
-use engine_transactions::{Answer, Kept, writes_rows};
+use engine_transactions::{Answer, Kept};
 use expr_lang::Steps;
 use par_base::{Fault, Memory, Name, Refusal};
 use statements::Statement;
 use std::alloc::Global;
 use std::sync::ledger::Ledger;
+use tx_history::writes_rows;
 use version_notes::prepare_runs;
 
 // Carries out a statement of which no watch is told.

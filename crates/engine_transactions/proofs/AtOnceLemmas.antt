@@ -12,10 +12,9 @@ use Rattle.engine_sessions.specs.Act.{act as act_beside, Answers as AnswersBesid
 use Rattle.engine_sessions.specs.Standing.{Standing as SessionsStanding}
 use Rattle.engine_sessions.specs.declared.answer.Answer.{Answer}
 use Rattle.engine_transactions.specs.Act.{Answers}
-use Rattle.engine_transactions.specs.History.{History, dropped_in, history_of}
-use Rattle.engine_transactions.specs.Kinds.{at_once_with, graph_behind}
+use Rattle.tx_history.specs.History.{History}
+use Rattle.engine_transactions.specs.ByKind.{at_once_with, graph_behind}
 use Rattle.engine_transactions.specs.Standing.{Standing}
-use Rattle.engine_transactions.specs.declared.history.ChangeNumbers.{ChangeNumbers}
 
 -- the answer of the sessions, with the history behind it
 pub given_at_once : (s : Standing) (x : StatementView) (behind : SessionsStanding → History) (r : Result Answer (Fault Refusal)) (next : SessionsStanding) (h : History) → AnswersBeside (act_beside s.sessions x) r next → h ≡ behind next → Answers (at_once_with s x behind) r (record s { sessions = next; history = h })
@@ -45,7 +44,3 @@ plain_behind s (statement.Unwatch number) a b = refl
 plain_behind s statement.Begin a b = refl
 plain_behind s statement.Commit a b = refl
 plain_behind s statement.Rollback a b = refl
-
--- the same drops make the same history
-pub same_drops : (old new : ChangeNumbers) → new.last ≡ old.last → new.changed ≡ old.changed → ((name : List ℕ) → dropped_in new.dropped name ≡ dropped_in old.dropped name) → history_of new ≡ history_of old
-same_drops old new last changed same = λ i. record { last = last i; changed = (history_of (record old { changed = changed i })).changed; dropped = λ name. same name i }

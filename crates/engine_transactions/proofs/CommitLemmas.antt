@@ -28,17 +28,17 @@ use Rattle.engine_sessions.specs.Spoken.{operators_in}
 use Rattle.engine_sessions.specs.Standing.{Standing as SessionsStanding, kept_in, standing_of}
 use Rattle.engine_transactions.specs.Calls.{executed, IsIdle, IsSame, Keeps}
 use Rattle.engine_transactions.specs.Executing.{HaveNumbers, RunsTo, Shows}
-use Rattle.engine_transactions.specs.History.{dropped_in, has_changed, history_of, last_change, number_in, with_changes, with_writes}
+use Rattle.tx_history.specs.History.{dropped_in, history_of, last_change, number_in, with_changes}
+use Rattle.engine_transactions.specs.Changed.{has_changed, with_writes}
 use Rattle.engine_transactions.specs.Meaning.{any_changed, means, means_kept}
-use Rattle.engine_transactions.specs.Opens.{transaction_view}
+use Rattle.tx_history.specs.Opens.{transaction_view}
 use Rattle.engine_transactions.specs.declared.executing.Executing.{Executing}
-use Rattle.engine_transactions.specs.declared.history.ChangeNumbers.{ChangeNumbers}
-use Rattle.engine_transactions.specs.declared.table_read.TableRead.{TableRead}
-use Rattle.engine_transactions.proofs.FreshLemmas.{above, dropped_out, longer, names_in, not_above, not_longer, number_out}
+use Rattle.tx_history.specs.declared.history.ChangeNumbers.{ChangeNumbers}
+use Rattle.tx_history.specs.declared.table_read.TableRead.{TableRead}
+use Rattle.tx_history.proofs.AbsentLaws.{above, dropped_out, longer, names_in, not_above, not_longer, number_out}
 use Rattle.engine_transactions.proofs.MeansLemmas.{Meant, graph_stays, is_meant, limit_stays, stays_outside}
 use Rattle.engine_transactions.proofs.RowLemmas.{told}
-use Rattle.engine_transactions.proofs.SettleLemmas.{is_false}
-use Rattle.engine_transactions.proofs.TestLemmas.{either_last, either_turned}
+use Rattle.tx_history.proofs.TestLaws.{either_last, either_turned, is_false}
 
 -- ---- what is shown where nothing is unsettled
 

@@ -33,13 +33,14 @@ use Rattle.engine_sessions.specs.Act.{written_in}
 use Rattle.engine_sessions.specs.Standing.{Standing as SessionsStanding, kept_in, standing_of}
 use Rattle.engine_sessions.specs.declared.sessions.Sessions.{Sessions}
 use Rattle.engine_transactions.specs.Executing.{HaveNumbers, RunsTo, Shows}
-use Rattle.engine_transactions.specs.History.{dropped_in, has_changed, history_of, last_change, number_in}
+use Rattle.tx_history.specs.History.{dropped_in, history_of, last_change, number_in}
+use Rattle.engine_transactions.specs.Changed.{has_changed}
 use Rattle.engine_transactions.specs.Leads.{Leads}
 use Rattle.engine_transactions.specs.Meaning.{means, means_kept, write_reply}
 use Rattle.engine_transactions.proofs.RowLemmas.{told}
 use Rattle.engine_transactions.specs.declared.executing.Executing.{Executing}
-use Rattle.engine_transactions.specs.declared.history.ChangeNumbers.{ChangeNumbers}
-use Rattle.engine_transactions.specs.declared.table_read.TableRead.{TableRead}
+use Rattle.tx_history.specs.declared.history.ChangeNumbers.{ChangeNumbers}
+use Rattle.tx_history.specs.declared.table_read.TableRead.{TableRead}
 
 -- the runs lead back from every database that has the same rows and holds at least as much
 pub runs_stay : StaysUndoable any_meaning → (now again : Parts AnyView) → IsSame now again → HoldsAtLeast now again → (us : List Undo) (s : SessionsStanding) (rs : List (Unsettled SessionsStanding TableRead)) → RunsTo now us s rs → RunsTo again us s rs

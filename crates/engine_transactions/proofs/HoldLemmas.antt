@@ -1,5 +1,5 @@
 -- The two halves of an event that writes rows.
-use Rattle.std.proofs.Common.{◌≡◌, if◌then◌else◌, ℕ, suc, ◌==◌, ◌-◌, ◌++◌, Bool, true, false, List, [], ◌∷◌, length, take, Option, Some, None, Result, Ok, Err, refl, sym, ap, subst, ◌∙◌, arith}
+use Rattle.std.proofs.Common.{◌≡◌, ℕ, ◌-◌, true, false, List, [], ◌∷◌, Option, Some, None, Result, Ok, Err, refl, sym, ap, subst, ◌∙◌}
 use Rattle.std.specs.Prelude.{OnErr}
 use Rattle.std.proofs.lemmas.Bool.{false≢true}
 use Rattle.par_base.specs.Checked.{Checked}
@@ -18,18 +18,20 @@ use Rattle.engine_sessions.specs.declared.answer.Answer.TheVariants.{Plain}
 use Rattle.engine_transactions.specs.Act.{act, at_once, committed, committed_as, Answers}
 use Rattle.engine_transactions.specs.Calls.{standing_in, standing_of, IsIdle, Keeps}
 use Rattle.engine_transactions.specs.Held.{Holds, HoldsAs, IsBack, IsHeld, IsRun, Settles}
-use Rattle.engine_transactions.specs.Kinds.{acted_by, kind_in, writes_rows_in}
+use Rattle.engine_transactions.specs.ByKind.{acted_by}
+use Rattle.tx_history.specs.Kinds.{kind_in, writes_rows_in}
 use Rattle.engine_transactions.specs.Leads.{LeadAlong, committed_data, data_behind, data_left, open_data}
-use Rattle.engine_transactions.specs.Opens.{opens_view, with_changed, without_last}
+use Rattle.tx_history.specs.Opens.{opens_view, with_changed, without_last}
 use Rattle.engine_transactions.specs.Runs.{alone, settled_in, AreBack, AreRun, AreSettled, HaveRun, HoldsOpen, HoldsWrite, Runs}
-use Rattle.engine_transactions.specs.Standing.{OpenView, Standing, TransactionView, with_write, without_open}
+use Rattle.tx_history.specs.Views.{OpenView, TransactionView, without_open}
+use Rattle.engine_transactions.specs.Standing.{Standing}
 use Rattle.engine_transactions.specs.declared.executing.Executing.{Executing}
 use Rattle.engine_transactions.specs.declared.held.Held.{Held}
 use Rattle.engine_transactions.specs.declared.held.Held.TheVariants as held
 use Rattle.engine_transactions.specs.declared.held.HeldRuns.{HeldRuns}
 use Rattle.engine_transactions.specs.declared.kept.Kept.{Kept}
-use Rattle.engine_transactions.specs.declared.statement_kind.StatementKind.{StatementKind}
-use Rattle.engine_transactions.specs.declared.statement_kind.StatementKind.TheVariants as kind
+use Rattle.tx_history.specs.declared.statement_kind.StatementKind.{StatementKind}
+use Rattle.tx_history.specs.declared.statement_kind.StatementKind.TheVariants as kind
 use Rattle.engine_transactions.proofs.CommitLemmas.{keeps_same, keeps_so}
 use Rattle.engine_transactions.proofs.KindLemmas.{act_by_kind}
 use Rattle.engine_transactions.proofs.LeadLemmas.{leads_along}
@@ -103,37 +105,6 @@ module _ (old : Kept) (now : Executing) (session : ℕ) (own : session ≡ (stan
   commit_fails None (Refused refusal) holds = ap (λ (r : Refusal). Err r) (sym holds)
   commit_fails (Some o) (OutOfMemory memory) holds = tt
   commit_fails None (OutOfMemory memory) holds = tt
-
--- a write that is kept
-forgotten_if : (b : Bool) (o : OpenView) (os rest : List OpenView) (session : ℕ) (f g : TransactionView → TransactionView) → (o.session == session) ≡ b → g (f o.transaction) ≡ o.transaction → with_changed rest session g ≡ os
-    → with_changed (if b then record o { transaction = f o.transaction } ∷ os else o ∷ rest) session g ≡ o ∷ os
-forgotten_if true o os rest session f g is back more =
-    ap (λ (c : Bool). if c then record o { transaction = g (f o.transaction) } ∷ os else record o { transaction = f o.transaction } ∷ with_changed os session g) is
-    ∙ ap (λ (t : TransactionView). record o { transaction = t } ∷ os) back
-forgotten_if false o os rest session f g is back more =
-    ap (λ (c : Bool). if c then record o { transaction = g o.transaction } ∷ rest else o ∷ with_changed rest session g) is
-    ∙ ap (λ (l : List OpenView). o ∷ l) more
-
-pub forgotten : (os : List OpenView) (session : ℕ) (f g : TransactionView → TransactionView) → ((t : TransactionView) → g (f t) ≡ t) → with_changed (with_changed os session f) session g ≡ os
-forgotten [] session f g back = refl
-forgotten (o ∷ os) session f g back = forgotten_if (o.session == session) o os (with_changed os session f) session f g refl (back o.transaction) (forgotten os session f g back)
-
-taken_last : (ws : List StatementView) (x : StatementView) → take (length (ws ++ x ∷ []) - 1) (ws ++ x ∷ []) ≡ ws
-taken_last ws x =
-    let longer = length_more ws x in
-    let many : length (ws ++ x ∷ []) - 1 ≡ length ws = omega (arith, longer) in
-    ap (λ (n : ℕ). take n (ws ++ x ∷ [])) many ∙ taken_all ws x
-  where
-    length_more : (xs : List StatementView) (y : StatementView) → length (xs ++ y ∷ []) ≡ suc (length xs)
-    length_more [] y = refl
-    length_more (z ∷ zs) y = ap suc (length_more zs y)
-
-    taken_all : (xs : List StatementView) (y : StatementView) → take (length xs) (xs ++ y ∷ []) ≡ xs
-    taken_all [] y = refl
-    taken_all (z ∷ zs) y = ap (λ (l : List StatementView). z ∷ l) (taken_all zs y)
-
-pub last_forgotten : (x : StatementView) (t : TransactionView) → without_last (with_write t x) ≡ t
-last_forgotten x t = ap (λ (ws : List StatementView). record { reads = t.reads; writes = ws }) (taken_last t.writes x)
 
 -- by what the statement is
 pub held_as : (old : Kept) (x : StatementView) (k : StatementKind) (result : Result Held (Fault Refusal)) (now : Kept) → kind_in x ≡ k → HoldsAs (acted_by k (standing_of old) x) (λ next. data_left k (standing_of old) next) old result now → HoldsAs (act (standing_of old) x) (data_behind (standing_of old) x) old result now

@@ -11,27 +11,19 @@ use Rattle.engine_state.specs.declared.reply.Reply.TheVariants.{Kept}
 use Rattle.engine_sessions.specs.declared.answer.Answer.{Answer}
 use Rattle.engine_sessions.specs.declared.answer.Answer.TheVariants.{Plain}
 use Rattle.engine_transactions.specs.Act.{Answers, at_hand, kept_by, noted, with_transaction}
-use Rattle.engine_transactions.specs.Kinds.{acted_by, at_once_with, graph_behind, kind_in, read_full, read_told}
-use Rattle.engine_transactions.specs.declared.statement_kind.StatementKind.{StatementKind}
-use Rattle.engine_transactions.specs.declared.statement_kind.StatementKind.TheVariants as kind
+use Rattle.engine_transactions.specs.ByKind.{acted_by, at_once_with, graph_behind, read_full, read_told}
+use Rattle.tx_history.specs.Kinds.{kind_in}
+use Rattle.tx_history.specs.declared.statement_kind.StatementKind.{StatementKind}
+use Rattle.tx_history.specs.declared.statement_kind.StatementKind.TheVariants as kind
 use Rattle.engine_transactions.proofs.KindLemmas.{once_behind}
-use Rattle.engine_transactions.specs.Opens.{noted_in, with_changed}
-use Rattle.engine_transactions.proofs.OpenLemmas.{changed_open, same_changed}
+use Rattle.tx_history.specs.Opens.{noted_in, with_changed}
+use Rattle.tx_history.proofs.OpenLaws.{changed_open, open_none, open_some, same_changed}
 use Rattle.engine_sessions.specs.Act.{read_in}
 use Rattle.engine_transactions.specs.Calls.{IsSame, standing_in}
-use Rattle.engine_transactions.specs.Standing.{OpenView, Standing, TransactionView, open_of, with_write}
+use Rattle.tx_history.specs.Views.{OpenView, TransactionView, open_of, with_write}
+use Rattle.engine_transactions.specs.Standing.{Standing}
 use Rattle.engine_transactions.specs.declared.executing.Executing.{Executing}
-use Rattle.engine_transactions.specs.declared.table_read.TableRead.{TableRead}
-
--- ---- whether a transaction is open
-
-pub open_some : {X : Type 0} (f : OpenView → X) (o : Option OpenView) (x : X) → Some x ≡ option_map f o → (v : OpenView) × ((o ≡ Some v) × (x ≡ f v))
-open_some f (Some v) x h = (v, (refl, cc))
-open_some f None x h = absurd (cc)
-
-pub open_none : {X : Type 0} (f : OpenView → X) (o : Option OpenView) → None ≡ option_map f o → o ≡ None
-open_none f (Some v) h = absurd (cc)
-open_none f None h = refl
+use Rattle.tx_history.specs.declared.table_read.TableRead.{TableRead}
 
 -- ---- a kept write
 

@@ -15,10 +15,12 @@ use Rattle.engine_sessions.specs.Act.{answer_of}
 use Rattle.engine_sessions.specs.Moving.{Moving}
 use Rattle.engine_sessions.specs.declared.answer.Answer.{Answer}
 use Rattle.engine_transactions.specs.Act.{act, at_hand, at_once, kept_by, named_at, noted, read_of, selected_by, written_by}
-use Rattle.engine_transactions.specs.Kinds.{acted_by, at_once_with, full_at, graph_behind, kind_in, selected_in, version_told, written_at, written_full}
-use Rattle.engine_transactions.specs.Standing.{OpenView, Standing}
-use Rattle.engine_transactions.specs.declared.statement_kind.StatementKind.{StatementKind}
-use Rattle.engine_transactions.specs.declared.statement_kind.StatementKind.TheVariants as kind
+use Rattle.engine_transactions.specs.ByKind.{acted_by, at_once_with, full_at, graph_behind, selected_in, written_at, written_full}
+use Rattle.tx_history.specs.Kinds.{kind_in, version_told}
+use Rattle.tx_history.specs.Views.{OpenView}
+use Rattle.engine_transactions.specs.Standing.{Standing}
+use Rattle.tx_history.specs.declared.statement_kind.StatementKind.{StatementKind}
+use Rattle.tx_history.specs.declared.statement_kind.StatementKind.TheVariants as kind
 
 -- what a SELECT reads, beside its layout, beside what is pending, and as it is answered
 abbrev laid_read : Laid → Checked (Reply × AnyDatabase) → Checked (Reply × Laid)

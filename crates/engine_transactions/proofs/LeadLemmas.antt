@@ -14,9 +14,9 @@ use Rattle.engine_transactions.specs.Calls.{executed}
 use Rattle.engine_transactions.specs.Executing.{RunsTo}
 use Rattle.engine_transactions.specs.Leads.{LeadAlong, Leads, data_after}
 use Rattle.engine_transactions.specs.Runs.{AreRun, Runs}
-use Rattle.engine_transactions.specs.Standing.{TransactionView}
+use Rattle.tx_history.specs.Views.{TransactionView}
 use Rattle.engine_transactions.specs.declared.executing.Executing.{Executing}
-use Rattle.engine_transactions.specs.declared.table_read.TableRead.{TableRead}
+use Rattle.tx_history.specs.declared.table_read.TableRead.{TableRead}
 
 -- back from the newest
 abbrev LeadBack : List Undo → SessionsStanding → List (Unsettled SessionsStanding TableRead) → Type 0

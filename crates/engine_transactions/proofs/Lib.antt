@@ -1,12 +1,6 @@
-mod TestLemmas
 mod RowLemmas
-mod NumberLemmas
 mod ExecutingLemmas
 mod SettleLemmas
-mod PlaceLemmas
-mod FreshLemmas
-mod DropLemmas
-mod OpenLemmas
 mod KindLemmas
 mod MeansLemmas
 mod CommitLemmas

@@ -30,9 +30,9 @@ use Rattle.engine_sessions.specs.EngineCoreAct.{planned_write}
 use Rattle.engine_sessions.specs.EngineCoreUndo.{acted_write}
 use Rattle.engine_sessions.specs.Act.{written_in}
 use Rattle.engine_sessions.specs.Standing.{Standing as SessionsStanding}
-use Rattle.engine_transactions.specs.History.{has_changed}
+use Rattle.engine_transactions.specs.Changed.{has_changed}
 use Rattle.engine_transactions.specs.Meaning.{means, write_reply}
-use Rattle.engine_transactions.specs.declared.table_read.TableRead.{TableRead}
+use Rattle.tx_history.specs.declared.table_read.TableRead.{TableRead}
 use Rattle.engine_transactions.proofs.ExecutingLemmas.{made_of}
 
 -- sessions over other data

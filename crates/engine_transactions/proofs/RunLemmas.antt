@@ -23,16 +23,16 @@ use Rattle.session_tx.proofs.FreshLaws.{accepted}
 use Rattle.layout_planner.specs.declared.planning.TableCount.{TableCount}
 use Rattle.engine_state.specs.declared.reply.WriteReply.{WriteReply}
 use Rattle.engine_sessions.specs.Standing.{Standing as SessionsStanding, kept_in, standing_of}
-use Rattle.engine_transactions.specs.Calls.{executed, DropsArePast, IsIdle, IsSame}
+use Rattle.engine_transactions.specs.Calls.{executed, IsIdle, IsSame}
+use Rattle.tx_history.specs.History.{history_of, DropsArePast}
 use Rattle.engine_transactions.specs.Executing.{RunsTo, Shows}
-use Rattle.engine_transactions.specs.History.{history_of}
 use Rattle.engine_transactions.specs.Meaning.{means, means_kept}
-use Rattle.engine_transactions.specs.Opens.{transaction_view}
+use Rattle.tx_history.specs.Opens.{transaction_view}
 use Rattle.engine_transactions.specs.Runs.{alone, AreBack, AreRun, AreSettled, HaveRun, Runs, RunsAll, RunsOne}
-use Rattle.engine_transactions.specs.Standing.{TransactionView}
+use Rattle.tx_history.specs.Views.{TransactionView}
 use Rattle.engine_transactions.specs.declared.executing.Executing.{Executing}
-use Rattle.engine_transactions.specs.declared.history.ChangeNumbers.{ChangeNumbers}
-use Rattle.engine_transactions.specs.declared.table_read.TableRead.{TableRead}
+use Rattle.tx_history.specs.declared.history.ChangeNumbers.{ChangeNumbers}
+use Rattle.tx_history.specs.declared.table_read.TableRead.{TableRead}
 use Rattle.engine_transactions.proofs.CommitLemmas.{AllMeant, all_meant, commit_told, graph_after, history_behind, is_idle, is_same, keeps_behind, sessions_behind, shows_executed, state_after}
 use Rattle.engine_transactions.proofs.LeftLemmas.{keeps_through}
 

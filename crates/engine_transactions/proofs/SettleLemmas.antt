@@ -1,10 +1,9 @@
 -- What the engine shows once runs are settled.
 use Rattle.std.proofs.Common.{◌≡◌, if◌then◌else◌, ℕ, ◌≤◌, ◌==◌, ◌||◌, max, Bool, true, false, not, List, [], ◌∷◌, ◌++◌, length, refl, sym, ap, ◌∙◌, subst, arith}
-use Rattle.std.proofs.lemmas.Bool.{eq-eqb, false≢true}
-use Rattle.std.proofs.lemmas.List.{reverse-append}
+use Rattle.std.proofs.lemmas.Bool.{false≢true}
 use mathlib.Core.List.{reverse}
 use Rattle.version_graph.specs.Edges.{is_in}
-use Rattle.version_graph.specs.Sets.{Each, Within}
+use Rattle.version_graph.specs.Sets.{Within}
 use Rattle.op_law.proofs.OnlyLaws.{by_test}
 use Rattle.op_any.specs.Operators.{AnyView}
 use Rattle.version_model.specs.Kept.{numbers_in}
@@ -13,18 +12,15 @@ use Rattle.engine_sessions.specs.WriteUndo.{Undo}
 use Rattle.session_tx.specs.Calls.{is_changed, last_number, next_number, IsSettled}
 use Rattle.session_tx.specs.Meaning.{Standing as Executed, Unsettled}
 use Rattle.engine_sessions.specs.Standing.{Standing as SessionsStanding, kept_in, standing_of}
-use Rattle.engine_transactions.proofs.TestLemmas.{any_more, any_reverse, chosen_twice, either_turned}
+use Rattle.tx_history.proofs.NumberLaws.{at_most, greater, not_less}
+use Rattle.tx_history.proofs.TestLaws.{any_more, any_reverse, chosen_twice, each_turned, either_turned, first_in, is_false, some_there}
 use Rattle.engine_transactions.specs.Executing.{has_changes, is_changed_by, HasSettled, HaveNumbers, RunsTo, Shows}
-use Rattle.engine_transactions.specs.History.{dropped_in, history_of, last_change, number_in}
+use Rattle.tx_history.specs.History.{dropped_in, history_of, last_change, number_in}
 use Rattle.engine_transactions.specs.declared.executing.Executing.{Executing}
-use Rattle.engine_transactions.specs.declared.history.ChangeNumbers.{ChangeNumbers}
-use Rattle.engine_transactions.specs.declared.table_read.TableRead.{TableRead}
+use Rattle.tx_history.specs.declared.history.ChangeNumbers.{ChangeNumbers}
+use Rattle.tx_history.specs.declared.table_read.TableRead.{TableRead}
 
 -- ---- what runs changed
-
-pub is_false : (b : Bool) → (b ≡ true → ⊥) → b ≡ false
-is_false true h = absurd (h refl)
-is_false false h = refl
 
 changed_is : (now : Parts AnyView) (us : List Undo) (s : SessionsStanding) (rs : List (Unsettled SessionsStanding TableRead)) → RunsTo now us s rs → (read : TableRead) → is_changed rs read ≡ is_changed_by us read.table
 changed_is now [] s [] h read = refl
@@ -34,20 +30,12 @@ changed_is now (u ∷ us) s (r ∷ rs) h read =
     ap (λ (b : Bool). b || is_changed rs read) (h.1.0.changes read)
     ∙ ap (λ (b : Bool). is_in read.table u.changed || b) (changed_is h.0 us r.before rs h.1.1 read)
 
-some_there : (t : ℕ) (ts : List ℕ) → is_in t ts ≡ true → not (length ts == 0) ≡ true
-some_there t [] h = absurd (false≢true h)
-some_there t (x ∷ xs) h = grind arith
-
 any_has : (us : List Undo) (t : ℕ) → is_changed_by us t ≡ true → has_changes us ≡ true
 any_has [] t h = absurd (false≢true h)
 any_has (u ∷ us) t h =
     by_test (is_in t u.changed)
     (λ e. ap (λ (b : Bool). b || has_changes us) (some_there t u.changed e))
     (λ e. ap (λ (b : Bool). not (length u.changed == 0) || b) (any_has us t (sym (ap (λ (b : Bool). b || is_changed_by us t) e) ∙ h)) ∙ either_turned (not (length u.changed == 0)) true)
-
-first_in : (ts : List ℕ) → not (length ts == 0) ≡ true → (t : ℕ) × (is_in t ts ≡ true)
-first_in [] h = absurd (false≢true h)
-first_in (t ∷ ts) h = (t, ap (λ (b : Bool). b || is_in t ts) (eq-eqb t t refl))
 
 has_any : (us : List Undo) → has_changes us ≡ true → (t : ℕ) × (is_changed_by us t ≡ true)
 has_any [] h = absurd (false≢true h)
@@ -69,17 +57,6 @@ pub changed_more : (us : List Undo) (u : Undo) (t last old : ℕ) → (if is_in 
 changed_more us u t last old =
     chosen_twice (is_changed_by us t) (is_in t u.changed) last old
     ∙ ap (λ (b : Bool). if b then last else old) (sym (any_more (λ (x : Undo). is_in t x.changed) us u))
-
--- ---- numbers
-
-pub not_less : (n : ℕ) → n ≤ last_number → n ≤ next_number n
-not_less n h = omega (arith, h)
-
-pub at_most : (n : ℕ) → next_number n ≤ last_number
-at_most n = omega arith
-
-greater : (a b : ℕ) → b ≤ a → max a b ≡ a
-greater a b h = omega (arith, h)
 
 -- SETTLED: the state stays, and each table that a run gave other rows has the new number
 module _ (old new : Executing) (s : Executed SessionsStanding TableRead) (shows : Shows old s) (settled : HasSettled old.numbers old.unsettled.items new.numbers) where
@@ -139,23 +116,6 @@ module _ (old new : Executing) (s : Executed SessionsStanding TableRead) (shows 
     dropped = low;
     within = capped;
   }
-
--- ---- in the other order
-
-module _ {X : Type 0} (P : X → Type 0) where
-  each_left : (xs ys : List X) → Each P (xs ++ ys) → Each P xs
-  each_left [] ys h = tt
-  each_left (x ∷ xs) ys h = (h.0, each_left xs ys h.1)
-
-  each_right : (xs ys : List X) → Each P (xs ++ ys) → Each P ys
-  each_right [] ys h = h
-  each_right (x ∷ xs) ys h = each_right xs ys h.1
-
-  each_turned : (xs : List X) → Each P (reverse xs) → Each P xs
-  each_turned [] h = tt
-  each_turned (x ∷ xs) h =
-      let both = subst (λ (l : List X). Each P l) (reverse-append (x ∷ []) xs) h in
-      ((each_right (reverse xs) (x ∷ []) both).0, each_turned xs (each_left (reverse xs) (x ∷ []) both))
 
 pub have_turned : (tables : List ℕ) (us : List Undo) → HaveNumbers tables (reverse us) → HaveNumbers tables us
 have_turned tables us h = each_turned (λ (u : Undo). Within u.changed tables) us h

@@ -24,16 +24,17 @@ use Rattle.engine_sessions.specs.Standing.{Standing as SessionsStanding, kept_in
 use Rattle.engine_sessions.specs.declared.answer.Answer.{Answer}
 use Rattle.engine_sessions.specs.declared.answer.Answer.TheVariants.{Plain}
 use Rattle.engine_transactions.specs.Calls.{reply_of, standing_in}
-use Rattle.engine_transactions.specs.History.{has_changed, with_writes}
-use Rattle.engine_transactions.specs.Kinds.{kind_in, rows_behind, written_full}
+use Rattle.engine_transactions.specs.Changed.{has_changed, with_writes}
+use Rattle.tx_history.specs.Kinds.{kind_in}
+use Rattle.engine_transactions.specs.ByKind.{rows_behind, written_full}
 use Rattle.engine_transactions.specs.Meaning.{means, write_reply}
 use Rattle.engine_transactions.specs.Runs.{HoldsWrite, RunsOne, settled_in}
 use Rattle.engine_transactions.specs.Standing.{Standing}
 use Rattle.engine_transactions.specs.declared.executing.Executing.{Executing}
-use Rattle.engine_transactions.specs.declared.table_read.TableRead.{TableRead}
+use Rattle.tx_history.specs.declared.table_read.TableRead.{TableRead}
 use Rattle.engine_transactions.proofs.KindLemmas.{IsWrite}
 use Rattle.engine_transactions.proofs.MeansLemmas.{is_meant, means_refused}
-use Rattle.engine_transactions.proofs.TestLemmas.{none_right}
+use Rattle.tx_history.proofs.TestLaws.{none_right}
 
 -- the reply of a write
 pub told_reply : (r : Reply) (done : WriteReply) → write_reply r ≡ Ok done → r ≡ reply_of done

@@ -1,9 +1,9 @@
 -- One event, with transactions: the answer or refusal of a statement, and what stands behind it.
-use Rattle.std.specs.Prelude.{ℕ, ◌==◌, ◌++◌, Bool, false, not, List, [], ◌∷◌, codes, length, map, slice_get, filter_map, Option, Some, None, Result, Ok, Err, if◌then◌else◌}
+use Rattle.std.specs.Prelude.{ℕ, ◌==◌, ◌++◌, Bool, false, not, List, [], ◌∷◌, length, map, filter_map, Option, Some, None, Result, Ok, Err, if◌then◌else◌}
 use Rattle.std.specs.Option.{option_map_or}
 use Rattle.par_base.specs.declared.fault.Fault.{Fault}
 use Rattle.par_base.specs.declared.refusal.Refusal.{Refusal}
-use Rattle.par_base.specs.declared.refusal.Refusal.TheVariants.{HistorySpent, NoTransaction, NoVersionInUse, ReadAfterWrite, Stale, TransactionOpen}
+use Rattle.par_base.specs.declared.refusal.Refusal.TheVariants.{NoTransaction, NoVersionInUse, ReadAfterWrite, TransactionOpen}
 use Rattle.par_base.specs.Checked.{Checked, Gives, ◌then◌}
 use Rattle.statements.specs.Views.{StatementView, Begin, Commit, CreateVersion, Delete, DropVersion, Import, Insert, Rollback, Select, Update}
 use Rattle.statements.specs.declared.statement.TableName.{TableName}
@@ -12,7 +12,6 @@ use Rattle.session_tx.specs.Meaning.{Ran}
 use Rattle.session_tx.specs.Commits.{commit, results}
 use Rattle.session_tx.specs.Serial.{end_of}
 use Rattle.session_tx.specs.declared.commit_fault.CommitFault.{CommitFault}
-use Rattle.session_tx.specs.declared.commit_fault.CommitFault.TheVariants as fault
 use Rattle.engine_state.specs.AnyDatabase.{AnyDatabase}
 use Rattle.engine_sessions.specs.EngineMovesAct.{act as act_in_full}
 use Rattle.engine_state.specs.declared.reply.Reply.TheVariants.{Committed, Done, Kept}
@@ -24,9 +23,12 @@ use Rattle.engine_sessions.specs.InFull.{in_full, name_in_full}
 use Rattle.engine_sessions.specs.Standing.{Standing as SessionsStanding, moving_in, used_by}
 use Rattle.engine_sessions.specs.declared.answer.Answer.{Answer}
 use Rattle.engine_sessions.specs.declared.answer.Answer.TheVariants.{Plain}
-use Rattle.engine_transactions.specs.declared.table_read.TableRead.{TableRead}
-use Rattle.engine_transactions.specs.History.{History, has_changed, with_drop, with_version, with_writes}
-use Rattle.engine_transactions.specs.Standing.{OpenView, Standing, TransactionView, no_transaction, open_of, with_open, with_read, with_write, without_open}
+use Rattle.tx_history.specs.declared.table_read.TableRead.{TableRead}
+use Rattle.tx_history.specs.History.{History, with_drop, with_version}
+use Rattle.tx_history.specs.Refused.{refusal_of}
+use Rattle.engine_transactions.specs.Changed.{has_changed, with_writes}
+use Rattle.tx_history.specs.Views.{OpenView, TransactionView, no_transaction, open_of, with_open, with_read, with_write, without_open}
+use Rattle.engine_transactions.specs.Standing.{Standing}
 use Rattle.engine_transactions.specs.Meaning.{any_changed, executing, means}
 
 -- ---- the transaction at hand
@@ -81,16 +83,6 @@ kept_by s t None statement = Err NoVersionInUse
 kept_by s t (Some version) statement = Ok (Plain Kept, with_transaction s (with_write t statement))
 
 -- ---- COMMIT
-
--- the table of a read, as it is told: `tasky.task`
-abbrev pub told_read : TableRead → List ℕ
-told_read read = read.version ++ codes "." ++ read.name
-
--- why a commit is refused, where these were the reads
-abbrev pub refusal_of : List (TableRead × ℕ) → CommitFault → Refusal
-refusal_of reads fault.HistorySpent = HistorySpent
-refusal_of reads (fault.Stale index read changed) = Stale (option_map_or (λ (r : TableRead × ℕ). told_read r.0) (slice_get reads index) []) read changed
-refusal_of reads (fault.Write refusal) = refusal
 
 -- the table versions that a transaction accesses: those that it read, and then those that it writes
 abbrev pub accesses_of : AnyDatabase → TransactionView → List ℕ

@@ -1,5 +1,5 @@
 -- Where what is kept stands, and what inner calls do.
-use Rattle.std.specs.Prelude.{◌≡◌, ℕ, ◌≤◌, List, []}
+use Rattle.std.specs.Prelude.{◌≡◌, ◌≤◌, List, []}
 use Rattle.statements.specs.Views.{StatementView}
 use Rattle.session_tx.specs.Calls.{last_number}
 use Rattle.session_tx.specs.Meaning.{Standing as Executed}
@@ -9,13 +9,13 @@ use Rattle.engine_state.specs.declared.reply.Reply.TheVariants as reply
 use Rattle.engine_state.specs.declared.reply.WriteReply.{WriteReply}
 use Rattle.engine_state.specs.declared.reply.WriteReply.TheVariants as write
 use Rattle.engine_sessions.specs.Standing.{Standing as SessionsStanding, kept_in, standing_of as standing_beside}
-use Rattle.engine_transactions.specs.History.{dropped_in, history_of, last_change}
-use Rattle.engine_transactions.specs.Opens.{opens_view}
-use Rattle.engine_transactions.specs.Standing.{OpenView, Standing}
+use Rattle.tx_history.specs.History.{history_of, last_change, DropsArePast}
+use Rattle.tx_history.specs.Opens.{opens_view}
+use Rattle.tx_history.specs.Views.{OpenView}
+use Rattle.engine_transactions.specs.Standing.{Standing}
 use Rattle.engine_transactions.specs.declared.executing.Executing.{Executing}
-use Rattle.engine_transactions.specs.declared.history.ChangeNumbers.{ChangeNumbers}
 use Rattle.engine_transactions.specs.declared.kept.Kept.{Kept}
-use Rattle.engine_transactions.specs.declared.table_read.TableRead.{TableRead}
+use Rattle.tx_history.specs.declared.table_read.TableRead.{TableRead}
 
 -- ---- WHERE WHAT IS KEPT STANDS
 
@@ -25,10 +25,6 @@ standing_in at opens = record { sessions = standing_beside at.sessions; history 
 
 abbrev pub standing_of : Kept → Standing
 standing_of kept = standing_in kept.executing (opens_view kept.opens.items)
-
--- no name was dropped later than the last number
-abbrev pub DropsArePast : ChangeNumbers → Type 0
-DropsArePast numbers = (name : List ℕ) → dropped_in numbers.dropped name ≤ numbers.last
 
 -- between two statements no write is unsettled
 pub record IsIdle (at : Executing) : Type 0 where

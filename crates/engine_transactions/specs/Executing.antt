@@ -15,11 +15,11 @@ use Rattle.session_tx.specs.Calls.{last_number, next_number}
 use Rattle.session_tx.specs.Meaning.{Standing as Executed, Unsettled}
 use Rattle.engine_sessions.specs.EngineCoreKept.{state_of}
 use Rattle.engine_sessions.specs.Standing.{Standing as SessionsStanding, kept_in, standing_of}
-use Rattle.engine_transactions.specs.History.{dropped_in, history_of, last_change, number_in}
+use Rattle.tx_history.specs.History.{dropped_in, history_of, last_change, number_in}
 use Rattle.engine_transactions.specs.Leads.{Leads}
 use Rattle.engine_transactions.specs.declared.executing.Executing.{Executing}
-use Rattle.engine_transactions.specs.declared.history.ChangeNumbers.{ChangeNumbers}
-use Rattle.engine_transactions.specs.declared.table_read.TableRead.{TableRead}
+use Rattle.tx_history.specs.declared.history.ChangeNumbers.{ChangeNumbers}
+use Rattle.tx_history.specs.declared.table_read.TableRead.{TableRead}
 
 -- a run that isn't settled: what is kept of it leads from the database now to the one before it, which stood there, and tells the tables that got other rows, and by which changes
 pub record IsRunTo (before now : Parts AnyView) (undo : Undo) (s : SessionsStanding) (run : Unsettled SessionsStanding TableRead) : Type 0 where

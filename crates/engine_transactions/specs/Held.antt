@@ -14,9 +14,10 @@ use Rattle.engine_sessions.specs.declared.answer.Answer.{Answer}
 use Rattle.engine_sessions.specs.declared.answer.Answer.TheVariants.{Plain}
 use Rattle.engine_transactions.specs.Calls.{standing_of, IsIdle, Keeps}
 use Rattle.engine_transactions.specs.Leads.{LeadAlong}
-use Rattle.engine_transactions.specs.Opens.{opens_view, with_changed, without_last}
+use Rattle.tx_history.specs.Opens.{opens_view, with_changed, without_last}
 use Rattle.engine_transactions.specs.Runs.{settled_in, AreRun, Runs}
-use Rattle.engine_transactions.specs.Standing.{OpenView, Standing, TransactionView, without_open}
+use Rattle.tx_history.specs.Views.{OpenView, TransactionView, without_open}
+use Rattle.engine_transactions.specs.Standing.{Standing}
 use Rattle.engine_transactions.specs.declared.held.Held.{Held}
 use Rattle.engine_transactions.specs.declared.held.Held.TheVariants as held
 use Rattle.engine_transactions.specs.declared.kept.Kept.{Kept}

@@ -11,12 +11,13 @@ use Rattle.engine_state.specs.declared.reply.WriteReply.{WriteReply}
 use Rattle.engine_sessions.specs.EngineCoreUndo.{TellsTables}
 use Rattle.engine_sessions.specs.Standing.{Standing as SessionsStanding}
 use Rattle.engine_transactions.specs.Act.{at_hand}
-use Rattle.engine_transactions.specs.Kinds.{kind_in}
+use Rattle.tx_history.specs.Kinds.{kind_in}
 use Rattle.engine_transactions.specs.Meaning.{executing, means}
-use Rattle.engine_transactions.specs.Standing.{OpenView, Standing}
-use Rattle.engine_transactions.specs.declared.statement_kind.StatementKind.{StatementKind}
-use Rattle.engine_transactions.specs.declared.statement_kind.StatementKind.TheVariants as kind
-use Rattle.engine_transactions.specs.declared.table_read.TableRead.{TableRead}
+use Rattle.tx_history.specs.Views.{OpenView}
+use Rattle.engine_transactions.specs.Standing.{Standing}
+use Rattle.tx_history.specs.declared.statement_kind.StatementKind.{StatementKind}
+use Rattle.tx_history.specs.declared.statement_kind.StatementKind.TheVariants as kind
+use Rattle.tx_history.specs.declared.table_read.TableRead.{TableRead}
 
 -- a run led from one state of the data to the other: what takes it back tells the tables that got other rows, and by which changes
 pub record Leads (old new : AnyDatabase) (undo : Undo) : Type 0 where

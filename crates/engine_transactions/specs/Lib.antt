@@ -1,4 +1,4 @@
-pub mod History
+pub mod Changed
 pub mod Standing
 pub mod Meaning
 pub mod Executing
@@ -7,8 +7,7 @@ pub mod Leads
 pub mod Begun
 pub mod Serial
 pub mod Replies
-pub mod Opens
-pub mod Kinds
+pub mod ByKind
 pub mod Calls
 pub mod Kept
 pub mod Runs

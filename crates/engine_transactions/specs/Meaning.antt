@@ -11,8 +11,9 @@ use Rattle.engine_state.specs.declared.reply.WriteReply.{WriteReply}
 use Rattle.engine_state.specs.declared.reply.WriteReply.TheVariants as write
 use Rattle.engine_sessions.specs.Act.{written_in}
 use Rattle.engine_sessions.specs.Standing.{Standing as SessionsStanding}
-use Rattle.engine_transactions.specs.declared.table_read.TableRead.{TableRead}
-use Rattle.engine_transactions.specs.History.{has_changed, last_change}
+use Rattle.tx_history.specs.declared.table_read.TableRead.{TableRead}
+use Rattle.engine_transactions.specs.Changed.{has_changed}
+use Rattle.tx_history.specs.History.{last_change}
 use Rattle.engine_transactions.specs.Standing.{Standing}
 
 -- the reply to a write; no other statement is one

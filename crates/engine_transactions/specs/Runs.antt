@@ -19,15 +19,18 @@ use Rattle.engine_sessions.specs.Calls.{IsAnswer}
 use Rattle.engine_sessions.specs.Standing.{Standing as SessionsStanding, kept_in, standing_of as standing_beside}
 use Rattle.engine_sessions.specs.declared.answer.Answer.{Answer}
 use Rattle.engine_sessions.specs.declared.answer.Answer.TheVariants.{Plain}
-use Rattle.engine_transactions.specs.Act.{accesses_of, raised_all, refusal_of}
+use Rattle.engine_transactions.specs.Act.{accesses_of, raised_all}
+use Rattle.tx_history.specs.Refused.{refusal_of}
 use Rattle.engine_transactions.specs.Calls.{executed, standing_in, IsIdle, IsSame, Keeps}
 use Rattle.engine_transactions.specs.Executing.{Shows}
-use Rattle.engine_transactions.specs.History.{history_of, with_writes}
+use Rattle.tx_history.specs.History.{history_of}
+use Rattle.engine_transactions.specs.Changed.{with_writes}
 use Rattle.engine_transactions.specs.Meaning.{any_changed, means}
-use Rattle.engine_transactions.specs.Standing.{OpenView, Standing, TransactionView}
+use Rattle.tx_history.specs.Views.{OpenView, TransactionView}
+use Rattle.engine_transactions.specs.Standing.{Standing}
 use Rattle.engine_transactions.specs.declared.executing.Executing.{Executing}
 use Rattle.engine_transactions.specs.declared.held.HeldRuns.{HeldRuns}
-use Rattle.engine_transactions.specs.declared.table_read.TableRead.{TableRead}
+use Rattle.tx_history.specs.declared.table_read.TableRead.{TableRead}
 
 -- runs in their order
 abbrev pub Runs : Type 0

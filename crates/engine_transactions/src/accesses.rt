@@ -6,9 +6,8 @@ ghost use Rattle.db_state.specs.Fields.{database_for};
 ghost use Rattle.engine_sessions.specs.Accesses.{accessed};
 ghost use Rattle.engine_sessions.specs.Standing.{standing_of};
 ghost use Rattle.engine_transactions.specs.Act.{accesses_of, raised_all};
-ghost use Rattle.engine_transactions.specs.Opens.{one_of, transaction_view};
+ghost use Rattle.tx_history.specs.Opens.{one_of, transaction_view};
 
-use crate::{KeptWrite, TableRead};
 use db_state::Db;
 use engine_sessions::{Sessions, copy_counts, find_accessed, raise};
 use layout_planner::TableCount;
@@ -16,17 +15,7 @@ use op_any::AnyOp;
 use par_base::{List, Memory};
 use session_tx::Transaction;
 use std::alloc::Global;
-
-// The tables that were read.
-fn read_tables(alloc: Global, reads: &[(TableRead, u64)]) -> Result<List<u32>, Memory>
-    ensures { IfOk result (λ tables. tables ≡ map (λ read. read.0.table) reads.now) }
-{
-    let mut tables = List::new(alloc);
-    for read in reads {
-        tables.push(read.0.table)?;
-    }
-    Ok(tables)
-}
+use tx_history::{KeptWrite, TableRead, read_tables};
 
 // Puts the table of a write behind the others.
 fn push_accessed(

@@ -6,18 +6,18 @@ ghost use Rattle.statements.specs.Views.{statement_view, DropVersion};
 ghost use Rattle.engine_sessions.specs.Calls.{IsAnswer};
 ghost use Rattle.engine_transactions.specs.Act.{Answers};
 ghost use Rattle.engine_transactions.specs.Calls.{standing_in, IsIdle, IsSame, Keeps};
-ghost use Rattle.engine_transactions.specs.History.{with_drop, with_version};
-ghost use Rattle.engine_transactions.specs.Kinds.{at_once_with, graph_behind};
-ghost use Rattle.engine_transactions.specs.Standing.{OpenView};
+ghost use Rattle.tx_history.specs.History.{with_drop, with_version};
+ghost use Rattle.engine_transactions.specs.ByKind.{at_once_with, graph_behind};
+ghost use Rattle.tx_history.specs.Views.{OpenView};
 
 use crate::Executing;
-use crate::history::{keep_drop, number_drop};
 use engine_sessions::Answer;
 use expr_lang::Steps;
 use par_base::{Fault, Name, Refusal};
 use statements::Statement;
 use std::alloc::Global;
 use std::sync::ledger::Ledger;
+use tx_history::{keep_drop, number_drop};
 
 // One that no number stands for.
 fn pass<L: Ledger>(

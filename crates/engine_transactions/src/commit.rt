@@ -1,31 +1,31 @@
 //! Writes outside a transaction, and the COMMIT of a transaction: they are run, and then settled or
 //! taken back.
-ghost use Rattle.std.specs.Prelude.{◌≡◌, slice_get, List, [], IfOk, OnErr};
-ghost use Rattle.std.specs.Option.{option_map_or};
+ghost use Rattle.std.specs.Prelude.{◌≡◌, OnErr};
 ghost use Rattle.expr_lang.specs.Operations.{text_limit};
 ghost use Rattle.statements.specs.Texts.{TextsWithin};
 ghost use Rattle.statements.specs.Views.{statement_view};
-ghost use Rattle.engine_transactions.specs.Act.{at_once as at_once_lem, refusal_of as refusal_of_lem, told_read as told_read_lem};
+ghost use Rattle.engine_transactions.specs.Act.{at_once as at_once_lem};
 ghost use Rattle.engine_transactions.specs.Calls.{reply_of as reply_of_lem, standing_in, IsIdle, IsSame};
-ghost use Rattle.engine_transactions.specs.Kinds.{kind_in, written_full};
-ghost use Rattle.engine_transactions.specs.Opens.{opens_view, transaction_view};
+ghost use Rattle.tx_history.specs.Kinds.{kind_in};
+ghost use Rattle.engine_transactions.specs.ByKind.{written_full};
+ghost use Rattle.tx_history.specs.Opens.{opens_view, transaction_view};
 ghost use Rattle.engine_transactions.specs.Runs.{AreBack, AreRun, AreSettled, HaveRun, HoldsCommit, HoldsOpen, HoldsWrite, Runs, RunsAll, RunsOne};
-ghost use Rattle.engine_transactions.specs.Standing.{open_of, TransactionView};
+ghost use Rattle.tx_history.specs.Views.{open_of, TransactionView};
 ghost use Rattle.engine_transactions.specs.declared.executing.Executing.{Executing as ExecutingSeen};
-ghost use Rattle.engine_transactions.specs.declared.statement_kind.StatementKind.TheVariants.{Write};
+ghost use Rattle.tx_history.specs.declared.statement_kind.StatementKind.TheVariants.{Write};
 
 use crate::accesses::count_all;
 use crate::held::HeldRuns;
-use crate::open_transaction::{OpenTransaction, find_open};
-use crate::{Executing, KeptWrite, TableRead};
+use crate::Executing;
 use engine_sessions::{Answer, count_access, keep_behind};
 use engine_state::{Reply, WriteReply};
 use expr_lang::Steps;
-use par_base::{Fault, List, Memory, Refusal, Text};
+use par_base::{Fault, List, Refusal};
 use session_tx::{CommitFault, Executor, Transaction, run_commit, take_back_all};
 use statements::Statement;
 use std::alloc::Global;
 use std::sync::ledger::Ledger;
+use tx_history::{KeptWrite, OpenTransaction, TableRead, find_open, refusal_of};
 
 // ---- a write outside a transaction
 
@@ -107,52 +107,6 @@ pub fn hold_write<L: Ledger>(
 }
 
 // ---- a COMMIT
-
-// The table of a read, as it is told.
-fn told_read(alloc: Global, read: &TableRead) -> Result<Text, Memory>
-    ensures { IfOk result (λ text. text ≡ told_read_lem read.now) }
-{
-    let text = format!(in alloc; "{}.{}", read.version.as_str(), read.name.as_str())?;
-    Ok(Text::from_string(text))
-}
-
-// The table of the read at a place.
-fn told_at(
-    alloc: Global,
-    transaction: &Transaction<KeptWrite, TableRead>,
-    index: usize,
-) -> Result<Text, Memory>
-    ensures { IfOk result (λ text. text ≡ option_map_or (λ read. told_read_lem read.0)
-        (slice_get transaction.now.reads index) []) }
-{
-    match transaction.noted(index) {
-        Some((read, _)) => told_read(alloc, read),
-        None => Ok(Text::from_string(String::new(alloc))),
-    }
-}
-
-// Why a commit is refused.
-fn refusal_of(
-    alloc: Global,
-    transaction: &Transaction<KeptWrite, TableRead>,
-    fault: CommitFault,
-) -> Result<Refusal, Memory>
-    ensures { IfOk result (λ refusal. refusal ≡ refusal_of_lem transaction.now.reads fault) }
-{
-    match fault {
-        CommitFault::HistorySpent => Ok(Refusal::HistorySpent),
-        CommitFault::Stale {
-            index,
-            read,
-            changed,
-        } => Ok(Refusal::Stale {
-            table: told_at(alloc, transaction, index)?,
-            read,
-            changed,
-        }),
-        CommitFault::Write(refusal) => Ok(refusal),
-    }
-}
 
 // Runs the writes of a transaction.
 fn run_all<L: Ledger>(

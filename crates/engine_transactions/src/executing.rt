@@ -4,8 +4,6 @@ ghost use Rattle.version_model.specs.Kept.{numbers_in};
 ghost use Rattle.engine_transactions.specs.Executing.{has_changes as has_changes_lem, HasSettled, HaveNumbers};
 ghost use Rattle.engine_transactions.specs.Meaning.{write_reply as write_reply_lem};
 
-use crate::history::{ChangeNumbers, keep_numbers, last_change, set_numbers};
-use crate::{KeptWrite, TableRead};
 use engine_sessions::{Sessions, Undo, Written, writes_stay_undoable};
 use engine_state::{Reply, WriteReply};
 use expr_lang::Steps;
@@ -15,6 +13,7 @@ use session_tx::Executor;
 use std::alloc::{AllocError, Global};
 use std::mem;
 use std::sync::ledger::Ledger;
+use tx_history::{ChangeNumbers, KeptWrite, TableRead, keep_numbers, last_change, set_numbers};
 
 /// An engine with its sessions, the numbers of changes, and what takes back the writes that aren't
 /// settled, the newest last.

@@ -1,5 +1,5 @@
 //! An event that writes rows, in two halves.
-ghost use Rattle.std.specs.Prelude.{◌≡◌, true, is_some, List, [], ◌∷◌, Some, OnErr};
+ghost use Rattle.std.specs.Prelude.{◌≡◌, true, List, [], ◌∷◌, Some, OnErr};
 ghost use Rattle.expr_lang.specs.Operations.{text_limit};
 ghost use Rattle.par_base.specs.Checked.{Checked};
 ghost use Rattle.statements.specs.Texts.{TextsWithin};
@@ -9,17 +9,17 @@ ghost use Rattle.engine_sessions.specs.declared.answer.Answer.{Answer as AnswerS
 ghost use Rattle.engine_transactions.specs.Act.{act, at_hand, at_once, committed, kept_by};
 ghost use Rattle.engine_transactions.specs.Calls.{standing_of, IsIdle, Keeps};
 ghost use Rattle.engine_transactions.specs.Held.{Holds, HoldsAs, IsBack, IsHeld, Settles};
-ghost use Rattle.engine_transactions.specs.Kinds.{full_at, kind_in, version_told, writes_rows_in, written_at};
+ghost use Rattle.engine_transactions.specs.ByKind.{full_at, written_at};
+ghost use Rattle.tx_history.specs.Kinds.{kind_in, version_told, writes_rows_in};
 ghost use Rattle.engine_transactions.specs.Leads.{data_behind, open_data, written_data};
-ghost use Rattle.engine_transactions.specs.Standing.{OpenView, Standing};
+ghost use Rattle.tx_history.specs.Views.{OpenView};
+ghost use Rattle.engine_transactions.specs.Standing.{Standing};
 ghost use Rattle.engine_transactions.specs.declared.kept.Kept.{Kept as KeptSeen};
-ghost use Rattle.engine_transactions.specs.declared.statement_kind.StatementKind.TheVariants.{Write};
+ghost use Rattle.tx_history.specs.declared.statement_kind.StatementKind.TheVariants.{Write};
 
 use crate::commit::{hold_open, hold_write, settle_runs, take_back_runs};
 use crate::held::Held;
-use crate::open_transaction::{end, forget, keep, keeps_write};
-use crate::statement_kind::{StatementKind, kind_of};
-use crate::{Kept, KeptWrite};
+use crate::kept::Kept;
 use engine_sessions::{Answer, Undo};
 use engine_state::Reply;
 use expr_lang::Steps;
@@ -28,19 +28,9 @@ use statements::Statement;
 use std::alloc::Global;
 use std::mem;
 use std::sync::ledger::Ledger;
-
-// Whether a write tells the version of its table.
-fn tells_version(statement: &Statement) -> bool
-    ensures { result ≡ is_some (version_told (statement_view statement.now)) }
-{
-    match statement {
-        Statement::Insert { table, .. }
-        | Statement::Import { table, .. }
-        | Statement::Update { table, .. }
-        | Statement::Delete { table, .. } => table.version.is_some(),
-        _ => false,
-    }
-}
+use tx_history::{
+    KeptWrite, StatementKind, end, forget, keep, keeps_write, kind_of, tells_version,
+};
 
 impl Kept {
     // Runs the open transaction of the session at hand.

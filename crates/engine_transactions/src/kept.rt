@@ -8,15 +8,14 @@ ghost use Rattle.engine_sessions.specs.InFull.{wants_csv as wants_csv_lem};
 ghost use Rattle.engine_sessions.specs.Standing.{standing_of as standing_of_sessions};
 ghost use Rattle.engine_transactions.specs.Act.{act, at_hand, begun_by, rolled_back, Answers};
 ghost use Rattle.engine_transactions.specs.Calls.{standing_of, IsIdle, Keeps};
-ghost use Rattle.engine_transactions.specs.Kinds.{acted_by, full_at, kind_in, read_full, read_told as read_told_lem, selected_in, writes_rows_in};
-ghost use Rattle.engine_transactions.specs.Standing.{OpenView};
-ghost use Rattle.engine_transactions.specs.declared.statement_kind.StatementKind.TheVariants.{Select};
+ghost use Rattle.engine_transactions.specs.ByKind.{acted_by, full_at, read_full, read_told as read_told_lem, selected_in};
+ghost use Rattle.tx_history.specs.Kinds.{kind_in, writes_rows_in};
+ghost use Rattle.tx_history.specs.Views.{OpenView};
+ghost use Rattle.tx_history.specs.declared.statement_kind.StatementKind.TheVariants.{Select};
 
 use crate::at_once::act_at_once;
-use crate::open_transaction::{OpenTransaction, end, keeps_write, note, start};
-use crate::statement_kind::{StatementKind, kind_of};
-use crate::table_read::find_read;
-use crate::{Executing, TableRead};
+use crate::executing::Executing;
+use crate::found_read::find_read;
 use engine_sessions::{Answer, Sessions, wants_csv};
 use engine_state::Reply;
 use expr_lang::Steps;
@@ -25,6 +24,9 @@ use statements::Statement;
 use std::alloc::Global;
 use std::mem;
 use std::sync::ledger::Ledger;
+use tx_history::{
+    OpenTransaction, StatementKind, TableRead, end, keeps_write, kind_of, note, start,
+};
 
 /// The engine with its sessions and numbers, and the open transaction of each session that has one.
 /// Unlike in `Transactions`, an event may be half done.

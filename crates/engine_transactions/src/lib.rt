@@ -17,14 +17,10 @@ mod accesses;
 mod at_once;
 mod commit;
 mod executing;
+mod found_read;
 mod held;
-mod history;
 mod holding;
 mod kept;
-mod kept_write;
-mod open_transaction;
-mod statement_kind;
-mod table_read;
 mod transactions;
 
 pub use engine_sessions::{
@@ -32,10 +28,5 @@ pub use engine_sessions::{
 };
 pub use executing::Executing;
 pub use held::{Held, HeldRuns};
-pub use history::{ChangeNumbers, NameDrop};
 pub use kept::Kept;
-pub use kept_write::KeptWrite;
-pub use open_transaction::OpenTransaction;
-pub use statement_kind::writes_rows;
-pub use table_read::TableRead;
 pub use transactions::Transactions;

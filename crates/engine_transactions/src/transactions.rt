@@ -11,7 +11,7 @@ ghost use Rattle.engine_transactions.specs.Calls.{standing_of, IsIdle};
 ghost use Rattle.engine_transactions.specs.Standing.{begun};
 
 use crate::kept::Kept;
-use crate::{ChangeNumbers, Executing};
+use crate::Executing;
 use engine_sessions::{Answer, Sessions};
 use expr_lang::Steps;
 use par_base::{Fault, List, Refusal};
@@ -19,6 +19,7 @@ use statements::Statement;
 use std::alloc::Global;
 use std::marker::Model;
 use std::sync::ledger::Ledger;
+use tx_history::ChangeNumbers;
 
 /// An engine with its sessions, the numbers of changes, and the open transaction of each session that
 /// has one.

@@ -17,8 +17,9 @@ use Rattle.engine_transactions.specs.EngineSessionsStanding.{Standing as Session
 use Rattle.engine_transactions.specs.EngineSessionsAct.{act as act_beside, answer_of}
 use Rattle.session_laws.specs.Sessions.{CountsStay, HasCounts}
 use Rattle.session_laws.proofs.CountLaws.{AreRaised, counted_raised, living_counted, raised_more}
-use Rattle.engine_transactions.specs.declared.table_read.TableRead.{TableRead}
-use Rattle.engine_transactions.specs.Standing.{OpenView, Standing, TransactionView}
+use Rattle.tx_history.specs.declared.table_read.TableRead.{TableRead}
+use Rattle.tx_history.specs.Views.{OpenView, TransactionView}
+use Rattle.engine_transactions.specs.Standing.{Standing}
 use Rattle.engine_transactions.specs.Meaning.{executing, means}
 use Rattle.engine_transactions.specs.Act.{accesses_of, act, at_hand, at_once, begun_by, committed, committed_as, history_behind, kept_by, noted, raised_all, rolled_back, selected_by, written_by}
 use Rattle.engine_transactions.specs.Replies.{next_state, state_after}

@@ -23,8 +23,9 @@ use Rattle.engine_transactions.specs.EngineSessionsStanding.{Standing as Session
 use Rattle.engine_transactions.specs.InFull.{in_full}
 use Rattle.engine_transactions.specs.EngineSessionsAct.{act as act_beside, answer_of}
 use Rattle.engine_transactions.proofs.TextLaws.{import_texts}
-use Rattle.engine_transactions.specs.declared.table_read.TableRead.{TableRead}
-use Rattle.engine_transactions.specs.Standing.{OpenView, Standing, TransactionView, no_transaction, with_write}
+use Rattle.tx_history.specs.declared.table_read.TableRead.{TableRead}
+use Rattle.tx_history.specs.Views.{OpenView, TransactionView, no_transaction, with_write}
+use Rattle.engine_transactions.specs.Standing.{Standing}
 use Rattle.engine_transactions.specs.Meaning.{executing, means}
 use Rattle.engine_transactions.specs.Act.{at_hand, at_once, begun_by, committed, committed_as, history_behind, kept_by, named_at, noted, read_of, rolled_back, selected_by, with_transaction, written_by}
 use Rattle.engine_transactions.specs.Replies.{next_state}

@@ -7,7 +7,7 @@ use Rattle.statements.specs.Views.{StatementView}
 use Rattle.statements.specs.Texts.{TextsWithin}
 use Rattle.version_graph.specs.Sets.{Each}
 use Rattle.version_graph.proofs.SetLaws.{each_append}
-use Rattle.engine_transactions.specs.Standing.{OpenView, TransactionView, open_of, with_open, with_write, without_open}
+use Rattle.tx_history.specs.Views.{OpenView, TransactionView, open_of, with_open, with_write, without_open}
 use Rattle.script_laws.specs.Kept.{KeptWritesFit}
 
 module _ {X : Type 0} (P : X → Type 0) (test : X → Bool) where

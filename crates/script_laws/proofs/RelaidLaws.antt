@@ -27,9 +27,11 @@ use Rattle.engine_transactions.specs.InFull.{in_full}
 use Rattle.engine_transactions.specs.Accesses.{kept_behind}
 use Rattle.engine_transactions.specs.EngineSessionsAct.{act as act_beside, answer_of}
 use Rattle.engine_state.specs.declared.reply.WriteReply.{WriteReply}
-use Rattle.engine_transactions.specs.declared.table_read.TableRead.{TableRead}
-use Rattle.engine_transactions.specs.History.{History, has_changed, with_writes}
-use Rattle.engine_transactions.specs.Standing.{OpenView, Standing, TransactionView}
+use Rattle.tx_history.specs.declared.table_read.TableRead.{TableRead}
+use Rattle.tx_history.specs.History.{History}
+use Rattle.engine_transactions.specs.Changed.{has_changed, with_writes}
+use Rattle.tx_history.specs.Views.{OpenView, TransactionView}
+use Rattle.engine_transactions.specs.Standing.{Standing}
 use Rattle.engine_transactions.specs.Meaning.{any_changed, executing, means, write_reply}
 use Rattle.engine_transactions.specs.Act.{accesses_of, act, at_once, at_hand, begun_by, behind_commit, committed, committed_as, history_behind, kept_by, named_at, noted, raised_all, read_of, rolled_back, selected_by, written_by}
 use Rattle.script_laws.specs.Moves.{laid_out, tells_storage, with_layout}

@@ -17,8 +17,8 @@ use Rattle.engine_transactions.specs.Reply.TheVariants as reply
 use Rattle.engine_transactions.specs.EngineSessionsStanding.{Standing as SessionsStanding}
 use Rattle.engine_state.specs.declared.reply.WriteReply.{WriteReply}
 use Rattle.engine_state.specs.declared.reply.WriteReply.TheVariants as write
-use Rattle.engine_transactions.specs.declared.table_read.TableRead.{TableRead}
-use Rattle.engine_transactions.specs.History.{has_changed}
+use Rattle.tx_history.specs.declared.table_read.TableRead.{TableRead}
+use Rattle.engine_transactions.specs.Changed.{has_changed}
 use Rattle.engine_transactions.specs.Meaning.{means, write_reply}
 use Rattle.script_laws.specs.Written.{AreWrites, reply_to}
 use Rattle.script_laws.proofs.OpenLemmas.{Fits}

@@ -9,7 +9,8 @@ use Rattle.session_laws.specs.Said.{AreSaid, IsSaid, Said, SaidNeedNoSession as 
 use Rattle.engine_transactions.specs.Answer.{Answer}
 use Rattle.engine_transactions.specs.EngineSessionsStanding.{DifferInSessions, Standing as SessionsStanding}
 use Rattle.engine_transactions.specs.EngineSessionsAct.{act as act_beside}
-use Rattle.engine_transactions.specs.Standing.{OpenView, Standing, open_of}
+use Rattle.tx_history.specs.Views.{OpenView, open_of}
+use Rattle.engine_transactions.specs.Standing.{Standing}
 use Rattle.engine_transactions.specs.Begun.{begun_again}
 use Rattle.engine_transactions.specs.Act.{act, at_hand, at_once, history_behind, selected_by, written_by}
 use Rattle.engine_transactions.specs.Replies.{next_state, replies, state_after, text_of}

@@ -8,7 +8,8 @@ use Rattle.version_graph.specs.Sets.{Each}
 use Rattle.session_laws.specs.Kept.{IsKept}
 use Rattle.session_laws.specs.Sessions.{HasCounts}
 use Rattle.engine_transactions.specs.Act.{act}
-use Rattle.engine_transactions.specs.Standing.{OpenView, Standing}
+use Rattle.tx_history.specs.Views.{OpenView}
+use Rattle.engine_transactions.specs.Standing.{Standing}
 use Rattle.engine_transactions.specs.Replies.{next_state, state_after}
 
 -- no text of a kept write is too long, as none of a script is

@@ -12,7 +12,8 @@ use Rattle.engine_state.specs.declared.reply.WriteReply.TheVariants as write
 use Rattle.engine_transactions.specs.Answer.{Answer}
 use Rattle.engine_transactions.specs.Answer.TheVariants.{Plain}
 use Rattle.engine_transactions.specs.Act.{act, at_hand}
-use Rattle.engine_transactions.specs.Standing.{OpenView, Standing}
+use Rattle.tx_history.specs.Views.{OpenView}
+use Rattle.engine_transactions.specs.Standing.{Standing}
 use Rattle.script_laws.specs.Kept.{IsKeptAt}
 
 -- a write outside a transaction is that of an ordinary database; one in a transaction is kept, and changes nothing that sessions keep

@@ -33,7 +33,8 @@ use Rattle.engine_transactions.specs.EngineSessionsStanding.{Standing as Session
 use Rattle.engine_transactions.specs.Answer.{Answer}
 use Rattle.engine_transactions.specs.Answer.TheVariants.{Plain}
 use Rattle.engine_transactions.specs.Act.{history_behind}
-use Rattle.engine_transactions.specs.History.{History, has_changed, with_drop, with_version, with_writes}
+use Rattle.tx_history.specs.History.{History, with_drop, with_version}
+use Rattle.engine_transactions.specs.Changed.{has_changed, with_writes}
 use Rattle.engine_transactions.specs.Standing.{Standing}
 use Rattle.transaction_laws.specs.Orderly.{IsOrderly}
 use Rattle.transaction_laws.proofs.LeaveLemmas.{Leaves, drop_leaves, evolution_leaves, same_leave, unchanged_rows, writes_leave}

@@ -17,8 +17,9 @@ use Rattle.engine_transactions.specs.EngineSessionsStanding.{Standing as Session
 use Rattle.engine_transactions.specs.Act.{accesses_of, behind_commit, raised_all}
 use Rattle.engine_transactions.specs.Meaning.{any_changed, executing, means}
 use Rattle.engine_transactions.specs.Serial.{AreTold, Told, told_writes}
-use Rattle.engine_transactions.specs.Standing.{Standing, TransactionView}
-use Rattle.engine_transactions.specs.declared.table_read.TableRead.{TableRead}
+use Rattle.engine_transactions.specs.Standing.{Standing}
+use Rattle.tx_history.specs.Views.{TransactionView}
+use Rattle.tx_history.specs.declared.table_read.TableRead.{TableRead}
 use Rattle.transaction_laws.specs.Orderly.{IsOrderly}
 use Rattle.transaction_laws.proofs.ActLemmas.{moving_of, orderly_of}
 use Rattle.transaction_laws.proofs.FreshLemmas.{AreFresh, reads_told, unchanged_reads, unspent}

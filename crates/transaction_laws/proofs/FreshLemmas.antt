@@ -16,9 +16,9 @@ use Rattle.engine_transactions.specs.Accesses.{raised}
 use Rattle.engine_transactions.specs.EngineSessionsAct.{answer_of}
 use Rattle.engine_transactions.specs.EngineSessionsStanding.{Standing as SessionsStanding, moving_in}
 use Rattle.engine_transactions.specs.Act.{raised_all}
-use Rattle.engine_transactions.specs.History.{History, last_change}
+use Rattle.tx_history.specs.History.{History, last_change}
 use Rattle.engine_transactions.specs.Serial.{AreTold, Told, Within}
-use Rattle.engine_transactions.specs.declared.table_read.TableRead.{TableRead}
+use Rattle.tx_history.specs.declared.table_read.TableRead.{TableRead}
 use Rattle.transaction_laws.proofs.FoundLemmas.{full}
 use Rattle.transaction_laws.proofs.LeaveLemmas.{Leaves}
 use Rattle.transaction_laws.proofs.OrderLemmas.{AllCounted, IsMoving}

@@ -19,8 +19,9 @@ use Rattle.version_model.specs.Databases.{dropped_database}
 use Rattle.engine_state.specs.AnyDatabase.{AnyDatabase}
 use Rattle.engine_transactions.specs.Found.{Found, found}
 use Rattle.engine_transactions.specs.Evolve.{state_after}
-use Rattle.engine_transactions.specs.History.{History, has_changed, last_change, same_rows, with_changes, with_drop, with_version, with_writes}
-use Rattle.engine_transactions.specs.declared.table_read.TableRead.{TableRead}
+use Rattle.tx_history.specs.History.{History, last_change, same_rows, with_changes, with_drop, with_version}
+use Rattle.engine_transactions.specs.Changed.{has_changed, with_writes}
+use Rattle.tx_history.specs.declared.table_read.TableRead.{TableRead}
 use Rattle.transaction_laws.proofs.FoundLemmas.{found_by, found_dropped, found_grown, found_made, full, grown_table, rows_dropped, table_low}
 use Rattle.transaction_laws.proofs.RiseLemmas.{evolution_rises}
 

@@ -11,7 +11,7 @@ use Rattle.engine_transactions.specs.Accesses.{accessed, raised}
 use Rattle.engine_transactions.specs.EngineSessionsAct.{act as act_beside}
 use Rattle.engine_transactions.specs.EngineSessionsStanding.{Standing as SessionsStanding}
 use Rattle.engine_transactions.specs.Answer.{Answer}
-use Rattle.engine_transactions.specs.History.{has_changed}
+use Rattle.engine_transactions.specs.Changed.{has_changed}
 use Rattle.engine_transactions.specs.Meaning.{means, write_reply}
 use Rattle.engine_transactions.specs.Serial.{answer_to}
 use Rattle.transaction_laws.specs.Laws.{IsFullWrite, SameButCounts, WritesMeanAsOutside}

@@ -5,7 +5,7 @@ use Rattle.std.proofs.Common.{◌≡◌, ◌==◌, ℕ, Bool, true, false, not, 
 use Rattle.std.proofs.lemmas.Bool.{cond-false, eq-eqb, eqb-true}
 use Rattle.std.proofs.lemmas.List.{append-nil}
 use Rattle.engine_transactions.specs.Serial.{OpenReads, Told, reads_of, with_told, without_reads}
-use Rattle.engine_transactions.specs.Standing.{OpenView, TransactionView, open_of, with_open, without_open}
+use Rattle.tx_history.specs.Views.{OpenView, TransactionView, open_of, with_open, without_open}
 
 -- ---- items that pass a test, without those that pass another one
 

@@ -23,11 +23,12 @@ use Rattle.engine_transactions.specs.InFull.{in_full}
 use Rattle.engine_transactions.specs.EngineSessionsStanding.{Standing as SessionsStanding, moving_in, used_by}
 use Rattle.engine_transactions.specs.Answer.{Answer}
 use Rattle.engine_transactions.specs.Act.{act, at_hand, begun_by, behind_commit, committed, committed_as, history_behind, kept_by, named_at, noted, read_of, rolled_back, selected_by, with_transaction, written_by}
-use Rattle.engine_transactions.specs.History.{History}
+use Rattle.tx_history.specs.History.{History}
 use Rattle.engine_transactions.specs.Meaning.{executing, means}
 use Rattle.engine_transactions.specs.Serial.{AreTold, AtOnce, OpenReads, Told, Within, answered, answered_in, behind, end_of, left_by, opens_behind, reads_of, second_of, selected_behind, told_commit, told_for, told_outside, with_told, without_reads}
-use Rattle.engine_transactions.specs.Standing.{OpenView, Standing, TransactionView, begun, no_transaction, open_of, with_open, with_read, with_write, without_open}
-use Rattle.engine_transactions.specs.declared.table_read.TableRead.{TableRead}
+use Rattle.tx_history.specs.Views.{OpenView, TransactionView, no_transaction, open_of, with_open, with_read, with_write, without_open}
+use Rattle.engine_transactions.specs.Standing.{Standing, begun}
+use Rattle.tx_history.specs.declared.table_read.TableRead.{TableRead}
 use Rattle.transaction_laws.specs.Laws.{TransactionsAreSerial}
 use Rattle.transaction_laws.specs.Orderly.{IsOrderly}
 use Rattle.transaction_laws.proofs.ActLemmas.{statement_goes}

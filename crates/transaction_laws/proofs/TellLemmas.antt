@@ -41,7 +41,7 @@ use Rattle.engine_transactions.specs.Answer.TheVariants.{Plain}
 use Rattle.engine_transactions.specs.Act.{raised_all}
 use Rattle.engine_transactions.specs.Meaning.{means, write_reply}
 use Rattle.engine_transactions.specs.Serial.{AreTold, Entry, Told, Within, answer_to, answered_in, given, left_by, told_writes}
-use Rattle.engine_transactions.specs.declared.table_read.TableRead.{TableRead}
+use Rattle.tx_history.specs.declared.table_read.TableRead.{TableRead}
 use Rattle.transaction_laws.proofs.FoundLemmas.{found_by, found_made, full, has_maker}
 use Rattle.transaction_laws.proofs.OrderLemmas.{AllCounted, AllLive, IsMoving, IsOrdered}
 use Rattle.transaction_laws.proofs.PlanLemmas.{IsWritten, in_session, written_is}

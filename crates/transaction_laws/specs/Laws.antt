@@ -17,7 +17,7 @@ use Rattle.engine_transactions.specs.EngineSessionsStanding.{Standing as Session
 use Rattle.engine_transactions.specs.Meaning.{means}
 use Rattle.engine_transactions.specs.Serial.{OneAfterTheOther, answer_to}
 use Rattle.engine_transactions.specs.Standing.{begun}
-use Rattle.engine_transactions.specs.declared.table_read.TableRead.{TableRead}
+use Rattle.tx_history.specs.declared.table_read.TableRead.{TableRead}
 use Rattle.transaction_laws.specs.Orderly.{IsOrderly}
 
 -- SERIAL REPLIES: whatever sessions do beside each other, their accepted transactions in the order of their commits, and the other statements between them, have one after the other the same answers, and leave the same

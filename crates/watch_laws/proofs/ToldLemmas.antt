@@ -9,12 +9,13 @@ use Rattle.change_feed.specs.Feeds.{AllQuiet, events_told}
 use Rattle.change_feed.specs.Watches.{WatchesState}
 use Rattle.engine_feeds.specs.TransactionsAct.{at_hand}
 use Rattle.engine_feeds.specs.AnyDatabase.{AnyDatabase}
-use Rattle.engine_feeds.specs.Kinds.{kind_in}
+use Rattle.tx_history.specs.Kinds.{kind_in}
 use Rattle.engine_feeds.specs.Leads.{committed_data, data_after, data_left, open_data, written_data}
 use Rattle.engine_feeds.specs.Meaning.{executing, means}
-use Rattle.engine_feeds.specs.TransactionsStanding.{OpenView, Standing as TransactionsStanding}
-use Rattle.engine_feeds.specs.StatementKind.{StatementKind}
-use Rattle.engine_feeds.specs.StatementKind.TheVariants as kind
+use Rattle.tx_history.specs.Views.{OpenView}
+use Rattle.engine_feeds.specs.TransactionsStanding.{Standing as TransactionsStanding}
+use Rattle.tx_history.specs.declared.statement_kind.StatementKind.{StatementKind}
+use Rattle.tx_history.specs.declared.statement_kind.StatementKind.TheVariants as kind
 use Rattle.script_laws.specs.Moves.{with_layout as laid_out}
 use Rattle.script_laws.proofs.RelaidLaws.{Runs, relaid_all, relaid_runs, same_runs}
 use Rattle.engine_feeds.specs.Act.{told_of, watches_behind}

@@ -10,7 +10,7 @@ use Rattle.op_any.specs.Operators.{AnyView}
 use Rattle.layout_planner.specs.declared.planning.TableCount.{TableCount}
 use Rattle.engine_sessions.specs.Accesses.{accessed}
 use Rattle.engine_transactions.specs.Act.{raised_all}
-use Rattle.engine_transactions.specs.declared.table_read.TableRead.{TableRead}
+use Rattle.tx_history.specs.declared.table_read.TableRead.{TableRead}
 use Rattle.engine_transactions.proofs.accesses.count_all.Goals as goal
 
 pub returns : goal.returns

@@ -7,8 +7,8 @@ use Rattle.statements.specs.Views.{StatementView, statement_view}
 use Rattle.statements.specs.declared.statement.Statement.{Statement}
 use Rattle.db_state.specs.Fields.{database_for}
 use Rattle.engine_sessions.specs.Accesses.{accessed}
-use Rattle.engine_transactions.specs.Opens.{one_of}
-use Rattle.engine_transactions.proofs.AccessLemmas.{accessed_more}
+use Rattle.tx_history.specs.Opens.{one_of}
+use Rattle.tx_history.proofs.OpenLaws.{accessed_more}
 use Rattle.engine_transactions.proofs.accesses.push_all_accessed.Goals as goal
 
 pub loop-write-preserved : goal.loop-write-preserved

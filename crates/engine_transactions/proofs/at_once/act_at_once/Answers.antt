@@ -5,8 +5,8 @@ use Rattle.statements.specs.declared.statement.Statement.{Statement}
 use Rattle.engine_sessions.specs.Standing.{Standing as SessionsStanding}
 use Rattle.engine_transactions.specs.Act.{Answers}
 use Rattle.engine_transactions.specs.Calls.{standing_in}
-use Rattle.engine_transactions.specs.History.{History}
-use Rattle.engine_transactions.specs.Kinds.{at_once_with, graph_behind}
+use Rattle.tx_history.specs.History.{History}
+use Rattle.engine_transactions.specs.ByKind.{at_once_with, graph_behind}
 use Rattle.engine_transactions.proofs.AtOnceLemmas.{plain_behind}
 use Rattle.engine_transactions.proofs.at_once.act_at_once.Goals as goal
 

@@ -4,10 +4,11 @@ use Rattle.session_tx.specs.Calls.{last_number}
 use Rattle.statements.specs.Views.{DropVersion}
 use Rattle.engine_sessions.specs.Standing.{standing_of}
 use Rattle.engine_transactions.specs.Calls.{standing_in}
-use Rattle.engine_transactions.specs.History.{History, history_of, with_drop}
-use Rattle.engine_transactions.specs.declared.history.ChangeNumbers.{ChangeNumbers}
-use Rattle.engine_transactions.proofs.AtOnceLemmas.{given_at_once, same_drops}
-use Rattle.engine_transactions.proofs.SettleLemmas.{at_most}
+use Rattle.tx_history.specs.History.{History, history_of, with_drop}
+use Rattle.tx_history.specs.declared.history.ChangeNumbers.{ChangeNumbers}
+use Rattle.engine_transactions.proofs.AtOnceLemmas.{given_at_once}
+use Rattle.tx_history.proofs.DropLaws.{same_drops}
+use Rattle.tx_history.proofs.NumberLaws.{at_most}
 use Rattle.engine_transactions.proofs.at_once.drop_version.Goals as goal
 
 pub returns-clause-answers : goal.returns-clause-answers

@@ -1,10 +1,10 @@
 -- The transaction of the session, where there is one.
 use Rattle.std.specs.Prelude.{option_map}
 use Rattle.std.proofs.Common.{Option, refl, sym, ap, subst, ◌∙◌}
-use Rattle.engine_transactions.specs.Opens.{open_view}
+use Rattle.tx_history.specs.Opens.{open_view}
 use Rattle.engine_transactions.specs.Runs.{HoldsOpen}
-use Rattle.engine_transactions.specs.Standing.{OpenView}
-use Rattle.engine_transactions.proofs.OpenLemmas.{found_view}
+use Rattle.tx_history.specs.Views.{OpenView}
+use Rattle.tx_history.proofs.OpenLaws.{found_view}
 use Rattle.engine_transactions.proofs.commit.hold_open.Goals as goal
 
 pub returns-in-Some-clause-holds : goal.returns-in-Some-clause-holds

@@ -5,9 +5,10 @@ use Rattle.statements.specs.Views.{StatementView, statement_view}
 use Rattle.engine_sessions.specs.declared.answer.Answer.{Answer}
 use Rattle.engine_transactions.specs.Act.{at_once}
 use Rattle.engine_transactions.specs.Calls.{standing_in}
-use Rattle.engine_transactions.specs.Kinds.{written_full}
+use Rattle.engine_transactions.specs.ByKind.{written_full}
 use Rattle.engine_transactions.specs.Runs.{HoldsWrite}
-use Rattle.engine_transactions.specs.Standing.{OpenView, Standing}
+use Rattle.tx_history.specs.Views.{OpenView}
+use Rattle.engine_transactions.specs.Standing.{Standing}
 use Rattle.engine_transactions.proofs.KindLemmas.{is_write, once_written}
 use Rattle.engine_transactions.proofs.commit.hold_write.Goals as goal
 

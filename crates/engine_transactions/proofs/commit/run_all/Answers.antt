@@ -4,7 +4,7 @@ use Rattle.op_any.specs.Operators.{AnyView}
 use Rattle.db_state.specs.declared.parts.Parts.{Parts}
 use Rattle.version_graph.specs.Edges.{AreEdges}
 use Rattle.engine_transactions.specs.Calls.{executed}
-use Rattle.engine_transactions.specs.Opens.{transaction_view}
+use Rattle.tx_history.specs.Opens.{transaction_view}
 use Rattle.engine_transactions.proofs.CommitLemmas.{shows_executed}
 use Rattle.engine_transactions.proofs.RunLemmas.{AllRun, all_run}
 use Rattle.engine_transactions.proofs.commit.run_all.Goals as goal

@@ -6,7 +6,7 @@ use Rattle.session_tx.specs.Commits.{taken_back_times}
 use Rattle.session_tx.specs.Meaning.{Standing as Executed}
 use Rattle.engine_sessions.specs.Standing.{Standing as SessionsStanding}
 use Rattle.engine_transactions.specs.Executing.{Shows}
-use Rattle.engine_transactions.specs.declared.table_read.TableRead.{TableRead}
+use Rattle.tx_history.specs.declared.table_read.TableRead.{TableRead}
 use Rattle.engine_transactions.proofs.RunLemmas.{have_run_may, runs_go_back}
 use Rattle.engine_transactions.proofs.commit.take_back_runs.Goals as goal
 

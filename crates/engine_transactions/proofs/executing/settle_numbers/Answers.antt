@@ -7,8 +7,8 @@ use Rattle.version_graph.proofs.SetLaws.{each_at}
 use Rattle.version_model.specs.Kept.{numbers_in}
 use Rattle.engine_sessions.specs.WriteUndo.{Undo}
 use Rattle.engine_transactions.specs.Executing.{is_changed_by}
-use Rattle.engine_transactions.specs.History.{number_in}
-use Rattle.engine_transactions.proofs.NumberLemmas.{in_item}
+use Rattle.tx_history.specs.History.{number_in}
+use Rattle.tx_history.proofs.NumberLaws.{in_item}
 use Rattle.engine_transactions.proofs.SettleLemmas.{changed_more, none_settled}
 use Rattle.engine_transactions.proofs.executing.settle_numbers.Goals as goal
 

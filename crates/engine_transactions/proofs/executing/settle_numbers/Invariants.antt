@@ -1,7 +1,7 @@
 use Rattle.std.proofs.Common.{◌≡◌, if◌then◌else◌, ℕ, take}
 use Rattle.version_model.specs.Kept.{numbers_in}
 use Rattle.engine_transactions.specs.Executing.{is_changed_by, HaveNumbers}
-use Rattle.engine_transactions.specs.History.{number_in}
+use Rattle.tx_history.specs.History.{number_in}
 use Rattle.engine_transactions.proofs.executing.settle_numbers.Given as goal
 
 abbrev pub invariant-loop-undo : goal.invariant-loop-undo

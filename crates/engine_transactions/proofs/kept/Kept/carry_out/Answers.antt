@@ -5,7 +5,7 @@ use Rattle.statements.specs.Views.{statement_view}
 use Rattle.engine_sessions.specs.declared.answer.Answer.{Answer}
 use Rattle.engine_transactions.specs.Act.{Answers}
 use Rattle.engine_transactions.specs.Calls.{standing_in, standing_of}
-use Rattle.engine_transactions.specs.Opens.{opens_view}
+use Rattle.tx_history.specs.Opens.{opens_view}
 use Rattle.engine_transactions.specs.Standing.{Standing}
 use Rattle.engine_transactions.proofs.KindLemmas.{act_by_kind}
 use Rattle.engine_transactions.proofs.KeptLemmas.{other_acts, same_beside}

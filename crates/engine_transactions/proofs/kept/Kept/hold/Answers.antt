@@ -1,8 +1,8 @@
 -- By what the statement is.
 use Rattle.std.proofs.Common.{sym, ◌∙◌}
 use Rattle.statements.specs.Views.{statement_view}
-use Rattle.engine_transactions.specs.Kinds.{kind_in}
-use Rattle.engine_transactions.specs.declared.statement_kind.StatementKind.TheVariants as kind
+use Rattle.tx_history.specs.Kinds.{kind_in}
+use Rattle.tx_history.specs.declared.statement_kind.StatementKind.TheVariants as kind
 use Rattle.engine_transactions.proofs.HoldLemmas.{held_as, other_write, keeps_held}
 use Rattle.engine_transactions.proofs.kept.Kept.hold.Goals as goal
 

@@ -2,10 +2,10 @@
 use Rattle.std.proofs.Common.{List, Option, Ok, Err, subst, ap, ◌∙◌}
 use Rattle.engine_transactions.specs.Act.{at_hand}
 use Rattle.engine_transactions.specs.Calls.{standing_of}
-use Rattle.engine_transactions.specs.Opens.{opens_view}
+use Rattle.tx_history.specs.Opens.{opens_view}
 use Rattle.engine_transactions.specs.Runs.{HoldsOpen}
-use Rattle.engine_transactions.specs.Standing.{OpenView, open_of}
-use Rattle.engine_transactions.specs.declared.open_transaction.OpenTransaction.{OpenTransaction}
+use Rattle.tx_history.specs.Views.{OpenView, open_of}
+use Rattle.tx_history.specs.declared.open_transaction.OpenTransaction.{OpenTransaction}
 use Rattle.engine_transactions.proofs.HoldLemmas.{commit_fails, commit_held}
 use Rattle.engine_transactions.proofs.kept.Kept.hold_commit.Goals as goal
 

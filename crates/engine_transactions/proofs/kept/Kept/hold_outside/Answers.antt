@@ -1,6 +1,6 @@
 -- What runs leave to be settled.
 use Rattle.statements.specs.Views.{statement_view}
-use Rattle.engine_transactions.specs.Opens.{opens_view}
+use Rattle.tx_history.specs.Opens.{opens_view}
 use Rattle.engine_transactions.proofs.HoldLemmas.{outside_fails, outside_held}
 use Rattle.engine_transactions.proofs.kept.Kept.hold_outside.Goals as goal
 

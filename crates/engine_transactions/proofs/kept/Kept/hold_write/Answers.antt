@@ -4,11 +4,11 @@ use Rattle.std.proofs.Common.{List, option_map, sym, ap, subst, ◌∙◌}
 use Rattle.statements.specs.Views.{statement_view}
 use Rattle.engine_transactions.specs.Calls.{standing_of}
 use Rattle.engine_transactions.specs.Held.{HoldsAs}
-use Rattle.engine_transactions.specs.Kinds.{written_at}
+use Rattle.engine_transactions.specs.ByKind.{written_at}
 use Rattle.engine_transactions.specs.Leads.{written_data}
-use Rattle.engine_transactions.specs.Opens.{opens_view}
-use Rattle.engine_transactions.specs.Standing.{OpenView, open_of}
-use Rattle.engine_transactions.specs.declared.open_transaction.OpenTransaction.{OpenTransaction}
+use Rattle.tx_history.specs.Opens.{opens_view}
+use Rattle.tx_history.specs.Views.{OpenView, open_of}
+use Rattle.tx_history.specs.declared.open_transaction.OpenTransaction.{OpenTransaction}
 use Rattle.engine_transactions.proofs.KeptLemmas.{at_none, at_some, writes}
 use Rattle.engine_transactions.proofs.kept.Kept.hold_write.Goals as goal
 

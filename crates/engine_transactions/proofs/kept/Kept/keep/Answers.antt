@@ -7,14 +7,14 @@ use Rattle.engine_sessions.specs.WriteUndo.{Undo}
 use Rattle.engine_sessions.specs.declared.answer.Answer.TheVariants.{Plain}
 use Rattle.engine_state.specs.declared.reply.Reply.TheVariants.{Kept as KeptReply}
 use Rattle.engine_transactions.specs.Calls.{standing_of}
-use Rattle.engine_transactions.specs.Kinds.{full_at, version_told}
+use Rattle.engine_transactions.specs.ByKind.{full_at}
+use Rattle.tx_history.specs.Kinds.{version_told}
 use Rattle.engine_transactions.specs.Leads.{LeadAlong}
-use Rattle.engine_transactions.specs.Opens.{opens_view, with_changed, without_last}
-use Rattle.engine_transactions.specs.Standing.{OpenView, TransactionView, with_write}
+use Rattle.tx_history.specs.Opens.{opens_view, with_changed, without_last}
+use Rattle.tx_history.specs.Views.{OpenView, TransactionView, with_write}
 use Rattle.engine_transactions.specs.declared.kept.Kept.{Kept}
-use Rattle.engine_transactions.proofs.HoldLemmas.{forgotten, last_forgotten}
+use Rattle.tx_history.proofs.OpenLaws.{changed_open, forgotten, last_forgotten}
 use Rattle.engine_transactions.proofs.KeptLemmas.{kept_some}
-use Rattle.engine_transactions.proofs.OpenLemmas.{changed_open}
 use Rattle.engine_transactions.proofs.kept.Kept.keep.Goals as goal
 
 pub returns-clause-holds : goal.returns-clause-holds

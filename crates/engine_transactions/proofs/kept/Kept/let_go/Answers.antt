@@ -1,8 +1,8 @@
 -- What was held is taken back.
 use Rattle.std.proofs.Common.{refl, subst}
 use Rattle.engine_transactions.specs.Held.{Holds, IsHeld}
-use Rattle.engine_transactions.specs.Opens.{opens_view}
-use Rattle.engine_transactions.specs.Standing.{without_open}
+use Rattle.tx_history.specs.Opens.{opens_view}
+use Rattle.tx_history.specs.Views.{without_open}
 use Rattle.engine_transactions.specs.declared.held.Held.{Held}
 use Rattle.engine_transactions.proofs.HoldLemmas.{commit_has_run, kept_returns, runs_return, write_has_run}
 use Rattle.engine_transactions.proofs.kept.Kept.let_go.Goals as goal

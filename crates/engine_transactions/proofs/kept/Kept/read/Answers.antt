@@ -2,7 +2,7 @@
 use Rattle.std.proofs.lemmas.Result.{err_from_is_err_and}
 use Rattle.statements.specs.Views.{statement_view}
 use Rattle.engine_transactions.specs.Calls.{standing_of}
-use Rattle.engine_transactions.specs.Kinds.{full_at}
+use Rattle.engine_transactions.specs.ByKind.{full_at}
 use Rattle.engine_transactions.proofs.KeptLemmas.{read_fails, read_noted}
 use Rattle.engine_transactions.proofs.kept.Kept.read.Goals as goal
 

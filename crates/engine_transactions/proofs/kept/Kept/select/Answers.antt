@@ -6,10 +6,11 @@ use Rattle.statements.specs.Views.{statement_view}
 use Rattle.engine_sessions.specs.declared.answer.Answer.{Answer}
 use Rattle.engine_transactions.specs.Act.{Answers}
 use Rattle.engine_transactions.specs.Calls.{standing_in, standing_of}
-use Rattle.engine_transactions.specs.Kinds.{selected_in}
-use Rattle.engine_transactions.specs.Opens.{opens_view}
-use Rattle.engine_transactions.specs.Standing.{OpenView, Standing, open_of}
-use Rattle.engine_transactions.specs.declared.open_transaction.OpenTransaction.{OpenTransaction}
+use Rattle.engine_transactions.specs.ByKind.{selected_in}
+use Rattle.tx_history.specs.Opens.{opens_view}
+use Rattle.tx_history.specs.Views.{OpenView, open_of}
+use Rattle.engine_transactions.specs.Standing.{Standing}
+use Rattle.tx_history.specs.declared.open_transaction.OpenTransaction.{OpenTransaction}
 use Rattle.engine_transactions.proofs.KindLemmas.{once_behind}
 use Rattle.engine_transactions.proofs.KeptLemmas.{at_none, no_select, same_beside, writes}
 use Rattle.engine_transactions.proofs.kept.Kept.select.Goals as goal

@@ -2,8 +2,8 @@
 use Rattle.std.proofs.Common.{sym, ap, subst, ◌∙◌}
 use Rattle.engine_sessions.specs.declared.answer.Answer.{Answer}
 use Rattle.engine_transactions.specs.Held.{Holds, Settles}
-use Rattle.engine_transactions.specs.Opens.{opens_view}
-use Rattle.engine_transactions.specs.Standing.{without_open}
+use Rattle.tx_history.specs.Opens.{opens_view}
+use Rattle.tx_history.specs.Views.{without_open}
 use Rattle.engine_transactions.specs.declared.held.Held.{Held}
 use Rattle.engine_transactions.specs.declared.kept.Kept.{Kept}
 use Rattle.engine_transactions.proofs.HoldLemmas.{kept_stays, runs_stay}

@@ -1,5 +1,0 @@
-use Rattle.std.proofs.Common.{◌≡◌, map, take}
-use Rattle.engine_transactions.proofs.accesses.read_tables.Given as goal
-
-abbrev pub invariant-loop-read : goal.invariant-loop-read
-invariant-loop-read l = l.tables ≡ map (λ read. read.0.table) (take l.read-index l.reads)

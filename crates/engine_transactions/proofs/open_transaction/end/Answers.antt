@@ -1,8 +1,0 @@
--- The others stay.
-use Rattle.std.proofs.Common.{ap, ◌∙◌}
-use Rattle.engine_transactions.specs.Opens.{opens_view}
-use Rattle.engine_transactions.proofs.OpenLemmas.{without_view}
-use Rattle.engine_transactions.proofs.open_transaction.end.Goals as goal
-
-pub returns : goal.returns
-returns c = ap opens_view c.keep_others.ensures ∙ without_view c.args.opens.now.items c.args.session
