@@ -14,9 +14,9 @@ ghost use Rattle.tx_history.specs.Views.{open_of, TransactionView};
 ghost use Rattle.engine_transactions.specs.declared.executing.Executing.{Executing as ExecutingSeen};
 ghost use Rattle.tx_history.specs.declared.statement_kind.StatementKind.TheVariants.{Write};
 
+use crate::Executing;
 use crate::accesses::count_all;
 use crate::held::HeldRuns;
-use crate::Executing;
 use engine_sessions::{Answer, count_access, keep_behind};
 use engine_state::{Reply, WriteReply};
 use expr_lang::Steps;

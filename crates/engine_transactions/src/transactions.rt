@@ -10,8 +10,8 @@ ghost use Rattle.engine_transactions.specs.Act.{act, Answers};
 ghost use Rattle.engine_transactions.specs.Calls.{standing_of, IsIdle};
 ghost use Rattle.engine_transactions.specs.Standing.{begun};
 
-use crate::kept::Kept;
 use crate::Executing;
+use crate::kept::Kept;
 use engine_sessions::{Answer, Sessions};
 use expr_lang::Steps;
 use par_base::{Fault, List, Refusal};

@@ -132,11 +132,7 @@ fn place_of_drop(dropped: &[NameDrop], name: &Name) -> Option<usize>
 }
 
 /// A number under a name: 0 where it has none, which says as much. It gives the number's place.
-pub fn keep_drop(
-    alloc: Global,
-    dropped: &mut List<NameDrop>,
-    name: &Name,
-) -> Result<usize, Memory>
+pub fn keep_drop(alloc: Global, dropped: &mut List<NameDrop>, name: &Name) -> Result<usize, Memory>
     ensures same { (other : List ℕ) → dropped_in dropped.new other
         ≡ dropped_in dropped.old other }
     ensures place { IfOk result (λ place. position (λ one. bytes_eq name.now one.name) dropped.new
