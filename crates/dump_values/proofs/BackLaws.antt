@@ -11,7 +11,7 @@ use Rattle.serde_json.specs.Data.{Data}
 use Rattle.serde_json.specs.View.{items_of}
 use Rattle.dump_values.specs.Laws.{AllFit, AuxFits, IdFits, MemoryFits, NumberFits, OperatorFits, PairsFit, RowFits, StoredFits, TableFits, ValueFits, VersionFits}
 use Rattle.dump_values.specs.Lines.{aux_json, aux_of, memory_json, memory_of, operator_json, operator_of, stored_json, stored_of, version_json, version_of}
-use Rattle.dump_values.specs.Members.{both, id_of, list_of, number_json, numbers_json, numbers_of, small_of, within}
+use Rattle.json_members.specs.Members.{both, id_of, list_of, number_json, numbers_json, numbers_of, small_of, within}
 use Rattle.dump_values.specs.Pairs.{may_follow, pairs_behind, pairs_json, pairs_of, triple_json, triple_of}
 use Rattle.dump_values.specs.Tables.{rows_from, table_json, table_of, tables_json, tables_of}
 use Rattle.dump_values.specs.Values.{row_json, row_of, value_json, value_of}

@@ -6,7 +6,7 @@ use Rattle.row_store.specs.Rows.{Rows}
 use Rattle.dump_values.specs.Dumps.{Dump, Kept, dump_json, dump_of, graph_of, kept_of, lists_of}
 use Rattle.dump_values.specs.Laws.{AuxFits, DumpFits, MemoryFits, OperatorFits, StoredFits, VersionFits}
 use Rattle.dump_values.specs.Lines.{aux_json, aux_of, memory_json, memory_of, operator_json, operator_of, stored_json, stored_of, version_json, version_of}
-use Rattle.dump_values.specs.Members.{next_of, number_json}
+use Rattle.json_members.specs.Members.{next_of, number_json}
 use Rattle.dump_values.specs.declared.dumps.GraphLines.{GraphLines}
 use Rattle.dump_values.specs.declared.lines.OperatorLine.{OperatorLine}
 use Rattle.dump_values.specs.declared.lines.VersionLine.{VersionLine}

@@ -5,7 +5,7 @@ use Rattle.id_memory.specs.Pairs.{Pairs}
 use Rattle.row_store.specs.Rows.{Rows}
 use Rattle.serde_json.specs.Data.{Data, Items}
 use Rattle.dump_values.specs.Dumps.{Kept, kept_of, lists_of}
-use Rattle.dump_values.specs.Members.{both, member_of, next_of, numbers_of}
+use Rattle.json_members.specs.Members.{both, member_of, next_of, numbers_of}
 
 -- where both were found, each was
 parted : {A B : Type 0} (o : Option A) (p : Option B) (q : A × B) → both o p ≡ Some q → (o ≡ Some q.0) × (p ≡ Some q.1)

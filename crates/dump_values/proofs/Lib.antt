@@ -1,7 +1,6 @@
 pub mod BackLaws
 mod DumpBack
 mod KeptLemmas
-mod ListLemmas
 mod PairLemmas
 mod RiseLemmas
-pub mod TreeLemmas
+pub use Rattle.json_members.proofs.TreeLemmas

@@ -4,7 +4,7 @@ use Rattle.id_memory.specs.Pairs.{Pairs}
 use Rattle.row_store.specs.Rows.{Rows}
 use Rattle.serde_json.specs.Data.{Data, object, member, no_members}
 use Rattle.dump_values.specs.Lines.{aux_json, aux_of, memory_json, memory_of, operator_json, operator_of, stored_json, stored_of, version_json, version_of}
-use Rattle.dump_values.specs.Members.{both, list_at, list_json, member_of, next_of, number_json, number_of, numbers_json, numbers_of, of_size, small_of, within}
+use Rattle.json_members.specs.Members.{both, list_at, list_json, member_of, next_of, number_json, number_of, numbers_json, numbers_of, of_size, small_of, within}
 use Rattle.dump_values.specs.declared.lines.OperatorLine.{OperatorLine}
 use Rattle.dump_values.specs.declared.lines.VersionLine.{VersionLine}
 use Rattle.row_store.specs.States.{TableState}

@@ -6,7 +6,7 @@ use Rattle.id_memory.specs.Pairs.{IsOneToOne, Pairs, RiseFrom as PairsRise}
 use Rattle.row_store.specs.Rows.{RiseFrom, Rows}
 use Rattle.dump_values.specs.Dumps.{Dump, dump_json, dump_of}
 use Rattle.dump_values.specs.Lines.{aux_json, aux_of, memory_json, memory_of, operator_json, operator_of, stored_json, stored_of, version_json, version_of}
-use Rattle.dump_values.specs.Members.{numbers_json, numbers_of}
+use Rattle.json_members.specs.Members.{numbers_json, numbers_of}
 use Rattle.dump_values.specs.Pairs.{pairs_json, pairs_of}
 use Rattle.dump_values.specs.Tables.{table_json, table_of}
 use Rattle.dump_values.specs.Values.{row_json, row_of, value_json, value_of}

@@ -1,9 +1,9 @@
 pub mod Dumps
 pub mod Laws
 pub mod Lines
-pub mod Members
 pub mod Pairs
 pub mod Tables
-pub mod Trees
 pub mod Values
 pub mod inner
+pub use Rattle.json_members.specs.Members
+pub use Rattle.json_members.specs.Trees

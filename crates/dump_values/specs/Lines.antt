@@ -4,7 +4,7 @@ use Rattle.id_memory.specs.Pairs.{Pairs}
 use Rattle.row_store.specs.Rows.{Rows}
 use Rattle.serde_json.specs.Data.{Data, object, string, member, no_members}
 use Rattle.serde_json.specs.Find.{as_str}
-use Rattle.dump_values.specs.Members.{both, member_of, number_json, numbers_json, numbers_of, of_size, small_of}
+use Rattle.json_members.specs.Members.{both, member_of, number_json, numbers_json, numbers_of, of_size, small_of}
 use Rattle.dump_values.specs.Pairs.{pairs_json, pairs_of}
 use Rattle.dump_values.specs.Tables.{table_json, table_of, tables_json, tables_of}
 use Rattle.dump_values.specs.declared.lines.OperatorLine.{OperatorLine}

@@ -4,7 +4,7 @@ use Rattle.id_memory.specs.Pairs.{Pairs, id_of as id_in}
 use Rattle.serde_json.specs.Data.{Data, array, Items, no_items, item}
 use Rattle.serde_json.specs.View.{items_of}
 use Rattle.serde_json.specs.Find.{as_array}
-use Rattle.dump_values.specs.Members.{both, id_of, list_json, number_json, number_of}
+use Rattle.json_members.specs.Members.{both, id_of, list_json, number_json, number_of}
 
 -- an identifier with its pair
 abbrev pub triple_json : ℕ × ℕ × ℕ → Data

@@ -4,7 +4,7 @@ use Rattle.row_store.specs.Rows.{Rows}
 use Rattle.par_base.specs.declared.value.Value.{Value}
 use Rattle.serde_json.specs.Data.{Data, Items, no_items, item}
 use Rattle.serde_json.specs.Find.{as_array}
-use Rattle.dump_values.specs.Members.{array_of, list_json}
+use Rattle.json_members.specs.Members.{array_of, list_json}
 use Rattle.dump_values.specs.Values.{row_json, row_of}
 
 -- a table: its rows

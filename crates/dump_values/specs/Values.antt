@@ -5,7 +5,7 @@ use Rattle.par_base.specs.declared.value.Value.TheVariants.{Null, Int, Text, Ref
 use Rattle.serde_json.specs.Data.{Data, null, boolean, number, string, array, object, Items, no_items, item, no_members, member}
 use Rattle.serde_json.specs.View.{items_of}
 use Rattle.serde_json.specs.Find.{as_array, as_i64, of_integer}
-use Rattle.dump_values.specs.Members.{both, id_of, list_of, member_of, number_json, of_size}
+use Rattle.json_members.specs.Members.{both, id_of, list_of, member_of, number_json, of_size}
 
 -- a value: null, a whole number, a string, or an object whose one member is the reference
 abbrev pub value_json : Value → Data

@@ -4,17 +4,17 @@ ghost use Rattle.serde_json.specs.Find.{as_array};
 ghost use Rattle.serde_json.specs.View.{members_view, view};
 ghost use Rattle.dump_values.specs.Dumps.{auxes_seen, dump_of, dump_seen, graph_of, has_format as is_of_format, kept_of, kept_seen, memories_seen, written};
 ghost use Rattle.dump_values.specs.Lines.{aux_of, memory_of, operator_of, version_of};
-ghost use Rattle.dump_values.specs.Members.{both, list_at, list_of, member_of, next_of, numbers_of, small_of};
-ghost use Rattle.dump_values.specs.Trees.{entries_view, tree_view, trees_view};
+ghost use Rattle.json_members.specs.Members.{both, list_at, list_of, member_of, next_of, numbers_of, small_of};
+ghost use Rattle.json_members.specs.Trees.{entries_view, tree_view, trees_view};
 ghost use Rattle.dump_values.specs.inner.Calls.{with_graph, with_layout, with_tables};
 
 use crate::lines::{OperatorLine, VersionLine};
 use crate::lists::{each_aux, each_memory, each_stored, operators_at, versions_at};
-use crate::members::{
-    has_members, member, next_at, numbers_at, put_number, read_within, small_at, take_items,
-};
 use id_memory::PairMemory;
 use json::Value as Tree;
+use json_members::{
+    has_members, member, next_at, numbers_at, put_number, read_within, small_at, take_items,
+};
 use par_base::{List, Memory};
 use row_store::Table;
 use serde_json::{Map, Value as Json, put};

@@ -4,16 +4,16 @@ ghost use Rattle.std.specs.Prelude.{◌≡◌, codes, map, IfOk, option_map};
 ghost use Rattle.serde_json.specs.Find.{as_str};
 ghost use Rattle.serde_json.specs.View.{view};
 ghost use Rattle.dump_values.specs.Lines.{aux_json, aux_of, memory_json, memory_of, operator_json, operator_of, stored_json, stored_of, version_json, version_of};
-ghost use Rattle.dump_values.specs.Members.{both, member_of, numbers_of, small_of};
-ghost use Rattle.dump_values.specs.Trees.{tree_view};
+ghost use Rattle.json_members.specs.Members.{both, member_of, numbers_of, small_of};
+ghost use Rattle.json_members.specs.Trees.{tree_view};
 
-use crate::members::{
-    has_members, numbers_at, put_number, put_text, small_at, text_at, write_numbers,
-};
 use crate::pairs::{pairs_at, write_pairs};
 use crate::tables::{table_at, tables_at, write_table, write_tables};
 use id_memory::PairMemory;
 use json::Value as Tree;
+use json_members::{
+    has_members, numbers_at, put_number, put_text, small_at, text_at, write_numbers,
+};
 use par_base::{List, Memory, Text};
 use row_store::Table;
 use serde_json::{Map, Value as Json, put};

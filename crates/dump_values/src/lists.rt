@@ -2,15 +2,15 @@
 ghost use Rattle.std.specs.Prelude.{◌≡◌, IfOk, option_map};
 ghost use Rattle.dump_values.specs.Dumps.{auxes_seen, memories_seen, stored_seen};
 ghost use Rattle.dump_values.specs.Lines.{aux_of, memory_of, operator_of, stored_of, version_of};
-ghost use Rattle.dump_values.specs.Members.{list_at, list_of};
-ghost use Rattle.dump_values.specs.Trees.{tree_view, trees_view};
+ghost use Rattle.json_members.specs.Members.{list_at, list_of};
+ghost use Rattle.json_members.specs.Trees.{tree_view, trees_view};
 
 use crate::lines::{
     OperatorLine, VersionLine, read_aux, read_memory, read_operator, read_stored, read_version,
 };
-use crate::members::items_at;
 use id_memory::PairMemory;
 use json::Value as Tree;
+use json_members::items_at;
 use par_base::{List, Memory};
 use row_store::Table;
 use std::alloc::Global;

@@ -2,14 +2,14 @@
 ghost use Rattle.std.specs.Prelude.{◌≡◌, ◌∷◌, [], ◌++◌, ◌^◌, ◌<◌, IfOk, IfSome, OnOk, option_map, None};
 ghost use Rattle.id_memory.specs.Pairs.{RiseFrom, id_of as id_in};
 ghost use Rattle.serde_json.specs.View.{view};
-ghost use Rattle.dump_values.specs.Members.{member_of};
+ghost use Rattle.json_members.specs.Members.{member_of};
 ghost use Rattle.dump_values.specs.Pairs.{is_end as nothing, last_of, may_follow, pairs_behind, pairs_json, pairs_of, triple_json, triple_of, two_of};
-ghost use Rattle.dump_values.specs.Trees.{tree_view, trees_view};
+ghost use Rattle.json_members.specs.Trees.{tree_view, trees_view};
 ghost use Rattle.dump_values.specs.inner.Calls.{EndBefore};
 
-use crate::members::{into_items, into_member, items_of, read_id, read_whole};
 use id_memory::{PairMemory, pairs_are_the_memory};
 use json::Value as Tree;
+use json_members::{into_items, into_member, items_of, read_id, read_whole};
 use par_base::Memory;
 use serde_json::{Number, Value as Json};
 use std::alloc::Global;

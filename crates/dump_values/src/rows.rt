@@ -1,13 +1,13 @@
 //! Rows.
 ghost use Rattle.std.specs.Prelude.{◌≡◌, ◌<◌, ◌^◌, IfOk, IfSome};
 ghost use Rattle.serde_json.specs.View.{view};
-ghost use Rattle.dump_values.specs.Members.{list_of};
-ghost use Rattle.dump_values.specs.Trees.{tree_view, trees_view};
+ghost use Rattle.json_members.specs.Members.{list_of};
+ghost use Rattle.json_members.specs.Trees.{tree_view, trees_view};
 ghost use Rattle.dump_values.specs.Values.{row_json, row_of, value_of};
 
-use crate::members::{items_of, read_id};
 use crate::values::{read_value, write_value};
 use json::Value as Tree;
+use json_members::{items_of, read_id};
 use par_base::{List, Memory, Row};
 use serde_json::{Number, Value as Json};
 use std::alloc::Global;

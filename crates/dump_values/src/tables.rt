@@ -1,13 +1,13 @@
 //! Tables.
 ghost use Rattle.std.specs.Prelude.{◌≡◌, map, IfOk, option_map};
 ghost use Rattle.serde_json.specs.View.{view};
-ghost use Rattle.dump_values.specs.Members.{list_of, member_of};
+ghost use Rattle.json_members.specs.Members.{list_of, member_of};
 ghost use Rattle.dump_values.specs.Tables.{rows_from, table_json, table_of, tables_json, tables_of};
-ghost use Rattle.dump_values.specs.Trees.{tree_view, trees_view};
+ghost use Rattle.json_members.specs.Trees.{tree_view, trees_view};
 
-use crate::members::{into_items, into_member};
 use crate::rows::{take_row, write_row};
 use json::Value as Tree;
+use json_members::{into_items, into_member};
 use par_base::{List, Memory};
 use row_store::Table;
 use serde_json::Value as Json;

@@ -1,12 +1,11 @@
 //! Values.
 ghost use Rattle.std.specs.Prelude.{◌≡◌, IfOk};
 ghost use Rattle.serde_json.specs.View.{view};
-ghost use Rattle.dump_values.specs.Trees.{tree_view};
+ghost use Rattle.json_members.specs.Trees.{tree_view};
 ghost use Rattle.dump_values.specs.Values.{reference_of, value_json, value_of};
 
-use crate::members::{has_members, id_at};
-use crate::numbers::read_number;
 use json::Value as Tree;
+use json_members::{has_members, id_at, read_number};
 use par_base::{Memory, SharedText, Value};
 use serde_json::{Number, Value as Json, json};
 use std::alloc::Global;

@@ -2,10 +2,10 @@ use Rattle.std.specs.Prelude.{option_map}
 use Rattle.std.proofs.Common.{ℕ, List, sym, ap, ◌∙◌}
 use Rattle.id_memory.specs.States.{MemoryState}
 use Rattle.row_store.specs.States.{TableState}
-use Rattle.dump_values.specs.Trees.{tree_view, trees_view}
+use Rattle.json_members.specs.Trees.{tree_view, trees_view}
 use Rattle.dump_values.specs.Dumps.{auxes_seen, memories_seen, stored_seen}
 use Rattle.dump_values.specs.Lines.{aux_of, memory_of, stored_of}
-use Rattle.dump_values.specs.Members.{list_of}
+use Rattle.json_members.specs.Members.{list_of}
 use Rattle.dump_values.proofs.KeptLemmas.{kept_read, lists_read}
 use Rattle.dump_values.proofs.dumps.read_kept.Goals as goal
 

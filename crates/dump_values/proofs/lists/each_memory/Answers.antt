@@ -6,7 +6,7 @@ use Rattle.std.proofs.lemmas.Iterator.Consumers.{YieldsList-end, YieldsList-turn
 use Rattle.id_memory.specs.States.{MemoryState}
 use Rattle.dump_values.specs.Dumps.{memories_seen}
 use Rattle.dump_values.specs.Lines.{memory_of}
-use Rattle.dump_values.proofs.ListLemmas.{list_ends, list_stops, list_taken}
+use Rattle.json_members.proofs.ListLemmas.{list_ends, list_stops, list_taken}
 use Rattle.dump_values.proofs.lists.each_memory.Goals as goal
 
 pub returns-in_default : goal.returns-in_default

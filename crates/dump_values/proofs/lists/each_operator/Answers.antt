@@ -1,6 +1,6 @@
 use Rattle.std.proofs.Common.{sym, ◌∙◌}
 use Rattle.dump_values.specs.Lines.{operator_of}
-use Rattle.dump_values.proofs.ListLemmas.{list_ends, list_more}
+use Rattle.json_members.proofs.ListLemmas.{list_ends, list_more}
 use Rattle.dump_values.proofs.lists.each_operator.Goals as goal
 
 pub loop-item-preserved : goal.loop-item-preserved

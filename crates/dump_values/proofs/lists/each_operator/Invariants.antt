@@ -1,8 +1,8 @@
 use Rattle.std.specs.Prelude.{option_map}
 use Rattle.std.proofs.Common.{◌≡◌, ◌++◌, drop}
-use Rattle.dump_values.specs.Trees.{trees_view}
+use Rattle.json_members.specs.Trees.{trees_view}
 use Rattle.dump_values.specs.Lines.{operator_of}
-use Rattle.dump_values.specs.Members.{list_of}
+use Rattle.json_members.specs.Members.{list_of}
 use Rattle.dump_values.proofs.lists.each_operator.Given as goal
 
 abbrev pub invariant-loop-item : goal.invariant-loop-item

@@ -6,7 +6,7 @@ use Rattle.std.proofs.lemmas.Iterator.Consumers.{YieldsList-end, YieldsList-turn
 use Rattle.row_store.specs.States.{TableState}
 use Rattle.dump_values.specs.Dumps.{stored_seen}
 use Rattle.dump_values.specs.Lines.{stored_of}
-use Rattle.dump_values.proofs.ListLemmas.{list_ends, list_stops, list_taken}
+use Rattle.json_members.proofs.ListLemmas.{list_ends, list_stops, list_taken}
 use Rattle.dump_values.proofs.lists.each_stored.Goals as goal
 
 pub returns-in_default : goal.returns-in_default

@@ -1,9 +1,9 @@
 use Rattle.std.specs.Prelude.{option_map}
 use Rattle.std.proofs.Common.{◌≡◌, ◌++◌, drop, length}
-use Rattle.dump_values.specs.Trees.{trees_view}
+use Rattle.json_members.specs.Trees.{trees_view}
 use Rattle.dump_values.specs.Dumps.{stored_seen}
 use Rattle.dump_values.specs.Lines.{stored_of}
-use Rattle.dump_values.specs.Members.{list_of}
+use Rattle.json_members.specs.Members.{list_of}
 use Rattle.dump_values.proofs.lists.each_stored.Given as goal
 
 abbrev pub invariant-loop-item : goal.invariant-loop-item

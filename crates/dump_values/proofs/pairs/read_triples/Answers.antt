@@ -3,10 +3,10 @@ use Rattle.std.proofs.lemmas.Iterator.Adapters.{YieldsList-from_vec}
 use Rattle.std.proofs.lemmas.Iterator.Consumers.{YieldsList-turn}
 use Rattle.std.proofs.lemmas.List.{length_push}
 use Rattle.id_memory.specs.Pairs.{Pairs, RiseFrom}
-use Rattle.dump_values.specs.Trees.{tree_view, trees_view}
+use Rattle.json_members.specs.Trees.{tree_view, trees_view}
 use Rattle.dump_values.specs.Pairs.{may_follow, pairs_behind}
 use Rattle.dump_values.specs.inner.Calls.{EndBefore}
-use Rattle.dump_values.proofs.ListLemmas.{Tree, begins}
+use Rattle.json_members.proofs.ListLemmas.{Tree, begins}
 use Rattle.dump_values.proofs.PairLemmas.{ends_more, ends_push, follow_least, rise_push, step}
 use Rattle.dump_values.proofs.pairs.read_triples.Goals as goal
 

@@ -1,6 +1,6 @@
 use Rattle.std.proofs.Common.{◌≡◌, [], drop, length}
 use Rattle.id_memory.specs.Pairs.{RiseFrom}
-use Rattle.dump_values.specs.Trees.{trees_view}
+use Rattle.json_members.specs.Trees.{trees_view}
 use Rattle.dump_values.specs.Pairs.{pairs_behind}
 use Rattle.dump_values.specs.inner.Calls.{EndBefore}
 use Rattle.dump_values.proofs.pairs.read_triples.Given as goal

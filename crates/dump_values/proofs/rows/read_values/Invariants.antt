@@ -1,7 +1,7 @@
 use Rattle.std.specs.Prelude.{option_map}
 use Rattle.std.proofs.Common.{◌≡◌, ◌++◌, drop}
-use Rattle.dump_values.specs.Trees.{trees_view}
-use Rattle.dump_values.specs.Members.{list_of}
+use Rattle.json_members.specs.Trees.{trees_view}
+use Rattle.json_members.specs.Members.{list_of}
 use Rattle.dump_values.specs.Values.{value_of}
 use Rattle.dump_values.proofs.rows.read_values.Given as goal
 

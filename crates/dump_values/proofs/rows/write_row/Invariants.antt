@@ -1,6 +1,6 @@
 use Rattle.std.proofs.Common.{◌≡◌, ◌∷◌, map, take}
 use Rattle.serde_json.specs.View.{view}
-use Rattle.dump_values.specs.Members.{number_json}
+use Rattle.json_members.specs.Members.{number_json}
 use Rattle.dump_values.specs.Values.{value_json}
 use Rattle.dump_values.proofs.rows.write_row.Given as goal
 

@@ -5,7 +5,7 @@ use Rattle.std.proofs.lemmas.Iterator.Adapters.{YieldsList-from_vec}
 use Rattle.std.proofs.lemmas.Iterator.Consumers.{YieldsList-end, YieldsList-turn}
 use Rattle.row_store.specs.States.{TableState}
 use Rattle.dump_values.specs.Tables.{table_of}
-use Rattle.dump_values.proofs.ListLemmas.{list_ends, list_stops, list_taken}
+use Rattle.json_members.proofs.ListLemmas.{list_ends, list_stops, list_taken}
 use Rattle.dump_values.proofs.tables.read_each_table.Goals as goal
 
 pub returns-in_default : goal.returns-in_default

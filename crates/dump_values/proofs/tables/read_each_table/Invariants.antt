@@ -1,9 +1,9 @@
 use Rattle.std.specs.Prelude.{option_map}
 use Rattle.std.proofs.Common.{◌≡◌, ◌++◌, List, drop, length, map}
-use Rattle.dump_values.specs.Trees.{trees_view}
+use Rattle.json_members.specs.Trees.{trees_view}
 use Rattle.row_store.specs.Rows.{Rows}
 use Rattle.row_store.specs.States.{TableState}
-use Rattle.dump_values.specs.Members.{list_of}
+use Rattle.json_members.specs.Members.{list_of}
 use Rattle.dump_values.specs.Tables.{table_of}
 use Rattle.dump_values.proofs.tables.read_each_table.Given as goal
 

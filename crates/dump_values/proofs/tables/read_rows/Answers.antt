@@ -5,9 +5,9 @@ use Rattle.std.proofs.lemmas.Iterator.Consumers.{YieldsList-turn}
 use Rattle.std.proofs.lemmas.List.{length_push}
 use Rattle.row_store.specs.Rows.{AreBelow, Rows}
 use Rattle.row_store.specs.inner.FoundRows.{below_more, below_push}
-use Rattle.dump_values.specs.Trees.{tree_view, trees_view}
+use Rattle.json_members.specs.Trees.{tree_view, trees_view}
 use Rattle.dump_values.specs.Tables.{rows_from}
-use Rattle.dump_values.proofs.ListLemmas.{Tree, begins}
+use Rattle.json_members.proofs.ListLemmas.{Tree, begins}
 use Rattle.dump_values.proofs.RiseLemmas.{step}
 use Rattle.dump_values.proofs.tables.read_rows.Goals as goal
 

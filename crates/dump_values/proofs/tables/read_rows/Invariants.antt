@@ -1,7 +1,7 @@
 use Rattle.std.specs.Prelude.{option_map}
 use Rattle.std.proofs.Common.{◌≡◌, ◌++◌, drop, length}
 use Rattle.row_store.specs.Rows.{AreBelow}
-use Rattle.dump_values.specs.Trees.{trees_view}
+use Rattle.json_members.specs.Trees.{trees_view}
 use Rattle.dump_values.specs.Tables.{rows_from}
 use Rattle.dump_values.proofs.tables.read_rows.Given as goal
 

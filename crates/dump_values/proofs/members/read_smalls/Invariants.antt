@@ -1,8 +1,0 @@
-use Rattle.std.specs.Prelude.{option_map}
-use Rattle.std.proofs.Common.{◌≡◌, ◌++◌, drop}
-use Rattle.dump_values.specs.Trees.{trees_view}
-use Rattle.dump_values.specs.Members.{list_of, small_of}
-use Rattle.dump_values.proofs.members.read_smalls.Given as goal
-
-abbrev pub invariant-loop-item : goal.invariant-loop-item
-invariant-loop-item l = list_of small_of (trees_view l.items) ≡ option_map (λ ns. l.numbers ++ ns) (list_of small_of (trees_view (drop l.item-index l.items)))

@@ -1,0 +1,63 @@
+//! The numbers of JSON from their texts.
+ghost use Rattle.std.specs.Prelude.{◌≡◌, ◌==◌, ◌<◌, length, option_map, slice_index, true, false, IsTrue};
+ghost use Rattle.serde_json.specs.Read.{float_of, number_from, number_of};
+ghost use Rattle.serde_json.specs.View.{number_view};
+ghost use Rattle.json_members.specs.Trees.{number_or_0};
+
+use fast_float::Numeral;
+use serde_json::Number;
+
+fn has_minus(bytes: &[u8]) -> bool
+    ensures value { result ≡ (slice_index bytes.now 0 == 45) }
+    ensures some { IsTrue result → 0 < length bytes.now }
+{
+    !bytes.is_empty() && bytes[0] == b'-'
+}
+
+fn nearest(negative: bool, numeral: &Numeral<'_>) -> Option<Number>
+    ensures { option_map number_view result ≡ float_of negative numeral.now }
+{
+    Number::from_f64(numeral.to_float::<f64>(negative))
+}
+
+fn unsigned(numeral: &Numeral<'_>) -> Option<Number>
+    ensures { option_map number_view result ≡ number_from false numeral.now }
+{
+    match numeral.to_u64() {
+        Some(number) => Some(Number::from(number)),
+        None => nearest(false, numeral),
+    }
+}
+
+fn negative(numeral: &Numeral<'_>) -> Option<Number>
+    ensures { option_map number_view result ≡ number_from true numeral.now }
+{
+    if let Some(number) = numeral.to_i64(true) {
+        if number < 0 {
+            return Some(Number::from(number));
+        }
+    }
+    nearest(true, numeral)
+}
+
+/// The number that the text of a number spells, where it isn't past the largest float.
+pub(crate) fn try_number(text: &str) -> Option<Number>
+    ensures { option_map number_view result ≡ number_of text.now }
+{
+    let bytes = text.as_bytes();
+    if has_minus(bytes) {
+        negative(&Numeral::scan(&bytes[1..]))
+    } else {
+        unsigned(&Numeral::scan(bytes))
+    }
+}
+
+/// The same, and 0 where it is none.
+pub fn read_number(text: &str) -> Number
+    ensures { number_view result ≡ number_or_0 (number_of text.now) }
+{
+    match try_number(text) {
+        Some(number) => number,
+        None => Number::from(0u64),
+    }
+}
