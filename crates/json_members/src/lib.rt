@@ -6,7 +6,7 @@
 //! what any JSON spells or says that it spells none, and that of members with one key the last counts. It
 //! must not know what an object is for.
 //!
-//! Lemmas that crates above may use stand in proofs/: `TreeLemmas`.
+//! Lemmas that crates above may use stand in proofs/: `TreeLemmas` and `ListLemmas`.
 #![tactic(auto)]
 
 mod members;
