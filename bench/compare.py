@@ -1,19 +1,22 @@
 #!/usr/bin/env python3
 """Times a workload on inverda and on sqlite3, which has views with triggers for it.
 
-    bench/compare.py [--foreign-key] PROGRAM [ROWS ..]
+    bench/compare.py [--foreign-key] [--runs COUNT] PROGRAM [ROWS ..]
 
-Writes to standard output one line for each number of rows: the statements, the seconds that each
-took, and how many statements a second that is. Both read their script from standard input; sqlite3 keeps
-its database in memory. With `--foreign-key` the second version takes the authors out of the tasks, so that
-each is stored once, and both versions are written one row at a time.
+Writes to standard output two lines for each number of rows: of the single INSERTs with which the workload
+begins, and of all of it. Each has the number of statements, then of inverda and of sqlite3 the seconds of a
+processor, least and median of so many runs by turns (nine if nothing is said), and the most megabytes, where
+anything below some fifteen is this program's own. Both read their script from standard input; sqlite3 keeps its
+database in memory. With `--foreign-key` the second version takes the authors out of the tasks, so that each is
+stored once, and both versions are written one row at a time.
 """
 
+import argparse
 import os
+import statistics
 import subprocess
 import sys
 import tempfile
-import time
 
 
 def task(i):
@@ -161,38 +164,69 @@ def keyed_for_sqlite(rows):
     yield KEYED_BACK
 
 
-def seconds(command, statements, folder):
-    """The seconds that a command takes for these statements on its standard input."""
-    path = os.path.join(folder, "script")
+def only_inserts(script):
+    """The first version with its rows: a script up to its second change of the schema."""
+    statements = iter(script)
+    yield next(statements)
+    for statement in statements:
+        if not statement.startswith("INSERT"):
+            return
+        yield statement
+
+
+def write_script(statements, folder, name):
+    """Puts statements into a file, and tells how many there are."""
+    path = os.path.join(folder, name)
+    count = 0
     with open(path, "w", encoding="utf-8") as script:
-        script.writelines(statement + ";\n" for statement in statements)
-    start = time.monotonic()
+        for statement in statements:
+            script.write(statement + ";\n")
+            count += 1
+    return path, count
+
+
+def run(command, path):
+    """The seconds of a processor and the megabytes that a command takes for a script."""
     with open(path, encoding="utf-8") as script:
-        done = subprocess.run(
-            command, stdin=script, stdout=subprocess.DEVNULL, check=False
-        )
-    if done.returncode != 0:
-        sys.exit(f"{command[0]} ended with {done.returncode}")
-    return time.monotonic() - start
+        child = subprocess.Popen(command, stdin=script, stdout=subprocess.DEVNULL)
+        _, status, used = os.wait4(child.pid, 0)
+    if status != 0:
+        sys.exit(f"{command[0]} ended with {os.waitstatus_to_exitcode(status)}")
+    return used.ru_utime + used.ru_stime, used.ru_maxrss / 1024
+
+
+def report(rows, part, own_script, other_script, words):
+    """Runs both by turns, and writes what they took."""
+    with tempfile.TemporaryDirectory() as folder:
+        own_path, count = write_script(own_script, folder, "own")
+        other_path, _ = write_script(other_script, folder, "other")
+        own, other = [], []
+        for _ in range(words.runs):
+            own.append(run([words.program], own_path))
+            other.append(run(["sqlite3", "-batch", ":memory:"], other_path))
+    figures = []
+    for of in (min, statistics.median):
+        figures += [of(seconds for seconds, _ in taken) for taken in (own, other)]
+    megabytes = [max(room for _, room in taken) for taken in (own, other)]
+    print(rows, part, count, " ".join(f"{it:.2f}" for it in figures), *map(round, megabytes), flush=True)
 
 
 def main():
-    words = [word for word in sys.argv[1:] if word != "--foreign-key"]
-    if not words:
-        sys.exit(__doc__)
-    keyed = "--foreign-key" in sys.argv
-    own_script, other_script = (
-        (keyed_for_inverda, keyed_for_sqlite) if keyed else (for_inverda, for_sqlite)
+    given = argparse.ArgumentParser(
+        description=__doc__, formatter_class=argparse.RawDescriptionHelpFormatter
     )
-    program = words[0]
-    counts = [int(word) for word in words[1:]] or [1_000, 10_000, 100_000]
-    print("rows statements inverda_s inverda_per_s sqlite_s sqlite_per_s")
-    for rows in counts:
-        statements = sum(1 for _ in own_script(rows))
-        with tempfile.TemporaryDirectory() as folder:
-            own = seconds([program], own_script(rows), folder)
-            other = seconds(["sqlite3", "-batch", ":memory:"], other_script(rows), folder)
-        print(rows, statements, f"{own:.2f} {statements / own:.0f} {other:.2f} {statements / other:.0f}")
+    given.add_argument("--foreign-key", action="store_true")
+    given.add_argument("--runs", type=int, default=9)
+    given.add_argument("program")
+    given.add_argument("rows", type=int, nargs="*", default=[1_000, 10_000, 100_000])
+    words = given.parse_args()
+    own_script, other_script = (
+        (keyed_for_inverda, keyed_for_sqlite) if words.foreign_key else (for_inverda, for_sqlite)
+    )
+    print("rows part statements least sqlite3 median sqlite3 megabytes sqlite3")
+    for rows in words.rows:
+        for part, taken in (("inserts", only_inserts), ("all", iter)):
+            report(rows, part, taken(own_script(rows)), taken(other_script(rows)), words)
 
 
 if __name__ == "__main__":
