@@ -7,21 +7,11 @@
 #![tactic(auto)]
 
 mod admission;
-mod entries;
-mod finding;
-mod half_rows;
 mod halves;
 mod mapping;
-mod matching;
-mod nulls;
 mod outer;
 mod outer_on;
-mod parts;
 mod places;
-mod placing;
 mod reading;
-mod seconds;
-mod showing;
-mod standing;
 
 pub use outer::OuterOn;
