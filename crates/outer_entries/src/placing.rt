@@ -189,8 +189,8 @@ fn place_row(
     }
 }
 
-/// The entries of the rows, one after the other. Rows that are drawn for them are put behind those of
-/// both tables. It takes some look-ups a row; a refusal says that no identifier is left.
+/// The entries of the rows, one after the other. Rows that are drawn for them are put behind those
+/// of both tables. It takes some look-ups a row; a refusal says that no identifier is left.
 pub fn place(
     alloc: Global,
     join: &Outer<'_>,

@@ -189,10 +189,11 @@ fn append(entries: &mut List<(u64, u64, u64)>, more: &[(u64, u64, u64)]) -> Resu
     Ok(())
 }
 
-/// The new memory's entries: those that stay, and drawn ones behind. It evaluates the condition only
-/// for pairs of which a row has changed. Where the condition has equal columns, and the second rows
-/// are more than a few, a first row is tried with those of its value alone, else with all. A refusal
-/// says that no identifier is left.
+/// The new memory's entries: those that stay, and drawn ones behind.
+///
+/// It evaluates the condition only for pairs of which a row has changed. Where the condition has
+/// equal columns, and the second rows are more than a few, a first row is tried with those of its
+/// value alone, else with all. A refusal says that no identifier is left.
 pub fn entries<L: Ledger>(
     alloc: Global,
     it: &Showing<'_>,
