@@ -27,12 +27,12 @@ use Rattle.outer_law.specs.Placed.{Placing, beginning, placed, ending, full, sta
 use Rattle.outer_law.specs.OuterOn.{outer_on, outer_backward}
 use Rattle.outer_law.proofs.SubsetLaws.{sub_count, kept_rise, kept_paired}
 use Rattle.outer_law.proofs.BackwardLaws.{backward_half}
-use Rattle.op_outer_cond.specs.inner.Placings.{placing_of, Knows, AreReady, IsReady}
+use Rattle.outer_entries.specs.Placings.{placing_of, Knows, AreReady, IsReady}
 use Rattle.op_outer_cond.specs.inner.Mappings.{mapped_from}
-use Rattle.op_outer_cond.specs.declared.half_rows.HalfRows.{HalfRows}
+use Rattle.outer_entries.specs.declared.half_rows.HalfRows.{HalfRows}
 use Rattle.pair_rows.specs.inner.Draws.{WasRefused}
 use Rattle.pair_rows.specs.inner.Knowing.{FindsLeast}
-use Rattle.op_outer_cond.specs.declared.placing.Placing.{Placing as State}
+use Rattle.outer_entries.specs.declared.placing.Placing.{Placing as State}
 use Rattle.op_outer_cond.proofs.MappingLemmas.{AreEntries}
 
 -- some entries rise
@@ -91,11 +91,6 @@ start_ready j near old n s t r new it some first second is knows =
       second = half_ready second_of es n t it.second (subst (λ (rs : Rows). RowsSound n rs) (sym second) (table_sound n 1 old.source sound)) (ap (λ (d : Placing). d.second) start) (ap (λ (d : Placing). d.second_shared) start) knows.second;
       taken = knows.taken;
     }
-
--- what is there before rows are placed
-pub start_from : (s t r new : Rows) (m whole : Pairs) (it : State) → it.first.all.rows ≡ s → it.second.all.rows ≡ t → it.first.shared.table.rows ≡ standing first_of whole s → it.second.shared.table.rows ≡ standing second_of whole t
-    → it.taken.entries ≡ kept_in r m new → whole ≡ full (kept_in r m new) → (n : ℕ) → placing_of it n ≡ beginning s t r m new n
-start_from s t r new m whole it first second first_shared second_shared kept all n = rw (first, second, first_shared, second_shared, kept, all) refl
 
 -- what is there at the start
 pub start_is : (old : PairState) (near : Tables) (n : ℕ) (s t r new : Rows) (d : Placing) → s ≡ table_at 0 old.source → t ≡ table_at 1 old.source → r ≡ table_at 0 old.target → new ≡ table_at 0 near → d ≡ beginning s t r old.memory new n

@@ -1,9 +1,4 @@
-mod EntryLemmas
-mod FindingLemmas
 mod PlaceLemmas
 mod MappingLemmas
-mod StandingLemmas
-mod HalfRowLemmas
-mod PlacingLemmas
 mod BackwardLemmas
 mod AdmissionLemmas

@@ -1,5 +1,2 @@
-pub mod Calls
-pub mod Finding
-pub mod Placings
 pub mod Admitted
 pub mod Mappings

@@ -3,25 +3,16 @@
 //! The source has two tables. The target shows the pairs of their rows that match, joined, and each
 //! row that is in no such pair with nulls for the other half. A memory keeps which halves each
 //! identifier of the target stands for, with 0 for an absent one. It promises that the operator's
-//! calls answer what its definitions say, and knows nothing of names, versions or other operators.
+//! calls answer what its definitions say. It hands the search for entries and their placing on to
+//! `outer_entries`, and knows nothing of names, versions or other operators.
 #![tactic(auto)]
 
 mod admission;
-mod entries;
-mod finding;
-mod half_rows;
 mod halves;
 mod mapping;
-mod matching;
-mod nulls;
 mod outer;
 mod outer_on;
-mod parts;
 mod places;
-mod placing;
 mod reading;
-mod seconds;
-mod showing;
-mod standing;
 
 pub use outer::OuterOn;

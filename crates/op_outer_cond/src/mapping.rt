@@ -1,71 +1,30 @@
 //! The mappings both ways.
-ghost use Rattle.std.specs.Prelude.{ℕ, ◌≡◌, ◌+◌, ◌++◌, ◌∷◌, [], length, IfOk, OnOk};
+ghost use Rattle.std.specs.Prelude.{◌≡◌, ◌∷◌, [], IfOk};
 ghost use Rattle.id_memory.specs.Pairs.{RiseFrom, IsOneToOne};
 ghost use Rattle.op_law.specs.Calls.{seen, IsMapped};
 ghost use Rattle.op_law.specs.Meaning.{flip, exchanged};
 ghost use Rattle.op_law.specs.Premises.{SomeMap};
 ghost use Rattle.pair_rows.specs.Halves.{first_of, second_of};
-ghost use Rattle.pair_rows.specs.Given.{kept_in};
-ghost use Rattle.pair_rows.specs.inner.Draws.{Draws};
 ghost use Rattle.outer_law.specs.OuterOn.{outer_on, outer_forward, outer_backward};
-ghost use Rattle.outer_law.specs.Placed.{full, standing, beginning};
+ghost use Rattle.outer_law.specs.Placed.{standing};
 ghost use Rattle.op_outer_cond.specs.Outerings.{joining};
-ghost use Rattle.op_outer_cond.specs.inner.Calls.{joining_of, AreFromOne, ReadsIn, new_in, entries_in};
-ghost use Rattle.op_outer_cond.specs.inner.Placings.{placing_of, Knows, IsReady, full_kept_in, placed_in};
+ghost use Rattle.outer_entries.specs.Showings.{joining_of};
+ghost use Rattle.outer_entries.specs.Placings.{placing_of, IsReady, placed_in};
 ghost use Rattle.op_outer_cond.specs.inner.Mappings.{mapped_in};
 
-use crate::entries::{kept_entries, new_entries};
-use crate::finding::found_in;
-use crate::half_rows::rows_from;
 use crate::outer::OuterOn;
-use crate::places::{Outer, outer_of, places_of};
-use crate::placing::{Placing, place};
-use crate::reading::shown;
-use crate::seconds::seconds_in;
-use crate::showing::Showing;
-use crate::standing::{full, standing};
+use crate::places::{outer_of, places_of};
 use expr_lang::Steps;
-use id_memory::{IdCounter, PairMemory};
+use id_memory::IdCounter;
 use op_law::{Far, Pair, Side};
-use pair_rows::{Half, OldTarget, draw_for, entries_of, kept_in, memory_of, table_in};
-use par_base::{Fault, IdsSpent, List, Memory};
+use outer_entries::{Outer, Placing, Showing, entries, place, shown, standing, start_of};
+use pair_rows::{Half, OldTarget, memory_of, table_in};
+use par_base::{Fault, IdsSpent, Memory};
 use row_store::Table;
 use std::alloc::Global;
 use std::sync::ledger::Ledger;
 
-/// Puts entries behind others.
-fn append(entries: &mut List<(u64, u64, u64)>, more: &[(u64, u64, u64)]) -> Result<(), Memory>
-    ensures { OnOk result (entries.new ≡ entries.old ++ more.now) }
-{
-    for entry in more {
-        entries.push(*entry)?;
-    }
-    Ok(())
-}
-
-/// The new memory's entries: those that stay, and drawn ones behind.
-fn entries<L: Ledger>(
-    alloc: Global,
-    it: &Showing<'_>,
-    ids: &mut IdCounter,
-    steps: &mut Steps<L>,
-) -> Result<List<(u64, u64, u64)>, Fault<IdsSpent>>
-    requires reads { ReadsIn it.now }
-    requires from { AreFromOne it.now }
-    ensures { Draws (ids.old.next + length (new_in it.now)) ids.old ids.new
-        (λ made. made ≡ entries_in it.now ids.old.next) result }
-{
-    let seconds = seconds_in(alloc, it)?;
-    let found = found_in(alloc, it, &seconds, steps)?;
-    let old = entries_of(alloc, it.memory)?;
-    let mut made = kept_entries(alloc, it, &found, old.as_slice())?;
-    let new = new_entries(alloc, it, &found, &seconds)?;
-    let drawn = draw_for(alloc, new.as_slice(), ids)?;
-    append(&mut made, drawn.as_slice())?;
-    Ok(made)
-}
-
-/// The same, where the places are known.
+/// The new target and memory, where the places are known.
 fn forward_with<'x, L: Ledger>(
     alloc: Global,
     join: &'x Outer<'x>,
@@ -112,44 +71,6 @@ pub(crate) fn forward<L: Ledger>(
     let places = places_of(alloc, outer)?;
     let join = outer_of(outer, &places);
     forward_with(alloc, &join, near, old, ids, steps)
-}
-
-/// The full ones of entries, as a memory.
-fn full_memory(alloc: Global, entries: &[(u64, u64, u64)]) -> Result<PairMemory, Memory>
-    requires rise { RiseFrom 0 (full entries.now) }
-    requires one { IsOneToOne (full entries.now) }
-    ensures { IfOk result (λ made. made.entries ≡ full entries.now) }
-{
-    let shown = full(alloc, entries)?;
-    memory_of(alloc, shown.as_slice())
-}
-
-/// What is there before rows are placed: the kept entries are taken, and rows in full ones may be
-/// shared.
-fn start_of(
-    alloc: Global,
-    old: &OldTarget<'_>,
-    new: &Table,
-    s: &Table,
-    t: &Table,
-) -> Result<Placing, Memory>
-    requires rise { RiseFrom 0 (full_kept_in old.now new.now.rows) }
-    requires one { IsOneToOne (full_kept_in old.now new.now.rows) }
-    ensures start { let r = old.now.rows.now.rows in
-        let m = old.now.memory.now.entries in
-        IfOk result (λ it. (n : ℕ) →
-        placing_of it n ≡ beginning s.now.rows t.now.rows r m new.now.rows n) }
-    ensures knows { IfOk result (λ it. Knows it) }
-{
-    let taken = kept_in(alloc, old, new)?;
-    let whole = full_memory(alloc, taken.entries.as_slice())?;
-    let first = rows_from(alloc, Half::First, &whole, s)?;
-    let second = rows_from(alloc, Half::Second, &whole, t)?;
-    Ok(Placing {
-        first,
-        second,
-        taken,
-    })
 }
 
 /// The new source and memory, from the entries that were given and the rows that there are then.

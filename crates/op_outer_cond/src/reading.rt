@@ -1,41 +1,19 @@
 //! A side read back from the other one and the memory.
-ghost use Rattle.std.specs.Prelude.{◌≡◌, ◌==◌, [], filter, not, IfOk};
-ghost use Rattle.id_memory.specs.Pairs.{RiseFrom};
-ghost use Rattle.pair_rows.specs.Halves.{first_of, second_of, pick_of};
+ghost use Rattle.std.specs.Prelude.{◌≡◌, ◌==◌, [], not, IfOk};
+ghost use Rattle.pair_rows.specs.Halves.{pick_of};
 ghost use Rattle.pair_rows.specs.Kept.{side_read};
 ghost use Rattle.outer_law.specs.OuterOn.{outer_on, shown, with_it};
 ghost use Rattle.op_outer_cond.specs.Outerings.{joining};
-ghost use Rattle.op_outer_cond.specs.inner.Calls.{joining_of};
 
-use crate::matching::entry_row;
 use crate::outer::OuterOn;
-use crate::places::{Outer, outer_of, places_of};
+use crate::places::{outer_of, places_of};
 use id_memory::PairMemory;
 use op_law::Side;
-use pair_rows::{Half, entries_of, push_cell, side_read, table_in};
+use outer_entries::shown;
+use pair_rows::{Half, entries_of, side_read, table_in};
 use par_base::{List, Memory};
 use row_store::Table;
 use std::alloc::Global;
-
-/// The joined rows of entries, each under its identifier.
-pub(crate) fn shown(
-    alloc: Global,
-    join: &Outer<'_>,
-    s: &Table,
-    t: &Table,
-    entries: &[(u64, u64, u64)],
-) -> Result<Table, Memory>
-    requires { RiseFrom 0 entries.now }
-    ensures { IfOk result (λ made.
-        made.rows ≡ shown (joining_of join.now) s.now.rows t.now.rows entries.now) }
-{
-    let mut made = Table::new(alloc);
-    for entry in entries {
-        let cell = entry_row(alloc, join, s, t, entry.1, entry.2)?;
-        push_cell(&mut made, entry.0, cell)?;
-    }
-    Ok(made)
-}
 
 /// The target of a source.
 pub(crate) fn read_target(

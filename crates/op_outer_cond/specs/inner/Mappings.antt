@@ -7,8 +7,8 @@ use Rattle.pair_rows.specs.Halves.{first_of, second_of}
 use Rattle.pair_rows.specs.Shown.{Joining}
 use Rattle.pair_rows.specs.declared.unchanged.OldTarget.{OldTarget}
 use Rattle.outer_law.specs.Placed.{Placing, placed, ending, standing}
-use Rattle.op_outer_cond.specs.declared.places.Outer.{Outer}
-use Rattle.op_outer_cond.specs.inner.Calls.{joining_of}
+use Rattle.outer_entries.specs.declared.outer.Outer.{Outer}
+use Rattle.outer_entries.specs.Showings.{joining_of}
 
 -- the new source and memory
 abbrev pub mapped_from : Joining → Rows → Pairs → Placing → Rows → Mapped

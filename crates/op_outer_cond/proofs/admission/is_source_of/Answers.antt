@@ -4,7 +4,7 @@ use Rattle.row_store.specs.Rows.{Rows}
 use Rattle.id_memory.specs.Pairs.{RiseFrom as PairsRise, IsOneToOne}
 use Rattle.pair_rows.specs.Shown.{Joining}
 use Rattle.pair_rows.specs.Sides.{table_at}
-use Rattle.op_outer_cond.specs.inner.Calls.{joining_of}
+use Rattle.outer_entries.specs.Showings.{joining_of}
 use Rattle.op_outer_cond.specs.inner.Admitted.{IsSource}
 use Rattle.op_outer_cond.proofs.admission.is_source_of.Goals as goal
 

@@ -1,8 +1,8 @@
 use Rattle.std.proofs.Common.{refl, subst}
 use Rattle.op_law.specs.Calls.{seen, IsMapped}
 use Rattle.op_law.specs.Meaning.{Mapped}
-use Rattle.op_outer_cond.specs.inner.Calls.{joining_of}
-use Rattle.op_outer_cond.specs.inner.Placings.{placing_of}
+use Rattle.outer_entries.specs.Showings.{joining_of}
+use Rattle.outer_entries.specs.Placings.{placing_of}
 use Rattle.op_outer_cond.proofs.BackwardLemmas.{kept_entries, start_ready, start_is, backward_entries, mapped_is}
 use Rattle.op_outer_cond.proofs.mapping.backward_with.Goals as goal
 

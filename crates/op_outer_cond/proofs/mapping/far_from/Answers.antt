@@ -2,8 +2,8 @@ use Rattle.std.proofs.Common.{ℕ, ap, refl, sym, subst, ◌∙◌}
 use Rattle.std.proofs.lemmas.Result.{err_from_is_err_and}
 use Rattle.id_memory.specs.Pairs.{Pairs, RiseFrom, IsOneToOne}
 use Rattle.id_memory.specs.States.{CounterState}
-use Rattle.op_outer_cond.specs.inner.Calls.{joining_of}
-use Rattle.op_outer_cond.specs.inner.Placings.{placing_of, IsReady, placed_in, ending_in}
+use Rattle.outer_entries.specs.Showings.{joining_of}
+use Rattle.outer_entries.specs.Placings.{placing_of, IsReady, placed_in, ending_in}
 use Rattle.op_outer_cond.specs.inner.Mappings.{mapped_in}
 use Rattle.op_outer_cond.proofs.BackwardLemmas.{placed_mapped, placed_refused}
 use Rattle.op_outer_cond.proofs.mapping.far_from.Goals as goal

@@ -1,7 +1,7 @@
 use Rattle.std.proofs.Common.{◌∙◌, ap}
 use Rattle.id_memory.specs.States.{CounterState}
 use Rattle.op_law.specs.Calls.{seen}
-use Rattle.op_outer_cond.specs.inner.Calls.{joining_of}
+use Rattle.outer_entries.specs.Showings.{joining_of}
 use Rattle.op_outer_cond.proofs.MappingLemmas.{forward_entries, near_from}
 use Rattle.op_outer_cond.proofs.mapping.forward_with.Goals as goal
 

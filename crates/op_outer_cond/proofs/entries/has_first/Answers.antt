@@ -1,5 +1,0 @@
-use Rattle.std.proofs.Common.{◌∙◌}
-use Rattle.op_outer_cond.proofs.entries.has_first.Goals as goal
-
-pub returns : goal.returns
-returns c = c.has.ensures ∙ c.requires.second c.args.b

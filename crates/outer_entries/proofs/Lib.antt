@@ -1,0 +1,6 @@
+mod EntryLemmas
+mod FindingLemmas
+mod StandingLemmas
+mod HalfRowLemmas
+mod PlacingLemmas
+mod StartLemmas

@@ -1,0 +1,5 @@
+use Rattle.std.proofs.Common.{◌∙◌}
+use Rattle.outer_entries.proofs.source_entries.has_second.Goals as goal
+
+pub returns : goal.returns
+returns c = c.has.ensures ∙ c.requires.first c.args.a
