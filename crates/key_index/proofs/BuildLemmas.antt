@@ -12,7 +12,8 @@ first_least : (n : ℕ) (xs ys : Rows) (r : ℕ × List Value) → RiseFrom n (x
 first_least n [] ys r rise = rise.0
 first_least n (x ∷ xs) ys r rise = omega (arith, rise.0, first_least (x.0 + 1) xs ys r rise.1)
 
-below_first : (n : ℕ) (xs ys : Rows) (r : ℕ × List Value) → RiseFrom n (xs ++ r ∷ ys) → AreBelow xs r.0
+-- rows in front of another are below it
+pub below_first : (n : ℕ) (xs ys : Rows) (r : ℕ × List Value) → RiseFrom n (xs ++ r ∷ ys) → AreBelow xs r.0
 below_first n [] ys r rise = tt
 below_first n (x ∷ xs) ys r rise = (omega (arith, first_least (x.0 + 1) xs ys r rise.1), below_first (x.0 + 1) xs ys r rise.1)
 

@@ -1,5 +1,6 @@
 mod BuildLemmas
 mod EntryLemmas
+mod FirstLemmas
 mod FoundLemmas
 mod PassLemmas
 mod ReferenceLemmas

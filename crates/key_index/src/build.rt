@@ -1,5 +1,5 @@
 //! The entries of an index, from a table.
-ghost use Rattle.std.specs.Prelude.{◌≡◌, ◌++◌, ◌∷◌, [], ◌<◌, length, slice_index_or, IfOk, OnOk};
+ghost use Rattle.std.specs.Prelude.{◌≡◌, ◌++◌, ◌∷◌, [], ◌<◌, length, slice_index_or, IfOk, OnOk, OnErr};
 ghost use Rattle.row_store.specs.Rows.{AreBelow};
 ghost use Rattle.key_index.specs.Tables.{AreWithin, HaveColumns, key_in, keys_in};
 ghost use Rattle.key_index.specs.inner.Entries.{keys_by_id, HaveOneEach};
@@ -31,12 +31,13 @@ fn key_at(alloc: Global, row: &[Value], columns: &[usize]) -> Result<Row, Memory
 }
 
 /// Adds the key of a greater identifier.
-fn add_key(pages: &mut Pages<Keyed>, id: u64, key: Row) -> Result<(), Memory>
+pub(crate) fn add_key(pages: &mut Pages<Keyed>, id: u64, key: Row) -> Result<(), Memory>
     requires each { HaveOneEach pages.old.entries }
     requires below { AreBelow (keys_by_id pages.old.entries) id }
     ensures each { OnOk result (HaveOneEach pages.new.entries) }
     ensures rows { OnOk result (keys_by_id pages.new.entries
         ≡ keys_by_id pages.old.entries ++ (id, key) ∷ []) }
+    ensures err { OnErr result (pages.new.entries ≡ pages.old.entries) }
 {
     pages.reserve(1)?;
     put_key(pages, id, Some(key));

@@ -1,12 +1,13 @@
 //! An index of rows by their keys.
-ghost use Rattle.std.specs.Prelude.{◌≡◌, ◌+◌, [], IfOk, OnOk, OnErr};
+ghost use Rattle.std.specs.Prelude.{◌≡◌, ◌+◌, ◌++◌, ◌∷◌, [], IfOk, OnOk, OnErr};
+ghost use Rattle.row_store.specs.Rows.{AreBelow};
 ghost use Rattle.row_store.specs.Changes.{AreOld};
 ghost use Rattle.key_index.specs.Changes.{news, olds, WasChanged, IsUndoable, Restores};
-ghost use Rattle.key_index.specs.Found.{IsLeastFrom};
+ghost use Rattle.key_index.specs.Found.{IsLeastFrom, first_with as first_row_with};
 ghost use Rattle.key_index.specs.Tables.{HaveColumns, keys_in, refs_to as refs_to_lem};
 ghost use Rattle.key_index.specs.inner.Entries.{keys_by_id, HaveOneEach};
 
-use crate::build::keyed_pages;
+use crate::build::{add_key, keyed_pages};
 use crate::exchange::{Way, exchange_all};
 use crate::keyed::{Behind, From, Keyed};
 use crate::references::counted;
@@ -66,9 +67,37 @@ impl KeyIndex {
         })
     }
 
+    /// The index of whole rows of a table. It takes the time of sorting them, and shares their
+    /// values.
+    pub fn of_rows(alloc: Global, table: &Table) -> Result<KeyIndex, Memory>
+        ensures { IfOk result (λ index. index.rows ≡ table.now.rows) }
+    {
+        let mut index = KeyIndex::new(alloc);
+        for row in table.iter() {
+            index.push(row.0, &row.1)?;
+        }
+        Ok(index)
+    }
+
+    /// Puts the key of an identifier above all others. It takes up to two binary searches, and
+    /// moves the keys of one page; the values are shared. What was made ready is dropped.
+    pub fn push(&mut self, id: u64, key: &Row) -> Result<(), Memory>
+        requires { AreBelow self.old.rows id }
+        ensures ok { OnOk result (self.new.rows ≡ self.old.rows ++ (id, key.now) ∷ []) }
+        ensures err { OnErr result (self.new.rows ≡ self.old.rows) }
+    {
+        let alloc = self.pages.allocator();
+        let key = key.copy(alloc)?;
+        self.ready = Vec::new(alloc);
+        let done = add_key(&mut self.pages, id, key);
+        self.pages.fits();
+        done
+    }
+
     /// The least identifier with the key, found by two binary searches. It takes no memory.
     pub fn least_with(&self, key: &[Value]) -> Option<u64>
-        ensures { IsLeastFrom self.now.rows key.now 0 result }
+        ensures least { IsLeastFrom self.now.rows key.now 0 result }
+        ensures first { result ≡ first_row_with self.now.rows key.now }
     {
         first_with(&self.pages, &From { key, id: 0 }, key)
     }
