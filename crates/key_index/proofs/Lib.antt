@@ -1,4 +1,4 @@
-mod BuildLemmas
+pub mod BuildLemmas
 mod EntryLemmas
 mod FirstLemmas
 mod FoundLemmas
