@@ -9,8 +9,8 @@ use crate::steady::{Changing, Steady};
 use cond_parts::closed_splits;
 use id_closing::close;
 use id_memory::PairMemory;
+use id_sets::IdSet;
 use par_base::{List, Memory};
-use row_map::IdSet;
 use std::alloc::Global;
 
 /// These identifiers, the rows of their entries, and an entry of each row, where it has one: they are

@@ -12,9 +12,9 @@ ghost use Rattle.cond_closing.specs.inner.SteadyLaws.{brought_more};
 use crate::entries::{next_with, other_in};
 use id_closing::{Rule, add_some};
 use id_memory::PairMemory;
+use id_sets::IdSet;
 use pair_rows::Half;
 use par_base::{List, Memory};
-use row_map::IdSet;
 use std::alloc::Global;
 use std::marker::Model;
 

@@ -7,8 +7,8 @@ ghost use Rattle.fk_closing.specs.Brought.{IsBrought};
 use crate::FkKeys;
 use crate::rules::Rules;
 use id_closing::{add_all, changed_ids, close};
+use id_sets::IdSet;
 use par_base::{List, Memory};
-use row_map::IdSet;
 use row_store::Change;
 use std::alloc::Global;
 

@@ -5,8 +5,8 @@ ghost use Rattle.id_closing.specs.Found.{AreAmong};
 ghost use Rattle.fk_closing.specs.Looking.{HasRefs, IsWitness};
 
 use crate::FkKeys;
+use id_sets::IdSet;
 use par_base::{List, Memory};
-use row_map::IdSet;
 
 /// Adds all rows of S that refer to an identifier. It takes a look-up for each of them.
 pub(crate) fn add_refs(keys: &FkKeys<'_>, id: u64, ids: &mut List<u64>) -> Result<(), Memory>

@@ -8,8 +8,8 @@ ghost use Rattle.fk_closing.specs.inner.BroughtLaws.{brought_more};
 use crate::FkKeys;
 use crate::looking::witness_of;
 use id_closing::{Rule, add_some};
+use id_sets::IdSet;
 use par_base::{List, Memory};
-use row_map::IdSet;
 use std::alloc::Global;
 use std::marker::Model;
 

@@ -1,7 +1,6 @@
 -- Values that are drawn for, one by one.
 use Rattle.std.specs.Prelude.{max}
-use Rattle.std.specs.Option.{option_map}
-use Rattle.std.proofs.Common.{◌≡◌, ℕ, suc, ◌+◌, ◌<◌, ◌≤◌, List, [], ◌∷◌, ◌++◌, length, take, get_or, true, false, cond, Option, Some, None, refl, ap, sym, ◌∙◌, subst, arith}
+use Rattle.std.proofs.Common.{◌≡◌, ℕ, suc, ◌+◌, ◌<◌, ◌≤◌, List, [], ◌∷◌, ◌++◌, length, take, get_or, true, false, cond, Some, None, refl, ap, sym, ◌∙◌, subst, arith}
 use Rattle.std.proofs.Math.Seq.{take-suc}
 use Rattle.std.proofs.lemmas.List.{length-take-le}
 use Rattle.par_base.specs.declared.value.Value.{Value}
@@ -10,8 +9,7 @@ use Rattle.row_parts.specs.RowCells.{by_test}
 use Rattle.foreign_keys.specs.DrawnIds.{Values, add_once, has, place, numbered, place_if, ArePlaced}
 use Rattle.foreign_keys.specs.inner.DrawnLemmas.{place_under}
 use Rattle.par_base.specs.SameRows.{same_row}
-use Rattle.par_base.specs.inner.SameLaws.{row_equal}
-use Rattle.row_map.specs.RowNumbers.{RowNumbers, IsWithRow}
+use Rattle.key_index.specs.Found.{first_with}
 
 -- a value that isn't there goes to the end
 pub add_new : (v : List Value) (d : Values) → has d v ≡ false → d ++ v ∷ [] ≡ add_once v d
@@ -44,45 +42,38 @@ place_there d v p h =
 pub no_place : (d : Values) (v : List Value) → place_if d v ≡ None → has d v ≡ false
 no_place d v h = by_test (has d v) (λ e. let some : Some (place d v) ≡ None = rw e at h in absurd (cc)) (λ e. e)
 
--- places behind one more value
-place_behind : (xs : Values) (v : List Value) → cond (has xs v) (Some (place xs v + 1)) None ≡ option_map (λ (i : ℕ). i + 1) (place_if xs v)
-place_behind xs v = by_test (has xs v) (λ e. rw e refl) (λ e. rw e refl)
-
--- a value that is added has the place behind all, and the others keep theirs
-place_add : (v : List Value) (d : Values) (w : List Value) → has d v ≡ false → place_if (d ++ v ∷ []) w ≡ cond (same_row v w) (Some (length d)) (place_if d w)
-place_add v [] w h = by_test (same_row v w) (λ e. rw e refl) (λ e. rw e refl)
-place_add v (x ∷ xs) w h =
+-- the place of a value is its identifier, where the values stand at their places
+first_numbered : (n : ℕ) (xs : Values) (v : List Value) → first_with (numbered n xs) v ≡ cond (has xs v) (Some (n + place xs v)) None
+first_numbered n [] v = refl
+first_numbered n (x ∷ xs) v =
     by_test (same_row x v)
-    (λ e. absurd (cc))
-    (λ e.
-    let h2 : has xs v ≡ false = rw e at h in
-    let ih = place_add v xs w h2 in
-    by_test (same_row x w)
-    (λ u.
-    let other : same_row v w ≡ false = by_test (same_row v w)
-    (λ z. let wv = row_equal v w z in let same : same_row x v ≡ true = subst (λ (y : List Value). same_row x y ≡ true) (sym wv) u in absurd (cc))
-    (λ z. z) in
-    rw (u, other) refl)
-    (λ u.
-    let behind = place_behind (xs ++ v ∷ []) w in
-    let own = place_behind xs w in
-    let long : length xs + 1 ≡ suc (length xs) = omega arith in
-    rw (u, behind, own, ih) (by_test (same_row v w) (λ z. rw z (ap Some long)) (λ z. rw z refl))))
+    (λ e. let own : n ≡ n + 0 = omega arith in rw e (ap Some own))
+    (λ e. let behind : n + 1 + place xs v ≡ n + (place xs v + 1) = omega arith in rw e (first_numbered (n + 1) xs v ∙ ap (λ (i : ℕ). cond (has xs v) (Some i) None) behind))
 
--- each value has its place, with one more
-pub placed_next : (v : List Value) (d e : Values) (before now : RowNumbers) → ArePlaced d before → has d v ≡ false → e ≡ d ++ v ∷ [] → IsWithRow before v (length d) now → ArePlaced e now
-placed_next v d e before now placed new is with_row = λ w.
-    with_row w ∙ ap (λ (o : Option ℕ). cond (same_row v w) (Some (length d)) o) (placed w) ∙ sym (place_add v d w new) ∙ ap (λ (values : Values). place_if values w) (sym is)
+pub place_is : (values : Values) (places : Rows) (v : List Value) → ArePlaced values places → first_with places v ≡ place_if values v
+place_is values places v placed =
+    let own : 0 + place values v ≡ place values v = omega arith in
+    ap (λ (rows : Rows). first_with rows v) placed ∙ first_numbered 0 values v ∙ ap (λ (i : ℕ). cond (has values v) (Some i) None) own
 
 -- one more row
 pub numbered_more : (n : ℕ) (xs : List (List Value)) (v : List Value) → numbered n (xs ++ v ∷ []) ≡ numbered n xs ++ (n + length xs, v) ∷ []
 numbered_more n [] v = ap (λ (i : ℕ). (i, v) ∷ []) (omega arith)
 numbered_more n (x ∷ xs) v = ap (λ (rest : Rows). (n, x) ∷ rest) (numbered_more (n + 1) xs v ∙ ap (λ (i : ℕ). numbered (n + 1) xs ++ (i, v) ∷ []) (omega arith))
 
+-- each value stands at its place, with one more
+pub placed_next : (v : List Value) (d e : Values) (before now : Rows) → ArePlaced d before → e ≡ d ++ v ∷ [] → now ≡ before ++ (length d, v) ∷ [] → ArePlaced e now
+placed_next v d e before now placed is more =
+    let at : length d ≡ 0 + length d = omega arith in
+    more ∙ ap (λ (rows : Rows). rows ++ (length d, v) ∷ []) placed ∙ ap (λ (i : ℕ). numbered 0 d ++ (i, v) ∷ []) at ∙ sym (numbered_more 0 d v) ∙ ap (numbered 0) (sym is)
+
 -- numbered values stand below what is behind them
 pub numbered_below : (n id : ℕ) (xs : List (List Value)) → n + length xs ≤ id → AreBelow (numbered n xs) id
 numbered_below n id [] h = tt
 numbered_below n id (x ∷ xs) h = (omega (arith, h), numbered_below (n + 1) id xs (omega (arith, h)))
+
+-- so values at their places stand below the next place
+pub placed_below : (values : Values) (places : Rows) (next : ℕ) → ArePlaced values places → next ≡ length values → AreBelow places next
+placed_below values places next placed is = subst (λ (rows : Rows). AreBelow rows next) (sym placed) (numbered_below 0 next values (omega (arith, is)))
 
 -- a value more is within what may be refused
 pub more_within : (next limit i : ℕ) → next + i ≤ limit → next + (i + 1) ≤ max next (limit + 1)

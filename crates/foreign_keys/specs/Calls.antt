@@ -1,5 +1,5 @@
 -- What inner calls answer.
-use Rattle.std.specs.Prelude.{◌≡◌, ℕ, ◌+◌, ◌≤◌, ◌&&◌, Bool, cond, List, length, Option, Some, Result, Ok, Err}
+use Rattle.std.specs.Prelude.{◌≡◌, ℕ, ◌+◌, ◌≤◌, cond, List, length, Option, Some, Result, Ok, Err}
 use Rattle.par_base.specs.declared.value.Value.{Value}
 use Rattle.par_base.specs.declared.fault.Fault.{Fault}
 use Rattle.par_base.specs.declared.fault.Fault.TheVariants.{Refused, Memory as OutOfMemory}
@@ -7,9 +7,7 @@ use Rattle.par_base.specs.declared.refusal.IdsSpent.{IdsSpent}
 use Rattle.row_store.specs.States.{TableState}
 use Rattle.id_memory.specs.States.{CounterState}
 use Rattle.op_law.specs.Calls.{first_refused, IsSpent}
-use Rattle.par_base.specs.SameRows.{same_row}
-use Rattle.row_map.specs.IdNumbers.{IdNumbers, number_of_id}
-use Rattle.row_map.specs.RowNumbers.{RowNumbers, number_of_row}
+use Rattle.id_sets.specs.IdNumbers.{IdNumbers, number_of_id}
 use Rattle.foreign_keys.specs.References.{is_goal}
 use Rattle.foreign_keys.specs.DrawnIds.{numbered}
 
@@ -22,7 +20,3 @@ IsNumbered values old new (Err (OutOfMemory memory)) = new ≡ old
 -- the goal, where there is one, leads to this row, and each other to what it did
 abbrev pub IsWithGoal : IdNumbers → Option ℕ → ℕ → IdNumbers → Type 0
 IsWithGoal before goal id now = (q : ℕ) → number_of_id now q ≡ cond (is_goal goal q) (Some id) (number_of_id before q)
-
--- the value has this row, if it is meant, and each other what it had
-abbrev pub IsWithLeast : RowNumbers → Bool → List Value → ℕ → RowNumbers → Type 0
-IsWithLeast before is_meant row id now = (v : List Value) → number_of_row now v ≡ cond (same_row row v && is_meant) (Some id) (number_of_row before v)

@@ -4,7 +4,6 @@ use Rattle.par_base.specs.declared.value.Value.{Value}
 use Rattle.row_store.specs.Rows.{Rows}
 use Rattle.foreign_keys.specs.KeyParts.{FkParts}
 use Rattle.par_base.specs.SameRows.{same_row}
-use Rattle.row_map.specs.RowNumbers.{RowNumbers, number_of_row}
 
 -- values, each as long as a T part
 abbrev pub Values : Type 0
@@ -39,6 +38,6 @@ drawn k needs seen (r ∷ rs) = drawn k needs (cond (needs r.0 r.1) (add_once (k
 abbrev pub place_if : List (List Value) → List Value → Option ℕ
 place_if values v = cond (has values v) (Some (place values v)) None
 
--- each value has its place
-abbrev pub ArePlaced : List (List Value) → RowNumbers → Type 0
-ArePlaced values places = (v : List Value) → number_of_row places v ≡ place_if values v
+-- each value stands at its place
+abbrev pub ArePlaced : List (List Value) → Rows → Type 0
+ArePlaced values places = places ≡ numbered 0 values

@@ -4,7 +4,7 @@ use Rattle.par_base.specs.declared.value.Value.{Value}
 use Rattle.row_store.specs.Rows.{Rows}
 use Rattle.op_law.specs.Identifiers.{put_id}
 use Rattle.row_parts.specs.RowCells.{Cell}
-use Rattle.row_map.specs.IdNumbers.{IdNumbers, number_of_id}
+use Rattle.id_sets.specs.IdNumbers.{IdNumbers, number_of_id}
 use Rattle.foreign_keys.specs.References.{is_goal}
 
 -- the identifier, where there is one, beside these

@@ -1,3 +1,4 @@
 pub mod SeekLemmas
 pub mod DrawnLemmas
+pub mod LeastLaws
 pub mod ReferenceLemmas

@@ -6,8 +6,8 @@ ghost use Rattle.foreign_keys.specs.Calls.{IsNumbered};
 
 use crate::RowParts;
 use id_memory::IdCounter;
+use key_index::KeyIndex;
 use par_base::{Fault, IdsSpent, List, Memory, Row};
-use row_map::RowMap;
 use row_store::Table;
 use std::alloc::Global;
 use std::marker::Model;
@@ -16,7 +16,7 @@ use std::marker::Model;
 #[derive(Drop)]
 pub struct Drawn {
     values: List<Row>,
-    places: RowMap,
+    places: KeyIndex,
 }
 
 impl Model for Drawn {
@@ -26,7 +26,7 @@ impl Model for Drawn {
 
     ghost view = { λ drawn. drawn.values };
 
-    ghost invariant = { λ drawn. ArePlaced drawn.values drawn.places };
+    ghost invariant = { λ drawn. ArePlaced drawn.values drawn.places.rows };
 }
 
 impl Drawn {
@@ -36,7 +36,7 @@ impl Drawn {
     {
         Drawn {
             values: List::new(alloc),
-            places: RowMap::new(alloc),
+            places: KeyIndex::new(alloc),
         }
     }
 
@@ -51,7 +51,7 @@ impl Drawn {
     pub fn has(&self, value: &Row) -> bool
         ensures { result ≡ has_value self.now value.now }
     {
-        match self.places.get(value) {
+        match self.places.least_with(value.as_slice()) {
             Some(_) => true,
             None => false,
         }
@@ -63,7 +63,7 @@ impl Drawn {
         ensures value { result ≡ place_of self.now value.now }
         ensures within { result ≤ length self.now }
     {
-        match self.places.get(value) {
+        match self.places.least_with(value.as_slice()) {
             Some(place) => place,
             None => self.values.len() as u64,
         }
@@ -78,7 +78,7 @@ impl Drawn {
         }
         let mut places = self.places;
         let mut values = self.values;
-        places.insert(&value, values.len() as u64)?;
+        places.push(values.len() as u64, &value)?;
         values.push(value)?;
         Ok(Drawn { values, places })
     }

@@ -4,8 +4,8 @@ ghost use Rattle.par_base.specs.declared.value.Value.{Value};
 ghost use Rattle.foreign_keys.specs.Seeking.{put_goal, goals_in, AreFirstLed};
 ghost use Rattle.foreign_keys.specs.Calls.{IsWithGoal};
 
+use id_sets::{IdMap, IdSet};
 use par_base::{Memory, Row};
-use row_map::{IdMap, IdSet};
 use row_store::Table;
 use std::alloc::Global;
 

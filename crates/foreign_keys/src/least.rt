@@ -1,11 +1,11 @@
-//! The least row of each value.
-ghost use Rattle.std.specs.Prelude.{◌≡◌, ℕ, List, Bool, IfOk, OnOk};
+//! The least row of each value, of those that are meant.
+ghost use Rattle.std.specs.Prelude.{◌≡◌, ◌++◌, ◌∷◌, [], ℕ, List, Bool, true, cond, IfOk, OnOk};
 ghost use Rattle.par_base.specs.declared.value.Value.{Value};
-ghost use Rattle.foreign_keys.specs.Least.{AreLeast};
-ghost use Rattle.foreign_keys.specs.Calls.{IsWithLeast};
+ghost use Rattle.row_store.specs.Rows.{AreBelow};
+ghost use Rattle.foreign_keys.specs.Least.{meant_rows};
 
+use key_index::KeyIndex;
 use par_base::{Memory, Row};
-use row_map::RowMap;
 use row_store::Table;
 use std::alloc::Global;
 
@@ -18,24 +18,31 @@ pub trait Chooses {
         ensures { result ≡ meant self.now id row.now };
 }
 
-fn add_least(least: &mut RowMap, is_meant: bool, row: &Row, id: u64) -> Result<(), Memory>
-    ensures { OnOk result (IsWithLeast least.old is_meant row.now id least.new) }
+/// Puts a row that is meant behind the others.
+fn push_meant(index: &mut KeyIndex, is_meant: bool, id: u64, row: &Row) -> Result<(), Memory>
+    requires { is_meant ≡ true → AreBelow index.old.rows id }
+    ensures { OnOk result (index.new.rows
+        ≡ index.old.rows ++ cond is_meant ((id, row.now) ∷ []) []) }
 {
     if is_meant {
-        least.insert(row, id)?;
+        index.push(id, row)?;
     }
     Ok(())
 }
 
-/// The least row of each value, of those that are meant. It takes one pass, and comparisons of rows
-/// in the logarithm of the values for each row.
-pub fn least_rows<C: Chooses>(alloc: Global, each: &C, table: &Table) -> Result<RowMap, Memory>
-    ensures { IfOk result (AreLeast (C.meant each.now) table.now.rows) }
+/// An index of the rows that are meant, which finds the least row of each value. It takes one pass,
+/// and the time of sorting these rows.
+pub fn index_of_meant<C: Chooses>(
+    alloc: Global,
+    each: &C,
+    table: &Table,
+) -> Result<KeyIndex, Memory>
+    ensures { IfOk result (λ index. index.rows ≡ meant_rows (C.meant each.now) table.now.rows) }
 {
-    let mut least = RowMap::new(alloc);
-    for row in table.iter().rev() {
+    let mut index = KeyIndex::new(alloc);
+    for row in table.iter() {
         let is_meant = each.chooses(row.0, &row.1);
-        add_least(&mut least, is_meant, &row.1, row.0)?;
+        push_meant(&mut index, is_meant, row.0, &row.1)?;
     }
-    Ok(least)
+    Ok(index)
 }

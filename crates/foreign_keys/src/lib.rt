@@ -16,7 +16,7 @@ mod shared;
 
 pub use drawn::{Drawn, Draws, draw_values, number};
 pub use leads::{Leads, goals_of, leads_to};
-pub use least::{Chooses, least_rows};
+pub use least::{Chooses, index_of_meant};
 pub use parts::RowParts;
 pub use references::{at_goal, goal_at, is_goal, referred_ids};
 pub use shared::part_of;

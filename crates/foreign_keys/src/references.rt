@@ -7,8 +7,8 @@ ghost use Rattle.foreign_keys.specs.References.{at_goal as there, AreReferred};
 
 use crate::RowParts;
 use crate::leads::{Leads, goals_of};
+use id_sets::IdSet;
 use par_base::{Memory, Row, Value};
-use row_map::IdSet;
 use row_store::Table;
 use std::alloc::Global;
 

@@ -5,8 +5,8 @@ ghost use Rattle.id_closing.specs.Found.{AreIds, FindsMore};
 
 use crate::Rule;
 use crate::found::find_all;
+use id_sets::IdSet;
 use par_base::{List, Memory};
-use row_map::IdSet;
 use std::alloc::Global;
 
 /// Finds what an identifier brings.

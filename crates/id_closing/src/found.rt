@@ -3,8 +3,8 @@ ghost use Rattle.std.specs.Prelude.{OnOk, true, ◌≡◌};
 ghost use Rattle.op_law.specs.Identifiers.{has_id};
 ghost use Rattle.id_closing.specs.Found.{added, AreAmong, AreIds, FindsMore};
 
+use id_sets::IdSet;
 use par_base::{List, Memory};
-use row_map::IdSet;
 
 fn find_one(
     found: &mut IdSet,

@@ -3,9 +3,9 @@ ghost use Rattle.std.specs.Prelude.{◌≡◌, ℕ, IfOk};
 ghost use Rattle.op_law.specs.Identifiers.{has_id};
 ghost use Rattle.id_closing.specs.Told.{changes_at as changes_there, is_changed};
 
+use id_sets::IdSet;
 use par_base::Memory;
 use row_changes::SideChanges;
-use row_map::IdSet;
 use row_store::Change;
 use std::alloc::Global;
 

@@ -1,6 +1,6 @@
 -- What inner calls suppose.
 use Rattle.row_store.specs.Rows.{Rows}
-use Rattle.row_map.specs.IdNumbers.{IdNumbers}
+use Rattle.id_sets.specs.IdNumbers.{IdNumbers}
 use Rattle.foreign_keys.specs.KeyParts.{FkParts}
 use Rattle.foreign_keys.specs.Seeking.{AreFirstLed}
 use Rattle.op_fk_decompose.specs.Decompose.{leads}

@@ -8,10 +8,10 @@ use crate::old_target::OldTarget;
 use crate::target::{NewFirst, NewSecond, first_table, second_table};
 use foreign_keys::{Drawn, RowParts, draw_values, number, referred_ids};
 use id_memory::{IdCounter, PairMemory};
+use id_sets::IdSet;
 use op_law::{Far, Pair, Side};
 use op_tables::{first_of, second_of};
 use par_base::{Fault, IdsSpent, Memory};
-use row_map::IdSet;
 use row_store::Table;
 use std::alloc::Global;
 

@@ -3,31 +3,30 @@ ghost use Rattle.std.specs.Prelude.{◌≡◌, IfOk};
 ghost use Rattle.op_fk_decompose.specs.Decompose.{least_in};
 
 use crate::target_rows::TargetRows;
-use foreign_keys::{RowParts, least_rows};
+use foreign_keys::{RowParts, index_of_meant};
+use key_index::KeyIndex;
 use par_base::{Memory, Row};
-use row_map::RowMap;
 use row_store::Table;
 use std::alloc::Global;
 use std::marker::Model;
 
-/// The old target, with the least row of T of each value that may be shared. Contracts see its
-/// tables.
+/// The old target, with an index of the rows of T that may be shared. Contracts see its tables.
 #[derive(Drop)]
 pub(crate) struct OldTarget<'a, P: RowParts> {
     pub(crate) rows: TargetRows<'a, P>,
-    shared: RowMap,
+    shared: KeyIndex,
 }
 
 impl<'a, P: RowParts> Model for OldTarget<'a, P> {
-    ghost use Rattle.foreign_keys.specs.Least.{AreLeast};
+    ghost use Rattle.foreign_keys.specs.Least.{meant_rows};
     ghost use Rattle.op_fk_decompose.specs.Decompose.{TargetRows as Rows, may_share};
 
     ghost Value = { Rows P };
 
     ghost view = { λ it. it.rows };
 
-    ghost invariant = { λ it. AreLeast (may_share (P.parts it.rows.by) it.rows.s it.rows.t)
-        it.rows.t it.shared };
+    ghost invariant = { λ it. it.shared.rows
+        ≡ meant_rows (may_share (P.parts it.rows.by) it.rows.s it.rows.t) it.rows.t };
 }
 
 impl<'a, P: RowParts> OldTarget<'a, P> {
@@ -42,7 +41,7 @@ impl<'a, P: RowParts> OldTarget<'a, P> {
             ≡ record { by = parts.now; s = s.now.rows; t = t.now.rows }) }
     {
         let rows = TargetRows::new(alloc, parts, s, t)?;
-        let shared = least_rows(alloc, &rows, t)?;
+        let shared = index_of_meant(alloc, &rows, t)?;
         Ok(OldTarget { rows, shared })
     }
 
@@ -51,6 +50,6 @@ impl<'a, P: RowParts> OldTarget<'a, P> {
         ensures { let k = P.parts self.now.by in
             result ≡ least_in k self.now.s self.now.t self.now.t value.now }
     {
-        self.shared.get(value)
+        self.shared.least_with(value.as_slice())
     }
 }

@@ -9,10 +9,10 @@ ghost use Rattle.op_fk_decompose.specs.Decompose.{get_first, get_second, read_un
 ghost use Rattle.op_fk_decompose.specs.Calls.{FindsLeads};
 
 use foreign_keys::{Leads, RowParts, goals_of, leads_to, part_of};
+use id_sets::IdMap;
 use op_law::{Aux, Side};
 use op_tables::{MakesRow, first_of, second_of, table_over, third_of, with_ids};
 use par_base::{List, Memory, Row};
-use row_map::IdMap;
 use row_parts::value_at;
 use row_store::Table;
 use std::alloc::Global;

@@ -7,10 +7,10 @@ ghost use Rattle.op_fk_decompose.specs.Decompose.{second_from, t_from};
 use crate::keys::how;
 use crate::old_target::OldTarget;
 use foreign_keys::{Drawn, RowParts};
+use id_sets::IdSet;
 use op_law::copy_of;
 use op_tables::{MakesRow, table_over, with_ids};
 use par_base::{List, Memory, Row, Value, is_same_row};
-use row_map::IdSet;
 use row_store::Table;
 use std::alloc::Global;
 

@@ -4,8 +4,8 @@ ghost use Rattle.foreign_keys.specs.References.{referred as is_referred};
 ghost use Rattle.op_fk_decompose.specs.Decompose.{alone, may_share};
 
 use foreign_keys::{Chooses, RowParts, referred_ids};
+use id_sets::IdSet;
 use par_base::{Memory, Row};
-use row_map::IdSet;
 use row_store::Table;
 use std::alloc::Global;
 use std::marker::Model;

@@ -1,2 +1,1 @@
 mod AdmissionLemmas
-mod FirstLemmas

@@ -15,6 +15,7 @@ use Rattle.foreign_keys.specs.DrawnIds.{numbered, place, drawn}
 use Rattle.foreign_keys.specs.Seeking.{seek, goals_in}
 use Rattle.foreign_keys.specs.Shared.{head_or_null, second_part_at}
 use Rattle.par_base.specs.SameRows.{same_row}
+pub use Rattle.key_index.specs.Found.{first_with}
 
 -- R, from S and T
 
@@ -38,11 +39,6 @@ module _ (k : FkParts) where
 abbrev pub stays_at : Value → Cell → List Value → Option Value
 stays_at f None y = None
 stays_at f (Some u) y = cond (same_row y u) (Some f) None
-
--- the least of these rows that has the value b
-abbrev pub first_with : Rows → List Value → Option ℕ
-first_with [] b = None
-first_with (r ∷ rs) b = cond (same_row r.1 b) (Some r.0) (first_with rs b)
 
 -- a row draws where its key doesn't stay and no old row of T has its T part
 abbrev pub draws_join : Option Value → Option ℕ → Bool

@@ -7,10 +7,10 @@ ghost use Rattle.op_fk_join.specs.Join.{key_here, join_refs, unjoined_here, unjo
 ghost use Rattle.op_fk_join.specs.Join.{unreferred_here, unreferred, aux_from, join_aux};
 
 use foreign_keys::{RowParts, referred_ids};
+use id_sets::IdSet;
 use op_law::{Aux, Side, copy_of};
 use op_tables::{MakesRow, first_of, is_table_over, second_of, table_over, third_of, with_ids};
 use par_base::{List, Memory, Row};
-use row_map::IdSet;
 use row_store::Table;
 use std::alloc::Global;
 

@@ -7,10 +7,10 @@ ghost use Rattle.op_fk_join.specs.Join.{key_leads, back_first_at, back_first};
 ghost use Rattle.op_fk_join.specs.Join.{back_second_at, back_second, read_under, join_read};
 
 use foreign_keys::{Leads, RowParts, goal_at, goals_of, leads_to, part_of};
+use id_sets::IdMap;
 use op_law::{Aux, Side};
 use op_tables::{MakesRow, first_of, second_of, table_over, third_of, with_ids};
 use par_base::{List, Memory, Row};
-use row_map::IdMap;
 use row_parts::value_at;
 use row_store::Table;
 use std::alloc::Global;

@@ -11,10 +11,10 @@ use crate::replaced::replaced_ids;
 use cond_closing::{ByValues, Changing, Steady, set_of};
 use id_closing::{add_all, changes_at, close};
 use id_memory::pairs_are_the_memory;
+use id_sets::IdSet;
 use outer_parts::{closed_is_footprint, closed_maps_apart};
 use par_base::{List, Memory};
 use row_changes::{SideChanges, touched_ids};
-use row_map::IdSet;
 use std::alloc::Global;
 
 /// What changes of R begin with: what they name, and what is found for their new rows.

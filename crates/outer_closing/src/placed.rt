@@ -22,9 +22,9 @@ use cond_closing::{
 };
 use id_closing::add_some;
 use id_memory::PairMemory;
+use id_sets::IdSet;
 use pair_rows::Half;
 use par_base::{List, Memory, Row};
-use row_map::IdSet;
 use row_parts::pick;
 use row_store::Change;
 use std::alloc::Global;

@@ -3,8 +3,8 @@ ghost use Rattle.std.specs.Prelude.{◌≡◌, ℕ, IfOk, OnOk};
 ghost use Rattle.op_law.specs.Identifiers.{has_id};
 ghost use Rattle.outer_closing.specs.Shared.{is_replaced, or_replaced, same_cells};
 
+use id_sets::IdSet;
 use par_base::{Memory, Row, is_same_row};
-use row_map::IdSet;
 use row_store::Change;
 use std::alloc::Global;
 

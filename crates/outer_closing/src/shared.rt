@@ -10,9 +10,9 @@ ghost use Rattle.outer_closing.specs.Shared.{shared_in, shared_rows};
 
 use cond_closing::{Changing, Steady, first_still};
 use id_memory::PairMemory;
+use id_sets::IdSet;
 use pair_rows::Half;
 use par_base::Value;
-use row_map::IdSet;
 use table_keys::TableKeys;
 
 /// Whether a row stands in such an entry: an entry with another half behind 0 has both.

@@ -6,7 +6,7 @@ use Rattle.par_base.specs.declared.value.Value.{Value}
 use Rattle.row_store.specs.Rows.{Rows, row_of}
 use Rattle.op_law.specs.Identifiers.{has_id, put_id}
 use Rattle.op_rows.specs.inner.CellLemmas.{has_put}
-use Rattle.row_map.specs.IdPairs.{IdPairs, holds_pair, IsWithPair}
+use Rattle.id_sets.specs.IdPairs.{IdPairs, holds_pair, IsWithPair}
 use Rattle.row_parts.specs.RowCells.{by_test}
 use Rattle.pair_rows.specs.Shown.{pairs_with, all_pairs, has}
 use Rattle.pair_rows.specs.inner.Changed.{pairs_of}

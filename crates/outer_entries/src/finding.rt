@@ -11,9 +11,9 @@ ghost use Rattle.outer_entries.specs.inner.Finding.{pairs_in, AddsPairs, HasPair
 use crate::seconds::{Seconds, ids_for};
 use crate::showing::{Showing, is_full};
 use expr_lang::Steps;
+use id_sets::{IdSet, PairSet};
 use pair_rows::entries_of;
 use par_base::{Memory, Row};
-use row_map::{IdSet, PairSet};
 use std::alloc::Global;
 use std::sync::ledger::Ledger;
 

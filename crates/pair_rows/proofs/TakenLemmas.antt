@@ -1,7 +1,7 @@
 -- The set of the pairs that are taken.
 use Rattle.std.proofs.Common.{◌≡◌, ℕ, ◌∷◌, [], ◌++◌, refl, sym, ◌∙◌}
 use Rattle.id_memory.specs.Pairs.{Pairs, has_pair}
-use Rattle.row_map.specs.IdPairs.{IdPairs, holds_pair, IsWithPair}
+use Rattle.id_sets.specs.IdPairs.{IdPairs, holds_pair, IsWithPair}
 use Rattle.row_parts.specs.RowCells.{by_test}
 use Rattle.pair_rows.specs.Shown.{has}
 use Rattle.pair_rows.specs.inner.TakenPairs.{has_behind, has_before}

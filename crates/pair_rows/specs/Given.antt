@@ -6,11 +6,7 @@ use Rattle.id_memory.specs.Pairs.{Pairs, pair_of}
 use Rattle.row_parts.specs.Places.{pick as part}
 use Rattle.par_base.specs.SameRows.{same_row}
 use Rattle.row_parts.specs.RowCells.{Cell}
-
--- the least identifier with these values
-abbrev pub least : Rows → List Value → Option ℕ
-least [] x = None
-least (r ∷ rs) x = if same_row r.1 x then Some r.0 else least rs x
+pub use Rattle.key_index.specs.Found.{first_with as least}
 
 -- the old pair of an identifier whose row is unchanged
 abbrev pub unchanged : Cell → Option (ℕ × ℕ) → List Value → Option (ℕ × ℕ)

@@ -1,74 +1,51 @@
 //! The rows of one table of the source while rows are drawn: old ones, and drawn ones behind.
 //!
-//! A map has the least identifier of each row's values, so that it is found without a pass.
+//! An index finds the least row with some values without a pass.
 ghost use Rattle.std.specs.Prelude.{◌≡◌, ◌++◌, ◌∷◌, [], IfOk, OnOk};
 ghost use Rattle.row_store.specs.Rows.{AreBelow};
 ghost use Rattle.pair_rows.specs.Given.{least};
-ghost use Rattle.pair_rows.specs.inner.Knowing.{HasLeast, FindsLeast, AddsNumber};
+ghost use Rattle.pair_rows.specs.inner.Knowing.{IsIndexed};
 
+use key_index::KeyIndex;
 use par_base::{Memory, Row};
-use row_map::RowMap;
 use row_store::Table;
 use std::alloc::Global;
 
-/// Rows, old ones and then drawn ones, and the least identifier of each row's values.
+/// Rows, old ones and then drawn ones, and an index of them.
 #[derive(Drop)]
 pub struct Growing {
     pub table: Table,
-    pub numbers: RowMap,
+    pub index: KeyIndex,
 }
 
-/// The least identifier of each row's values: the rows are put in from behind, so that the least
-/// stands.
-fn least_numbers(alloc: Global, table: &Table) -> Result<RowMap, Memory>
-    ensures { IfOk result (λ made. HasLeast made table.now.rows) }
-{
-    let mut made = RowMap::new(alloc);
-    for row in table.iter().rev() {
-        made.insert(&row.1, row.0)?;
-    }
-    Ok(made)
-}
-
-/// The old rows, before any is drawn.
+/// The old rows, before any is drawn. It takes the time of sorting them.
 pub fn growing_from(alloc: Global, old: &Table) -> Result<Growing, Memory>
     ensures rows { IfOk result (λ made. made.table.rows ≡ old.now.rows) }
-    ensures finds { IfOk result (λ made. FindsLeast made) }
+    ensures indexed { IfOk result (λ made. IsIndexed made) }
 {
-    let numbers = least_numbers(alloc, old)?;
+    let index = KeyIndex::of_rows(alloc, old)?;
     Ok(Growing {
         table: old.copy()?,
-        numbers,
+        index,
     })
 }
 
-/// The least identifier with these values.
+/// The least identifier with these values, found by two binary searches. It takes no memory.
 pub fn least(it: &Growing, values: &Row) -> Option<u64>
-    requires { FindsLeast it.now }
+    requires { IsIndexed it.now }
     ensures { result ≡ least it.now.table.rows values.now }
 {
-    it.numbers.get(values)
+    it.index.least_with(values.as_slice())
 }
 
-/// Puts a number at a row that has none.
-fn add_number(numbers: &mut RowMap, values: &Row, id: u64) -> Result<(), Memory>
-    ensures { OnOk result (AddsNumber numbers.old values.now id numbers.new) }
-{
-    if numbers.get(values).is_some() {
-        return Ok(());
-    }
-    numbers.insert(values, id)?;
-    Ok(())
-}
-
-/// Puts a drawn row behind the others.
+/// Puts a drawn row behind the others. It takes up to two binary searches.
 pub fn put_drawn(it: &mut Growing, id: u64, values: Row) -> Result<(), Memory>
     requires below { AreBelow it.old.table.rows id }
-    requires finds { FindsLeast it.old }
+    requires indexed { IsIndexed it.old }
     ensures rows { OnOk result (it.new.table.rows ≡ it.old.table.rows ++ (id, values) ∷ []) }
-    ensures finds { OnOk result (FindsLeast it.new) }
+    ensures indexed { OnOk result (IsIndexed it.new) }
 {
-    add_number(&mut it.numbers, &values, id)?;
+    it.index.push(id, &values)?;
     it.table.push(id, values)?;
     Ok(())
 }

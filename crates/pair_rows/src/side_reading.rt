@@ -8,15 +8,15 @@ ghost use Rattle.row_store.specs.Rows.{AreBelow, row_of};
 ghost use Rattle.op_law.specs.Identifiers.{put_id, ids_in};
 ghost use Rattle.op_rows.specs.Cells.{with_row};
 ghost use Rattle.op_rows.specs.inner.CellLemmas.{IdsRise};
-ghost use Rattle.row_map.specs.IdNumbers.{number_of_id};
+ghost use Rattle.id_sets.specs.IdNumbers.{number_of_id};
 ghost use Rattle.row_parts.specs.Places.{pick as part};
 ghost use Rattle.row_parts.specs.RowCells.{map_cell, or_else};
 ghost use Rattle.pair_rows.specs.Kept.{ids_paired, partner, part_at, side_read};
 ghost use Rattle.pair_rows.specs.Halves.{pick_of};
 
 use crate::half::Half;
+use id_sets::{IdMap, IdSet};
 use par_base::{List, Memory, Row};
-use row_map::{IdMap, IdSet};
 use row_parts::pick;
 use row_store::Table;
 use std::alloc::Global;

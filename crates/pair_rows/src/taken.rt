@@ -3,8 +3,8 @@ ghost use Rattle.std.specs.Prelude.{◌≡◌, ◌++◌, ◌∷◌, [], OnOk};
 ghost use Rattle.pair_rows.specs.Shown.{has};
 ghost use Rattle.pair_rows.specs.inner.Knowing.{KnowsPairs};
 
+use id_sets::PairSet;
 use par_base::{List, Memory};
-use row_map::PairSet;
 use std::alloc::Global;
 
 /// The entries of the pairs that are taken, in the order in which they were, and the pairs as a set.

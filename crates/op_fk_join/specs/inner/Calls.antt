@@ -2,8 +2,6 @@
 use Rattle.std.specs.Prelude.{◌≡◌, ℕ, ◌+◌, ◌≤◌, ◌^◌, List, length}
 use Rattle.par_base.specs.declared.value.Value.{Value}
 use Rattle.row_store.specs.Rows.{Rows}
-use Rattle.row_map.specs.RowNumbers.{RowNumbers, number_of_row}
-use Rattle.op_fk_join.specs.Join.{first_with}
 
 -- old S and old T, and how their rows are taken apart
 pub record SourceRows (P : Type 0) : Type 0 where
@@ -14,10 +12,6 @@ pub record SourceRows (P : Type 0) : Type 0 where
 -- these tables, and these parts
 abbrev pub source_rows : {P : Type 0} → P → Rows → Rows → SourceRows P
 source_rows by s t = record { by = by; s = s; t = t }
-
--- each value has the least of these rows that has it
-abbrev pub AreFirst : Rows → RowNumbers → Type 0
-AreFirst t first = (v : List Value) → number_of_row first v ≡ first_with t v
 
 -- so many identifiers may be drawn from this one on
 abbrev pub MayDraw : ℕ → List (List Value) → Type 0

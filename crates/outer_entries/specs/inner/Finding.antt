@@ -2,7 +2,7 @@
 use Rattle.std.specs.Prelude.{◌≡◌, ℕ, ◌==◌, [], ◌∷◌, Bool, true, false, if◌then◌else◌}
 use Rattle.id_memory.specs.Pairs.{Pairs}
 use Rattle.op_law.specs.Identifiers.{has_id}
-use Rattle.row_map.specs.IdPairs.{IdPairs, holds_pair}
+use Rattle.id_sets.specs.IdPairs.{IdPairs, holds_pair}
 use Rattle.outer_law.specs.Entries.{some_row}
 use Rattle.outer_entries.specs.declared.showing.Showing.{Showing}
 use Rattle.outer_entries.specs.declared.finding.Found.{Found}

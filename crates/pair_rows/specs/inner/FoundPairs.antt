@@ -1,5 +1,5 @@
 -- Entries whose rows are the parts of joined rows, and the parts of joined rows.
-use Rattle.std.proofs.Common.{◌≡◌, ℕ, ◌+◌, ◌<◌, ◌==◌, List, [], ◌∷◌, length, true, false, not, ◌||◌, Option, Some, None, IsSome, refl, ap, sym, ◌∙◌, subst, arith}
+use Rattle.std.proofs.Common.{◌≡◌, ℕ, ◌+◌, ◌<◌, ◌==◌, List, [], ◌∷◌, length, true, false, not, ◌||◌, Some, None, IsSome, refl, ap, sym, ◌∙◌, subst, arith}
 use Rattle.std.proofs.lemmas.Bool.{ne_eqb, eq-eqb, or_right}
 use Rattle.par_base.specs.declared.value.Value.{Value}
 use Rattle.row_store.specs.Rows.{Rows, RiseFrom, row_of}

@@ -2,7 +2,7 @@ use Rattle.std.proofs.Common.{◌≡◌, ℕ, [], cond, Option, Some, length, dr
 use Rattle.std.proofs.lemmas.List.{drop_all}
 use Rattle.row_store.specs.Rows.{Rows}
 use Rattle.row_store.specs.inner.RowsLeft.{all_first, comes_last, drop_first}
-use Rattle.row_map.specs.IdNumbers.{number_of_id}
+use Rattle.id_sets.specs.IdNumbers.{number_of_id}
 use Rattle.foreign_keys.specs.References.{is_goal}
 use Rattle.foreign_keys.specs.Seeking.{first_led, AreFirstLed}
 use Rattle.foreign_keys.proofs.leads.leads_to.Goals as goal

@@ -1,6 +1,6 @@
 use Rattle.std.proofs.Common.{ℕ, List, filter, ap, ◌∙◌, subst}
 use Rattle.pair_rows.specs.inner.Changed.{pairs_of}
-use Rattle.row_map.specs.IdPairs.{IdPairs}
+use Rattle.id_sets.specs.IdPairs.{IdPairs}
 use Rattle.equal_columns.proofs.MatchLaws.{shown_match}
 use Rattle.outer_entries.specs.Showings.{joining_in}
 use Rattle.outer_entries.specs.inner.Calls.{is_new_full}

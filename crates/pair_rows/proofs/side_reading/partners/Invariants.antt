@@ -1,5 +1,5 @@
 use Rattle.std.proofs.Common.{◌≡◌, ◌≤◌, ℕ, length, drop}
-use Rattle.row_map.specs.IdNumbers.{number_of_id}
+use Rattle.id_sets.specs.IdNumbers.{number_of_id}
 use Rattle.pair_rows.specs.Kept.{partner}
 use Rattle.pair_rows.specs.Halves.{pick_of}
 use Rattle.pair_rows.proofs.side_reading.partners.Given as goal

@@ -1,0 +1,3 @@
+mod IdLaws
+mod IdNumberLaws
+mod IdPairLaws

@@ -1,0 +1,2 @@
+pub mod IdNumbers
+pub mod IdPairs

@@ -1,4 +1,0 @@
-mod IdLaws
-mod IdNumberLaws
-mod IdPairLaws
-mod RowNumberLaws

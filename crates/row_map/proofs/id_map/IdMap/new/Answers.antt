@@ -1,7 +1,0 @@
-use Rattle.std.proofs.Common.{refl}
-use Rattle.row_map.specs.IdNumbers.{number_of_id}
-use Rattle.row_map.proofs.id_map.IdMap.new.Goals as goal
-
-pub returns : goal.returns
-unfolding number_of_id
-returns c = λ id. rw c.new.ensures.empty refl

@@ -1,3 +1,0 @@
-pub mod IdNumbers
-pub mod IdPairs
-pub mod RowNumbers
