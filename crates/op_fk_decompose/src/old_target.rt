@@ -18,6 +18,7 @@ pub(crate) struct OldTarget<'a, P: RowParts> {
 }
 
 impl<'a, P: RowParts> Model for OldTarget<'a, P> {
+    ghost use Rattle.std.specs.Prelude.{◌≡◌};
     ghost use Rattle.foreign_keys.specs.Least.{meant_rows};
     ghost use Rattle.op_fk_decompose.specs.Decompose.{TargetRows as Rows, may_share};
 

@@ -20,6 +20,7 @@ pub(crate) struct OldSource<'a, P: RowParts> {
 }
 
 impl<'a, P: RowParts> Model for OldSource<'a, P> {
+    ghost use Rattle.std.specs.Prelude.{◌≡◌};
     ghost use Rattle.op_fk_join.specs.inner.Calls.{SourceRows, source_rows};
 
     ghost Value = { SourceRows P };
