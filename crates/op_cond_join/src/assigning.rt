@@ -9,7 +9,7 @@ ghost use Rattle.row_store.specs.Rows.{AreBelow};
 ghost use Rattle.row_parts.specs.Places.{pick as part};
 ghost use Rattle.pair_rows.specs.Given.{own, got, side_got};
 ghost use Rattle.pair_rows.specs.inner.Draws.{Draws};
-ghost use Rattle.pair_rows.specs.inner.Knowing.{FindsLeast};
+ghost use Rattle.pair_rows.specs.inner.Knowing.{IsIndexed};
 ghost use Rattle.op_cond_join.specs.inner.Assignings.{assigning, IsGiven, IsPlaced, AreBelowNext, Knows, changed_placed, row_placed, end_of, pairs_given};
 
 use crate::join::JoinOn;
@@ -60,7 +60,7 @@ fn got(
     ids: &mut IdCounter,
 ) -> Result<u64, Fault<IdsSpent>>
     requires below { AreBelow rows.old.table.rows ids.old.next }
-    requires finds { FindsLeast rows.old }
+    requires indexed { IsIndexed rows.old }
     ensures { let to = got found rows.old.table.rows values ids.old.next in
         Draws to.next ids.old ids.new (λ id. IsGiven to id rows.new) result }
 {
@@ -88,7 +88,7 @@ fn side_got(
     ids: &mut IdCounter,
 ) -> Result<u64, Fault<IdsSpent>>
     requires below { AreBelow rows.old.table.rows ids.old.next }
-    requires finds { FindsLeast rows.old }
+    requires indexed { IsIndexed rows.old }
     ensures { let before = option_map (λ row. row.now) old.entry in
         let to = side_got places.now before id row.now rows.old.table.rows ids.old.next in
         Draws to.next ids.old ids.new (λ id. IsGiven to id rows.new) result }

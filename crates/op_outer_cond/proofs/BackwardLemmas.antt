@@ -31,7 +31,7 @@ use Rattle.outer_entries.specs.Placings.{placing_of, Knows, AreReady, IsReady}
 use Rattle.op_outer_cond.specs.inner.Mappings.{mapped_from}
 use Rattle.outer_entries.specs.declared.half_rows.HalfRows.{HalfRows}
 use Rattle.pair_rows.specs.inner.Draws.{WasRefused}
-use Rattle.pair_rows.specs.inner.Knowing.{FindsLeast}
+use Rattle.pair_rows.specs.inner.Knowing.{IsIndexed}
 use Rattle.outer_entries.specs.declared.placing.Placing.{Placing as State}
 use Rattle.op_outer_cond.proofs.MappingLemmas.{AreEntries}
 
@@ -72,11 +72,11 @@ kept_entries j near old n r new some target rows =
     }
 
 -- the rows of one half are ready
-half_ready : (pick : ℕ × ℕ × ℕ → ℕ) (es : Pairs) (n : ℕ) (rows : Rows) (it : HalfRows) → RowsSound n rows → it.all.rows ≡ rows → it.shared.table.rows ≡ standing pick es rows → FindsLeast it.shared → AreReady it n
-half_ready pick es n rows it sound all shared finds = record {
+half_ready : (pick : ℕ × ℕ × ℕ → ℕ) (es : Pairs) (n : ℕ) (rows : Rows) (it : HalfRows) → RowsSound n rows → it.all.rows ≡ rows → it.shared.table.rows ≡ standing pick es rows → IsIndexed it.shared → AreReady it n
+half_ready pick es n rows it sound all shared indexed = record {
   all = subst (λ (rs : Rows). AreBelow rs n) (sym all) (below_sound n rows sound);
   shared = subst (λ (rs : Rows). AreBelow rs n) (sym shared) (below_sound n (standing pick es rows) (filter_sound (λ id. stands pick es id) n rows sound));
-  finds = finds;
+  indexed = indexed;
 }
 
 -- all is ready before rows are placed

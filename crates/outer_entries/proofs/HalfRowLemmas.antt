@@ -7,7 +7,7 @@ use Rattle.id_memory.specs.Pairs.{Pairs}
 use Rattle.id_memory.specs.States.{CounterState}
 use Rattle.pair_rows.specs.Shown.{has}
 use Rattle.pair_rows.specs.Given.{got}
-use Rattle.pair_rows.specs.inner.Knowing.{FindsLeast}
+use Rattle.pair_rows.specs.inner.Knowing.{IsIndexed}
 use Rattle.pair_rows.proofs.GivenLaws.{got_rises, got_below}
 use Rattle.outer_law.specs.Placed.{Parts, Placing, first_both, first_got, second_both, place_both, first_alone, second_alone, place_first, place_second}
 use Rattle.outer_entries.specs.declared.half_rows.HalfRows.{HalfRows}
@@ -19,22 +19,22 @@ same_next (Some id) xs ys x n = refl
 same_next None xs ys x n = refl
 
 -- what was found or drawn leaves the rows ready
-pub shared_ready : (choice : Option ℕ) (rows shared : Rows) (x : List Value) (n : ℕ) (it : HalfRows) → it.all.rows ≡ (got choice rows x n).rows → it.shared.table.rows ≡ (got choice shared x n).rows → FindsLeast it.shared
+pub shared_ready : (choice : Option ℕ) (rows shared : Rows) (x : List Value) (n : ℕ) (it : HalfRows) → it.all.rows ≡ (got choice rows x n).rows → it.shared.table.rows ≡ (got choice shared x n).rows → IsIndexed it.shared
     → AreBelow rows n → AreBelow shared n → AreReady it (got choice rows x n).next
-shared_ready choice rows shared x n it all may finds below shared_below = record {
+shared_ready choice rows shared x n it all may indexed below shared_below = record {
   all = subst (λ (rs : Rows). AreBelow rs (got choice rows x n).next) (sym all) (got_below choice rows x n below);
   shared = subst (λ (rs : Rows). AreBelow rs (got choice rows x n).next) (sym may)
       (subst (λ (k : ℕ). AreBelow (got choice shared x n).rows k) (same_next choice shared rows x n) (got_below choice shared x n shared_below));
-  finds = finds;
+  indexed = indexed;
 }
 
 -- the same where a drawn row isn't shared
-pub alone_ready : (choice : Option ℕ) (rows shared : Rows) (x : List Value) (n : ℕ) (it : HalfRows) → it.all.rows ≡ (got choice rows x n).rows → it.shared.table.rows ≡ shared → FindsLeast it.shared
+pub alone_ready : (choice : Option ℕ) (rows shared : Rows) (x : List Value) (n : ℕ) (it : HalfRows) → it.all.rows ≡ (got choice rows x n).rows → it.shared.table.rows ≡ shared → IsIndexed it.shared
     → AreBelow rows n → AreBelow shared n → AreReady it (got choice rows x n).next
-alone_ready choice rows shared x n it all may finds below shared_below = record {
+alone_ready choice rows shared x n it all may indexed below shared_below = record {
   all = subst (λ (rs : Rows). AreBelow rs (got choice rows x n).next) (sym all) (got_below choice rows x n below);
   shared = subst (λ (rs : Rows). AreBelow rs (got choice rows x n).next) (sym may) (below_more shared n (got choice rows x n).next (got_rises choice rows x n) shared_below);
-  finds = finds;
+  indexed = indexed;
 }
 
 -- what is ready stays so while identifiers are drawn
@@ -42,7 +42,7 @@ pub later_ready : (it : HalfRows) (n k : ℕ) → n ≤ k → AreReady it n → 
 later_ready it n k h ready = record {
   all = below_more it.all.rows n k h ready.all;
   shared = below_more it.shared.table.rows n k h ready.shared;
-  finds = ready.finds;
+  indexed = ready.indexed;
 }
 
 -- an entry with both halves from the calls that find or draw them

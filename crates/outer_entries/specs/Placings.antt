@@ -4,7 +4,7 @@ use Rattle.row_store.specs.Rows.{Rows, AreBelow}
 use Rattle.id_memory.specs.Pairs.{Pairs}
 use Rattle.pair_rows.specs.declared.unchanged.OldTarget.{OldTarget}
 use Rattle.pair_rows.specs.Given.{kept_in}
-use Rattle.pair_rows.specs.inner.Knowing.{FindsLeast, KnowsPairs}
+use Rattle.pair_rows.specs.inner.Knowing.{IsIndexed, KnowsPairs}
 use Rattle.outer_law.specs.Placed.{Placing, placed, ending, full}
 use Rattle.outer_entries.specs.declared.half_rows.HalfRows.{HalfRows}
 use Rattle.outer_entries.specs.declared.outer.Outer.{Outer}
@@ -26,12 +26,12 @@ placing_of it next = record {
 pub record AreReady (rows : HalfRows) (next : ℕ) : Type 0 where
   pub all : AreBelow rows.all.rows next
   pub shared : AreBelow rows.shared.table.rows next
-  pub finds : FindsLeast rows.shared
+  pub indexed : IsIndexed rows.shared
 
 -- each look-up of both tables and of the entries that are taken tells what a search would find
 pub record Knows (it : State) : Type 0 where
-  pub first : FindsLeast it.first.shared
-  pub second : FindsLeast it.second.shared
+  pub first : IsIndexed it.first.shared
+  pub second : IsIndexed it.second.shared
   pub taken : KnowsPairs it.taken
 
 -- the rows of both tables are ready, and so are the entries that are taken

@@ -4,7 +4,7 @@ ghost use Rattle.row_store.specs.Rows.{AreBelow};
 ghost use Rattle.pair_rows.specs.Halves.{pick_of};
 ghost use Rattle.pair_rows.specs.Given.{got};
 ghost use Rattle.pair_rows.specs.inner.Draws.{Draws};
-ghost use Rattle.pair_rows.specs.inner.Knowing.{FindsLeast};
+ghost use Rattle.pair_rows.specs.inner.Knowing.{IsIndexed};
 ghost use Rattle.outer_law.specs.Placed.{standing};
 ghost use Rattle.outer_entries.specs.Placings.{AreReady};
 ghost use Rattle.outer_entries.specs.inner.Parts.{IsGot};
@@ -33,7 +33,7 @@ pub(crate) fn rows_from(
     ensures all { IfOk result (λ made. made.all.rows ≡ table.now.rows) }
     ensures shared { IfOk result (λ made. made.shared.table.rows
         ≡ standing (pick_of half) full.now.entries table.now.rows) }
-    ensures finds { IfOk result (λ made. FindsLeast made.shared) }
+    ensures indexed { IfOk result (λ made. IsIndexed made.shared) }
 {
     let rows = standing(alloc, half, full, table)?;
     let shared = growing_from(alloc, &rows)?;
@@ -45,12 +45,12 @@ pub(crate) fn rows_from(
 fn put_shared(alloc: Global, rows: &mut HalfRows, id: u64, values: &Row) -> Result<(), Memory>
     requires all { AreBelow rows.old.all.rows id }
     requires shared { AreBelow rows.old.shared.table.rows id }
-    requires finds { FindsLeast rows.old.shared }
+    requires indexed { IsIndexed rows.old.shared }
     ensures all { OnOk result (rows.new.all.rows
         ≡ rows.old.all.rows ++ (id, values.now) ∷ []) }
     ensures shared { OnOk result (rows.new.shared.table.rows
         ≡ rows.old.shared.table.rows ++ (id, values.now) ∷ []) }
-    ensures finds { OnOk result (FindsLeast rows.new.shared) }
+    ensures indexed { OnOk result (IsIndexed rows.new.shared) }
 {
     put_drawn(&mut rows.shared, id, values.copy(alloc)?)?;
     rows.all.push(id, values.copy(alloc)?)?;

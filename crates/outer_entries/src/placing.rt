@@ -6,7 +6,7 @@ ghost use Rattle.std.specs.Prelude.{◌≡◌, if◌then◌else◌, Some, None};
 ghost use Rattle.pair_rows.specs.Halves.{pick_of};
 ghost use Rattle.pair_rows.specs.Shown.{has};
 ghost use Rattle.pair_rows.specs.inner.Draws.{Draws};
-ghost use Rattle.pair_rows.specs.inner.Knowing.{FindsLeast, KnowsPairs};
+ghost use Rattle.pair_rows.specs.inner.Knowing.{IsIndexed, KnowsPairs};
 ghost use Rattle.outer_law.specs.Placed.{own_alone, place_both, place_first, place_second, place_changed};
 ghost use Rattle.outer_entries.specs.Placings.{placing_of, IsReady, placed_in, ending_in};
 ghost use Rattle.outer_entries.specs.inner.Parts.{parts_in, shared_choice, IsGiven, changed_in, row_in};
@@ -31,7 +31,7 @@ pub struct Placing {
 
 /// The own row, or else the least one that may be shared.
 fn own_or_shared(part: &Part, shared: &Growing) -> Option<u64>
-    requires { FindsLeast shared.now }
+    requires { IsIndexed shared.now }
     ensures { result ≡ shared_choice part.now shared.now.table.rows }
 {
     match part.own {

@@ -12,7 +12,7 @@ use Rattle.op_cond_join.specs.Joinings.{joining}
 use Rattle.pair_rows.specs.Halves.{first_of, second_of}
 use Rattle.pair_rows.specs.Shown.{Joining}
 use Rattle.pair_rows.specs.Stays.{staying}
-use Rattle.pair_rows.specs.inner.Knowing.{FindsLeast, KnowsPairs}
+use Rattle.pair_rows.specs.inner.Knowing.{IsIndexed, KnowsPairs}
 use Rattle.pair_rows.specs.Given.{Got}
 use Rattle.op_cond_join.specs.Assigned.{Assigning, Placed, place_changed, place_row, assigned, ending}
 
@@ -22,15 +22,15 @@ assigning it next = record { first = it.first.table.rows; second = it.second.tab
 
 -- each look-up tells what a search would find
 pub record Knows (it : State) : Type 0 where
-  pub first : FindsLeast it.first
-  pub second : FindsLeast it.second
+  pub first : IsIndexed it.first
+  pub second : IsIndexed it.second
   pub taken : KnowsPairs it.taken
 
 -- the identifier and the rows are those that were found or drawn
 pub record IsGiven (to : Got) (id : ℕ) (rows : Growing) : Type 0 where
   pub number : id ≡ to.id
   pub table : rows.table.rows ≡ to.rows
-  pub finds : FindsLeast rows
+  pub indexed : IsIndexed rows
 
 -- the pair and what is assigned after it
 pub record IsPlaced (to : Placed) (pair : ℕ × ℕ) (it : State) (next : ℕ) : Type 0 where

@@ -14,6 +14,6 @@ returns-in_ok-push-in-Ok c =
     let all = c.in_ok-push-in-Ok.ensures.ok ∙ ap (λ (i : ℕ). rows ++ (i, c.in_ok-copy-in-Ok.field-0) ∷ []) number ∙ ap (λ (v : List Value). rows ++ (n, v) ∷ []) c.in_ok-copy-in-Ok.ensures in
     rw c.in_default.is (
       omega (arith, number, within),
-      record { number = number; all = all; may_share = refl; ready = alone_ready None rows shared x n (record { all = c.push.new.self; shared = c.args.rows.now.shared }) all refl c.requires.finds c.requires.all c.requires.shared },
+      record { number = number; all = all; may_share = refl; ready = alone_ready None rows shared x n (record { all = c.push.new.self; shared = c.args.rows.now.shared }) all refl c.requires.indexed c.requires.all c.requires.shared },
       c.in-Ok.ensures.raised,
     )

@@ -15,6 +15,6 @@ returns-in_ok-put_shared-in-Ok c =
     let may_share = put.shared ∙ ap (λ (i : ℕ). shared ++ (i, x) ∷ []) number in
     rw c.in_default.is (
       omega (arith, number, within),
-      record { number = number; all = all; may_share = may_share; ready = shared_ready None rows shared x n c.put_shared.new.rows all may_share put.finds c.requires.all c.requires.shared },
+      record { number = number; all = all; may_share = may_share; ready = shared_ready None rows shared x n c.put_shared.new.rows all may_share put.indexed c.requires.all c.requires.shared },
       c.in-Ok.ensures.raised,
     )
