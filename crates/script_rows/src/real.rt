@@ -76,7 +76,7 @@ fn ends(rt: &HostRuntime) -> io::Result<()> {
     run(rt, &["--load", "list.json", "--dump", "/dev/null"], LOOK)
 }
 
-// All runs over real files; what they put is compared with the file `stdout` of this crate.
+/// All runs over real files; what they put is compared with the file `stdout` of this crate.
 pub fn run_over_files(rt: &HostRuntime) -> io::Result<()> {
     replace(rt)?;
     read_back(rt)?;
